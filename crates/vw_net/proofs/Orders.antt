@@ -1,0 +1,38 @@
+-- How long an order of gates is.
+use Rattle.std.proofs.Common.{◌≡◌, ◌<◌, ◌≤◌, ◌||◌, ℕ, Bool, true, false, List, [], ◌∷◌, length, get_or, slice_get, eqb, ap, ap₂, refl, sym, ◌∙◌, ⊎_elim, ne_eqb, true≢false, arith}
+use Rattle.std.specs.List.{list_any, IsDistinct}
+use Rattle.std.proofs.lemmas.Bool.{cases_lt}
+use Rattle.std.proofs.lemmas.Grind.{common_steps}
+use Rattle.std.proofs.lemmas.List.{get_or_default}
+use Rattle.std.proofs.lemmas.Map.Keys.{IsDistinct-from_apart}
+use Rattle.std.proofs.lemmas.Map.Steps.{length-le_from_distinct_below}
+use Rattle.std.proofs.lemmas.Option.{slice_get_past}
+use Rattle.vw_net.specs.declared.cell.Cell.{Cell}
+use Rattle.vw_net.specs.Order.{IsOrder, is_gate, is_among}
+
+-- a test of two numbers goes both ways
+eqb_comm : (a b : ℕ) → eqb a b ≡ eqb b a
+eqb_comm a b = grind (arith, common_steps)
+
+-- a number is among others whichever side of the test it stands on
+is_among-flip : (number : ℕ) (numbers : List ℕ) → is_among numbers number ≡ list_any (eqb number) numbers
+is_among-flip number [] = refl
+is_among-flip number (other ∷ others) = ap₂ (λ (first rest : Bool). first || rest) (eqb_comm other number) (is_among-flip number others)
+
+-- a gate's number is below the number of cells
+gate_within : (cells : List Cell) (number : ℕ) → is_gate (slice_get cells number) ≡ true → number < length cells
+gate_within cells number gate = ⊎_elim (λ within. within) (λ past. absurd (true≢false (sym gate ∙ ap is_gate (slice_get_past cells number past)))) (cases_lt number (length cells))
+
+module _ (inputs : ℕ) (cells : List Cell) (order : List ℕ) (is_order : IsOrder inputs cells order) where
+  -- no two places of an order have one number
+  order_distinct : IsDistinct eqb order
+  order_distinct = IsDistinct-from_apart eqb order apart where
+    apart : (i j default : ℕ) → i < j → j < length order → eqb (get_or order i default) (get_or order j default) ≡ false
+    apart i j default before within =
+        let at_i = get_or_default order i default 0 (omega arith) in
+        let at_j = get_or_default order j default 0 within in
+        ne_eqb (get_or order i default) (get_or order j default) (λ same. is_order.once i j before within (sym at_i ∙ same ∙ at_j))
+
+  -- an order lists at most as many gates as there are cells
+  pub length-order : length order ≤ length cells
+  length-order = length-le_from_distinct_below order (length cells) order_distinct (λ number among. gate_within cells number (is_order.each number ∙ is_among-flip number order ∙ among))

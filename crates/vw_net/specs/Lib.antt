@@ -1,0 +1,6 @@
+pub mod Mark
+pub mod Cover
+pub mod Cells
+pub mod Order
+pub mod Value
+pub mod History

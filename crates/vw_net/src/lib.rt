@@ -1,0 +1,16 @@
+//! A flat netlist: gates and latches with numbers in place of names, and what it means.
+#![tactic(auto)]
+
+mod cell;
+mod cover;
+mod flat;
+mod laws;
+mod ordered;
+mod sequence;
+
+pub use cell::{Cell, Init};
+pub use cover::{Cover, Mark, Row};
+pub use flat::Flat;
+pub use laws::{gates_settle, histories_join, levels_settle};
+pub use ordered::Ordered;
+pub use sequence::{Bits, Rows, Sequence};

@@ -1,0 +1,38 @@
+use Rattle.std.proofs.Common.{◌≡◌, ◌≤◌, ℕ, List, ◌∙◌, ◌<◌, refl, sym, length, take, drop, ◌++◌, arith, length-append, length-take, length-drop, subst, ap}
+use Rattle.vw_outside.specs.Told.{Fills, OfText-from_cases}
+use Rattle.vw_outside.proofs.Pieces.{IsFront, front_further, whole_front}
+use Rattle.vw_outside.proofs.text.read_text.Goals as goal
+
+pub loop-piece-preserved : goal.loop-piece-preserved
+loop-piece-preserved g c =
+    let kept = c.loop-piece.invariant in
+    let was = c.in_ok-extend_from_slice.ensures in
+    let count = c.in-Ok.ensures.within in
+    let so_far : c.len-in-loop-piece-2.result ≡ length c.loop-piece.text.items = omega (arith, c.loop-piece.text.ok.0) in
+    let piece : List ℕ = take c.in-Ok.count (c.read.new.into ++ drop c.min-room.result c.loop-piece.piece) in
+    let longer : length c.extend_from_slice.new.self.items ≡ length (c.loop-piece.text.items ++ piece) = ap (λ (text : List ℕ). length text) was.items in
+    let long : length piece ≤ c.in-Ok.count = omega (arith, length-take c.in-Ok.count (c.read.new.into ++ drop c.min-room.result c.loop-piece.piece)) in
+    let asked : length c.read.new.into ≤ c.min-room.result = omega (arith, c.read.auto.into, length-take c.min-room.result c.loop-piece.piece) in
+    record {
+      front = λ bytes told.
+          let fills = subst (λ from. Fills bytes from c.read.new.into c.in-Ok.count) so_far (c.in-Ok.ensures.held bytes (kept.same c.args.name.now ∙ told)) in
+          subst (λ text. IsFront text bytes) (sym was.items) (front_further c.loop-piece.text.items c.read.new.into _ bytes c.in-Ok.count (kept.front bytes told) fills count);
+      present = λ told. absurd (let wrong = c.in-Ok.ensures.absent (kept.same c.args.name.now ∙ told) in cc);
+      within = omega (arith, longer, long, asked, length-append c.loop-piece.text.items piece, count, c.min-room.ensures, c.loop-piece.text.ok.0);
+      buffer = omega (arith, length-append c.read.new.into (drop c.min-room.result c.loop-piece.piece), length-drop c.min-room.result c.loop-piece.piece, kept.buffer, c.min-room.ensures);
+      same = λ other. c.read.ensures.same other ∙ kept.same other;
+      kept = λ other. omega (arith, c.read.ensures.kept other, kept.kept other);
+      others = λ other bytes differs told. c.read.ensures.others other bytes differs (kept.same other ∙ told) ∙ kept.others other bytes differs told;
+    }
+
+pub returns-then-count-eq0-clause-whole : goal.returns-then-count-eq0-clause-whole
+returns-then-count-eq0-clause-whole g c =
+    let kept = c.loop-piece.invariant in
+    let text = c.loop-piece.text.items in
+    let so_far : c.len-in-loop-piece-2.result ≡ length text = omega (arith, c.loop-piece.text.ok.0) in
+    let room : 0 < length c.read.new.into = omega (arith, c.read.auto.into, length-take c.min-room.result c.loop-piece.piece, kept.buffer, c.min-room.ensures, c.loop-piece.text.ok.0) in
+    OfText-from_cases (g.S.Shelf.told c.args.shelf.now c.args.name.now) (λ bytes. text ≡ bytes) text refl
+    (λ told. let wrong = c.in-Ok.ensures.absent (kept.same c.args.name.now ∙ told) in cc)
+    (λ bytes told.
+    let fills = subst (λ from. Fills bytes from c.read.new.into c.in-Ok.count) so_far (c.in-Ok.ensures.held bytes (kept.same c.args.name.now ∙ told)) in
+    whole_front text c.read.new.into bytes c.in-Ok.count (kept.front bytes told) fills room (omega arith))

@@ -1,0 +1,64 @@
+use super::*;
+use std::test::Fail;
+use std::{fs, process};
+
+#[test]
+fn files_are_read_from_any_place(rt: HostRuntime) -> Result<(), Fail> {
+    let alloc = rt.alloc();
+    let number = process::id(rt.process());
+    let path = format!(in alloc; "/tmp/vw_outside_{number}")?;
+    fs::write(&rt, path.as_str(), b"eleven chars")?;
+    let mut shelf = FileShelf::new(&rt);
+    let name = Name::of(path.as_bytes().to_vec(alloc)?);
+    let mut piece = [0u8; 6];
+    let whole = shelf.read(&name, 0, &mut piece);
+    assert_eq!(rt; whole, Ok(6));
+    assert_eq!(rt; piece.as_slice(), b"eleven".as_slice());
+    let rest = shelf.read(&name, 7, &mut piece);
+    assert_eq!(rt; rest, Ok(5));
+    assert_eq!(rt; &piece[..5], b"chars".as_slice());
+    let past = shelf.read(&name, 12, &mut piece);
+    assert_eq!(rt; past, Ok(0));
+    fs::remove_file(&rt, path.as_str())?;
+    // a file that is gone, a folder, and a name that isn't UTF-8
+    let folder = Name::of(b"/tmp".to_vec(alloc)?);
+    let other = Name::of(b"/tmp/\xff".to_vec(alloc)?);
+    for gone in [name, folder, other] {
+        assert_eq!(rt; shelf.read(&gone, 0, &mut piece), Err(Failed));
+    }
+    Ok(())
+}
+
+#[test]
+fn output_takes_what_is_put(rt: HostRuntime) {
+    let mut out = OutSink::new(&rt);
+    assert_eq!(rt; put_all(&mut out, b"to standard output\n"), Ok(()));
+}
+
+#[test]
+fn error_takes_what_is_put(rt: HostRuntime) {
+    let mut err = ErrSink::new(&rt);
+    assert_eq!(rt; put_all(&mut err, b"to standard error\n"), Ok(()));
+}
+
+#[test]
+fn a_text_in_memory_is_read_whole(rt: HostRuntime) -> Result<(), Fail> {
+    let alloc = rt.alloc();
+    for most in [1, 3, 100] {
+        let name = Name::of(b"a".to_vec(alloc)?);
+        let again = Name::of(b"a".to_vec(alloc)?);
+        let files = vec![in alloc;
+            Held::make(name, b"first".to_vec(alloc)?),
+            Held::make(again, b"second".to_vec(alloc)?),
+        ]?;
+        let mut shelf = MemShelf::new(files, most, Vec::new(alloc));
+        let name = Name::of(b"a".to_vec(alloc)?);
+        let text = read_text(alloc, &mut shelf, &name, 5)
+            .ok()
+            .ok_or("it is short enough")?;
+        assert_eq!(rt; text.as_slice(), b"first".as_slice());
+        let large = read_text(alloc, &mut shelf, &name, 4);
+        assert!(rt; matches!(&large, Err(TextRefused::TooLarge)));
+    }
+    Ok(())
+}

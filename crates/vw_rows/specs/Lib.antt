@@ -1,0 +1,6 @@
+pub mod Lines
+pub mod Stimulus
+pub mod Trace
+pub mod Messages
+pub use Rattle.vw_net.specs.History
+pub use Rattle.vw_outside.specs.Told

@@ -1,0 +1,31 @@
+-- The text of what a netlist did.
+use Rattle.std.specs.Prelude.{ℕ, ◌+◌, Bool, List, [], ◌∷◌, ◌++◌, map, length, codes, if◌then◌else◌}
+use Rattle.std.specs.Fmt.{decimal}
+use Rattle.vw_net.specs.History.{History}
+
+-- one character for each bit; a list without bits is written `-`
+abbrev pub bits_text : List Bool → List ℕ
+bits_text [] = codes "-"
+bits_text (bit ∷ bits) = map (λ b. if b then 49 else 48) (bit ∷ bits)
+
+-- the numbers of outputs and latches
+abbrev pub head_text : ℕ → ℕ → List ℕ
+head_text outputs latches = codes "trace 1 " ++ decimal outputs ++ 32 ∷ decimal latches ++ 10 ∷ []
+
+-- a clock: its number, its outputs, and the latch values before its step
+abbrev pub clock_text : ℕ → List Bool → List Bool → List ℕ
+clock_text clock outputs latches = decimal clock ++ 32 ∷ bits_text outputs ++ 32 ∷ bits_text latches ++ 10 ∷ []
+
+-- clocks from this number on
+abbrev pub rows_text : ℕ → List (List Bool) → List (List Bool) → List ℕ
+rows_text first [] latches = []
+rows_text first (row ∷ outputs) [] = []
+rows_text first (row ∷ outputs) (state ∷ latches) = clock_text first row state ++ rows_text (first + 1) outputs latches
+
+-- the number of clocks, and the latch values after the last
+abbrev pub end_text : ℕ → List Bool → List ℕ
+end_text clocks last = codes "end " ++ decimal clocks ++ 32 ∷ bits_text last ++ 10 ∷ []
+
+-- the trace of a history of this many outputs and latches
+abbrev pub trace_text : ℕ → ℕ → History → List ℕ
+trace_text outputs latches history = head_text outputs latches ++ rows_text 0 history.outputs history.states ++ end_text (length history.outputs) history.last

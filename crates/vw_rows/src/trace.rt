@@ -1,0 +1,83 @@
+ghost use Rattle.std.specs.Prelude.{◌≡◌, ◌≤◌, ◌<◌, ◌+◌, ◌^◌, ◌++◌, ◌∷◌, [], length, map, IfOk, OnOk};
+ghost use Rattle.std.specs.Fmt.{decimal};
+ghost use Rattle.vw_rows.specs.Trace.{bits_text, head_text, clock_text, rows_text, end_text};
+
+use std::alloc::{AllocError, Global};
+use vw_net::{Bits, Rows};
+
+/// Appends one character for each bit, or `-` where there is none.
+fn push_bits(text: &mut Vec<u8>, bits: &Bits) -> Result<(), AllocError>
+    ensures { OnOk result (text.new.items ≡ text.old.items ++ bits_text bits.now) }
+{
+    if bits.len() == 0 {
+        return Ok(text.push(b'-')?);
+    }
+    for bit in bits.as_slice() {
+        text.push(if *bit { b'1' } else { b'0' })?;
+    }
+    Ok(())
+}
+
+/// Appends the line of one clock.
+fn push_clock(
+    alloc: Global,
+    text: &mut Vec<u8>,
+    clock: u128,
+    outputs: &Bits,
+    latches: &Bits,
+) -> Result<(), AllocError>
+    ensures { OnOk result (text.new.items ≡ text.old.items ++ clock_text clock outputs.now latches.now) }
+{
+    text.extend_from_slice(clock.to_string(alloc)?.as_bytes())?;
+    text.push(b' ')?;
+    push_bits(text, outputs)?;
+    text.push(b' ')?;
+    push_bits(text, latches)?;
+    text.push(b'\n')?;
+    Ok(())
+}
+
+/// The first line of a trace: the numbers of outputs and latches.
+pub fn trace_head(alloc: Global, outputs: u32, latches: u32) -> Result<Vec<u8>, AllocError>
+    ensures { IfOk result (λ text. text.items ≡ head_text outputs latches) }
+{
+    let line = format!(in alloc; "trace 1 {outputs} {latches}\n")?;
+    Ok(line.into_bytes())
+}
+
+/// The lines of clocks numbered from `first` on: the outputs of each, and the latch values before its step.
+pub fn trace_rows(
+    alloc: Global,
+    first: u64,
+    outputs: &Rows,
+    latches: &Rows,
+) -> Result<Vec<u8>, AllocError>
+    requires { length outputs.now ≡ length latches.now }
+    ensures { IfOk result (λ text. text.items ≡ rows_text first outputs.now latches.now) }
+{
+    let mut text = Vec::new(alloc);
+    let states = latches.as_slice();
+    for (i, row) in outputs.as_slice().iter().enumerate() {
+        push_clock(
+            alloc,
+            &mut text,
+            u128::from(first) + i as u128,
+            row,
+            &states[i],
+        )?;
+    }
+    Ok(text)
+}
+
+/// The last line of a trace: the number of clocks, and the latch values after the last.
+pub fn trace_end(alloc: Global, clocks: u64, last: &Bits) -> Result<Vec<u8>, AllocError>
+    ensures { IfOk result (λ text. text.items ≡ end_text clocks last.now) }
+{
+    let mut text = Vec::new(alloc);
+    text.extend_from_slice(b"end ")?;
+    text.extend_from_slice(clocks.to_string(alloc)?.as_bytes())?;
+    text.push(b' ')?;
+    push_bits(&mut text, last)?;
+    text.push(b'\n')?;
+    Ok(text)
+}

@@ -1,0 +1,103 @@
+-- Values of nets as gates are worked out, one after the other.
+use Rattle.std.proofs.Common.{◌≡◌, ◌≤◌, ◌<◌, ◌+◌, ◌-◌, ◌||◌, ℕ, Bool, true, false, List, [], ◌∷◌, length, take, map, get_or, set, slice_get, slice_index_or, nat_lt, eqb, Option, Some, ap, ap₂, sym, refl, ◌∙◌, ⊎_elim, eq-eqb, ne_eqb, true≢false, lt-ltb, zero, suc, All, arith}
+use Rattle.std.proofs.lemmas.Bool.{cases_eq, cases_lt, or_left, or_right}
+use Rattle.std.proofs.Math.Bool.{or-false}
+use Rattle.std.specs.List.{list_all}
+use Rattle.std.proofs.lemmas.Grind.{get_or-set_at}
+use Rattle.std.proofs.lemmas.List.{get_or-set_other}
+use Rattle.std.proofs.lemmas.List.Elements.{All-head, All-tail, All-weaker}
+use Rattle.std.proofs.lemmas.List.Folds.{list_any_at, list_any_more}
+use Rattle.std.proofs.lemmas.List.Sums.{AllPass-from_list_all}
+use Rattle.std.proofs.lemmas.Option.{slice_get_past, get_or_from_slice_get, slice_get_within, slice_get_read}
+use Rattle.vw_net.specs.declared.cell.Cell.{Cell}
+use Rattle.vw_net.specs.declared.cell.Cell.TheVariants.{Gate, Latch}
+use Rattle.vw_net.specs.declared.cover.Cover.{Cover}
+use Rattle.vw_net.specs.Cells.{IsWellFormed}
+use Rattle.vw_net.specs.Cover.{cover_value}
+use Rattle.vw_net.specs.Order.{IsOrder, is_gate, is_latch, is_among, is_ready, reads_at}
+
+-- two ways to give nets values that agree on each of these nets give one list
+pub map_agree : (value other : ℕ → Bool) (nets : List ℕ) → All (λ net. value net ≡ other net) nets → map value nets ≡ map other nets
+map_agree value other [] agree = refl
+map_agree value other (net ∷ nets) agree =
+    let here : value net ≡ other net = All-head (λ at. value at ≡ other at) net nets agree in
+    let rest : All (λ at. value at ≡ other at) nets = All-tail (λ at. value at ≡ other at) net nets agree in
+    ap₂ (λ (bit : Bool) (bits : List Bool). bit ∷ bits) here (map_agree value other nets rest)
+
+-- a gate's number is below the number of cells
+gate_within : (cells : List Cell) (number : ℕ) → is_gate (slice_get cells number) ≡ true → number < length cells
+gate_within cells number gate = ⊎_elim (λ within. within) (λ past. absurd (true≢false (sym gate ∙ ap is_gate (slice_get_past cells number past)))) (cases_lt number (length cells))
+
+-- a well formed gate reads as many nets as its table has inputs, each of them below this number of nets
+pub gate_fits : (nets : ℕ) (cells : List Cell) (number : ℕ) (ins : List ℕ) (cover : Cover) → All (IsWellFormed nets) cells → slice_get cells number ≡ Some (Gate ins cover) → IsWellFormed nets (Gate ins cover)
+gate_fits nets cells number ins cover fit here =
+    let within = slice_get_within cells number (Gate ins cover) here in
+    rw (get_or_from_slice_get cells number (Gate ins cover) (Gate ins cover) here) at (fit number (Gate ins cover) within)
+
+-- a cell is a gate or a latch
+gate_or_latch : (cells : List Cell) (number : ℕ) → number < length cells → (is_latch (slice_get cells number) || is_gate (slice_get cells number)) ≡ true
+gate_or_latch [] number within = absurd (omega arith)
+gate_or_latch (Gate ins cover ∷ cells) zero within = refl
+gate_or_latch (Latch d init ∷ cells) zero within = refl
+gate_or_latch (cell ∷ cells) (suc number) within = gate_or_latch cells number (omega arith)
+
+module _ {inputs : ℕ} {cells : List Cell} {order : List ℕ} (is_order : IsOrder inputs cells order) where
+  -- what the order lists is a gate
+  pub order_gate : (place : ℕ) → place < length order → is_gate (slice_get cells (get_or order place 0)) ≡ true
+  order_gate place within =
+      let number = get_or order place 0 in
+      is_order.each number ∙ list_any_at (λ other. eqb other number) order place 0 within (eq-eqb number number refl)
+
+  -- and so its number is below the number of cells
+  pub order_within : (place : ℕ) → place < length order → get_or order place 0 < length cells
+  order_within place within = gate_within cells (get_or order place 0) (order_gate place within)
+
+  -- what is read at the number at a place of the order is the cell of that number
+  pub order_cell : (place : ℕ) (items : List ℕ) (list : List Cell) (cell : Cell) → place < length order → items ≡ order → list ≡ cells → cell ≡ get_or list (get_or items place 0) cell → slice_get cells (get_or order place 0) ≡ Some cell
+  order_cell place items list cell within same_items same_list is =
+      slice_get_read cells (length cells) (get_or order place 0) cell refl (order_within place within) (is ∙ ap₂ (λ (from : List Cell) (numbers : List ℕ). get_or from (get_or numbers place 0) cell) same_list same_items)
+
+  -- every net is ready when the whole order is done
+  pub all_ready : (net : ℕ) → net < inputs + length cells → is_ready inputs cells order net ≡ true
+  all_ready net within =
+      let number = net - inputs in
+      let latch = is_latch (slice_get cells number) in
+      let if_input = λ (input : net < inputs). or_left (nat_lt net inputs) (latch || is_among order number) (lt-ltb net inputs input) in
+      let if_driven = λ (past : inputs ≤ net). or_right (nat_lt net inputs) (latch || is_among order number) (ap (λ (gate : Bool). latch || gate) (sym (is_order.each number)) ∙ gate_or_latch cells number (omega arith)) in
+      ⊎_elim if_input if_driven (cases_lt net inputs)
+
+  -- one more gate that is done is no other net's
+  is_among-more : (place net : ℕ) → place < length order → inputs ≤ net → (net ≡ inputs + get_or order place 0 → ⊥) → is_among (take (place + 1) order) (net - inputs) ≡ is_among (take place order) (net - inputs)
+  is_among-more place net within past not_its =
+      let number = net - inputs in
+      let not_here : eqb (get_or order place 0) number ≡ false = ne_eqb (get_or order place 0) number (λ same. not_its (omega arith)) in
+      list_any_more (λ other. eqb other number) order place 0 within ∙ ap (λ (here : Bool). is_among (take place order) number || here) not_here ∙ or-false (is_among (take place order) number)
+
+  -- a net that is ready when one more gate is done is ready before, or it is the gate's
+  ready_before : (place net : ℕ) → place < length order → (net ≡ inputs + get_or order place 0 → ⊥) → is_ready inputs cells (take (place + 1) order) net ≡ true → is_ready inputs cells (take place order) net ≡ true
+  ready_before place net within not_its ready =
+      let latch = is_latch (slice_get cells (net - inputs)) in
+      let if_input = λ (input : net < inputs). or_left (nat_lt net inputs) (latch || is_among (take place order) (net - inputs)) (lt-ltb net inputs input) in
+      let if_driven = λ (past : inputs ≤ net). ap (λ (among : Bool). nat_lt net inputs || (latch || among)) (sym (is_among-more place net within past not_its)) ∙ ready in
+      ⊎_elim if_input if_driven (cases_lt net inputs)
+
+  module _ (place : ℕ) (within : place < length order) (ins : List ℕ) (cover : Cover) (here : slice_get cells (get_or order place 0) ≡ Some (Gate ins cover)) where
+    -- the nets that the gate at a place reads are ready when those before it are done
+    reads_ready : All (λ net. is_ready inputs cells (take place order) net ≡ true) ins
+    reads_ready = AllPass-from_list_all (is_ready inputs cells (take place order)) ins (ap (λ (cell : Option Cell). list_all (is_ready inputs cells (take place order)) (reads_at cell)) (sym here) ∙ is_order.after place within)
+
+    -- where the nets that are ready have their values, its table gives it its value
+    cover_value-gate : (value other : ℕ → Bool) → value (inputs + get_or order place 0) ≡ cover_value cover (map value ins) → ((net : ℕ) → is_ready inputs cells (take place order) net ≡ true → other net ≡ value net) → cover_value cover (map other ins) ≡ value (inputs + get_or order place 0)
+    cover_value-gate value other its have =
+        let agree : All (λ net. other net ≡ value net) ins = All-weaker (λ net. is_ready inputs cells (take place order) net ≡ true) (λ net. other net ≡ value net) have ins reads_ready in
+        ap (cover_value cover) (map_agree other value ins agree) ∙ sym its
+
+    -- so when it is written, the nets that are ready then have theirs
+    pub more_have_values : (value : ℕ → Bool) (values after : List Bool) → inputs + length cells ≤ length values → after ≡ set values (inputs + get_or order place 0) (cover_value cover (map (λ net. slice_index_or values net false) ins)) → value (inputs + get_or order place 0) ≡ cover_value cover (map value ins) → ((net : ℕ) → is_ready inputs cells (take place order) net ≡ true → slice_index_or values net false ≡ value net) → (net : ℕ) → is_ready inputs cells (take (place + 1) order) net ≡ true → slice_index_or after net false ≡ value net
+    more_have_values value values after fits written its have net ready =
+        let number = get_or order place 0 in
+        let bit = cover_value cover (map (λ (at : ℕ). slice_index_or values at false) ins) in
+        let inside : inputs + number < length values = omega (arith, slice_get_within cells number (Gate ins cover) here) in
+        let if_here = λ (same : net ≡ inputs + number). get_or-set_at values (inputs + number) net bit false same inside ∙ cover_value-gate value (λ at. slice_index_or values at false) its have ∙ ap value (sym same) in
+        let if_other = λ (other : net ≡ inputs + number → ⊥). get_or-set_other values (inputs + number) net bit false other ∙ have net (ready_before place net within other ready) in
+        ap (λ (all : List Bool). slice_index_or all net false) written ∙ ⊎_elim if_here if_other (cases_eq net (inputs + number))

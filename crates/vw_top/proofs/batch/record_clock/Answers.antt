@@ -1,0 +1,14 @@
+use Rattle.std.proofs.Common.{◌≡◌, ◌<◌, ◌+◌, ℕ, List, Bool, false, length, map, ap, ◌∙◌, arith}
+use Rattle.std.specs.Prelude.{slice_index_or}
+use Rattle.vw_net.specs.Value.{net_value}
+use Rattle.vw_net.specs.History.{outputs_at}
+use Rattle.vw_top.proofs.Clocks.{outputs_at-from_values}
+use Rattle.vw_top.proofs.batch.record_clock.Goals as goal
+
+pub returns-clause-outputs : goal.returns-clause-outputs
+returns-clause-outputs c =
+    let flat = c.args.ordered.now.flat in
+    let value : ℕ → Bool = λ net. slice_index_or c.step.new.values net false in
+    let nets : c.outputs.result.now ≡ flat.outputs = cc in
+    c.pick.ensures ∙ ap (map value) nets
+    ∙ outputs_at-from_values flat c.args.row.now c.args.state.now value (λ net within. c.step.ensures.values net (omega (arith, c.step.ensures.nets, c.requires.nets)))

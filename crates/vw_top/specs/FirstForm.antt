@@ -1,0 +1,103 @@
+-- Texts of the first form, and the netlist that such a text stands for.
+use Rattle.std.specs.Prelude.{◌≡◌, ◌≤◌, ◌<◌, ℕ, zero, suc, ◌+◌, Bool, true, false, ◌&&◌, ◌||◌, not, List, [], ◌∷◌, ◌++◌, map, take, length, Option, Some, None, option_map, unwrap_or, is_some, if◌then◌else◌, nat_le, ◌==◌, IsTrue}
+use Rattle.std.specs.List.{AllByRecursion, AllZip, list_any, list_all}
+use Rattle.std.specs.Str.{bytes_eq}
+use Rattle.vw_net.specs.declared.cover.Mark.{Mark}
+use Rattle.vw_net.specs.declared.cell.Cell.{Cell}
+use Rattle.vw_net.specs.declared.cell.Cell.TheVariants.{Gate, Latch}
+use Rattle.vw_net.specs.declared.cell.Init.TheVariants.{Zero, One}
+use Rattle.vw_net.specs.declared.flat.Flat.{Flat}
+use Rattle.vw_top.specs.Source.{Word, Item, table, latch, Source, driven_by, read_by, nets_of, spelling}
+
+-- letters, digits and the underscore of ASCII
+abbrev pub is_name_byte : ℕ → Bool
+is_name_byte b = (nat_le 48 b && nat_le b 57) || ((nat_le 65 b && nat_le b 90) || ((nat_le 97 b && nat_le b 122) || b == 95))
+
+-- a name is a run of them that isn't empty
+abbrev pub is_name : Word → Bool
+is_name [] = false
+is_name (b ∷ bs) = list_all is_name_byte (b ∷ bs)
+
+abbrev pub is_among : List Word → Word → Bool
+is_among words word = list_any (λ other. bytes_eq other word) words
+
+-- no word stands twice
+abbrev pub are_distinct : List Word → Bool
+are_distinct [] = true
+are_distinct (word ∷ words) = not (is_among words word) && are_distinct words
+
+-- the names of an item are names, and each row of a table has a mark for each of its inputs, of which there are at most 128
+abbrev pub IsSpelledItem : Item → Type 0
+IsSpelledItem (table ins out rows) = AllByRecursion (λ word. IsTrue (is_name word)) ins × IsTrue (is_name out) × (length ins ≤ 128) × AllByRecursion (λ marks. length marks ≡ length ins) rows
+IsSpelledItem (latch d q one) = IsTrue (is_name d) × IsTrue (is_name q)
+
+abbrev pub is_latch : Item → Bool
+is_latch (table ins out rows) = false
+is_latch (latch d q one) = true
+
+-- the nets that a table may read where these items stand before it: inputs, what latches drive, and what those items drive
+abbrev pub may_read : Source → List Item → Word → Bool
+may_read source before word = is_among source.inputs word || (list_any (λ item. is_latch item && bytes_eq (driven_by item) word) source.items || is_among (map driven_by before) word)
+
+-- each net that an item reads is there, and a table reads no table that doesn't stand before it
+abbrev pub reads_well : Source → List Item → Item → Bool
+reads_well source before (table ins out rows) = list_all (may_read source before) ins
+reads_well source before (latch d q one) = is_among (nets_of source) d
+
+abbrev pub read_well_from : Source → List Item → List Item → Bool
+read_well_from source before [] = true
+read_well_from source before (item ∷ items) = reads_well source before item && read_well_from source (before ++ item ∷ []) items
+
+-- what makes a design one of the first form, beside its spelling
+pub record IsFirstForm (source : Source) : Type 0 where
+  pub name : IsTrue (is_name source.name)
+  pub inputs : AllByRecursion (λ word. IsTrue (is_name word)) source.inputs
+  pub outputs : AllByRecursion (λ word. IsTrue (is_name word)) source.outputs
+  pub items : AllByRecursion IsSpelledItem source.items
+  -- no net has two drivers, and no output stands twice
+  pub one_driver : IsTrue (are_distinct (nets_of source))
+  pub one_output : IsTrue (are_distinct source.outputs)
+  -- what is read is there
+  pub reads : IsTrue (read_well_from source [] source.items)
+  pub outputs_known : IsTrue (list_all (is_among (nets_of source)) source.outputs)
+  -- the limits
+  pub few_inputs : length source.inputs ≤ 4096
+  pub few_outputs : length source.outputs ≤ 4096
+  pub few_items : length source.items ≤ 65536
+
+-- a text of the first form: the spelling of such a design, of at most 16,777,216 bytes
+pub record Spells (text : List ℕ) (source : Source) : Type 0 where
+  pub spelled : text ≡ spelling source
+  pub form : IsFirstForm source
+  pub short : length text ≤ 16777216
+
+-- the number of a net: its place among the names
+abbrev pub place_of : List Word → Word → Option ℕ
+place_of [] word = None
+place_of (other ∷ words) word = if bytes_eq other word then Some zero else option_map suc (place_of words word)
+
+abbrev pub net_number : Source → Word → ℕ
+net_number source word = unwrap_or (place_of (nets_of source) word) 0
+
+-- the cell of an item: a gate with the table's rows as its on-set, or a latch
+abbrev pub IsCellOf : Source → Item → Cell → Type 0
+IsCellOf source (table ins out rows) (Gate nets cover) = (nets ≡ map (net_number source) ins) × (cover.inputs ≡ length ins) × (cover.on ≡ true) × (map (λ row. row.marks) cover.rows ≡ rows)
+IsCellOf source (table ins out rows) (Latch d init) = ⊥
+IsCellOf source (latch d q one) (Gate nets cover) = ⊥
+IsCellOf source (latch d q one) (Latch net init) = (net ≡ net_number source d) × (init ≡ (if one then One else Zero))
+
+-- the inputs in order, one cell for each item in order, the outputs in order
+pub record IsNetlistOf (source : Source) (flat : Flat) : Type 0 where
+  pub inputs : flat.inputs ≡ length source.inputs
+  pub cells : AllZip (IsCellOf source) source.items flat.cells
+  pub outputs : flat.outputs ≡ map (net_number source) source.outputs
+
+-- the text spells a design of the first form, and the netlist is that of each such design
+pub record IsDesignOf (text : List ℕ) (flat : Flat) : Type 0 where
+  pub source : Source
+  pub spells : Spells text source
+  pub netlist : (other : Source) → Spells text other → IsNetlistOf other flat
+
+-- the text isn't of the first form
+abbrev pub IsNoDesign : List ℕ → Type 0
+IsNoDesign text = (source : Source) → Spells text source → ⊥

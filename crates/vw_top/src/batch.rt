@@ -1,0 +1,125 @@
+//! A number of clocks, worked out with no memory taken inside a clock.
+ghost use Rattle.std.specs.Prelude.{◌≡◌, ◌<◌, ◌+◌, false, length, map, slice_index_or, IfOk};
+ghost use Rattle.std.specs.List.{All};
+ghost use Rattle.vw_net.specs.Cells.{latches};
+ghost use Rattle.vw_net.specs.History.{outputs_at, next_state, outputs_of, states_of, state_after};
+
+use crate::clock::step;
+use std::alloc::{AllocError, Global};
+use vw_net::{Bits, Ordered, Rows};
+
+/// What a netlist did in a number of clocks: the outputs of each, and the latch values before its step.
+#[derive(Drop)]
+pub struct Batch {
+    pub outputs: Rows,
+    pub states: Rows,
+}
+
+/// Rows of this many bits.
+fn blank_rows(alloc: Global, count: usize, width: usize) -> Result<Vec<Bits>, AllocError>
+    ensures count { IfOk result (λ rows. length rows.items ≡ count) }
+    ensures width { IfOk result (λ rows. All (λ row. length row ≡ width) rows.items) }
+{
+    let mut rows = Vec::new(alloc);
+    for _ in 0..count {
+        rows.push(Bits::of(vec![in alloc; false; width]?))?;
+    }
+    Ok(rows)
+}
+
+/// Writes the bits of one list over those of another.
+fn copy_bits(from: &Bits, to: &mut Bits)
+    requires { length to.old ≡ length from.now }
+    ensures { to.new ≡ from.now }
+{
+    let from = from.as_slice();
+    for (i, bit) in from.iter().enumerate() {
+        to.set(i, *bit);
+    }
+}
+
+/// Writes the values of some nets over a list of bits.
+fn pick(values: &Bits, nets: &[u32], to: &mut Bits)
+    requires known { All (λ net. net < length values.now) nets.now }
+    requires size { length to.old ≡ length nets.now }
+    ensures { to.new ≡ map (λ net. slice_index_or values.now net false) nets.now }
+{
+    let values = values.as_slice();
+    for (i, net) in nets.iter().enumerate() {
+        to.set(i, values[*net as usize]);
+    }
+}
+
+/// One clock, whose outputs and latch values before the step are written over two lists of bits.
+fn record_clock(
+    ordered: &Ordered,
+    row: &Bits,
+    state: &mut Bits,
+    values: &mut Bits,
+    outputs: &mut Bits,
+    before: &mut Bits,
+)
+    requires columns { length row.now ≡ ordered.now.flat.inputs }
+    requires latches { length state.old ≡ latches ordered.now.flat.cells }
+    requires nets { length values.old ≡ ordered.now.flat.inputs + length ordered.now.flat.cells }
+    requires outputs { length outputs.old ≡ length ordered.now.flat.outputs }
+    requires before { length before.old ≡ length state.old }
+    ensures outputs { outputs.new ≡ outputs_at ordered.now.flat row.now state.old }
+    ensures before { before.new ≡ state.old }
+    ensures state { state.new ≡ next_state ordered.now.flat row.now state.old }
+    ensures nets { length values.new ≡ length values.old }
+{
+    copy_bits(state, before);
+    step(ordered, row, state, values);
+    pick(values, ordered.flat().outputs(), outputs);
+}
+
+/// Clocks for some rows, written over as many lists of bits.
+fn record_clocks(
+    ordered: &Ordered,
+    rows: &[Bits],
+    state: &mut Bits,
+    values: &mut Bits,
+    outputs: &mut [Bits],
+    states: &mut [Bits],
+)
+    requires columns { All (λ row. length row ≡ ordered.now.flat.inputs) rows.now }
+    requires latches { length state.old ≡ latches ordered.now.flat.cells }
+    requires nets { length values.old ≡ ordered.now.flat.inputs + length ordered.now.flat.cells }
+    requires outputs { All (λ bits. length bits ≡ length ordered.now.flat.outputs) outputs.old }
+    requires states { All (λ bits. length bits ≡ latches ordered.now.flat.cells) states.old }
+    requires count { (length outputs.old ≡ length rows.now) × (length states.old ≡ length rows.now) }
+    ensures outputs { outputs.new ≡ outputs_of ordered.now.flat state.old rows.now }
+    ensures states { states.new ≡ states_of ordered.now.flat state.old rows.now }
+    ensures state { state.new ≡ state_after ordered.now.flat state.old rows.now }
+    ensures nets { length values.new ≡ length values.old }
+{
+    for (i, row) in rows.iter().enumerate() {
+        record_clock(ordered, row, state, values, &mut outputs[i], &mut states[i]);
+    }
+}
+
+/// Clocks for some rows from a state on. All memory is taken before the first.
+pub fn run_batch(
+    alloc: Global,
+    ordered: &Ordered,
+    rows: &[Bits],
+    state: &mut Bits,
+    values: &mut Bits,
+) -> Result<Batch, AllocError>
+    requires columns { All (λ row. length row ≡ ordered.now.flat.inputs) rows.now }
+    requires latches { length state.old ≡ latches ordered.now.flat.cells }
+    requires nets { length values.old ≡ ordered.now.flat.inputs + length ordered.now.flat.cells }
+    ensures outputs { IfOk result (λ batch. batch.outputs ≡ outputs_of ordered.now.flat state.old rows.now) }
+    ensures states { IfOk result (λ batch. batch.states ≡ states_of ordered.now.flat state.old rows.now) }
+    ensures state { IfOk result (λ _. state.new ≡ state_after ordered.now.flat state.old rows.now) }
+    ensures nets { length values.new ≡ length values.old }
+{
+    let mut outputs = blank_rows(alloc, rows.len(), ordered.flat().outputs().len())?;
+    let mut states = blank_rows(alloc, rows.len(), state.len())?;
+    record_clocks(ordered, rows, state, values, &mut outputs, &mut states);
+    Ok(Batch {
+        outputs: Rows::of(outputs),
+        states: Rows::of(states),
+    })
+}

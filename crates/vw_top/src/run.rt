@@ -1,0 +1,103 @@
+//! Runs a netlist over rows, and writes its trace piece by piece.
+ghost use Rattle.std.specs.Prelude.{◌≡◌, ◌≤◌, ◌<◌, ◌+◌, ◌^◌, length, OnOk, OnErr, IsErrOf};
+ghost use Rattle.std.specs.List.{All};
+ghost use Rattle.vw_net.specs.Cells.{latches};
+ghost use Rattle.vw_net.specs.History.{outputs_of, states_of, state_after};
+ghost use Rattle.vw_outside.specs.Told.{Rose};
+ghost use Rattle.vw_outside.specs.Appended.{appended, WrotePart};
+ghost use Rattle.vw_rows.specs.Trace.{rows_text};
+ghost use Rattle.vw_top.specs.Commands.{trace_of};
+
+use crate::batch::run_batch;
+use std::alloc::{AllocError, Global};
+use vw_net::{Bits, Ordered, Rows, histories_join};
+use vw_outside::{Failed, Sink, put_all};
+use vw_rows::{trace_end, trace_head, trace_rows};
+
+/// Why a run ended before its trace was written whole.
+#[derive(Clone, Copy, Debug, PartialEq, Eq)]
+pub enum RunFault {
+    WriteFault,
+    NoMemory,
+}
+
+impl From<AllocError> for RunFault {
+    ghost use Rattle.vw_top.specs.declared.run.RunFault.TheVariants.{NoMemory};
+
+    ghost from_gives = { λ _ e. e ≡ NoMemory };
+
+    fn from(_: AllocError) -> Self {
+        RunFault::NoMemory
+    }
+}
+
+impl From<Failed> for RunFault {
+    ghost use Rattle.vw_top.specs.declared.run.RunFault.TheVariants.{WriteFault};
+
+    ghost from_gives = { λ _ e. e ≡ WriteFault };
+
+    fn from(_: Failed) -> Self {
+        RunFault::WriteFault
+    }
+}
+
+/// How many clocks are worked out before their lines are written.
+const BATCH: usize = 256;
+
+/// Runs the clocks of some rows from a state on, and writes their lines.
+fn write_clocks<O: Sink>(
+    alloc: Global,
+    ordered: &Ordered,
+    rows: &[Bits],
+    state: &mut Bits,
+    values: &mut Bits,
+    out: &mut O,
+) -> Result<(), RunFault>
+    requires columns { All (λ row. length row ≡ ordered.now.flat.inputs) rows.now }
+    requires latches { length state.old ≡ latches ordered.now.flat.cells }
+    requires nets { length values.old ≡ ordered.now.flat.inputs + length ordered.now.flat.cells }
+    ensures lines { OnOk result (O.told out.new ≡ appended (O.told out.old)
+        (rows_text 0 (outputs_of ordered.now.flat state.old rows.now) (states_of ordered.now.flat state.old rows.now))) }
+    ensures state { OnOk result (state.new ≡ state_after ordered.now.flat state.old rows.now) }
+    ensures part { OnErr result (WrotePart (O.told out.old)
+        (rows_text 0 (outputs_of ordered.now.flat state.old rows.now) (states_of ordered.now.flat state.old rows.now)) (O.told out.new)) }
+    ensures cause { IsErrOf result RunFault.WriteFault → Rose (O.faults out.old) (O.faults out.new) }
+    ensures kept { O.faults out.old ≤ O.faults out.new }
+{
+    histories_join();
+    let mut done = 0;
+    while done < rows.len() {
+        let end = rows.len().min(done + BATCH);
+        let batch = run_batch(alloc, ordered, &rows[done..end], state, values)?;
+        let lines = trace_rows(alloc, done as u64, &batch.outputs, &batch.states)?;
+        put_all(out, &lines)?;
+        done = end;
+    }
+    Ok(())
+}
+
+/// Runs a netlist over rows from the start values on, and writes its trace.
+pub fn write_trace<O: Sink>(
+    alloc: Global,
+    ordered: &Ordered,
+    rows: &Rows,
+    out: &mut O,
+) -> Result<(), RunFault>
+    requires { All (λ row. length row ≡ ordered.now.flat.inputs) rows.now }
+    ensures trace { OnOk result (O.told out.new ≡ appended (O.told out.old) (trace_of ordered.now.flat rows.now)) }
+    ensures part { OnErr result (WrotePart (O.told out.old) (trace_of ordered.now.flat rows.now) (O.told out.new)) }
+    ensures cause { IsErrOf result RunFault.WriteFault → Rose (O.faults out.old) (O.faults out.new) }
+    ensures kept { O.faults out.old ≤ O.faults out.new }
+{
+    let flat = ordered.flat();
+    let mut state = flat.start(alloc, false)?;
+    let nets = flat.inputs() as usize + flat.cells().len();
+    let mut values = Bits::of(vec![in alloc; false; nets]?);
+    let head = trace_head(alloc, flat.outputs().len() as u32, state.len() as u32)?;
+    put_all(out, &head)?;
+    let rows = rows.as_slice();
+    write_clocks(alloc, ordered, rows, &mut state, &mut values, out)?;
+    let end = trace_end(alloc, rows.len() as u64, &state)?;
+    put_all(out, &end)?;
+    Ok(())
+}

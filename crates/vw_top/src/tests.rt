@@ -1,0 +1,284 @@
+ghost use Rattle.std.specs.Prelude.{◌<◌};
+
+use super::*;
+use std::alloc::{AllocError, Global};
+use std::test::Fail;
+use vw_outside::{Held, MemShelf, MemSink, Name};
+
+/// The design and the stimulus of the program's stored run.
+const TOGGLE: &str =
+    ".model toggle\n.inputs en\n.outputs q\n.names en q d\n10 1\n01 1\n.latch d q 0\n.end\n";
+
+const TOGGLE_ROWS: &str = "1\n1\n0\n";
+
+const TOGGLE_TRACE: &str = "trace 1 1 1\n0 0 0\n1 1 1\n2 0 0\nend 3 0\n";
+
+/// How a call ended, and what it wrote.
+#[derive(Drop)]
+struct Ran {
+    status: u8,
+    out: Vec<u8>,
+    err: Vec<u8>,
+}
+
+/// Calls whose numbers, from 1, fail, and how many bytes a call takes.
+#[derive(Clone, Copy, Drop)]
+struct Faults {
+    most: u64,
+    read: u64,
+    write: u64,
+    message: u64,
+}
+
+const NO_FAULTS: Faults = Faults {
+    most: 4096,
+    read: 0,
+    write: 0,
+    message: 0,
+};
+
+fn run(
+    alloc: Global,
+    words: &[&str],
+    design: &str,
+    stimulus: &str,
+    faults: Faults,
+) -> Result<Ran, AllocError> {
+    let most = faults.most.max(1);
+    let mut names = Vec::new(alloc);
+    for word in words {
+        names.push(Name::of(word.as_bytes().to_vec(alloc)?))?;
+    }
+    let mut files = Vec::new(alloc);
+    for (name, text) in [("d", design), ("s", stimulus)] {
+        let name = Name::of(name.as_bytes().to_vec(alloc)?);
+        files.push(Held::make(name, text.as_bytes().to_vec(alloc)?))?;
+    }
+    let mut shelf = MemShelf::new(files, most, vec![in alloc; faults.read]?);
+    let mut out = MemSink::new(alloc, most, vec![in alloc; faults.write]?);
+    let mut err = MemSink::new(alloc, most, vec![in alloc; faults.message]?);
+    let status = virtual_wires(alloc, &names, &mut shelf, &mut out, &mut err);
+    Ok(Ran {
+        status,
+        out: out.bytes().to_vec(alloc)?,
+        err: err.bytes().to_vec(alloc)?,
+    })
+}
+
+fn sim(alloc: Global, design: &str, stimulus: &str) -> Result<Ran, AllocError> {
+    run(alloc, &["sim", "d", "s"], design, stimulus, NO_FAULTS)
+}
+
+#[test]
+fn a_toggle_runs_in_pieces_of_any_size(rt: HostRuntime) -> Result<(), Fail> {
+    for most in [1, 10, 4096] {
+        let faults = Faults { most, ..NO_FAULTS };
+        let ran = run(rt.alloc(), &["sim", "d", "s"], TOGGLE, TOGGLE_ROWS, faults)?;
+        assert_eq!(rt; ran.status, 0, "pieces of {most}");
+        assert_eq!(rt; ran.out.as_slice(), TOGGLE_TRACE.as_bytes());
+        assert!(rt; ran.err.is_empty());
+    }
+    Ok(())
+}
+
+#[test]
+fn wrong_words_are_named_by_their_place(rt: HostRuntime) -> Result<(), Fail> {
+    let table: [(&[&str], &str); 8] = [
+        (&[], "usage: word 1\n"),
+        (&["fly"], "usage: word 1\n"),
+        (&["", "d", "s"], "usage: word 1\n"),
+        (&["sim"], "usage: word 2\n"),
+        (&["sim", "", "s"], "usage: word 2\n"),
+        (&["sim", "d"], "usage: word 3\n"),
+        (&["sim", "d", ""], "usage: word 3\n"),
+        (&["sim", "d", "s", "x"], "usage: word 4\n"),
+    ];
+    for (words, line) in table {
+        let ran = run(rt.alloc(), words, TOGGLE, TOGGLE_ROWS, NO_FAULTS)?;
+        assert_eq!(rt; ran.status, 2);
+        assert_eq!(rt; ran.err.as_slice(), line.as_bytes());
+        assert!(rt; ran.out.is_empty());
+    }
+    Ok(())
+}
+
+#[test]
+fn a_missing_file_is_a_read_fault(rt: HostRuntime) -> Result<(), Fail> {
+    let table: [([&str; 3], &str); 2] = [
+        (["sim", "missing", "s"], "read fault: design\n"),
+        (["sim", "d", "missing"], "read fault: stimulus\n"),
+    ];
+    for (words, line) in table {
+        let ran = run(rt.alloc(), words.as_slice(), TOGGLE, TOGGLE_ROWS, NO_FAULTS)?;
+        assert_eq!(rt; ran.status, 7);
+        assert_eq!(rt; ran.err.as_slice(), line.as_bytes());
+        assert!(rt; ran.out.is_empty());
+    }
+    Ok(())
+}
+
+#[test]
+fn each_fault_of_a_stimulus_has_its_line(rt: HostRuntime) -> Result<(), Fail> {
+    let table = [
+        ("2", "stimulus 2: line 1: bad line\n"),
+        ("10", "stimulus 3: line 1: found 2 bits, wanted 1\n"),
+        ("1\n\n0\n", "stimulus 2: line 2: bad line\n"),
+        (
+            "1\n0\n01\n2\n",
+            "stimulus 3: line 3: found 2 bits, wanted 1\n",
+        ),
+        ("1\n1x\n", "stimulus 2: line 2: bad line\n"),
+        ("1 \n", "stimulus 2: line 1: bad line\n"),
+        ("1\n0\n\n", "stimulus 2: line 3: bad line\n"),
+        ("\n", "stimulus 2: line 1: bad line\n"),
+    ];
+    for (stimulus, line) in table {
+        let ran = sim(rt.alloc(), TOGGLE, stimulus)?;
+        assert_eq!(rt; ran.status, 5, "{stimulus}");
+        assert_eq!(rt; ran.err.as_slice(), line.as_bytes());
+        assert!(rt; ran.out.is_empty());
+    }
+    Ok(())
+}
+
+#[test]
+fn designs_do_what_they_say(rt: HostRuntime) -> Result<(), Fail> {
+    let table = [
+        // no rows at all; the last line may lack its end
+        (TOGGLE, "", "trace 1 1 1\nend 0 0\n"),
+        (TOGGLE, "1", "trace 1 1 1\n0 0 0\nend 1 1\n"),
+        // a table without rows, one that is always 1, and one of two inputs of which one doesn't matter
+        (
+            ".model m\n.inputs a b\n.outputs z o y\n.names z\n.names o\n1\n.names a b y\n-1 1\n.end\n",
+            "00\n01\n10\n11\n",
+            "trace 1 3 0\n0 010 -\n1 011 -\n2 010 -\n3 011 -\nend 4 -\n",
+        ),
+        // two latches that exchange their values, the second of which starts at 1
+        (
+            ".model m\n.inputs a\n.outputs p\n.latch q p 0\n.latch p q 1\n.end\n",
+            "0\n0\n0\n",
+            "trace 1 1 2\n0 0 01\n1 1 10\n2 0 01\nend 3 10\n",
+        ),
+        // an input is an output, and nothing else is there
+        (
+            ".model m\n.inputs a\n.outputs a\n.end\n",
+            "1\n0\n",
+            "trace 1 1 0\n0 1 -\n1 0 -\nend 2 -\n",
+        ),
+        // a gate of a gate, and a latch of the second
+        (
+            ".model m\n.inputs a b\n.outputs x q\n.names a b n\n11 1\n.names n x\n0 1\n.latch x q 1\n.end\n",
+            "11\n10\n",
+            "trace 1 2 1\n0 01 1\n1 10 0\nend 2 1\n",
+        ),
+    ];
+    for (design, stimulus, trace) in table {
+        let ran = sim(rt.alloc(), design, stimulus)?;
+        assert_eq!(rt; ran.status, 0, "{design}");
+        assert_eq!(rt; ran.out.as_slice(), trace.as_bytes(), "{design}");
+        assert!(rt; ran.err.is_empty());
+    }
+    Ok(())
+}
+
+#[test]
+fn other_designs_are_not_read_yet(rt: HostRuntime) -> Result<(), Fail> {
+    let table = [
+        // gates that read each other
+        ".model m\n.outputs a\n.names a b\n1 1\n.names b a\n1 1\n.end\n",
+        ".model m\n.inputs\n.outputs a\n.names a b\n1 1\n.names b a\n1 1\n.end\n",
+        // no last newline; two blanks; a blank at the end of a line; an empty line; text behind the end
+        ".model m\n.inputs a\n.outputs a\n.end",
+        ".model  m\n.inputs a\n.outputs a\n.end\n",
+        ".model m \n.inputs a\n.outputs a\n.end\n",
+        ".model m\n\n.inputs a\n.outputs a\n.end\n",
+        ".model m\n.inputs a\n.outputs a\n.end\n.end\n",
+        "",
+        // lines missing or in another order
+        ".model m\n.outputs a\n.inputs a\n.end\n",
+        ".inputs a\n.outputs a\n.end\n",
+        ".model m\n.inputs a\n.outputs a\n",
+        // rows: an off-set, a wrong width, a wrong character, none of any table
+        ".model m\n.inputs a\n.outputs y\n.names a y\n1 0\n.end\n",
+        ".model m\n.inputs a\n.outputs y\n.names a y\n11 1\n.end\n",
+        ".model m\n.inputs a\n.outputs y\n.names a y\n2 1\n.end\n",
+        ".model m\n.inputs a\n.outputs a\n1 1\n.end\n",
+        // latches: a free one, one with a type, one without a value
+        ".model m\n.inputs a\n.outputs q\n.latch a q 2\n.end\n",
+        ".model m\n.inputs a\n.outputs q\n.latch a q re a 0\n.end\n",
+        ".model m\n.inputs a\n.outputs q\n.latch a q\n.end\n",
+        // names
+        ".model m\n.inputs a-b\n.outputs a-b\n.end\n",
+        ".model m\n.inputs a a\n.outputs a\n.end\n",
+        ".model m\n.inputs a\n.outputs a a\n.end\n",
+        ".model m\n.inputs a\n.outputs a\n.names a\n1\n.end\n",
+        ".model m\n.inputs a\n.outputs y\n.names a y\n1 1\n.names a y\n1 1\n.end\n",
+        // nets that nothing drives, and a gate that reads a later one
+        ".model m\n.inputs a\n.outputs y\n.end\n",
+        ".model m\n.inputs a\n.outputs y\n.names b y\n1 1\n.end\n",
+        ".model m\n.inputs a\n.outputs q\n.latch b q 0\n.end\n",
+        ".model m\n.inputs a\n.outputs y\n.names n y\n1 1\n.names a n\n1 1\n.end\n",
+        // another command of the format
+        ".model m\n.inputs a\n.outputs a\n.subckt m a=a\n.end\n",
+    ];
+    for design in table {
+        let ran = sim(rt.alloc(), design, "")?;
+        assert_eq!(rt; ran.status, 1, "{design}");
+        assert_eq!(rt; ran.err.as_slice(), b"design 0: not yet\n".as_slice());
+        assert!(rt; ran.out.is_empty());
+    }
+    Ok(())
+}
+
+#[test]
+fn each_read_and_each_write_may_fail(rt: HostRuntime) -> Result<(), Fail> {
+    let words = ["sim", "d", "s"];
+    for read in 1..40 {
+        let faults = Faults {
+            most: 8,
+            read,
+            ..NO_FAULTS
+        };
+        let ran = run(rt.alloc(), words.as_slice(), TOGGLE, TOGGLE_ROWS, faults)?;
+        assert!(rt; ran.status == 0 || ran.status == 7);
+        assert!(rt; TOGGLE_TRACE.as_bytes().starts_with(&ran.out));
+        assert_eq!(rt;
+            ran.status == 0,
+            ran.out.as_slice() == TOGGLE_TRACE.as_bytes()
+        );
+        assert_eq!(rt; ran.err.is_empty(), ran.status == 0);
+    }
+    for write in 1..12 {
+        let faults = Faults {
+            most: 10,
+            write,
+            ..NO_FAULTS
+        };
+        let ran = run(rt.alloc(), words.as_slice(), TOGGLE, TOGGLE_ROWS, faults)?;
+        assert!(rt; ran.status == 0 || ran.status == 8);
+        assert!(rt; TOGGLE_TRACE.as_bytes().starts_with(&ran.out));
+        assert_eq!(rt;
+            ran.status == 0,
+            ran.out.as_slice() == TOGGLE_TRACE.as_bytes()
+        );
+        if write == 2 {
+            assert_eq!(rt; ran.status, 8);
+            assert!(rt; ran.out.len() <= 10);
+            assert_eq!(rt; ran.err.as_slice(), b"write fault\n".as_slice());
+        }
+    }
+    Ok(())
+}
+
+#[test]
+fn a_fault_of_err_changes_no_status(rt: HostRuntime) -> Result<(), Fail> {
+    let faults = Faults {
+        most: 5,
+        message: 2,
+        ..NO_FAULTS
+    };
+    let ran = run(rt.alloc(), &["fly"], TOGGLE, TOGGLE_ROWS, faults)?;
+    assert_eq!(rt; ran.status, 2);
+    assert_eq!(rt; ran.err.as_slice(), b"usage".as_slice());
+    Ok(())
+}
