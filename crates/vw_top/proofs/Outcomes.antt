@@ -1,5 +1,5 @@
 -- The ways in which a call of `sim` ends, and what its status says of them.
-use Rattle.std.proofs.Common.{◌≡◌, ◌⊎◌, ℕ, Bool, List, length, Option, Some, None, Result, Ok, Err, refl, sym, ◌∙◌, ap, subst, inl, inr, append-nil, arith}
+use Rattle.std.proofs.Common.{◌≡◌, ◌≢◌, ◌<◌, ◌⊎◌, ℕ, Bool, List, length, Option, Some, None, Result, Ok, Err, refl, sym, ◌∙◌, ap, subst, inl, inr, append-nil, arith}
 use Rattle.std.proofs.Math.Seq.{take-length}
 use Rattle.vw_net.specs.declared.flat.Flat.{Flat}
 use Rattle.vw_outside.specs.Told.{Told, untold, absent, held, Rose, OfText}
@@ -13,8 +13,9 @@ use Rattle.vw_top.specs.declared.refusal.Refusal.TheVariants.{Usage, NotYet, Sti
 use Rattle.vw_top.specs.Refusal.{status_of}
 use Rattle.vw_top.specs.FirstForm.{IsDesignOf, IsNoDesign}
 use Rattle.vw_top.specs.Course.{Outside, Answer, Follows, Writes, Refuses, StopsReading}
-use Rattle.vw_top.specs.Commands.{sim_course, run_course, trace_of, Found}
-use Rattle.vw_top.specs.Statuses.{SimStatuses, IsAccepted, Yields, answer_status}
+use Rattle.vw_top.specs.Words.{Spelled, sim, nothing}
+use Rattle.vw_top.specs.Commands.{sim_course, run_course, trace_of, Found, course_of}
+use Rattle.vw_top.specs.Statuses.{SimStatuses, UsageStatuses, IsAccepted, Yields, answer_status}
 
 -- a name of which this is told may have this text
 pub record MayHave (told : Told) (text : List ℕ) : Type 0 where
@@ -222,6 +223,23 @@ module _ (design stimulus : List ℕ) (before after : Outside) (status : ℕ) wh
   gives_no_design (runs d' s flat rows has_d has_s is said ends) d is_d none =
       absurd (no_netlist_of_none d' d flat has_d is is_d none)
 
+  -- and then out is as it was
+  leaves_no_design : Ended → (d : List ℕ) → before.told design ≡ held d → IsNoDesign d → after.out ≡ before.out
+  leaves_no_design (stops_at_design same yields) d is_d none = same
+  leaves_no_design (has_no_design d' has_d refused same ends) d is_d none = same
+  leaves_no_design (stops_at_stimulus d' flat has_d is same yields) d is_d none = same
+  leaves_no_design (has_no_rows d' s flat fault has_d has_s is said same ends) d is_d none = same
+  leaves_no_design (runs d' s flat rows has_d has_s is said ends) d is_d none =
+      absurd (no_netlist_of_none d' d flat has_d is is_d none)
+
+  -- which statuses there aren't
+  is_known : Ended → (status ≢ 3) × (status ≢ 4) × (status ≢ 6) × (status < 10)
+  is_known (stops_at_design same yields) = omega arith
+  is_known (has_no_design d has_d none same ends) = omega arith
+  is_known (stops_at_stimulus d flat has_d is same yields) = omega arith
+  is_known (has_no_rows d s flat fault has_d has_s is said same ends) = omega arith
+  is_known (runs d s flat rows has_d has_s is said ends) = omega arith
+
   -- no call has status 2
   is_no_usage : Ended → status ≡ 2 → ⊥
   is_no_usage (stops_at_design same yields) two = omega arith
@@ -267,6 +285,17 @@ module _ (design stimulus : List ℕ) (before after : Outside) (status : ℕ) wh
   gives_no_rows (has_no_rows d' s' flat' fault' has_d has_s is' said' same (inr nine)) d s flat fault is_d is_s is said =
       inr (inl (inl nine))
   gives_no_rows (runs d' s' flat' rows has_d has_s is' said' ends) d s flat fault is_d is_s is said =
+      let again = said_again d' s' d s flat' flat (Ok rows) has_d has_s is_d is_s is' is said' in
+      absurd (rows_or_fault (stimulus_rows flat.inputs s) rows fault again said)
+
+  -- and then out is as it was
+  leaves_no_rows : Ended → (d s : List ℕ) (flat : Flat) (fault : StimFault) → before.told design ≡ held d
+      → before.told stimulus ≡ held s → IsDesignOf d flat → stimulus_rows flat.inputs s ≡ Err fault → after.out ≡ before.out
+  leaves_no_rows (stops_at_design same yields) d s flat fault is_d is_s is said = same
+  leaves_no_rows (has_no_design d' has_d none same ends) d s flat fault is_d is_s is said = same
+  leaves_no_rows (stops_at_stimulus d' flat' has_d is' same yields) d s flat fault is_d is_s is said = same
+  leaves_no_rows (has_no_rows d' s' flat' fault' has_d has_s is' said' same ends) d s flat fault is_d is_s is said = same
+  leaves_no_rows (runs d' s' flat' rows has_d has_s is' said' ends) d s flat fault is_d is_s is said =
       let again = said_again d' s' d s flat' flat (Ok rows) has_d has_s is_d is_s is' is said' in
       absurd (rows_or_fault (stimulus_rows flat.inputs s) rows fault again said)
 
@@ -383,9 +412,12 @@ module _ (design stimulus : List ℕ) (before after : Outside) (status : ℕ) wh
     done = is_done ended;
     no_design = is_no_design ended;
     no_design_comes = gives_no_design ended;
+    no_design_leaves = leaves_no_design ended;
     no_usage = is_no_usage ended;
     no_rows = is_no_rows ended;
     no_rows_comes = gives_no_rows ended;
+    no_rows_leaves = leaves_no_rows ended;
+    known = is_known ended;
     untouched = leaves_out ended;
     read_fault = has_read_fault ended;
     write_fault = has_write_fault ended;
@@ -401,3 +433,20 @@ pub sim_statuses_law : (design stimulus : List ℕ) (before after : Outside) (an
 sim_statuses_law design stimulus before after answer follows =
     let ended = sim_outcome design stimulus before after answer follows in
     outcome_statuses design stimulus before after (answer_status answer) ended
+
+-- the same of a call, by its status and the words
+pub sim_statuses_of : (spelled : Spelled) (before after : Outside) (answer : Answer) (status : ℕ) → Follows (course_of spelled) before after answer
+    → status ≡ answer_status answer → (design stimulus : List ℕ) → spelled ≡ sim design stimulus → SimStatuses design stimulus before after status
+sim_statuses_of spelled before after answer status follows is design stimulus words =
+    let course = subst (λ (s : Spelled). Follows (course_of s) before after answer) words follows in
+    rw is (sim_statuses_law design stimulus before after answer course)
+
+-- and where the words spell no command
+usage_ends : (place : ℕ) (before after : Outside) (answer : Answer) → Refuses (Usage place) before after answer → UsageStatuses before after (answer_status answer)
+usage_ends place before after answer (same, (inl is)) = rw is (record { comes = inl refl; leaves = same })
+usage_ends place before after answer (same, (inr is)) = rw is (record { comes = inr refl; leaves = same })
+
+pub usage_statuses_of : (spelled : Spelled) (before after : Outside) (answer : Answer) (status : ℕ) → Follows (course_of spelled) before after answer
+    → status ≡ answer_status answer → (place : ℕ) → spelled ≡ nothing place → UsageStatuses before after status
+usage_statuses_of spelled before after answer status follows is place words =
+    rw is (usage_ends place before after answer (subst (λ (s : Spelled). Follows (course_of s) before after answer) words follows))

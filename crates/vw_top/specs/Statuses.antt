@@ -1,5 +1,5 @@
 -- What each status of a call means, when it comes, and what it leaves: what follows from the course of a command.
-use Rattle.std.specs.Prelude.{◌≡◌, ◌⊎◌, ℕ, Bool, List, Result, Ok, Err}
+use Rattle.std.specs.Prelude.{◌≡◌, ◌≢◌, ◌<◌, ◌⊎◌, ℕ, Bool, List, Result, Ok, Err}
 use Rattle.vw_net.specs.declared.flat.Flat.{Flat}
 use Rattle.vw_outside.specs.Told.{Told, absent, held, Rose}
 use Rattle.vw_outside.specs.Appended.{appended, WrotePart}
@@ -34,6 +34,7 @@ pub record SimStatuses (design stimulus : List ℕ) (before after : Outside) (st
   -- 1: exactly where the design text isn't of the first form
   pub no_design : (d : List ℕ) → before.told design ≡ held d → status ≡ 1 → IsNoDesign d
   pub no_design_comes : (d : List ℕ) → before.told design ≡ held d → IsNoDesign d → (status ≡ 1) ⊎ Yields design before after status
+  pub no_design_leaves : (d : List ℕ) → before.told design ≡ held d → IsNoDesign d → after.out ≡ before.out
   -- 2 isn't the status of a command that is spelled
   pub no_usage : status ≡ 2 → ⊥
   -- 5: exactly where the stimulus text has a fault
@@ -41,6 +42,10 @@ pub record SimStatuses (design stimulus : List ℕ) (before after : Outside) (st
       → (flat : Flat) × (fault : StimFault) × IsDesignOf d flat × (stimulus_rows flat.inputs s ≡ Err fault)
   pub no_rows_comes : (d s : List ℕ) (flat : Flat) (fault : StimFault) → before.told design ≡ held d → before.told stimulus ≡ held s
       → IsDesignOf d flat → stimulus_rows flat.inputs s ≡ Err fault → (status ≡ 5) ⊎ (Yields design before after status ⊎ Yields stimulus before after status)
+  pub no_rows_leaves : (d s : List ℕ) (flat : Flat) (fault : StimFault) → before.told design ≡ held d → before.told stimulus ≡ held s
+      → IsDesignOf d flat → stimulus_rows flat.inputs s ≡ Err fault → after.out ≡ before.out
+  -- these statuses aren't those of `sim`
+  pub known : (status ≢ 3) × (status ≢ 4) × (status ≢ 6) × (status < 10)
   -- these leave out untouched, over every shelf
   pub untouched : (status ≡ 1) ⊎ (status ≡ 5) ⊎ (status ≡ 7) → after.out ≡ before.out
   -- 7 and 8 have their causes, over every shelf
@@ -56,3 +61,8 @@ pub record SimStatuses (design stimulus : List ℕ) (before after : Outside) (st
   pub complete : (flat : Flat) (rows : List (List Bool)) → IsAccepted design stimulus before flat rows
       → (Rose (before.faults design) (after.faults design) → ⊥) → (Rose (before.faults stimulus) (after.faults stimulus) → ⊥) → (Rose before.out_faults after.out_faults → ⊥)
       → (status ≡ 0) ⊎ (status ≡ 9)
+
+-- where words spell no command: status 2, unless memory runs out, and out is untouched
+pub record UsageStatuses (before after : Outside) (status : ℕ) : Type 0 where
+  pub comes : (status ≡ 2) ⊎ (status ≡ 9)
+  pub leaves : after.out ≡ before.out

@@ -1,9 +1,9 @@
-ghost use Rattle.std.specs.Prelude.{◌≡◌, ◌⊎◌, IsErr};
-ghost use Rattle.vw_outside.specs.Told.{Rose};
-ghost use Rattle.vw_top.specs.Words.{spelled_by};
+ghost use Rattle.std.specs.Prelude.{◌≡◌, ℕ, List};
+ghost use Rattle.vw_top.specs.Words.{spelled_by, sim, nothing};
 ghost use Rattle.vw_top.specs.Commands.{course_of};
 ghost use Rattle.vw_top.specs.Course.{Follows, Answer, outside};
 ghost use Rattle.vw_top.specs.Ending.{Ends, EndsWith};
+ghost use Rattle.vw_top.specs.Statuses.{SimStatuses, UsageStatuses};
 
 use crate::refusal::Refusal;
 use crate::sim::sim;
@@ -56,9 +56,16 @@ pub fn virtual_wires<S: Shelf, O: Sink, E: Sink>(
     out: &mut O,
     err: &mut E,
 ) -> u8
-    ensures { (answer : Answer)
+    // It follows the course of the command, and ends with the status and the message of its answer.
+    ensures course { (answer : Answer)
         × Follows (course_of (spelled_by words.now)) (outside S.told S.faults O.told O.faults shelf.old out.old) (outside S.told S.faults O.told O.faults shelf.new out.new) answer
         × Ends answer (E.told err.old) (E.faults err.old) (E.told err.new) (E.faults err.new) result }
+
+    // What the statuses mean, when they come, and what they leave, of `sim` and of words that spell no command.
+    ensures statuses { (design stimulus : List ℕ) → spelled_by words.now ≡ sim design stimulus
+        → SimStatuses design stimulus (outside S.told S.faults O.told O.faults shelf.old out.old) (outside S.told S.faults O.told O.faults shelf.new out.new) result }
+    ensures usage { (place : ℕ) → spelled_by words.now ≡ nothing place
+        → UsageStatuses (outside S.told S.faults O.told O.faults shelf.old out.old) (outside S.told S.faults O.told O.faults shelf.new out.new) result }
 {
     match carry_out(alloc, words, shelf, out) {
         Ok(()) => 0,
