@@ -1,4 +1,4 @@
-ghost use Rattle.std.specs.Prelude.{◌≡◌, ◌≢◌, ◌≤◌, ◌<◌, ◌+◌, ◌-◌, ◌^◌, ◌==◌, min, ℕ, List, false, length, IsErr, IsOk, IfOk, OnErr};
+ghost use Rattle.std.specs.Prelude.{◌≡◌, ◌≢◌, ◌≤◌, ◌<◌, ◌+◌, ◌-◌, ◌^◌, ◌==◌, min, ℕ, List, true, false, length, IsErr, IsOk, IfOk, OnErr};
 ghost use Rattle.std.specs.List.{list_any};
 ghost use Rattle.vw_outside.specs.Told.{absent, held, Rose, Fills};
 ghost use Rattle.vw_outside.specs.Files.{place_of, text_of, faults_of};
@@ -59,6 +59,7 @@ fn copy(bytes: &[u8], from: u64, most: u64, into: &mut [u8]) -> usize
     requires { 0 < most }
     ensures within { result ≤ length into.new }
     ensures filled { Fills bytes.now from into.new result }
+    ensures pieces { result ≤ most }
 {
     let from = bytes.len().min(from as usize);
     let rest = &bytes[from..];
@@ -82,10 +83,12 @@ impl Shelf for MemShelf {
         ensures others { (other bytes : List ℕ) → other ≢ name.now → text_of self.old.files.items other ≡ held bytes
             → faults_of self.new.files.items self.new.others other ≡ faults_of self.old.files.items self.old.others other }
 
-        // A read that isn't listed doesn't fail on a name that is held.
+        // A read that is listed fails, and one that isn't doesn't fail on a name that is held.
         ensures count { self.new.calls ≡ min (self.old.calls + 1) (2 ^ 64 - 1) }
+        ensures listed { list_any (λ call. call == self.new.calls) self.old.failing.items ≡ true → IsErr result }
         ensures sure { (bytes : List ℕ) → text_of self.old.files.items name.now ≡ held bytes
             → list_any (λ call. call == self.new.calls) self.old.failing.items ≡ false → IsOk result }
+        ensures pieces { IfOk result (λ count. count ≤ self.old.most) }
         ensures settings { (self.new.failing.items ≡ self.old.failing.items) × (self.new.most ≡ self.old.most) }
     {
         self.calls = self.calls.saturating_add(1);

@@ -1,6 +1,6 @@
-ghost use Rattle.std.specs.Prelude.{◌≡◌, ◌≤◌, ◌<◌, ◌+◌, ◌^◌, [], ℕ, List, length, take, vec_len, IfOk, OnOk, OnErr, Some};
+ghost use Rattle.std.specs.Prelude.{◌≡◌, ◌≤◌, ◌<◌, ◌+◌, ◌-◌, ◌^◌, ◌++◌, ◌==◌, min, [], true, length, take, IfOk, OnErr, IsErr, Some};
+ghost use Rattle.std.specs.List.{list_any};
 ghost use Rattle.vw_outside.specs.Told.{Rose};
-ghost use Rattle.vw_outside.specs.Appended.{appended};
 
 use crate::sink::{Failed, Sink};
 use std::alloc::{AllocError, Global};
@@ -50,7 +50,20 @@ impl Sink for MemSink {
 
     ghost faults = { λ sink. sink.faults };
 
-    fn write(&mut self, piece: &[u8]) -> Result<usize, Failed> {
+    fn write(&mut self, piece: &[u8]) -> Result<usize, Failed>
+        ensures taken { IfOk result (λ count. self.new.written.items ≡ self.old.written.items ++ take count piece.now) }
+        ensures within { IfOk result (λ count. count ≤ length piece.now) }
+        ensures progress { IfOk result (λ count. 0 < length piece.now → 0 < count) }
+        ensures refused { OnErr result (self.new.written.items ≡ self.old.written.items) }
+        ensures cause { OnErr result (Rose self.old.faults self.new.faults) }
+        ensures kept { self.old.faults ≤ self.new.faults }
+
+        // It takes all that it may, and a write that is listed fails.
+        ensures count { self.new.calls ≡ min (self.old.calls + 1) (2 ^ 64 - 1) }
+        ensures pieces { IfOk result (λ count. count ≡ min (length piece.now) self.old.most) }
+        ensures listed { list_any (λ call. call == self.new.calls) self.old.failing.items ≡ true → IsErr result }
+        ensures settings { (self.new.failing.items ≡ self.old.failing.items) × (self.new.most ≡ self.old.most) }
+    {
         self.calls = self.calls.saturating_add(1);
         let count = piece.len().min(self.most as usize);
         if self.failing.contains(&self.calls)
