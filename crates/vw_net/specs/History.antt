@@ -1,5 +1,5 @@
 -- What a netlist does, clock by clock.
-use Rattle.std.specs.Prelude.{ℕ, Bool, List, [], ◌∷◌, ◌++◌, map}
+use Rattle.std.specs.Prelude.{Bool, List, [], ◌∷◌, ◌++◌, map}
 use Rattle.vw_net.specs.declared.flat.Flat.{Flat}
 use Rattle.vw_net.specs.Cells.{latch_inputs}
 use Rattle.vw_net.specs.Value.{net_value}

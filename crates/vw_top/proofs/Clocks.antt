@@ -1,12 +1,11 @@
 -- A clock among others.
-use Rattle.std.proofs.Common.{◌≡◌, ◌<◌, ◌≤◌, ◌+◌, ℕ, suc, Bool, true, false, List, [], ◌∷◌, ◌++◌, length, take, drop, set, get_or, map, ap, sym, refl, ◌∙◌, arith, append_assoc, All, slice_index_or}
+use Rattle.std.proofs.Common.{◌≡◌, ◌<◌, ◌≤◌, ◌+◌, ℕ, suc, Bool, List, [], ◌∷◌, ◌++◌, length, take, drop, set, get_or, map, ap, sym, refl, ◌∙◌, arith, append_assoc}
 use Rattle.std.proofs.lemmas.List.{take_more_set, at_drop_more, length-map}
-use Rattle.std.proofs.lemmas.List.Elements.{All-weaker, All-get_or, All-take, All-drop}
+use Rattle.std.proofs.lemmas.List.Elements.{All-weaker}
 use Rattle.vw_net.specs.declared.cell.Cell.{Cell}
 use Rattle.vw_net.specs.declared.cell.Cell.TheVariants.{Gate, Latch}
-use Rattle.vw_net.specs.declared.cell.Init.{Init}
 use Rattle.vw_net.specs.declared.flat.Flat.{Flat}
-use Rattle.vw_net.specs.Cells.{latches, latch_inputs, start_values, start_value}
+use Rattle.vw_net.specs.Cells.{latches, latch_inputs, start_values}
 use Rattle.vw_net.specs.Value.{net_value}
 use Rattle.vw_net.specs.History.{outputs_at, next_state, outputs_of, states_of, state_after}
 use Rattle.vw_top.proofs.Gates.{map_agree}

@@ -1,7 +1,6 @@
 -- From what the stages of `sim` answer to its course.
-use Rattle.std.proofs.Common.{◌≡◌, ◌≤◌, ℕ, Bool, List, Result, Ok, Err, refl, sym, ◌∙◌, ap, subst, inl, inr, arith}
+use Rattle.std.proofs.Common.{◌≡◌, ◌≤◌, ℕ, Bool, List, Result, Ok, Err, refl, ◌∙◌, ap, subst, inl, inr, arith}
 use Rattle.vw_net.specs.declared.flat.Flat.{Flat}
-use Rattle.vw_net.specs.declared.ordered.Ordered.{Ordered}
 use Rattle.vw_outside.specs.Told.{Told, Rose, OfText, OfText-weaker}
 use Rattle.vw_rows.specs.declared.stimulus.StimFault.{StimFault}
 use Rattle.vw_rows.specs.declared.stimulus.StimFault.TheVariants as faults
@@ -11,7 +10,7 @@ use Rattle.vw_top.specs.declared.refusal.Refusal.{Refusal}
 use Rattle.vw_top.specs.declared.refusal.Refusal.TheVariants.{Usage, NotYet, Stimulus, ReadFault, WriteFault, NoMemory}
 use Rattle.vw_top.specs.FirstForm.{IsDesignOf, IsNoDesign}
 use Rattle.vw_top.specs.Course.{Course, Outside, Answer, Follows, Writes, writes, refuses, reads, finds}
-use Rattle.vw_top.specs.Commands.{sim_course, run_course, trace_of, Found}
+use Rattle.vw_top.specs.Commands.{sim_course, run_course, trace_of}
 use Rattle.vw_top.specs.Stages.{DesignRead, refusal_of}
 
 -- a later fault is one of the whole call

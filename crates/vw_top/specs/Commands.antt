@@ -9,7 +9,7 @@ use Rattle.vw_rows.specs.Trace.{trace_text}
 use Rattle.vw_top.specs.declared.refusal.File.TheVariants as files
 use Rattle.vw_top.specs.declared.refusal.Refusal.TheVariants.{Usage, NotYet, Stimulus}
 use Rattle.vw_top.specs.FirstForm.{IsDesignOf, IsNoDesign}
-use Rattle.vw_top.specs.Words.{Spelled, sim, nothing, spelled_by}
+use Rattle.vw_top.specs.Words.{Spelled, sim, nothing}
 use Rattle.vw_top.specs.Course.{Course, writes, refuses, reads, finds}
 
 -- the trace of a netlist over rows, from the start values

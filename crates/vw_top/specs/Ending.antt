@@ -1,5 +1,5 @@
 -- How a call ends: its status, and its message on err.
-use Rattle.std.specs.Prelude.{◌≡◌, ◌⊎◌, ℕ, List, Option, Result, Ok, Err}
+use Rattle.std.specs.Prelude.{◌≡◌, ◌⊎◌, ℕ, List, Option, Ok, Err}
 use Rattle.vw_outside.specs.Told.{Rose}
 use Rattle.vw_outside.specs.Appended.{appended, WrotePart}
 use Rattle.vw_top.specs.declared.refusal.Refusal.{Refusal}

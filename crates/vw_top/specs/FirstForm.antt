@@ -1,13 +1,12 @@
 -- Texts of the first form, and the netlist that such a text stands for.
-use Rattle.std.specs.Prelude.{◌≡◌, ◌≤◌, ◌<◌, ℕ, zero, suc, ◌+◌, Bool, true, false, ◌&&◌, ◌||◌, not, List, [], ◌∷◌, ◌++◌, map, take, length, Option, Some, None, option_map, unwrap_or, is_some, if◌then◌else◌, nat_le, ◌==◌, IsTrue}
+use Rattle.std.specs.Prelude.{◌≡◌, ◌≤◌, ℕ, zero, suc, Bool, true, false, ◌&&◌, ◌||◌, not, List, [], ◌∷◌, ◌++◌, map, length, Option, Some, None, option_map, unwrap_or, if◌then◌else◌, nat_le, ◌==◌, IsTrue}
 use Rattle.std.specs.List.{AllByRecursion, AllZip, list_any, list_all}
 use Rattle.std.specs.Str.{bytes_eq}
-use Rattle.vw_net.specs.declared.cover.Mark.{Mark}
 use Rattle.vw_net.specs.declared.cell.Cell.{Cell}
 use Rattle.vw_net.specs.declared.cell.Cell.TheVariants.{Gate, Latch}
 use Rattle.vw_net.specs.declared.cell.Init.TheVariants.{Zero, One}
 use Rattle.vw_net.specs.declared.flat.Flat.{Flat}
-use Rattle.vw_top.specs.Source.{Word, Item, table, latch, Source, driven_by, read_by, nets_of, spelling}
+use Rattle.vw_top.specs.Source.{Word, Item, table, latch, Source, driven_by, nets_of, spelling}
 
 -- letters, digits and the underscore of ASCII
 abbrev pub is_name_byte : ℕ → Bool

@@ -1,4 +1,5 @@
--- Reading a text from left to right: lines, words, and what they spell.
+-- What the functions of the reader compute, step by step, for their private contracts. What a user has to believe of a
+-- design text stands in Source.antt and FirstForm.antt; that reading agrees with it is proved of `read_first_form`.
 use Rattle.std.specs.Prelude.{ℕ, ◌-◌, Bool, true, false, ◌&&◌, ◌==◌, List, [], ◌∷◌, ◌++◌, map, take, length, codes, Option, Some, None, option_map, if◌then◌else◌, nat_le, nat_lt, slice_index_or}
 use Rattle.std.specs.List.{list_all, slice_split}
 use Rattle.std.specs.Borrow.{Bor}

@@ -1,5 +1,5 @@
 -- A design with names, and the one text that spells it.
-use Rattle.std.specs.Prelude.{ℕ, Bool, List, [], ◌∷◌, ◌++◌, map, length, codes, if◌then◌else◌}
+use Rattle.std.specs.Prelude.{ℕ, Bool, List, [], ◌∷◌, ◌++◌, map, codes, if◌then◌else◌}
 use Rattle.std.specs.List.{flat_map, join_with_byte}
 use Rattle.vw_net.specs.declared.cover.Mark.{Mark}
 use Rattle.vw_net.specs.declared.cover.Mark.TheVariants.{Zero, One, Any}

@@ -1,10 +1,9 @@
 -- What the stages of a command answer.
-use Rattle.std.specs.Prelude.{◌≡◌, ℕ, Result, Ok, Err}
+use Rattle.std.specs.Prelude.{ℕ, Result, Ok, Err}
 use Rattle.vw_net.specs.declared.ordered.Ordered.{Ordered}
 use Rattle.vw_outside.specs.Told.{Told, Rose, OfText}
 use Rattle.vw_rows.specs.declared.stimulus.StimFault.{StimFault}
 use Rattle.vw_rows.specs.declared.stimulus.StimFault.TheVariants as faults
-use Rattle.vw_top.specs.declared.refusal.File.{File}
 use Rattle.vw_top.specs.declared.refusal.File.TheVariants as files
 use Rattle.vw_top.specs.declared.refusal.Refusal.{Refusal}
 use Rattle.vw_top.specs.declared.refusal.Refusal.TheVariants.{Usage, NotYet, Stimulus, ReadFault, WriteFault, NoMemory}

@@ -1,7 +1,7 @@
 -- What each status of a call means, when it comes, and what it leaves: what follows from the course of a command.
-use Rattle.std.specs.Prelude.{◌≡◌, ◌≢◌, ◌<◌, ◌⊎◌, ℕ, Bool, List, Result, Ok, Err}
+use Rattle.std.specs.Prelude.{◌≡◌, ◌≢◌, ◌<◌, ◌⊎◌, ℕ, Bool, List, Ok, Err}
 use Rattle.vw_net.specs.declared.flat.Flat.{Flat}
-use Rattle.vw_outside.specs.Told.{Told, absent, held, Rose}
+use Rattle.vw_outside.specs.Told.{absent, held, Rose}
 use Rattle.vw_outside.specs.Appended.{appended, WrotePart}
 use Rattle.vw_rows.specs.declared.stimulus.StimFault.{StimFault}
 use Rattle.vw_rows.specs.Stimulus.{stimulus_rows}

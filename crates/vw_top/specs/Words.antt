@@ -1,5 +1,5 @@
 -- The words of commands.
-use Rattle.std.specs.Prelude.{ℕ, zero, suc, Bool, true, false, not, List, [], ◌∷◌, length, codes, if◌then◌else◌, ◌==◌, ◌+◌}
+use Rattle.std.specs.Prelude.{ℕ, zero, suc, Bool, not, List, [], ◌∷◌, length, codes, if◌then◌else◌, ◌==◌, ◌+◌}
 use Rattle.std.specs.Str.{bytes_eq}
 
 -- what a command has in one place: this very word, or a word that isn't empty, the name of a file

@@ -1,5 +1,5 @@
 -- the characters so far
-use Rattle.std.proofs.Common.{◌≡◌, ◌++◌, take, drop, map, cond}
+use Rattle.std.proofs.Common.{◌≡◌, ◌++◌, drop, map, cond}
 use Rattle.vw_rows.proofs.trace.push_bits.Given as goal
 
 abbrev pub invariant-loop-bit : goal.invariant-loop-bit

@@ -1,5 +1,5 @@
 -- the bits so far, and those that stood there
-use Rattle.std.proofs.Common.{◌≡◌, ◌++◌, length, take, drop}
+use Rattle.std.proofs.Common.{◌≡◌, length, take}
 use Rattle.vw_top.proofs.batch.copy_bits.Given as goal
 
 abbrev pub invariant-loop-i : goal.invariant-loop-i

@@ -1,7 +1,5 @@
-use Rattle.std.proofs.Common.{◌≡◌, ◌<◌, ◌+◌, ℕ, List, Bool, false, length, map, ap, ◌∙◌, arith}
+use Rattle.std.proofs.Common.{◌≡◌, ℕ, Bool, false, map, ap, ◌∙◌, arith}
 use Rattle.std.specs.Prelude.{slice_index_or}
-use Rattle.vw_net.specs.Value.{net_value}
-use Rattle.vw_net.specs.History.{outputs_at}
 use Rattle.vw_top.proofs.Clocks.{outputs_at-from_values}
 use Rattle.vw_top.proofs.batch.record_clock.Goals as goal
 

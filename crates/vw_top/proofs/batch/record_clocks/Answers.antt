@@ -1,7 +1,7 @@
-use Rattle.std.proofs.Common.{◌≡◌, ◌<◌, ℕ, ◌+◌, ◌∷◌, List, Bool, length, drop, arith, sym, ◌∙◌, ap, set}
+use Rattle.std.proofs.Common.{◌≡◌, ◌<◌, ◌+◌, ◌∷◌, List, Bool, length, drop, arith, sym, ◌∙◌, ap}
 use Rattle.std.proofs.lemmas.List.Elements.{All-set}
 use Rattle.vw_net.specs.Cells.{latches}
-use Rattle.vw_net.specs.History.{outputs_of, states_of, state_after, next_state}
+use Rattle.vw_net.specs.History.{outputs_of, states_of}
 use Rattle.vw_top.proofs.Clocks.{written_more, length-next_state, length-outputs_at, outputs_of-drop, states_of-drop, state_after-drop}
 use Rattle.vw_top.proofs.batch.record_clocks.Goals as goal
 

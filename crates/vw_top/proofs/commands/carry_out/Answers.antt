@@ -1,5 +1,3 @@
-use Rattle.std.proofs.Common.{◌∙◌, ap}
-use Rattle.vw_top.specs.View.{command_view}
 use Rattle.vw_top.proofs.commands.carry_out.Goals as goal
 
 pub returns-in-Sim : goal.returns-in-Sim

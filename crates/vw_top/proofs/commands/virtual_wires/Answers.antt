@@ -1,9 +1,8 @@
-use Rattle.std.proofs.Common.{◌≡◌, ℕ, List, ⊎_elim, Err, Ok, refl}
+use Rattle.std.proofs.Common.{⊎_elim, Err, Ok, refl}
 use Rattle.vw_top.specs.declared.refusal.Refusal.TheVariants.{NoMemory}
-use Rattle.vw_top.specs.Words.{Spelled, spelled_by}
+use Rattle.vw_top.specs.Words.{spelled_by}
 use Rattle.vw_top.specs.Commands.{course_of}
-use Rattle.vw_top.specs.Course.{Outside, outside, Answer, Follows}
-use Rattle.vw_top.specs.Statuses.{answer_status}
+use Rattle.vw_top.specs.Course.{Outside, outside}
 use Rattle.vw_top.proofs.Courses.{no_memory_instead}
 use Rattle.vw_top.proofs.Outcomes.{sim_statuses_of, usage_statuses_of}
 use Rattle.vw_top.proofs.commands.virtual_wires.Goals as goal

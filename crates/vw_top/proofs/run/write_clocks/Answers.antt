@@ -1,6 +1,5 @@
 use Rattle.std.proofs.Common.{◌≡◌, ◌≤◌, ◌-◌, ◌++◌, ℕ, List, Bool, length, take, drop, arith, sym, ◌∙◌, ap, subst}
-use Rattle.vw_net.specs.Cells.{latches}
-use Rattle.vw_net.specs.History.{outputs_of, states_of, state_after}
+use Rattle.vw_net.specs.History.{state_after}
 use Rattle.vw_top.proofs.Clocks.{length-outputs_of, length-states_of, length-state_after}
 use Rattle.vw_top.proofs.Writing.{IsLeft, lines_of, part_written, part_of_piece, written_further, batch_lines, batch_state, lines_written, whatever_error}
 use Rattle.vw_top.proofs.run.write_clocks.Given.{Over}

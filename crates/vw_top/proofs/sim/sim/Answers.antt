@@ -1,12 +1,9 @@
-use Rattle.std.proofs.Common.{◌≡◌, ℕ, List, Bool, Ok, Err, refl, sym, ◌∙◌, ap, subst, arith}
+use Rattle.std.proofs.Common.{◌≡◌, Ok, Err, refl, ap}
 use Rattle.std.proofs.lemmas.Result.{err_from_is_err_and}
-use Rattle.vw_net.specs.declared.flat.Flat.{Flat}
-use Rattle.vw_outside.specs.Told.{Told, Rose}
-use Rattle.vw_rows.specs.Stimulus.{AgreesWithText}
-use Rattle.vw_rows.specs.declared.stimulus.StimFault.{StimFault}
+use Rattle.vw_outside.specs.Told.{Rose}
 use Rattle.vw_rows.specs.declared.stimulus.StimFault.TheVariants as faults
 use Rattle.vw_top.specs.declared.refusal.Refusal.TheVariants.{WriteFault, NoMemory}
-use Rattle.vw_top.specs.Course.{Outside, outside, Answer}
+use Rattle.vw_top.specs.Course.{Outside, outside}
 use Rattle.vw_top.proofs.Courses.{design_refused, design_accepted, stimulus_refused, stimulus_accepted, rose_since, read_before, same_width}
 use Rattle.vw_top.proofs.sim.sim.Goals as goal
 

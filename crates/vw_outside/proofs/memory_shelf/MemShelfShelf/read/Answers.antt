@@ -1,4 +1,4 @@
-use Rattle.std.proofs.Common.{◌≡◌, Option, Some, None, arith, rules, refl, set, subst}
+use Rattle.std.proofs.Common.{◌≡◌, Some, None, arith, rules, refl, set, subst}
 use Rattle.vw_outside.specs.Told.{Fills}
 use Rattle.vw_outside.specs.Files.{place_of}
 use Rattle.vw_outside.proofs.Shelves.{place_below, counts_at, counts_elsewhere, CountsAt, CountsElsewhere, held_at, not_absent, not_held}
