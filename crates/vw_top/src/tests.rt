@@ -230,55 +230,77 @@ fn other_designs_are_not_read_yet(rt: HostRuntime) -> Result<(), Fail> {
     Ok(())
 }
 
+/// The reads of the design are the first 11, of at most 8 bytes each, and those of the stimulus the next two.
 #[test]
-fn each_read_and_each_write_may_fail(rt: HostRuntime) -> Result<(), Fail> {
-    let words = ["sim", "d", "s"];
-    for read in 1..40 {
-        let faults = Faults {
-            most: 8,
-            read,
-            ..NO_FAULTS
-        };
-        let ran = run(rt.alloc(), words.as_slice(), TOGGLE, TOGGLE_ROWS, faults)?;
-        assert!(rt; ran.status == 0 || ran.status == 7);
-        assert!(rt; TOGGLE_TRACE.as_bytes().starts_with(&ran.out));
-        assert_eq!(rt;
-            ran.status == 0,
-            ran.out.as_slice() == TOGGLE_TRACE.as_bytes()
-        );
-        assert_eq!(rt; ran.err.is_empty(), ran.status == 0);
-    }
-    for write in 1..12 {
-        let faults = Faults {
-            most: 10,
-            write,
-            ..NO_FAULTS
-        };
-        let ran = run(rt.alloc(), words.as_slice(), TOGGLE, TOGGLE_ROWS, faults)?;
-        assert!(rt; ran.status == 0 || ran.status == 8);
-        assert!(rt; TOGGLE_TRACE.as_bytes().starts_with(&ran.out));
-        assert_eq!(rt;
-            ran.status == 0,
-            ran.out.as_slice() == TOGGLE_TRACE.as_bytes()
-        );
-        if write == 2 {
-            assert_eq!(rt; ran.status, 8);
-            assert!(rt; ran.out.len() <= 10);
-            assert_eq!(rt; ran.err.as_slice(), b"write fault\n".as_slice());
+fn each_read_may_fail(rt: HostRuntime) -> Result<(), Fail> {
+    let table = [
+        (1, 11, 7, "read fault: design\n", ""),
+        (12, 13, 7, "read fault: stimulus\n", ""),
+        (14, 14, 0, "", TOGGLE_TRACE),
+    ];
+    for (first, last, status, line, trace) in table {
+        for read in first..last + 1 {
+            let faults = Faults {
+                most: 8,
+                read,
+                ..NO_FAULTS
+            };
+            let ran = run(rt.alloc(), &["sim", "d", "s"], TOGGLE, TOGGLE_ROWS, faults)?;
+            assert_eq!(rt; ran.status, status, "read {read}");
+            assert_eq!(rt; ran.err.as_slice(), line.as_bytes(), "read {read}");
+            assert_eq!(rt; ran.out.as_slice(), trace.as_bytes(), "read {read}");
         }
     }
     Ok(())
 }
 
+/// The first line takes two calls of at most 10 bytes, the three clocks take two, and the last line takes one.
+#[test]
+fn each_write_may_fail(rt: HostRuntime) -> Result<(), Fail> {
+    let table = [
+        (1, 8, 0),
+        (2, 8, 10),
+        (3, 8, 12),
+        (4, 8, 22),
+        (5, 8, 30),
+        (6, 0, 38),
+    ];
+    for (write, status, written) in table {
+        let faults = Faults {
+            most: 10,
+            write,
+            ..NO_FAULTS
+        };
+        let ran = run(rt.alloc(), &["sim", "d", "s"], TOGGLE, TOGGLE_ROWS, faults)?;
+        let line = if status == 8 { "write fault\n" } else { "" };
+        assert_eq!(rt; ran.status, status, "write {write}");
+        assert_eq!(rt; ran.err.as_slice(), line.as_bytes(), "write {write}");
+        assert_eq!(rt;
+            ran.out.as_slice(),
+            &TOGGLE_TRACE.as_bytes()[..written],
+            "write {write}"
+        );
+    }
+    Ok(())
+}
+
+/// A message of 14 bytes takes three calls of at most 5.
 #[test]
 fn a_fault_of_err_changes_no_status(rt: HostRuntime) -> Result<(), Fail> {
-    let faults = Faults {
-        most: 5,
-        message: 2,
-        ..NO_FAULTS
-    };
-    let ran = run(rt.alloc(), &["fly"], TOGGLE, TOGGLE_ROWS, faults)?;
-    assert_eq!(rt; ran.status, 2);
-    assert_eq!(rt; ran.err.as_slice(), b"usage".as_slice());
+    for (message, written) in [(1, 0), (2, 5), (3, 10), (4, 14)] {
+        let faults = Faults {
+            most: 5,
+            message,
+            ..NO_FAULTS
+        };
+        let ran = run(rt.alloc(), &["fly"], TOGGLE, TOGGLE_ROWS, faults)?;
+        assert_eq!(rt; ran.status, 2, "call {message}");
+        assert_eq!(rt;
+            ran.err.as_slice(),
+            &b"usage: word 1\n"[..written],
+            "call {message}"
+        );
+        assert!(rt; ran.out.is_empty());
+    }
     Ok(())
 }
