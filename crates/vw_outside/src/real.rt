@@ -18,8 +18,10 @@ pub struct FileShelf<R: Files> {
 }
 
 impl<R: Files> FileShelf<R> {
-    /// The files of this runtime.
-    pub fn new(files: R) -> Self {
+    /// The files of this runtime, with no fault so far.
+    pub fn new(files: R) -> Self
+        ensures { result.faults ≡ 0 }
+    {
         FileShelf { files, faults: 0 }
     }
 }
@@ -73,8 +75,10 @@ pub struct OutSink {
 }
 
 impl OutSink {
-    /// The standard output of this runtime.
-    pub fn new(rt: &HostRuntime) -> Self {
+    /// The standard output of this runtime, with no fault so far.
+    pub fn new(rt: &HostRuntime) -> Self
+        ensures { result.faults ≡ 0 }
+    {
         OutSink {
             stream: rt.stdout(),
             faults: 0,
@@ -104,8 +108,10 @@ pub struct ErrSink {
 }
 
 impl ErrSink {
-    /// The standard error of this runtime.
-    pub fn new(rt: &HostRuntime) -> Self {
+    /// The standard error of this runtime, with no fault so far.
+    pub fn new(rt: &HostRuntime) -> Self
+        ensures { result.faults ≡ 0 }
+    {
         ErrSink {
             stream: rt.stderr(),
             faults: 0,

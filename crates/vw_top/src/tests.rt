@@ -142,6 +142,22 @@ fn each_fault_of_a_stimulus_has_its_line(rt: HostRuntime) -> Result<(), Fail> {
 }
 
 #[test]
+fn a_design_without_inputs_has_no_rows(rt: HostRuntime) -> Result<(), Fail> {
+    let design = ".model m\n.inputs\n.outputs\n.end\n";
+    let table = [
+        ("1\n", "stimulus 3: line 1: found 1 bits, wanted 0\n"),
+        ("\n", "stimulus 2: line 1: bad line\n"),
+    ];
+    for (stimulus, line) in table {
+        let ran = sim(rt.alloc(), design, stimulus)?;
+        assert_eq!(rt; ran.status, 5);
+        assert_eq!(rt; ran.err.as_slice(), line.as_bytes());
+        assert!(rt; ran.out.is_empty());
+    }
+    Ok(())
+}
+
+#[test]
 fn designs_do_what_they_say(rt: HostRuntime) -> Result<(), Fail> {
     let table = [
         // no rows at all; the last line may lack its end
@@ -158,6 +174,12 @@ fn designs_do_what_they_say(rt: HostRuntime) -> Result<(), Fail> {
             ".model m\n.inputs a\n.outputs p\n.latch q p 0\n.latch p q 1\n.end\n",
             "0\n0\n0\n",
             "trace 1 1 2\n0 0 01\n1 1 10\n2 0 01\nend 3 10\n",
+        ),
+        // nothing at all
+        (
+            ".model m\n.inputs\n.outputs\n.end\n",
+            "",
+            "trace 1 0 0\nend 0 -\n",
         ),
         // an input is an output, and nothing else is there
         (
@@ -302,5 +324,42 @@ fn a_fault_of_err_changes_no_status(rt: HostRuntime) -> Result<(), Fail> {
         );
         assert!(rt; ran.out.is_empty());
     }
+    Ok(())
+}
+
+/// The spelling of a design with nothing in it, of at least 30 bytes, by a name of the model that is long enough.
+fn design_of_size(alloc: Global, size: usize) -> Result<Vec<u8>, AllocError> {
+    let mut text = Vec::new(alloc);
+    text.extend_from_slice(b".model ")?;
+    for _ in 30..size {
+        text.push(b'm')?;
+    }
+    text.extend_from_slice(b"\n.inputs\n.outputs\n.end\n")?;
+    Ok(text)
+}
+
+#[test]
+fn texts_past_the_limit_are_refused(rt: HostRuntime) -> Result<(), Fail> {
+    let table = [
+        (16_777_216, 0, "trace 1 0 0\nend 0 -\n", ""),
+        (16_777_217, 1, "", "design 0: not yet\n"),
+    ];
+    for (size, status, trace, line) in table {
+        let design = design_of_size(rt.alloc(), size)?;
+        assert_eq!(rt; design.len(), size);
+        let design = str::from_utf8(&design).ok().ok_or("it is ASCII")?;
+        let ran = sim(rt.alloc(), design, "")?;
+        assert_eq!(rt; ran.status, status, "{size}");
+        assert_eq!(rt; ran.out.as_slice(), trace.as_bytes(), "{size}");
+        assert_eq!(rt; ran.err.as_slice(), line.as_bytes(), "{size}");
+    }
+    let stimulus = vec![in rt.alloc(); b'2'; 16_777_217]?;
+    let stimulus = str::from_utf8(&stimulus).ok().ok_or("it is ASCII")?;
+    let ran = sim(rt.alloc(), TOGGLE, stimulus)?;
+    assert_eq!(rt; ran.status, 5);
+    assert_eq!(rt;
+        ran.err.as_slice(),
+        b"stimulus 1: text longer than 16777216 bytes\n".as_slice()
+    );
     Ok(())
 }

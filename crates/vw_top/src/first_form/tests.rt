@@ -105,3 +105,45 @@ fn widths(rt: HostRuntime) -> Result<(), Fail> {
     }
     Ok(())
 }
+
+/// A text with so many inputs, outputs and latches, whose outputs are the first of the latches.
+fn counted_text(
+    alloc: Global,
+    inputs: u32,
+    outputs: u32,
+    latches: u32,
+) -> Result<Vec<u8>, AllocError> {
+    let mut text = Vec::new(alloc);
+    text.extend_from_slice(b".model m\n.inputs")?;
+    for number in 0..inputs {
+        text.extend_from_slice(format!(in alloc; " i{number}")?.as_bytes())?;
+    }
+    text.extend_from_slice(b"\n.outputs")?;
+    for number in 0..outputs {
+        text.extend_from_slice(format!(in alloc; " q{number}")?.as_bytes())?;
+    }
+    for number in 0..latches {
+        text.extend_from_slice(format!(in alloc; "\n.latch i0 q{number} 0")?.as_bytes())?;
+    }
+    text.extend_from_slice(b"\n.end\n")?;
+    Ok(text)
+}
+
+#[test]
+fn counts(rt: HostRuntime) -> Result<(), Fail> {
+    let table = [
+        (4096, 1, 1, true),
+        (4097, 1, 1, false),
+        (1, 4096, 4096, true),
+        (1, 4097, 4097, false),
+        (1, 1, 65536, true),
+        (1, 1, 65537, false),
+    ];
+    for (inputs, outputs, latches, is_first) in table {
+        let text = counted_text(rt.alloc(), inputs, outputs, latches)?;
+        assert!(rt; text.len() < 10_000_000);
+        let found = read_first_form(rt.alloc(), &text)?;
+        assert_eq!(rt; found.is_some(), is_first, "{inputs} {outputs} {latches}");
+    }
+    Ok(())
+}
