@@ -13,7 +13,7 @@ use crate::sink::Failed;
 #[derive(Drop)]
 pub struct MemShelf {
     pub files: Vec<Held>,
-    pub most: u64,
+    pub most: u32,
     pub failing: Vec<u64>,
     /// How many reads there were.
     pub calls: u64,
@@ -24,7 +24,7 @@ pub struct MemShelf {
 
 impl MemShelf {
     /// A shelf of these texts; of equal names the first counts.
-    pub fn new(files: Vec<Held>, most: u64, failing: Vec<u64>) -> Self
+    pub fn new(files: Vec<Held>, most: u32, failing: Vec<u64>) -> Self
         requires { 0 < most }
         ensures files { result.files.items ≡ files.items }
         ensures most { result.most ≡ most }
@@ -55,7 +55,7 @@ fn find(files: &[Held], name: &[u8]) -> Option<usize>
 }
 
 /// Copies bytes from a place on into the front of a buffer, at most `most` of them.
-fn copy(bytes: &[u8], from: u64, most: u64, into: &mut [u8]) -> usize
+fn copy(bytes: &[u8], from: u64, most: u32, into: &mut [u8]) -> usize
     requires { 0 < most }
     ensures within { result ≤ length into.new }
     ensures filled { Fills bytes.now from into.new result }

@@ -10,7 +10,7 @@ use std::alloc::{AllocError, Global};
 #[derive(Drop)]
 pub struct MemSink {
     pub written: Vec<u8>,
-    pub most: u64,
+    pub most: u32,
     pub failing: Vec<u64>,
     /// How many writes there were.
     pub calls: u64,
@@ -20,7 +20,7 @@ pub struct MemSink {
 
 impl MemSink {
     /// A sink with no bytes yet.
-    pub fn new(alloc: Global, most: u64, failing: Vec<u64>) -> Self
+    pub fn new(alloc: Global, most: u32, failing: Vec<u64>) -> Self
         requires { 0 < most }
         ensures written { result.written.items ≡ [] }
         ensures most { result.most ≡ most }
@@ -35,6 +35,15 @@ impl MemSink {
             calls: 0,
             faults: 0,
         }
+    }
+
+    /// Takes memory for this many further bytes, so that their writes need none.
+    pub fn reserve(&mut self, more: u64) -> Result<(), AllocError>
+        ensures written { self.new.written.items ≡ self.old.written.items }
+        ensures settings { (self.new.failing.items ≡ self.old.failing.items) × (self.new.most ≡ self.old.most) }
+        ensures counts { (self.new.calls ≡ self.old.calls) × (self.new.faults ≡ self.old.faults) }
+    {
+        self.written.reserve(more as usize)
     }
 
     /// The bytes so far.

@@ -62,3 +62,15 @@ fn a_text_in_memory_is_read_whole(rt: HostRuntime) -> Result<(), Fail> {
     }
     Ok(())
 }
+
+#[test]
+fn a_sink_in_memory_has_room_to_spare(rt: HostRuntime) -> Result<(), Fail> {
+    let mut sink = MemSink::new(rt.alloc(), 4, Vec::new(rt.alloc()));
+    sink.reserve(6)?;
+    assert_eq!(rt; put_all(&mut sink, b"abcdef"), Ok(()));
+    assert_eq!(rt; sink.bytes(), b"abcdef".as_slice());
+    let too_much = sink.reserve(u64::MAX);
+    assert!(rt; too_much.is_err());
+    assert_eq!(rt; sink.bytes(), b"abcdef".as_slice());
+    Ok(())
+}

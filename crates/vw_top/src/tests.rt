@@ -24,7 +24,7 @@ struct Ran {
 /// Calls whose numbers, from 1, fail, and how many bytes a call takes.
 #[derive(Clone, Copy, Drop)]
 struct Faults {
-    most: u64,
+    most: u32,
     read: u64,
     write: u64,
     message: u64,
