@@ -1,5 +1,6 @@
-ghost use Rattle.std.specs.Prelude.{◌≡◌, ◌≤◌, ◌<◌, ◌+◌, ◌-◌, ◌^◌, ◌++◌, ◌==◌, min, [], true, length, take, IfOk, OnErr, IsErr, Some};
+ghost use Rattle.std.specs.Prelude.{◌≡◌, ◌≤◌, ◌<◌, ◌+◌, ◌-◌, ◌^◌, ◌++◌, ◌==◌, min, [], true, false, length, take, IfOk, OnErr, IsOk, IsErr, Some};
 ghost use Rattle.std.specs.List.{list_any};
+ghost use Rattle.std.specs.Vec.{vec_capacity};
 ghost use Rattle.vw_outside.specs.Told.{Rose};
 
 use crate::sink::{Failed, Sink};
@@ -39,6 +40,8 @@ impl MemSink {
 
     /// Takes memory for this many further bytes, so that their writes need none.
     pub fn reserve(&mut self, more: u64) -> Result<(), AllocError>
+        ensures room { IfOk result (λ _. length self.new.written.items + more ≤ vec_capacity self.new.written) }
+        ensures full { OnErr result (vec_capacity self.old.written < length self.old.written.items + more) }
         ensures written { self.new.written.items ≡ self.old.written.items }
         ensures settings { (self.new.failing.items ≡ self.old.failing.items) × (self.new.most ≡ self.old.most) }
         ensures counts { (self.new.calls ≡ self.old.calls) × (self.new.faults ≡ self.old.faults) }
@@ -67,9 +70,12 @@ impl Sink for MemSink {
         ensures cause { OnErr result (Rose self.old.faults self.new.faults) }
         ensures kept { self.old.faults ≤ self.new.faults }
 
-        // It takes all that it may, and a write that is listed fails.
+        // It takes all that it may. A write that is listed fails, and one that isn't doesn't where there is room.
         ensures count { self.new.calls ≡ min (self.old.calls + 1) (2 ^ 64 - 1) }
         ensures pieces { IfOk result (λ count. count ≡ min (length piece.now) self.old.most) }
+        ensures sure { list_any (λ call. call == self.new.calls) self.old.failing.items ≡ false
+            → length self.old.written.items + length piece.now ≤ vec_capacity self.old.written → IsOk result }
+        ensures room { vec_capacity self.old.written ≤ vec_capacity self.new.written }
         ensures listed { list_any (λ call. call == self.new.calls) self.old.failing.items ≡ true → IsErr result }
         ensures settings { (self.new.failing.items ≡ self.old.failing.items) × (self.new.most ≡ self.old.most) }
     {
