@@ -9,14 +9,14 @@ use Rattle.vw_net.specs.declared.cell.Cell.{Cell}
 use Rattle.vw_net.specs.declared.cell.Cell.TheVariants.{Gate, Latch}
 use Rattle.vw_net.specs.declared.cover.Cover.{Cover}
 use Rattle.vw_net.specs.declared.flat.Flat.{Flat}
-use Rattle.vw_net.specs.Cells.{latches}
+use Rattle.vw_net.specs.Cells.{latch_count}
 use Rattle.vw_net.specs.Cover.{cover_value}
-use Rattle.vw_net.specs.Order.{IsOrder, is_gate, is_latch, is_among, is_ready, reads_at}
+use Rattle.vw_net.specs.Order.{IsOrder, is_gate, is_latch, is_among, is_ready, read_nets_at}
 use Rattle.vw_net.specs.Value.{driven_value, level_value, net_value}
 use Rattle.vw_net.proofs.Orders.{length-order}
 
 -- two ways to give nets values that agree on each of these nets give one list
-map_agree : (value other : ℕ → Bool) (nets : List ℕ) → All (λ net. value net ≡ other net) nets → map value nets ≡ map other nets
+pub map_agree : (value other : ℕ → Bool) (nets : List ℕ) → All (λ net. value net ≡ other net) nets → map value nets ≡ map other nets
 map_agree value other [] agree = refl
 map_agree value other (net ∷ nets) agree =
     let here : value net ≡ other net = All-head (λ at. value at ≡ other at) net nets agree in
@@ -24,7 +24,7 @@ map_agree value other (net ∷ nets) agree =
     ap₂ (λ (bit : Bool) (bits : List Bool). bit ∷ bits) here (map_agree value other nets rest)
 
 -- what a cell gives its net depends on the nets that it reads, and on no other
-driven_value_agree : (value other : ℕ → Bool) (state : List Bool) (number : ℕ) (cell : Option Cell) → All (λ net. value net ≡ other net) (reads_at cell) → driven_value value state number cell ≡ driven_value other state number cell
+driven_value_agree : (value other : ℕ → Bool) (state : List Bool) (number : ℕ) (cell : Option Cell) → All (λ net. value net ≡ other net) (read_nets_at cell) → driven_value value state number cell ≡ driven_value other state number cell
 driven_value_agree value other state number None agree = refl
 driven_value_agree value other state number (Some (Gate ins cover)) agree = ap (cover_value cover) (map_agree value other ins agree)
 driven_value_agree value other state number (Some (Latch d init)) agree = refl
@@ -56,7 +56,7 @@ module _ (flat : Flat) (row state : List Bool) where
 
   -- its number among the latches, if it is one
   abbrev latch_number : ℕ → ℕ
-  latch_number net = latches (take (net - flat.inputs) flat.cells)
+  latch_number net = latch_count (take (net - flat.inputs) flat.cells)
 
   -- the value that it gives the net one level above this one
   abbrev driven : ℕ → ℕ → Bool
@@ -91,11 +91,11 @@ module _ (flat : Flat) (row state : List Bool) where
     same one other one_late other_late = driven_value-no_gate (level_value one flat row state) (level_value other flat row state) state (latch_number net) (driver net) no_gate
 
   -- a net is settled one level up if the nets that its driver reads are settled
-  reads_settled : (from net : ℕ) → All (IsSettled flat row state from) (reads_at (driver net)) → IsSettled flat row state (suc from) net
+  reads_settled : (from net : ℕ) → All (IsSettled flat row state from) (read_nets_at (driver net)) → IsSettled flat row state (suc from) net
   reads_settled from net settled = driven_settled from net same where
     same : (one other : ℕ) → from ≤ one → from ≤ other → driven one net ≡ driven other net
     same one other one_late other_late =
-        let agree = λ (place default : ℕ) (within : place < length (reads_at (driver net))). (settled place default within).same one other one_late other_late in
+        let agree = λ (place default : ℕ) (within : place < length (read_nets_at (driver net))). (settled place default within).same one other one_late other_late in
         driven_value_agree (level_value one flat row state) (level_value other flat row state) state (latch_number net) (driver net) agree
 
   -- a net that is ready is settled if the nets of the gates that are done are
@@ -118,7 +118,7 @@ module _ (flat : Flat) (order : List ℕ) (is_order : IsOrder flat.inputs flat.c
   place_settled : (place : ℕ) → place < length order → AreSettled flat row state (suc place) (take place order) → (net : ℕ) → get_or order place 0 ≡ net - flat.inputs → IsSettled flat row state (suc (suc place)) net
   place_settled place within before net here =
       let is_done = is_ready flat.inputs flat.cells (take place order) in
-      let reads = reads_at (slice_get flat.cells (net - flat.inputs)) in
+      let reads = read_nets_at (slice_get flat.cells (net - flat.inputs)) in
       let done : All (λ other. is_done other ≡ true) reads = AllPass-from_list_all is_done reads (rw here at (is_order.after place within)) in
       let settled = All-weaker (λ other. is_done other ≡ true) (IsSettled flat row state (suc place)) (ready_settled flat row state (take place order) (suc place) (omega arith) before) reads done in
       reads_settled flat row state (suc place) net settled

@@ -1,5 +1,5 @@
--- How long an order of gates is.
-use Rattle.std.proofs.Common.{◌≡◌, ◌<◌, ◌≤◌, ◌||◌, ℕ, Bool, true, false, List, [], ◌∷◌, length, get_or, slice_get, eqb, ap, ap₂, refl, sym, ◌∙◌, ⊎_elim, ne_eqb, true≢false, arith}
+-- Which cells are gates, and how long an order of gates is.
+use Rattle.std.proofs.Common.{◌≡◌, ◌<◌, ◌≤◌, ◌||◌, ℕ, zero, suc, Bool, true, false, List, [], ◌∷◌, length, get_or, slice_get, eqb, ap, ap₂, refl, sym, ◌∙◌, ⊎_elim, ne_eqb, true≢false, arith}
 use Rattle.std.specs.List.{list_any, IsDistinct}
 use Rattle.std.proofs.lemmas.Bool.{cases_lt}
 use Rattle.std.proofs.lemmas.Grind.{common_steps}
@@ -8,7 +8,8 @@ use Rattle.std.proofs.lemmas.Map.Keys.{IsDistinct-from_apart}
 use Rattle.std.proofs.lemmas.Map.Steps.{length-le_from_distinct_below}
 use Rattle.std.proofs.lemmas.Option.{slice_get_past}
 use Rattle.vw_net.specs.declared.cell.Cell.{Cell}
-use Rattle.vw_net.specs.Order.{IsOrder, is_gate, is_among}
+use Rattle.vw_net.specs.declared.cell.Cell.TheVariants.{Gate, Latch}
+use Rattle.vw_net.specs.Order.{IsOrder, is_gate, is_latch, is_among}
 
 -- a test of two numbers goes both ways
 eqb_comm : (a b : ℕ) → eqb a b ≡ eqb b a
@@ -20,8 +21,15 @@ is_among-flip number [] = refl
 is_among-flip number (other ∷ others) = ap₂ (λ (first rest : Bool). first || rest) (eqb_comm other number) (is_among-flip number others)
 
 -- a gate's number is below the number of cells
-gate_within : (cells : List Cell) (number : ℕ) → is_gate (slice_get cells number) ≡ true → number < length cells
+pub gate_within : (cells : List Cell) (number : ℕ) → is_gate (slice_get cells number) ≡ true → number < length cells
 gate_within cells number gate = ⊎_elim (λ within. within) (λ past. absurd (true≢false (sym gate ∙ ap is_gate (slice_get_past cells number past)))) (cases_lt number (length cells))
+
+-- a cell is a gate or a latch
+pub gate_or_latch : (cells : List Cell) (number : ℕ) → number < length cells → (is_latch (slice_get cells number) || is_gate (slice_get cells number)) ≡ true
+gate_or_latch [] number within = absurd (omega arith)
+gate_or_latch (Gate ins cover ∷ cells) zero within = refl
+gate_or_latch (Latch d init ∷ cells) zero within = refl
+gate_or_latch (cell ∷ cells) (suc number) within = gate_or_latch cells number (omega arith)
 
 module _ (inputs : ℕ) (cells : List Cell) (order : List ℕ) (is_order : IsOrder inputs cells order) where
   -- no two places of an order have one number

@@ -3,7 +3,7 @@ use Rattle.std.specs.Prelude.{◌≡◌, ◌≢◌, ◌<◌, ◌-◌, ◌==◌, 
 use Rattle.std.specs.List.{list_any, list_all}
 use Rattle.vw_net.specs.declared.cell.Cell.{Cell}
 use Rattle.vw_net.specs.declared.cell.Cell.TheVariants.{Gate, Latch}
-use Rattle.vw_net.specs.Cells.{reads}
+use Rattle.vw_net.specs.Cells.{read_nets}
 
 -- what stands at a cell number: a gate, a latch, or nothing
 abbrev pub is_gate : Option Cell → Bool
@@ -17,9 +17,9 @@ is_latch (Some (Gate ins cover)) = false
 is_latch (Some (Latch d init)) = true
 
 -- the nets that it reads
-abbrev pub reads_at : Option Cell → List ℕ
-reads_at None = []
-reads_at (Some cell) = reads cell
+abbrev pub read_nets_at : Option Cell → List ℕ
+read_nets_at None = []
+read_nets_at (Some cell) = read_nets cell
 
 abbrev pub is_among : List ℕ → ℕ → Bool
 is_among numbers number = list_any (λ other. other == number) numbers
@@ -32,4 +32,4 @@ is_ready inputs cells done net = nat_lt net inputs || (is_latch (slice_get cells
 pub record IsOrder (inputs : ℕ) (cells : List Cell) (order : List ℕ) : Type 0 where
   pub each : (number : ℕ) → is_gate (slice_get cells number) ≡ is_among order number
   pub once : (i j : ℕ) → i < j → j < length order → slice_index order i ≢ slice_index order j
-  pub after : (i : ℕ) → i < length order → IsTrue (list_all (is_ready inputs cells (take i order)) (reads_at (slice_get cells (slice_index order i))))
+  pub after : (i : ℕ) → i < length order → IsTrue (list_all (is_ready inputs cells (take i order)) (read_nets_at (slice_get cells (slice_index order i))))

@@ -4,7 +4,7 @@ use Rattle.vw_net.specs.declared.cell.Cell.{Cell}
 use Rattle.vw_net.specs.declared.cell.Cell.TheVariants.{Gate, Latch}
 use Rattle.vw_net.specs.declared.flat.Flat.{Flat}
 use Rattle.vw_net.specs.Cover.{cover_value}
-use Rattle.vw_net.specs.Cells.{latches}
+use Rattle.vw_net.specs.Cells.{latch_count}
 
 -- the value that a cell gives its net: a gate from the values of the nets that it reads, a latch the bit of its number
 abbrev pub driven_value : (ℕ → Bool) → List Bool → ℕ → Option Cell → Bool
@@ -17,7 +17,7 @@ abbrev pub level_value : ℕ → Flat → List Bool → List Bool → ℕ → Bo
 level_value zero flat row state net = false
 level_value (suc level) flat row state net =
     if nat_lt net flat.inputs then slice_index_or row net false
-    else driven_value (level_value level flat row state) state (latches (take (net - flat.inputs) flat.cells)) (slice_get flat.cells (net - flat.inputs))
+    else driven_value (level_value level flat row state) state (latch_count (take (net - flat.inputs) flat.cells)) (slice_get flat.cells (net - flat.inputs))
 
 -- the value of a net: one level more than there are cells is enough wherever gates don't read in a circle
 unfoldable pub net_value : Flat → List Bool → List Bool → ℕ → Bool

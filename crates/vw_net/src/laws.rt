@@ -10,15 +10,17 @@ ghost use Rattle.vw_net.specs.History.{flat_history, joined};
 
 /// Where there is an order, following more drivers in a row than there are cells changes no value.
 pub fn levels_settle()
-    ensures { (ordered : Ordered) (row state : List Bool) (level net : ℕ) → length ordered.flat.cells + 1 ≤ level
+    ensures { (ordered : Ordered) (row state : List Bool) (level net : ℕ)
+        → length ordered.flat.cells + 1 ≤ level
         → level_value level ordered.flat row state net ≡ net_value ordered.flat row state net }
 {}
 
 /// Where there is an order, a gate's net has its table's value of the values of the nets that it reads.
 pub fn gates_settle()
-    ensures { (ordered : Ordered) (row state : List Bool) (number : ℕ) (ins : List ℕ) (cover : Cover)
-        → slice_get ordered.flat.cells number ≡ Some (Gate ins cover)
-        → net_value ordered.flat row state (ordered.flat.inputs + number) ≡ cover_value cover (map (net_value ordered.flat row state) ins) }
+    ensures { (ordered : Ordered) (row state : List Bool) (number : ℕ) (ins : List ℕ)
+        (cover : Cover) → slice_get ordered.flat.cells number ≡ Some (Gate ins cover)
+        → net_value ordered.flat row state (ordered.flat.inputs + number)
+        ≡ cover_value cover (map (net_value ordered.flat row state) ins) }
 {}
 
 /// The history of two lists of rows, one after the other, is that of the first and then that of the second from
@@ -26,5 +28,6 @@ pub fn gates_settle()
 pub fn histories_join()
     ensures { (flat : Flat) (state : List Bool) (first second : List (List Bool))
         → flat_history flat state (first ++ second)
-        ≡ joined (flat_history flat state first) (flat_history flat (flat_history flat state first).last second) }
+        ≡ joined (flat_history flat state first)
+        (flat_history flat (flat_history flat state first).last second) }
 {}

@@ -1,2 +1,4 @@
-pub mod Pieces
-pub mod Shelves
+pub mod Fronts
+pub mod PiecesWritten
+pub mod FaultCounts
+pub mod TextsTold

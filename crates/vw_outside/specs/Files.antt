@@ -1,20 +1,26 @@
 -- Texts in memory under their names.
 use Rattle.std.specs.Prelude.{ℕ, ◌+◌, List, [], ◌∷◌, if◌then◌else◌, Option, Some, None, option_map}
 use Rattle.std.specs.Str.{bytes_eq}
-use Rattle.vw_outside.specs.Told.{Told, absent, held}
 use Rattle.vw_outside.specs.declared.held.Held.{Held}
+use Rattle.vw_outside.specs.Told.{Told, absent, held}
+use Rattle.vw_outside.specs.Reads.{SeenShelf}
 
 -- the place of the first text of a name
-abbrev pub place_of : List Held → List ℕ → Option ℕ
-place_of [] name = None
-place_of (file ∷ files) name = if bytes_eq file.name name then Some 0 else option_map (λ place. place + 1) (place_of files name)
+abbrev pub text_place : List Held → List ℕ → Option ℕ
+text_place [] name = None
+text_place (file ∷ files) name =
+    if bytes_eq file.name name then Some 0 else option_map (λ place. place + 1) (text_place files name)
 
--- the first text of a name, if there is one
-abbrev pub text_of : List Held → List ℕ → Told
-text_of [] name = absent
-text_of (file ∷ files) name = if bytes_eq file.name name then held file.bytes.items else text_of files name
+-- what is told of a name: its first text, or that there is none
+abbrev pub told_in : List Held → List ℕ → Told
+told_in [] name = absent
+told_in (file ∷ files) name = if bytes_eq file.name name then held file.bytes.items else told_in files name
 
 -- the faults counted at a name: those of its first text, or those of all names without a text
-abbrev pub faults_of : List Held → ℕ → List ℕ → ℕ
-faults_of [] others name = others
-faults_of (file ∷ files) others name = if bytes_eq file.name name then file.faults else faults_of files others name
+abbrev pub faults_in : List Held → ℕ → List ℕ → ℕ
+faults_in [] others name = others
+faults_in (file ∷ files) others name = if bytes_eq file.name name then file.faults else faults_in files others name
+
+-- what is seen of a shelf with these texts, and with this count for all names without a text
+abbrev pub seen_files : List Held → ℕ → SeenShelf
+seen_files files others = record { told = told_in files; faults = faults_in files others }

@@ -1,3 +1,6 @@
 pub mod Told
-pub mod Appended
+pub mod Faults
+pub mod Reads
+pub mod Writes
 pub mod Files
+pub mod Memory

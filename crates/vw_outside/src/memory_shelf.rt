@@ -1,7 +1,8 @@
-ghost use Rattle.std.specs.Prelude.{◌≡◌, ◌≢◌, ◌≤◌, ◌<◌, ◌+◌, ◌-◌, ◌^◌, ◌==◌, min, ℕ, List, true, false, length, IsErr, IsOk, IfOk, OnErr};
-ghost use Rattle.std.specs.List.{list_any};
-ghost use Rattle.vw_outside.specs.Told.{absent, held, Rose, Fills};
-ghost use Rattle.vw_outside.specs.Files.{place_of, text_of, faults_of};
+ghost use Rattle.std.specs.Prelude.{◌≡◌, ◌≤◌, ◌<◌, ℕ, List, true, false, length, IfOk, IsErr, IsOk};
+ghost use Rattle.vw_outside.specs.Told.{held};
+ghost use Rattle.vw_outside.specs.Faults.{one_more, is_listed};
+ghost use Rattle.vw_outside.specs.Reads.{Fills, ReadEnds};
+ghost use Rattle.vw_outside.specs.Files.{text_place};
 
 use crate::held::Held;
 use crate::name::Name;
@@ -44,7 +45,7 @@ impl MemShelf {
 
 /// The place of the first text of a name.
 fn find(files: &[Held], name: &[u8]) -> Option<usize>
-    ensures { result ≡ place_of files.now name.now }
+    ensures { result ≡ text_place files.now name.now }
 {
     for (place, file) in files.iter().enumerate() {
         if file.name.as_slice() == name {
@@ -69,27 +70,21 @@ fn copy(bytes: &[u8], from: u64, most: u32, into: &mut [u8]) -> usize
 }
 
 impl Shelf for MemShelf {
-    ghost told = { λ shelf name. text_of shelf.files.items name };
+    ghost use Rattle.vw_outside.specs.Memory.{seen_shelf, KeepsShelfSettings};
 
-    ghost faults = { λ shelf name. faults_of shelf.files.items shelf.others name };
+    ghost seen = { seen_shelf };
 
     fn read(&mut self, name: &Name, from: u64, into: &mut [u8]) -> Result<usize, Failed>
-        ensures same { (other : List ℕ) → text_of self.new.files.items other ≡ text_of self.old.files.items other }
-        ensures within { IfOk result (λ count. count ≤ length into.new) }
-        ensures held { (bytes : List ℕ) → text_of self.old.files.items name.now ≡ held bytes → IfOk result (Fills bytes from into.new) }
-        ensures absent { text_of self.old.files.items name.now ≡ absent → IsErr result }
-        ensures cause { OnErr result (Rose (faults_of self.old.files.items self.old.others name.now) (faults_of self.new.files.items self.new.others name.now)) }
-        ensures kept { (other : List ℕ) → faults_of self.old.files.items self.old.others other ≤ faults_of self.new.files.items self.new.others other }
-        ensures others { (other bytes : List ℕ) → other ≢ name.now → text_of self.old.files.items other ≡ held bytes
-            → faults_of self.new.files.items self.new.others other ≡ faults_of self.old.files.items self.old.others other }
+        ensures reads { ReadEnds name.now from into.new (seen_shelf self.old) (seen_shelf self.new)
+            result }
 
         // A read that is listed fails, and one that isn't doesn't fail on a name that is held.
-        ensures count { self.new.calls ≡ min (self.old.calls + 1) (2 ^ 64 - 1) }
-        ensures listed { list_any (λ call. call == self.new.calls) self.old.failing.items ≡ true → IsErr result }
-        ensures sure { (bytes : List ℕ) → text_of self.old.files.items name.now ≡ held bytes
-            → list_any (λ call. call == self.new.calls) self.old.failing.items ≡ false → IsOk result }
+        ensures count { self.new.calls ≡ one_more self.old.calls }
+        ensures listed { is_listed self.old.failing.items self.new.calls ≡ true → IsErr result }
+        ensures sure { (bytes : List ℕ) → (seen_shelf self.old).told name.now ≡ held bytes
+            → is_listed self.old.failing.items self.new.calls ≡ false → IsOk result }
         ensures pieces { IfOk result (λ count. count ≤ self.old.most) }
-        ensures settings { (self.new.failing.items ≡ self.old.failing.items) × (self.new.most ≡ self.old.most) }
+        ensures settings { KeepsShelfSettings self.old self.new }
     {
         self.calls = self.calls.saturating_add(1);
         let fails = self.failing.contains(&self.calls);

@@ -1,7 +1,7 @@
-ghost use Rattle.std.specs.Prelude.{◌≡◌, ◌≤◌, ◌<◌, ◌+◌, ◌-◌, ◌^◌, ◌++◌, ◌==◌, min, [], true, false, length, take, IfOk, OnErr, IsOk, IsErr, Some};
-ghost use Rattle.std.specs.List.{list_any};
+ghost use Rattle.std.specs.Prelude.{◌≡◌, ◌≤◌, ◌<◌, ◌+◌, min, [], true, false, length, IfOk, OnOk, OnErr, IsOk, IsErr};
 ghost use Rattle.std.specs.Vec.{vec_capacity};
-ghost use Rattle.vw_outside.specs.Told.{Rose};
+ghost use Rattle.vw_outside.specs.Faults.{one_more, is_listed};
+ghost use Rattle.vw_outside.specs.Writes.{WriteEnds};
 
 use crate::sink::{Failed, Sink};
 use std::alloc::{AllocError, Global};
@@ -20,6 +20,8 @@ pub struct MemSink {
 }
 
 impl MemSink {
+    ghost use Rattle.vw_outside.specs.Memory.{seen_sink, KeepsSinkSettings};
+
     /// A sink with no bytes yet.
     pub fn new(alloc: Global, most: u32, failing: Vec<u64>) -> Self
         requires { 0 < most }
@@ -40,11 +42,13 @@ impl MemSink {
 
     /// Takes memory for this many further bytes, so that their writes need none.
     pub fn reserve(&mut self, more: u64) -> Result<(), AllocError>
-        ensures room { IfOk result (λ _. length self.new.written.items + more ≤ vec_capacity self.new.written) }
-        ensures full { OnErr result (vec_capacity self.old.written < length self.old.written.items + more) }
-        ensures written { self.new.written.items ≡ self.old.written.items }
-        ensures settings { (self.new.failing.items ≡ self.old.failing.items) × (self.new.most ≡ self.old.most) }
-        ensures counts { (self.new.calls ≡ self.old.calls) × (self.new.faults ≡ self.old.faults) }
+        ensures room { OnOk result (length self.new.written.items + more ≤ vec_capacity
+            self.new.written) }
+        ensures full { OnErr result (vec_capacity self.old.written < length
+            self.old.written.items + more) }
+        ensures seen { seen_sink self.new ≡ seen_sink self.old }
+        ensures settings { KeepsSinkSettings self.old self.new }
+        ensures count { self.new.calls ≡ self.old.calls }
     {
         self.written.reserve(more as usize)
     }
@@ -58,26 +62,22 @@ impl MemSink {
 }
 
 impl Sink for MemSink {
-    ghost told = { λ sink. Some sink.written.items };
+    ghost use Rattle.vw_outside.specs.Memory.{seen_sink, KeepsSinkSettings};
 
-    ghost faults = { λ sink. sink.faults };
+    ghost seen = { seen_sink };
 
     fn write(&mut self, piece: &[u8]) -> Result<usize, Failed>
-        ensures taken { IfOk result (λ count. self.new.written.items ≡ self.old.written.items ++ take count piece.now) }
-        ensures within { IfOk result (λ count. count ≤ length piece.now) }
-        ensures progress { IfOk result (λ count. 0 < length piece.now → 0 < count) }
-        ensures refused { OnErr result (self.new.written.items ≡ self.old.written.items) }
-        ensures cause { OnErr result (Rose self.old.faults self.new.faults) }
-        ensures kept { self.old.faults ≤ self.new.faults }
+        ensures writes { WriteEnds piece.now (seen_sink self.old) (seen_sink self.new) result }
 
         // It takes all that it may. A write that is listed fails, and one that isn't doesn't where there is room.
-        ensures count { self.new.calls ≡ min (self.old.calls + 1) (2 ^ 64 - 1) }
+        ensures count { self.new.calls ≡ one_more self.old.calls }
         ensures pieces { IfOk result (λ count. count ≡ min (length piece.now) self.old.most) }
-        ensures sure { list_any (λ call. call == self.new.calls) self.old.failing.items ≡ false
-            → length self.old.written.items + length piece.now ≤ vec_capacity self.old.written → IsOk result }
+        ensures listed { is_listed self.old.failing.items self.new.calls ≡ true → IsErr result }
+        ensures sure { is_listed self.old.failing.items self.new.calls ≡ false
+            → length self.old.written.items + length piece.now ≤ vec_capacity self.old.written
+            → IsOk result }
         ensures room { vec_capacity self.old.written ≤ vec_capacity self.new.written }
-        ensures listed { list_any (λ call. call == self.new.calls) self.old.failing.items ≡ true → IsErr result }
-        ensures settings { (self.new.failing.items ≡ self.old.failing.items) × (self.new.most ≡ self.old.most) }
+        ensures settings { KeepsSinkSettings self.old self.new }
     {
         self.calls = self.calls.saturating_add(1);
         let count = piece.len().min(self.most as usize);

@@ -2,14 +2,23 @@ use super::*;
 use std::test::Fail;
 use std::{fs, process};
 
+/// A path of this process under `/tmp`.
+fn path(rt: &HostRuntime, name: &str) -> Result<String, Fail> {
+    let number = process::id(rt.process());
+    Ok(format!(in rt.alloc(); "/tmp/vw_outside_{number}_{name}")?)
+}
+
+/// The name of a path.
+fn name_of(rt: &HostRuntime, path: &[u8]) -> Result<Name, Fail> {
+    Ok(Name::of(path.to_vec(rt.alloc())?))
+}
+
 #[test]
 fn files_are_read_from_any_place(rt: HostRuntime) -> Result<(), Fail> {
-    let alloc = rt.alloc();
-    let number = process::id(rt.process());
-    let path = format!(in alloc; "/tmp/vw_outside_{number}")?;
+    let path = path(&rt, "places")?;
     fs::write(&rt, path.as_str(), b"eleven chars")?;
-    let mut shelf = FileShelf::new(&rt);
-    let name = Name::of(path.as_bytes().to_vec(alloc)?);
+    let mut shelf = FileShelf::new(rt.alloc(), &rt);
+    let name = name_of(&rt, path.as_bytes())?;
     let mut piece = [0u8; 6];
     let whole = shelf.read(&name, 0, &mut piece);
     assert_eq!(rt; whole, Ok(6));
@@ -20,11 +29,47 @@ fn files_are_read_from_any_place(rt: HostRuntime) -> Result<(), Fail> {
     let past = shelf.read(&name, 12, &mut piece);
     assert_eq!(rt; past, Ok(0));
     fs::remove_file(&rt, path.as_str())?;
-    // a file that is gone, a folder, and a name that isn't UTF-8
-    let folder = Name::of(b"/tmp".to_vec(alloc)?);
-    let other = Name::of(b"/tmp/\xff".to_vec(alloc)?);
-    for gone in [name, folder, other] {
-        assert_eq!(rt; shelf.read(&gone, 0, &mut piece), Err(Failed));
+    Ok(())
+}
+
+#[test]
+fn one_reading_sees_one_file(rt: HostRuntime) -> Result<(), Fail> {
+    let path = path(&rt, "kept")?;
+    fs::write(&rt, path.as_str(), b"the old text")?;
+    let mut shelf = FileShelf::new(rt.alloc(), &rt);
+    let name = name_of(&rt, path.as_bytes())?;
+    let mut piece = [0u8; 4];
+    assert_eq!(rt; shelf.read(&name, 0, &mut piece), Ok(4));
+    // the name is given to another file between two reads
+    fs::remove_file(&rt, path.as_str())?;
+    fs::write(&rt, path.as_str(), b"another one")?;
+    assert_eq!(rt; shelf.read(&name, 4, &mut piece), Ok(4));
+    assert_eq!(rt; piece.as_slice(), b"old ".as_slice());
+    // the file stays open until another name is read, here one that is missing
+    let missing = name_of(&rt, b"/tmp/vw_outside_missing")?;
+    assert_eq!(rt; shelf.read(&missing, 0, &mut piece), Err(Failed));
+    assert_eq!(rt; shelf.read(&name, 0, &mut piece), Ok(4));
+    assert_eq!(rt; piece.as_slice(), b"anot".as_slice());
+    fs::remove_file(&rt, path.as_str())?;
+    Ok(())
+}
+
+#[test]
+fn what_is_no_regular_file_is_a_fault(rt: HostRuntime) -> Result<(), Fail> {
+    let mut shelf = FileShelf::new(rt.alloc(), &rt);
+    let mut piece = [0u8; 6];
+    // a missing file, a folder, devices, a name that isn't UTF-8, and none
+    let table: [&[u8]; 6] = [
+        b"/tmp/vw_outside_missing",
+        b"/tmp",
+        b"/dev/null",
+        b"/dev/zero",
+        b"/tmp/\xff",
+        b"",
+    ];
+    for path in table {
+        let name = name_of(&rt, path)?;
+        assert_eq!(rt; shelf.read(&name, 0, &mut piece), Err(Failed), "{path:?}");
     }
     Ok(())
 }

@@ -1,5 +1,6 @@
-ghost use Rattle.std.specs.Prelude.{◌≡◌, ◌≢◌, ◌≤◌, ◌<◌, ◌^◌, ℕ, List, length, OnErr, IfOk, IsErrOf, Err};
-ghost use Rattle.vw_outside.specs.Told.{absent, held, Rose, OfText};
+ghost use Rattle.std.specs.Prelude.{◌≡◌, ◌≢◌, ◌≤◌, ◌<◌, ◌^◌, length, IfOk, IsErrOf, Err};
+ghost use Rattle.vw_outside.specs.Told.{absent, IsTextOf, OfText};
+ghost use Rattle.vw_outside.specs.Reads.{CountsFault};
 
 use crate::name::Name;
 use crate::shelf::Shelf;
@@ -26,9 +27,10 @@ impl From<AllocError> for TextRefused {
 }
 
 /// How many bytes one read asks for at the most.
-const PIECE: usize = 4096;
+const PIECE: usize = 65_536;
 
-/// Reads the whole text of a name, in pieces, until its end or until one byte past the limit.
+/// Reads the whole text of a name, in pieces of 64 KiB, until its end or until one byte past the limit. It takes
+/// memory for the text.
 pub fn read_text<S: Shelf>(
     alloc: Global,
     shelf: &mut S,
@@ -36,16 +38,17 @@ pub fn read_text<S: Shelf>(
     limit: u64,
 ) -> Result<Vec<u8>, TextRefused>
     requires { limit < 2 ^ 63 }
-    ensures whole { IfOk result (λ text. OfText (S.told shelf.old name.now) (λ bytes. text.items ≡ bytes)) }
+    ensures whole { IfOk result (λ text. IsTextOf ((S.seen shelf.old).told name.now) text.items) }
     ensures within { IfOk result (λ text. length text.items ≤ limit) }
-    ensures too_large { IsErrOf result TextRefused.TooLarge → OfText (S.told shelf.old name.now) (λ bytes. limit < length bytes) }
-    ensures absent { S.told shelf.old name.now ≡ absent → result ≡ Err TextRefused.ReadFault }
+    ensures too_large { IsErrOf result TextRefused.TooLarge
+        → OfText ((S.seen shelf.old).told name.now) (λ bytes. limit < length bytes) }
+    ensures absent { (S.seen shelf.old).told name.now ≡ absent
+        → result ≡ Err TextRefused.ReadFault }
 
     // What the reads leave of the shelf.
-    ensures cause { IsErrOf result TextRefused.ReadFault → Rose (S.faults shelf.old name.now) (S.faults shelf.new name.now) }
-    ensures same { (other : List ℕ) → S.told shelf.new other ≡ S.told shelf.old other }
-    ensures kept { (other : List ℕ) → S.faults shelf.old other ≤ S.faults shelf.new other }
-    ensures others { (other bytes : List ℕ) → other ≢ name.now → S.told shelf.old other ≡ held bytes → S.faults shelf.new other ≡ S.faults shelf.old other }
+    ensures fault { IsErrOf result TextRefused.ReadFault
+        → CountsFault name.now (S.seen shelf.old) (S.seen shelf.new) }
+    ensures kept { result ≢ Err TextRefused.ReadFault → S.seen shelf.new ≡ S.seen shelf.old }
 {
     let mut text = Vec::new(alloc);
     let mut piece = [0u8; PIECE];

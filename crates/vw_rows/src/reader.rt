@@ -1,8 +1,9 @@
-ghost use Rattle.std.specs.Prelude.{◌≡◌, ◌≢◌, ◌≤◌, ◌<◌, ◌+◌, ◌^◌, ◌==◌, map, ℕ, List, length, IfOk, IsErrOf, Err};
+ghost use Rattle.std.specs.Prelude.{◌≡◌, ◌≢◌, ◌≤◌, ◌<◌, ◌+◌, ◌==◌, map, true, length, IfOk, IsErrOf, Err};
 ghost use Rattle.std.specs.List.{All};
-ghost use Rattle.vw_outside.specs.Told.{absent, held, Rose};
+ghost use Rattle.vw_outside.specs.Told.{absent, OfText};
+ghost use Rattle.vw_outside.specs.Reads.{CountsFault};
 ghost use Rattle.vw_rows.specs.Lines.{text_lines};
-ghost use Rattle.vw_rows.specs.Stimulus.{is_bits, line_row, rows_of, stimulus_rows, Agrees, AgreesWithText};
+ghost use Rattle.vw_rows.specs.Stimulus.{is_bits, line_row, rows_from, stimulus_rows, is_of_text};
 
 use crate::lines::first_line;
 use crate::stimulus::StimFault;
@@ -33,10 +34,10 @@ fn bits_of(alloc: Global, word: &[u8]) -> Result<Vec<bool>, AllocError>
 }
 
 /// The row of one line.
-fn row_of(alloc: Global, line: &[u8], width: u32, number: u64) -> Result<Bits, StimFault>
-    ensures row { Agrees result (line_row width number line.now) }
+fn line_row(alloc: Global, line: &[u8], width: u32, number: u64) -> Result<Bits, StimFault>
+    ensures row { is_of_text result ≡ true → line_row width number line.now ≡ result }
     ensures width { IfOk result (λ row. length row ≡ width) }
-    ensures reads_nothing { IsErrOf result StimFault.ReadFault → ⊥ }
+    ensures reads_nothing { result ≢ Err StimFault.ReadFault }
 {
     if !is_word_of_bits(line) {
         return Err(StimFault::BadLine(number));
@@ -50,17 +51,17 @@ fn row_of(alloc: Global, line: &[u8], width: u32, number: u64) -> Result<Bits, S
 /// The rows of a text.
 fn rows_of_text(alloc: Global, text: &[u8], width: u32) -> Result<Rows, StimFault>
     requires { length text.now ≤ 16777216 }
-    ensures rows { Agrees result (rows_of width 1 (text_lines text.now)) }
+    ensures rows { is_of_text result ≡ true → rows_from width 1 (text_lines text.now) ≡ result }
     ensures width { IfOk result (All (λ row. length row ≡ width)) }
     ensures clocks { IfOk result (λ rows. length rows ≤ length text.now) }
-    ensures reads_nothing { IsErrOf result StimFault.ReadFault → ⊥ }
+    ensures reads_nothing { result ≢ Err StimFault.ReadFault }
 {
     let mut rows = Vec::new(alloc);
     let mut rest = text;
     let mut number = 1;
     while !rest.is_empty() {
         let (line, after) = first_line(rest);
-        rows.push(row_of(alloc, line, width, number)?)?;
+        rows.push(line_row(alloc, line, width, number)?)?;
         rest = after;
         number += 1;
     }
@@ -74,16 +75,17 @@ pub fn read_all<S: Shelf>(
     name: &Name,
     width: u32,
 ) -> Result<Rows, StimFault>
-    ensures rows { AgreesWithText (S.told shelf.old name.now) width result }
+    // The rows are those of the text, and so is a fault that lies in it.
+    ensures rows { is_of_text result ≡ true
+        → OfText ((S.seen shelf.old).told name.now) (λ text. stimulus_rows width text ≡ result) }
     ensures width { IfOk result (All (λ row. length row ≡ width)) }
     ensures clocks { IfOk result (λ rows. length rows ≤ 4294967295) }
-    ensures absent { S.told shelf.old name.now ≡ absent → result ≡ Err StimFault.ReadFault }
+    ensures absent { (S.seen shelf.old).told name.now ≡ absent → result ≡ Err StimFault.ReadFault }
 
     // What the reads leave of the shelf.
-    ensures cause { IsErrOf result StimFault.ReadFault → Rose (S.faults shelf.old name.now) (S.faults shelf.new name.now) }
-    ensures same { (other : List ℕ) → S.told shelf.new other ≡ S.told shelf.old other }
-    ensures kept { (other : List ℕ) → S.faults shelf.old other ≤ S.faults shelf.new other }
-    ensures others { (other bytes : List ℕ) → other ≢ name.now → S.told shelf.old other ≡ held bytes → S.faults shelf.new other ≡ S.faults shelf.old other }
+    ensures fault { IsErrOf result StimFault.ReadFault
+        → CountsFault name.now (S.seen shelf.old) (S.seen shelf.new) }
+    ensures kept { result ≢ Err StimFault.ReadFault → S.seen shelf.new ≡ S.seen shelf.old }
 {
     match read_text(alloc, shelf, name, TEXT_LIMIT) {
         Ok(text) => rows_of_text(alloc, &text, width),

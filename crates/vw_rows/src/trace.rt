@@ -26,7 +26,8 @@ fn push_clock(
     outputs: &Bits,
     latches: &Bits,
 ) -> Result<(), AllocError>
-    ensures { OnOk result (text.new.items ≡ text.old.items ++ clock_text clock outputs.now latches.now) }
+    ensures { OnOk result (text.new.items
+        ≡ text.old.items ++ clock_text clock outputs.now latches.now) }
 {
     text.extend_from_slice(clock.to_string(alloc)?.as_bytes())?;
     text.push(b' ')?;

@@ -6,9 +6,9 @@ use Rattle.std.proofs.lemmas.List.{map_push}
 use Rattle.vw_net.specs.declared.cell.Cell.{Cell}
 use Rattle.vw_top.specs.declared.first_form.item.Item.{Item as Held}
 use Rattle.vw_top.specs.Source.{Word, Item, table, latch}
-use Rattle.vw_top.specs.Reading.{◌>>=◌, traverse}
-use Rattle.vw_top.specs.Views.{item_view, items_view}
-use Rattle.vw_top.specs.Numbers.{reads_known, IsFoundCell}
+use Rattle.vw_top.specs.Steps.Reading.{◌>>=◌, traverse}
+use Rattle.vw_top.specs.Steps.Views.{item_view, items_view}
+use Rattle.vw_top.specs.Steps.Numbers.{reads_known, IsFoundCell}
 
 -- where a step or the rest gives nothing
 traverse_cons : (number : Word → Option ℕ) (word : Word) (found : Option ℕ) (words : List Word) (rest : Option (List ℕ)) → (found >>= λ place. rest >>= λ places. Some (place ∷ places)) ≡ None

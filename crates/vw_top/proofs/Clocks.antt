@@ -1,54 +1,17 @@
 -- A clock among others.
-use Rattle.std.proofs.Common.{◌≡◌, ◌<◌, ◌≤◌, ◌+◌, ℕ, suc, Bool, List, [], ◌∷◌, ◌++◌, length, take, drop, set, get_or, map, ap, sym, refl, ◌∙◌, arith, append_assoc}
-use Rattle.std.proofs.lemmas.List.{take_more_set, at_drop_more, length-map}
+use Rattle.std.proofs.Common.{◌≡◌, ◌<◌, ◌+◌, ℕ, Bool, List, [], ◌∷◌, ◌++◌, length, take, drop, set, get_or, map, ap, sym, ◌∙◌, append_assoc}
+use Rattle.std.proofs.lemmas.List.{take_more_set, at_drop_more}
 use Rattle.std.proofs.lemmas.List.Elements.{All-weaker}
-use Rattle.vw_net.specs.declared.cell.Cell.{Cell}
-use Rattle.vw_net.specs.declared.cell.Cell.TheVariants.{Gate, Latch}
 use Rattle.vw_net.specs.declared.flat.Flat.{Flat}
-use Rattle.vw_net.specs.Cells.{latches, latch_inputs, start_values}
 use Rattle.vw_net.specs.Value.{net_value}
 use Rattle.vw_net.specs.History.{outputs_at, next_state, outputs_of, states_of, state_after}
-use Rattle.vw_top.proofs.Gates.{map_agree}
+use Rattle.vw_net.proofs.Levels.{map_agree}
 
 -- the outputs, from what gives each net its value
 pub outputs_at-from_values : (flat : Flat) (row state : List Bool) (value : ℕ → Bool) → ((net : ℕ) → net < flat.inputs + length flat.cells → value net ≡ net_value flat row state net) → map value flat.outputs ≡ outputs_at flat row state
 outputs_at-from_values flat row state value have =
     let nets = flat.inputs + length flat.cells in
     map_agree value (net_value flat row state) flat.outputs (All-weaker (λ net. net < nets) (λ net. value net ≡ net_value flat row state net) have flat.outputs flat.outputs_fit)
-
--- there are as many start values, and inputs of latches, as latches, and no more of them than cells
-pub length-start_values : (unknown : Bool) (cells : List Cell) → length (start_values unknown cells) ≡ latches cells
-length-start_values unknown [] = refl
-length-start_values unknown (Gate ins cover ∷ cells) = length-start_values unknown cells
-length-start_values unknown (Latch d init ∷ cells) = ap suc (length-start_values unknown cells)
-
-pub length-latch_inputs : (cells : List Cell) → length (latch_inputs cells) ≡ latches cells
-length-latch_inputs [] = refl
-length-latch_inputs (Gate ins cover ∷ cells) = length-latch_inputs cells
-length-latch_inputs (Latch d init ∷ cells) = ap suc (length-latch_inputs cells)
-
-pub latches_few : (cells : List Cell) → latches cells ≤ length cells
-latches_few [] = omega arith
-latches_few (Gate ins cover ∷ cells) = omega (arith, latches_few cells)
-latches_few (Latch d init ∷ cells) = omega (arith, latches_few cells)
-
-pub length-next_state : (flat : Flat) (row state : List Bool) → length (next_state flat row state) ≡ latches flat.cells
-length-next_state flat row state = length-map (latch_inputs flat.cells) (net_value flat row state) ∙ length-latch_inputs flat.cells
-
-pub length-outputs_at : (flat : Flat) (row state : List Bool) → length (outputs_at flat row state) ≡ length flat.outputs
-length-outputs_at flat row state = length-map flat.outputs (net_value flat row state)
-
-pub length-state_after : (flat : Flat) (state : List Bool) (rows : List (List Bool)) → length state ≡ latches flat.cells → length (state_after flat state rows) ≡ latches flat.cells
-length-state_after flat state [] size = size
-length-state_after flat state (row ∷ rows) size = length-state_after flat (next_state flat row state) rows (length-next_state flat row state)
-
-pub length-outputs_of : (flat : Flat) (state : List Bool) (rows : List (List Bool)) → length (outputs_of flat state rows) ≡ length rows
-length-outputs_of flat state [] = refl
-length-outputs_of flat state (row ∷ rows) = ap suc (length-outputs_of flat (next_state flat row state) rows)
-
-pub length-states_of : (flat : Flat) (state : List Bool) (rows : List (List Bool)) → length (states_of flat state rows) ≡ length rows
-length-states_of flat state [] = refl
-length-states_of flat state (row ∷ rows) = ap suc (length-states_of flat (next_state flat row state) rows)
 
 -- one more written over
 pub written_more : {X : Type 0} (written : List X) (i : ℕ) (y : X) (rest later whole : List X) → i < length written → rest ≡ y ∷ later → take i written ++ rest ≡ whole → take (i + 1) (set written i y) ++ later ≡ whole

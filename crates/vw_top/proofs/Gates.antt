@@ -1,45 +1,28 @@
 -- Values of nets as gates are worked out, one after the other.
-use Rattle.std.proofs.Common.{◌≡◌, ◌≤◌, ◌<◌, ◌+◌, ◌-◌, ◌||◌, ℕ, Bool, true, false, List, [], ◌∷◌, length, take, map, get_or, set, slice_get, slice_index_or, nat_lt, eqb, Option, Some, ap, ap₂, sym, refl, ◌∙◌, ⊎_elim, eq-eqb, ne_eqb, true≢false, lt-ltb, zero, suc, All, arith}
+use Rattle.std.proofs.Common.{◌≡◌, ◌≤◌, ◌<◌, ◌+◌, ◌-◌, ◌||◌, ℕ, Bool, true, false, List, length, take, map, get_or, set, slice_get, slice_index_or, nat_lt, eqb, Option, Some, ap, ap₂, sym, refl, ◌∙◌, ⊎_elim, eq-eqb, ne_eqb, lt-ltb, All, arith}
 use Rattle.std.proofs.lemmas.Bool.{cases_eq, cases_lt, or_left, or_right}
 use Rattle.std.proofs.Math.Bool.{or-false}
 use Rattle.std.specs.List.{list_all}
 use Rattle.std.proofs.lemmas.Grind.{get_or-set_at}
 use Rattle.std.proofs.lemmas.List.{get_or-set_other}
-use Rattle.std.proofs.lemmas.List.Elements.{All-head, All-tail, All-weaker}
+use Rattle.std.proofs.lemmas.List.Elements.{All-weaker}
 use Rattle.std.proofs.lemmas.List.Folds.{list_any_at, list_any_more}
 use Rattle.std.proofs.lemmas.List.Sums.{AllPass-from_list_all}
-use Rattle.std.proofs.lemmas.Option.{slice_get_past, get_or_from_slice_get, slice_get_within, slice_get_read}
+use Rattle.std.proofs.lemmas.Option.{get_or_from_slice_get, slice_get_within, slice_get_read}
 use Rattle.vw_net.specs.declared.cell.Cell.{Cell}
-use Rattle.vw_net.specs.declared.cell.Cell.TheVariants.{Gate, Latch}
+use Rattle.vw_net.specs.declared.cell.Cell.TheVariants.{Gate}
 use Rattle.vw_net.specs.declared.cover.Cover.{Cover}
 use Rattle.vw_net.specs.Cells.{IsWellFormed}
 use Rattle.vw_net.specs.Cover.{cover_value}
-use Rattle.vw_net.specs.Order.{IsOrder, is_gate, is_latch, is_among, is_ready, reads_at}
-
--- two ways to give nets values that agree on each of these nets give one list
-pub map_agree : (value other : ℕ → Bool) (nets : List ℕ) → All (λ net. value net ≡ other net) nets → map value nets ≡ map other nets
-map_agree value other [] agree = refl
-map_agree value other (net ∷ nets) agree =
-    let here : value net ≡ other net = All-head (λ at. value at ≡ other at) net nets agree in
-    let rest : All (λ at. value at ≡ other at) nets = All-tail (λ at. value at ≡ other at) net nets agree in
-    ap₂ (λ (bit : Bool) (bits : List Bool). bit ∷ bits) here (map_agree value other nets rest)
-
--- a gate's number is below the number of cells
-gate_within : (cells : List Cell) (number : ℕ) → is_gate (slice_get cells number) ≡ true → number < length cells
-gate_within cells number gate = ⊎_elim (λ within. within) (λ past. absurd (true≢false (sym gate ∙ ap is_gate (slice_get_past cells number past)))) (cases_lt number (length cells))
+use Rattle.vw_net.specs.Order.{IsOrder, is_gate, is_latch, is_among, is_ready, read_nets_at}
+use Rattle.vw_net.proofs.Orders.{gate_within, gate_or_latch}
+use Rattle.vw_net.proofs.Levels.{map_agree}
 
 -- a well formed gate reads as many nets as its table has inputs, each of them below this number of nets
 pub gate_fits : (nets : ℕ) (cells : List Cell) (number : ℕ) (ins : List ℕ) (cover : Cover) → All (IsWellFormed nets) cells → slice_get cells number ≡ Some (Gate ins cover) → IsWellFormed nets (Gate ins cover)
 gate_fits nets cells number ins cover fit here =
     let within = slice_get_within cells number (Gate ins cover) here in
     rw (get_or_from_slice_get cells number (Gate ins cover) (Gate ins cover) here) at (fit number (Gate ins cover) within)
-
--- a cell is a gate or a latch
-gate_or_latch : (cells : List Cell) (number : ℕ) → number < length cells → (is_latch (slice_get cells number) || is_gate (slice_get cells number)) ≡ true
-gate_or_latch [] number within = absurd (omega arith)
-gate_or_latch (Gate ins cover ∷ cells) zero within = refl
-gate_or_latch (Latch d init ∷ cells) zero within = refl
-gate_or_latch (cell ∷ cells) (suc number) within = gate_or_latch cells number (omega arith)
 
 module _ {inputs : ℕ} {cells : List Cell} {order : List ℕ} (is_order : IsOrder inputs cells order) where
   -- what the order lists is a gate
@@ -84,7 +67,7 @@ module _ {inputs : ℕ} {cells : List Cell} {order : List ℕ} (is_order : IsOrd
   module _ (place : ℕ) (within : place < length order) (ins : List ℕ) (cover : Cover) (here : slice_get cells (get_or order place 0) ≡ Some (Gate ins cover)) where
     -- the nets that the gate at a place reads are ready when those before it are done
     reads_ready : All (λ net. is_ready inputs cells (take place order) net ≡ true) ins
-    reads_ready = AllPass-from_list_all (is_ready inputs cells (take place order)) ins (ap (λ (cell : Option Cell). list_all (is_ready inputs cells (take place order)) (reads_at cell)) (sym here) ∙ is_order.after place within)
+    reads_ready = AllPass-from_list_all (is_ready inputs cells (take place order)) ins (ap (λ (cell : Option Cell). list_all (is_ready inputs cells (take place order)) (read_nets_at cell)) (sym here) ∙ is_order.after place within)
 
     -- where the nets that are ready have their values, its table gives it its value
     cover_value-gate : (value other : ℕ → Bool) → value (inputs + get_or order place 0) ≡ cover_value cover (map value ins) → ((net : ℕ) → is_ready inputs cells (take place order) net ≡ true → other net ≡ value net) → cover_value cover (map other ins) ≡ value (inputs + get_or order place 0)

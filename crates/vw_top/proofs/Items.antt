@@ -8,8 +8,8 @@ use Rattle.vw_top.specs.declared.first_form.item.Item.TheVariants as held
 use Rattle.vw_top.specs.declared.first_form.item.Table.{Table}
 use Rattle.vw_net.specs.declared.cover.Row.{Row}
 use Rattle.vw_top.specs.Source.{Word, Item, table, driven_by}
-use Rattle.vw_top.specs.Reading.{guarded, with_row, add_row, latch_of, contents}
-use Rattle.vw_top.specs.Views.{item_view, items_view}
+use Rattle.vw_top.specs.Steps.Reading.{guarded, with_row, add_row, latch_of, contents}
+use Rattle.vw_top.specs.Steps.Views.{item_view, items_view}
 
 latch_of-other : (names : List Word) → (length names ≡ 3 → ⊥) → latch_of names ≡ None
 latch_of-other [] other = refl

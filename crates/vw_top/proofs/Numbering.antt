@@ -6,9 +6,9 @@ use Rattle.std.proofs.lemmas.Bool.{cases_Bool, cond-true, cond-false, or_parts, 
 use Rattle.std.proofs.lemmas.List.{take-append-drop, drop_more, map-append, length-map, length-take-le, map_more}
 use Rattle.std.proofs.lemmas.List.Folds.{list_any-append}
 use Rattle.vw_top.specs.Source.{Word}
-use Rattle.vw_top.specs.FirstForm.{is_among, are_distinct, place_of}
-use Rattle.vw_top.specs.Reading.{contents}
-use Rattle.vw_top.specs.Numbers.{IsNumbering}
+use Rattle.vw_top.specs.FirstForm.{has_word, are_distinct, name_place}
+use Rattle.vw_top.specs.Steps.Reading.{contents}
+use Rattle.vw_top.specs.Steps.Numbers.{IsNumbering}
 
 pub same_word : (a b : Word) → bytes_eq a b ≡ true → a ≡ b
 same_word a b e = (bytes_decides a b).0 e
@@ -18,64 +18,64 @@ suc_none None e = refl
 suc_none (Some n) e = absurd cc
 
 -- no place where a name is new: not the first, and none of the rest
-none_parts : (other : Word) (names : List Word) (name : Word) → place_of (other ∷ names) name ≡ None → (bytes_eq other name ≡ false) × (place_of names name ≡ None)
+none_parts : (other : Word) (names : List Word) (name : Word) → name_place (other ∷ names) name ≡ None → (bytes_eq other name ≡ false) × (name_place names name ≡ None)
 none_parts other names name e =
     ⊎_elim
-    (λ t. absurd (let found : Some zero ≡ None = sym (cond-true (bytes_eq other name) (Some zero) (option_map suc (place_of names name)) t) ∙ e in cc))
-    (λ f. (f, suc_none (place_of names name) (sym (cond-false (bytes_eq other name) (Some zero) (option_map suc (place_of names name)) f) ∙ e)))
+    (λ t. absurd (let found : Some zero ≡ None = sym (cond-true (bytes_eq other name) (Some zero) (option_map suc (name_place names name)) t) ∙ e in cc))
+    (λ f. (f, suc_none (name_place names name) (sym (cond-false (bytes_eq other name) (Some zero) (option_map suc (name_place names name)) f) ∙ e)))
     (cases_Bool (bytes_eq other name))
 
 -- a name has a place where it is among the names
-pub is_some-place_of : (names : List Word) (name : Word) → is_some (place_of names name) ≡ is_among names name
-is_some-place_of [] name = refl
-is_some-place_of (other ∷ names) name = go (bytes_eq other name) (place_of names name) (is_some-place_of names name) where
-  go : (b : Bool) (found : Option ℕ) → is_some found ≡ is_among names name → is_some (cond b (Some zero) (option_map suc found)) ≡ (b || is_among names name)
+pub is_some-name_place : (names : List Word) (name : Word) → is_some (name_place names name) ≡ has_word names name
+is_some-name_place [] name = refl
+is_some-name_place (other ∷ names) name = go (bytes_eq other name) (name_place names name) (is_some-name_place names name) where
+  go : (b : Bool) (found : Option ℕ) → is_some found ≡ has_word names name → is_some (cond b (Some zero) (option_map suc found)) ≡ (b || has_word names name)
   go true found e = refl
   go false None e = e
   go false (Some n) e = e
 
-pub place_of-here : (names : List Word) (name word : Word) → place_of names word ≡ None → bytes_eq name word ≡ true → place_of (names ++ name ∷ []) word ≡ Some (length names)
-place_of-here [] name word new same = cond-true (bytes_eq name word) (Some zero) None same
-place_of-here (other ∷ names) name word new same =
+pub name_place-here : (names : List Word) (name word : Word) → name_place names word ≡ None → bytes_eq name word ≡ true → name_place (names ++ name ∷ []) word ≡ Some (length names)
+name_place-here [] name word new same = cond-true (bytes_eq name word) (Some zero) None same
+name_place-here (other ∷ names) name word new same =
     let parts = none_parts other names word new in
-    cond-false (bytes_eq other word) (Some zero) (option_map suc (place_of (names ++ name ∷ []) word)) parts.0 ∙ ap (option_map suc) (place_of-here names name word parts.1 same)
+    cond-false (bytes_eq other word) (Some zero) (option_map suc (name_place (names ++ name ∷ []) word)) parts.0 ∙ ap (option_map suc) (name_place-here names name word parts.1 same)
 
-pub place_of-apart : (names : List Word) (name word : Word) → bytes_eq name word ≡ false → place_of (names ++ name ∷ []) word ≡ place_of names word
-place_of-apart [] name word apart = cond-false (bytes_eq name word) (Some zero) None apart
-place_of-apart (other ∷ names) name word apart = ap (λ (found : Option ℕ). cond (bytes_eq other word) (Some zero) (option_map suc found)) (place_of-apart names name word apart)
+pub name_place-apart : (names : List Word) (name word : Word) → bytes_eq name word ≡ false → name_place (names ++ name ∷ []) word ≡ name_place names word
+name_place-apart [] name word apart = cond-false (bytes_eq name word) (Some zero) None apart
+name_place-apart (other ∷ names) name word apart = ap (λ (found : Option ℕ). cond (bytes_eq other word) (Some zero) (option_map suc found)) (name_place-apart names name word apart)
 
-pub are_distinct-push : (names : List Word) (name : Word) → are_distinct names ≡ true → is_among names name ≡ false → are_distinct (names ++ name ∷ []) ≡ true
+pub are_distinct-push : (names : List Word) (name : Word) → are_distinct names ≡ true → has_word names name ≡ false → are_distinct (names ++ name ∷ []) ≡ true
 are_distinct-push [] name distinct new = refl
 are_distinct-push (other ∷ names) name distinct new =
-    let parts = and_parts (not (is_among names other)) (are_distinct names) distinct in
-    let apart = or_parts (bytes_eq other name) (is_among names name) new in
+    let parts = and_parts (not (has_word names other)) (are_distinct names) distinct in
+    let apart = or_parts (bytes_eq other name) (has_word names name) new in
     let turned : bytes_eq name other ≡ false = nat_list_eq_equiv.symm name other ∙ apart.0 in
-    let alone : is_among (names ++ name ∷ []) other ≡ false = list_any-append (λ word. bytes_eq word other) names (name ∷ []) ∙ or_from (is_among names other) (bytes_eq name other || false) (not-true (is_among names other) parts.0) (or_from (bytes_eq name other) false turned refl) in
-    and_from (not (is_among (names ++ name ∷ []) other)) (are_distinct (names ++ name ∷ [])) (not_from_false (is_among (names ++ name ∷ []) other) alone) (are_distinct-push names name parts.1 apart.1)
+    let alone : has_word (names ++ name ∷ []) other ≡ false = list_any-append (λ word. bytes_eq word other) names (name ∷ []) ∙ or_from (has_word names other) (bytes_eq name other || false) (not-true (has_word names other) parts.0) (or_from (bytes_eq name other) false turned refl) in
+    and_from (not (has_word (names ++ name ∷ []) other)) (are_distinct (names ++ name ∷ [])) (not_from_false (has_word (names ++ name ∷ []) other) alone) (are_distinct-push names name parts.1 apart.1)
 
-pub are_distinct-repeat : (names more : List Word) (name : Word) → is_among names name ≡ true → are_distinct (names ++ name ∷ more) ≡ false
+pub are_distinct-repeat : (names more : List Word) (name : Word) → has_word names name ≡ true → are_distinct (names ++ name ∷ more) ≡ false
 are_distinct-repeat [] more name among = absurd (true≢false (sym among))
 are_distinct-repeat (other ∷ names) more name among =
     ⊎_elim
-    (λ t. let same : is_among (names ++ name ∷ more) other ≡ true = list_any-append (λ word. bytes_eq word other) names (name ∷ more) ∙ or_right (is_among names other) (bytes_eq name other || is_among more other) (or_left (bytes_eq name other) (is_among more other) (nat_list_eq_equiv.symm name other ∙ t)) in
-    and_left (not (is_among (names ++ name ∷ more) other)) (are_distinct (names ++ name ∷ more)) (not_from_true (is_among (names ++ name ∷ more) other) same))
-    (λ f. let later : is_among names name ≡ true = ap (λ b. b || is_among names name) (sym f) ∙ among in
-    and_right (not (is_among (names ++ name ∷ more) other)) (are_distinct (names ++ name ∷ more)) (are_distinct-repeat names more name later))
+    (λ t. let same : has_word (names ++ name ∷ more) other ≡ true = list_any-append (λ word. bytes_eq word other) names (name ∷ more) ∙ or_right (has_word names other) (bytes_eq name other || has_word more other) (or_left (bytes_eq name other) (has_word more other) (nat_list_eq_equiv.symm name other ∙ t)) in
+    and_left (not (has_word (names ++ name ∷ more) other)) (are_distinct (names ++ name ∷ more)) (not_from_true (has_word (names ++ name ∷ more) other) same))
+    (λ f. let later : has_word names name ≡ true = ap (λ b. b || has_word names name) (sym f) ∙ among in
+    and_right (not (has_word (names ++ name ∷ more) other)) (are_distinct (names ++ name ∷ more)) (are_distinct-repeat names more name later))
     (cases_Bool (bytes_eq other name))
 
 -- one name more has the next number
 pub IsNumbering-push : (names : List Word) (name : Word) (before after : Word → Option ℕ) → IsNumbering names before → before name ≡ None
     → ((word : Word) → after word ≡ update bytes_eq before name (Some (length names)) word) → IsNumbering (names ++ name ∷ []) after
 IsNumbering-push names name before after numbering new put = record {
-  distinct = are_distinct-push names name numbering.distinct (sym (is_some-place_of names name) ∙ ap is_some absent);
+  distinct = are_distinct-push names name numbering.distinct (sym (is_some-name_place names name) ∙ ap is_some absent);
   places = λ word. put word ∙ ⊎_elim
       (λ t. let same : name ≡ word = same_word name word t in
-      let here : place_of names word ≡ None = ap (place_of names) (sym same) ∙ absent in
-      cond-true (bytes_eq name word) (Some (length names)) (before word) t ∙ sym (place_of-here names name word here t))
-      (λ f. cond-false (bytes_eq name word) (Some (length names)) (before word) f ∙ numbering.places word ∙ sym (place_of-apart names name word f))
+      let here : name_place names word ≡ None = ap (name_place names) (sym same) ∙ absent in
+      cond-true (bytes_eq name word) (Some (length names)) (before word) t ∙ sym (name_place-here names name word here t))
+      (λ f. cond-false (bytes_eq name word) (Some (length names)) (before word) f ∙ numbering.places word ∙ sym (name_place-apart names name word f))
       (cases_Bool (bytes_eq name word));
 } where
-  absent : place_of names name ≡ None
+  absent : name_place names name ≡ None
   absent = sym (numbering.places name) ∙ new
 
 -- a name that has a number already stands twice
@@ -83,7 +83,7 @@ pub are_distinct-again : (names : List (Bor (List ℕ))) (i : ℕ) (d : Bor (Lis
     → is_some (number (get_or names i d).now) ≡ true → are_distinct (contents names) ≡ false
 are_distinct-again names i d number within numbering found =
     let name : Word = (get_or names i d).now in
-    let among : is_among (contents (take i names)) name ≡ true = sym (is_some-place_of (contents (take i names)) name) ∙ ap is_some (sym (numbering.places name)) ∙ found in
+    let among : has_word (contents (take i names)) name ≡ true = sym (is_some-name_place (contents (take i names)) name) ∙ ap is_some (sym (numbering.places name)) ∙ found in
     let split : contents names ≡ contents (take i names) ++ name ∷ contents (drop (i + 1) names) = ap contents (sym (take-append-drop i names)) ∙ map-append (λ slice. slice.now) (take i names) (drop i names) ∙ ap (λ rest. contents (take i names) ++ contents rest) (drop_more names i d within) in
     ap are_distinct split ∙ are_distinct-repeat (contents (take i names)) (contents (drop (i + 1) names)) name among
 

@@ -9,9 +9,10 @@ use Rattle.std.proofs.lemmas.Option.{slice_get_past}
 use Rattle.vw_net.specs.declared.cell.Cell.{Cell}
 use Rattle.vw_net.specs.declared.cover.Cover.{Cover}
 use Rattle.vw_net.specs.declared.cell.Cell.TheVariants.{Gate, Latch}
-use Rattle.vw_net.specs.Order.{IsOrder, is_gate, is_latch, is_among, reads_at}
+use Rattle.vw_net.specs.Order.{IsOrder, is_gate, is_latch, is_among, read_nets_at}
+use Rattle.vw_net.proofs.Orders.{gate_or_latch}
 use Rattle.vw_net.specs.Order as net
-use Rattle.vw_top.specs.Order.{is_before, is_ready, are_ready, gates_from}
+use Rattle.vw_top.specs.Steps.Order.{is_before, may_come, are_ready, gates_from}
 
 -- a number below the first is not among the gates
 below_first : (start number : ℕ) (cells : List Cell) → number < start → is_among (gates_from start cells) number ≡ false
@@ -86,12 +87,12 @@ ready_at : (inputs : ℕ) (all : List Cell) (start : ℕ) (cells : List Cell) (k
     → list_all (is_before inputs all (start + k)) ins ≡ true
 ready_at inputs all start [] k ins cover ready at = absurd cc
 ready_at inputs all start (cell ∷ cells) zero ins cover ready at =
-    let parts = and_parts (is_ready inputs all start cell) (are_ready inputs all (start + 1) cells) ready in
-    let here : is_ready inputs all start (Gate ins cover) ≡ true = ap (is_ready inputs all start) (sym (same_cell cell (Gate ins cover) at)) ∙ parts.0 in
+    let parts = and_parts (may_come inputs all start cell) (are_ready inputs all (start + 1) cells) ready in
+    let here : may_come inputs all start (Gate ins cover) ≡ true = ap (may_come inputs all start) (sym (same_cell cell (Gate ins cover) at)) ∙ parts.0 in
     let same : start ≡ start + 0 = omega arith in
     ap (λ (n : ℕ). list_all (is_before inputs all n) ins) (sym same) ∙ here
 ready_at inputs all start (cell ∷ cells) (suc k) ins cover ready at =
-    let parts = and_parts (is_ready inputs all start cell) (are_ready inputs all (start + 1) cells) ready in
+    let parts = and_parts (may_come inputs all start cell) (are_ready inputs all (start + 1) cells) ready in
     let same : (start + 1) + k ≡ start + suc k = omega arith in
     ap (λ (n : ℕ). list_all (is_before inputs all n) ins) (sym same) ∙ ready_at inputs all (start + 1) cells k ins cover parts.1 at
 
@@ -101,11 +102,9 @@ list_all-weaker p q weaker (n ∷ ns) all =
     let parts = and_parts (p n) (list_all p ns) all in
     and_from (q n) (list_all q ns) (weaker n parts.0) (list_all-weaker p q weaker ns parts.1)
 
-gate_or_latch : (cells : List Cell) (k : ℕ) → k < length cells → is_latch (slice_get cells k) ≡ false → is_gate (slice_get cells k) ≡ true
-gate_or_latch [] k within no_latch = absurd (omega arith)
-gate_or_latch (Gate ins cover ∷ cells) zero within no_latch = refl
-gate_or_latch (Latch d init ∷ cells) zero within no_latch = absurd (true≢false no_latch)
-gate_or_latch (cell ∷ cells) (suc k) within no_latch = gate_or_latch cells k (omega arith) no_latch
+-- a cell that is no latch is a gate
+no_latch_gate : (cells : List Cell) (k : ℕ) → k < length cells → is_latch (slice_get cells k) ≡ false → is_gate (slice_get cells k) ≡ true
+no_latch_gate cells k within no_latch = rw no_latch at (gate_or_latch cells k within)
 
 -- a net that has its value before a cell has it once the gates before that cell are done
 ready_after : (inputs : ℕ) (cells : List Cell) (k number : ℕ) → k < length cells → is_before inputs cells k number ≡ true → net.is_ready inputs cells (gates_from 0 (take k cells)) number ≡ true
@@ -126,7 +125,7 @@ ready_after inputs cells k number within before =
           let first : ltb number (inputs + k) ≡ true = ⊎_elim (λ t. t) (λ latch. absurd (true≢false (sym latch ∙ no_latch))) (or_cases (ltb number (inputs + k)) (is_latch (slice_get cells (number - inputs))) before) in
           let below : number < inputs + k = ltb-true number (inputs + k) first in
           let small : number - inputs < k = omega arith in
-          let gate : is_gate (slice_get cells (number - inputs)) ≡ true = gate_or_latch cells (number - inputs) (omega arith) no_latch in
+          let gate : is_gate (slice_get cells (number - inputs)) ≡ true = no_latch_gate cells (number - inputs) (omega arith) no_latch in
           let zero_less : 0 + (number - inputs) ≡ number - inputs = omega arith in
           ap (is_among (gates_from 0 (take k cells))) (sym zero_less) ∙ sym (gates_among 0 (number - inputs) (take k cells)) ∙ ap is_gate (slice_get-take k (number - inputs) cells small) ∙ gate
 
@@ -149,12 +148,12 @@ gates_are_order inputs cells ready = record { each = each; once = once; after = 
       let past : slice_get (take g.0 cells) g.0 ≡ None = slice_get_past (take g.0 cells) g.0 (length-take-below g.0 cells) in
       true≢false (sym among_before ∙ sym (gates_among 0 g.0 (take g.0 cells)) ∙ ap is_gate past)
 
-  after : (i : ℕ) → i < length (gates_from 0 cells) → IsTrue (list_all (net.is_ready inputs cells (take i (gates_from 0 cells))) (reads_at (slice_get cells (slice_index (gates_from 0 cells) i))))
+  after : (i : ℕ) → i < length (gates_from 0 cells) → IsTrue (list_all (net.is_ready inputs cells (take i (gates_from 0 cells))) (read_nets_at (slice_get cells (slice_index (gates_from 0 cells) i))))
   after i within =
       let g = gate_at 0 cells i within in
       let number : slice_index (gates_from 0 cells) i ≡ g.0 = g.1.here ∙ omega arith in
       let gate = gate_parts (slice_get cells g.0) g.1.gate in
-      let reads : reads_at (slice_get cells (slice_index (gates_from 0 cells) i)) ≡ gate.0 = ap (λ (k : ℕ). reads_at (slice_get cells k)) number ∙ ap reads_at gate.2 in
+      let reads : read_nets_at (slice_get cells (slice_index (gates_from 0 cells) i)) ≡ gate.0 = ap (λ (k : ℕ). read_nets_at (slice_get cells k)) number ∙ ap read_nets_at gate.2 in
       let same : 0 + g.0 ≡ g.0 = omega arith in
       let ready_here : list_all (is_before inputs cells g.0) gate.0 ≡ true = ap (λ (k : ℕ). list_all (is_before inputs cells k) gate.0) (sym same) ∙ ready_at inputs cells 0 cells g.0 gate.0 gate.1 ready gate.2 in
       ap₂ (λ (done ins : List ℕ). list_all (net.is_ready inputs cells done) ins) g.1.before reads

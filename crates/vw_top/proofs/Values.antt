@@ -6,11 +6,11 @@ use Rattle.std.proofs.lemmas.List.Elements.{All-cons, All-head, All-nil, All-tai
 use Rattle.vw_net.specs.declared.cell.Cell.{Cell}
 use Rattle.vw_net.specs.declared.cell.Cell.TheVariants.{Gate, Latch}
 use Rattle.vw_net.specs.declared.flat.Flat.{Flat}
-use Rattle.vw_net.specs.Cells.{IsWellFormed, latches, latch_inputs}
+use Rattle.vw_net.specs.Cells.{IsWellFormed, latch_count, latch_inputs}
 use Rattle.vw_net.specs.History.{next_state}
 use Rattle.vw_net.specs.Order.{is_latch, is_ready}
 use Rattle.vw_net.specs.Value.{driven_value, level_value, net_value}
-use Rattle.vw_top.proofs.Gates.{map_agree}
+use Rattle.vw_net.proofs.Levels.{map_agree}
 
 -- a latch gives its net the bit of its number
 driven_value-latch : (value : ℕ → Bool) (state : List Bool) (number : ℕ) (cell : Option Cell) → is_latch cell ≡ true → driven_value value state number cell ≡ slice_index_or state number false
@@ -24,11 +24,11 @@ module _ (flat : Flat) (row state : List Bool) where
   level_value-input level net input = rw input refl
 
   -- and a latch's net the latch's
-  level_value-latch : (level number : ℕ) → is_latch (slice_get flat.cells number) ≡ true → level_value (suc level) flat row state (flat.inputs + number) ≡ slice_index_or state (latches (take number flat.cells)) false
+  level_value-latch : (level number : ℕ) → is_latch (slice_get flat.cells number) ≡ true → level_value (suc level) flat row state (flat.inputs + number) ≡ slice_index_or state (latch_count (take number flat.cells)) false
   level_value-latch level number latch =
       let no_input : nat_lt (flat.inputs + number) flat.inputs ≡ false = le-ltb (flat.inputs + number) flat.inputs (omega arith) in
       let its_number : flat.inputs + number - flat.inputs ≡ number = omega arith in
-      rw (no_input, its_number) (driven_value-latch (level_value level flat row state) state (latches (take number flat.cells)) (slice_get flat.cells number) latch)
+      rw (no_input, its_number) (driven_value-latch (level_value level flat row state) state (latch_count (take number flat.cells)) (slice_get flat.cells number) latch)
 
   -- the value of an input's net
   net_value-input : (net : ℕ) → nat_lt net flat.inputs ≡ true → net_value flat row state net ≡ slice_index_or row net false
@@ -36,14 +36,14 @@ module _ (flat : Flat) (row state : List Bool) where
   net_value-input net input = ap (λ (level : ℕ). level_value level flat row state net) (add-one (length flat.cells)) ∙ level_value-input (length flat.cells) net input
 
   -- the value of a latch's net
-  net_value-latch : (number : ℕ) → is_latch (slice_get flat.cells number) ≡ true → net_value flat row state (flat.inputs + number) ≡ slice_index_or state (latches (take number flat.cells)) false
+  net_value-latch : (number : ℕ) → is_latch (slice_get flat.cells number) ≡ true → net_value flat row state (flat.inputs + number) ≡ slice_index_or state (latch_count (take number flat.cells)) false
   unfolding net_value
   net_value-latch number latch = ap (λ (level : ℕ). level_value level flat row state (flat.inputs + number)) (add-one (length flat.cells)) ∙ level_value-latch (length flat.cells) number latch
 
   -- where the bits of the inputs and then those of the latches are put, each net that no gate drives has its value
   pub net_value-before_gates : (before values : List Bool) → length row ≡ flat.inputs
       → ((net : ℕ) → net < length row → slice_index_or before net false ≡ slice_index_or row net false)
-      → ((number : ℕ) → is_latch (slice_get flat.cells number) ≡ true → slice_index_or values (flat.inputs + number) false ≡ slice_index_or state (latches (take number flat.cells)) false)
+      → ((number : ℕ) → is_latch (slice_get flat.cells number) ≡ true → slice_index_or values (flat.inputs + number) false ≡ slice_index_or state (latch_count (take number flat.cells)) false)
       → ((net : ℕ) → (nat_lt net flat.inputs || not (is_latch (slice_get flat.cells (net - flat.inputs)))) ≡ true → slice_index_or values net false ≡ slice_index_or before net false)
       → (net : ℕ) → is_ready flat.inputs flat.cells [] net ≡ true → slice_index_or values net false ≡ net_value flat row state net
   net_value-before_gates before values columns inputs bits rest net ready = ⊎_elim if_input if_latch (cases_Bool (nat_lt net flat.inputs)) where

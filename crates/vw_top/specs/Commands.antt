@@ -1,35 +1,62 @@
 -- The course of each command.
-use Rattle.std.specs.Prelude.{ℕ, Bool, false, List, length, Result, Ok, Err}
+use Rattle.std.specs.Prelude.{◌≡◌, ℕ, Bool, false, List, length, Result, Ok, Err}
+use Rattle.std.proofs.Common.{sym, subst}
 use Rattle.vw_net.specs.declared.flat.Flat.{Flat}
-use Rattle.vw_net.specs.Cells.{latches, start_values}
+use Rattle.vw_net.specs.Cells.{latch_count, start_values}
 use Rattle.vw_net.specs.History.{flat_history}
 use Rattle.vw_rows.specs.declared.stimulus.StimFault.{StimFault}
 use Rattle.vw_rows.specs.Stimulus.{stimulus_rows}
 use Rattle.vw_rows.specs.Trace.{trace_text}
-use Rattle.vw_top.specs.declared.refusal.File.TheVariants as files
-use Rattle.vw_top.specs.declared.refusal.Refusal.TheVariants.{Usage, NotYet, Stimulus}
+use Rattle.vw_top.specs.declared.stop.File.TheVariants as files
+use Rattle.vw_top.specs.declared.reason.Reason.{Reason}
+use Rattle.vw_top.specs.declared.reason.Reason.TheVariants.{Usage, NotYet, Stimulus}
 use Rattle.vw_top.specs.FirstForm.{IsDesignOf, IsNoDesign}
 use Rattle.vw_top.specs.Words.{Spelled, sim, nothing}
-use Rattle.vw_top.specs.Course.{Course, writes, refuses, reads, finds}
+use Rattle.vw_top.specs.Course.{Course, writes, refuses, reads, judges}
+
+-- ---- what is good and bad of each file
+
+-- why a design text is refused
+abbrev pub RefusesDesign : List ℕ → Reason → Type 0
+RefusesDesign text reason = (reason ≡ NotYet) × IsNoDesign text
+
+-- a text that stands for a netlist is not refused
+abbrev pub design_apart : (text : List ℕ) (flat : Flat) (reason : Reason) → IsDesignOf text flat → RefusesDesign text reason → ⊥
+design_apart text flat reason design refused = refused.1 design.source design.spells
+
+-- the rows of a stimulus text for so many columns
+abbrev pub IsRowsOf : ℕ → List ℕ → List (List Bool) → Type 0
+IsRowsOf width text rows = stimulus_rows width text ≡ Ok rows
+
+-- why a stimulus text is refused
+abbrev pub RefusesRows : ℕ → List ℕ → Reason → Type 0
+RefusesRows width text reason = (fault : StimFault) × (reason ≡ Stimulus fault) × (stimulus_rows width text ≡ Err fault)
+
+-- an answer is not an error
+abbrev pub HasValue : {A E : Type 0} → Result A E → Type 0
+HasValue (Ok x) = Unit {0}
+HasValue (Err e) = ⊥
+
+-- a text with rows is not refused
+abbrev pub rows_apart : (width : ℕ) (text : List ℕ) (rows : List (List Bool)) (reason : Reason)
+    → IsRowsOf width text rows → RefusesRows width text reason → ⊥
+rows_apart width text rows reason are refused =
+    subst (λ (said : Result (List (List Bool)) StimFault). HasValue said) refused.2
+    (subst (λ (said : Result (List (List Bool)) StimFault). HasValue said) (sym are) tt)
+
+-- ---- the commands
 
 -- the trace of a netlist over rows, from the start values
 abbrev pub trace_of : Flat → List (List Bool) → List ℕ
-trace_of flat rows = trace_text (length flat.outputs) (latches flat.cells) (flat_history flat (start_values false flat.cells) rows)
-
--- over the rows of a stimulus; or its fault
-abbrev pub run_course : Flat → Result (List (List Bool)) StimFault → Course
-run_course flat (Ok rows) = writes (trace_of flat rows)
-run_course flat (Err fault) = refuses (Stimulus fault)
-
--- the netlist that a design text stands for
-abbrev pub Found : List ℕ → Type 0
-Found text = (flat : Flat) × IsDesignOf text flat
+trace_of flat rows =
+    trace_text (length flat.outputs) (latch_count flat.cells) (flat_history flat (start_values false flat.cells) rows)
 
 -- the design first, and then the stimulus for its columns
 abbrev pub sim_course : List ℕ → List ℕ → Course
-sim_course design stimulus = reads files.Design design (λ text. finds (Found text)
-    (λ found. reads files.Stimulus stimulus (λ rows. run_course found.0 (stimulus_rows found.0.inputs rows)))
-    (IsNoDesign text) NotYet)
+sim_course design stimulus =
+    reads files.Design design (λ d. judges Flat (IsDesignOf d) (RefusesDesign d) (design_apart d)
+    (λ flat is. reads files.Stimulus stimulus (λ s. judges (List (List Bool)) (IsRowsOf flat.inputs s) (RefusesRows flat.inputs s) (rows_apart flat.inputs s)
+    (λ rows are. writes (trace_of flat rows)))))
 
 abbrev pub course_of : Spelled → Course
 course_of (sim design stimulus) = sim_course design stimulus

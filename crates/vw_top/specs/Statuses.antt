@@ -1,68 +1,66 @@
--- What each status of a call means, when it comes, and what it leaves: what follows from the course of a command.
-use Rattle.std.specs.Prelude.{◌≡◌, ◌≢◌, ◌<◌, ◌⊎◌, ℕ, Bool, List, Ok, Err}
-use Rattle.vw_net.specs.declared.flat.Flat.{Flat}
-use Rattle.vw_outside.specs.Told.{absent, held, Rose}
-use Rattle.vw_outside.specs.Appended.{appended, WrotePart}
-use Rattle.vw_rows.specs.declared.stimulus.StimFault.{StimFault}
-use Rattle.vw_rows.specs.Stimulus.{stimulus_rows}
-use Rattle.vw_top.specs.Refusal.{status_of}
-use Rattle.vw_top.specs.FirstForm.{IsDesignOf, IsNoDesign}
-use Rattle.vw_top.specs.Course.{Outside, Answer}
-use Rattle.vw_top.specs.Commands.{trace_of}
+-- What each status of a call means, when it comes, and what it leaves, for every course.
+use Rattle.std.specs.Prelude.{◌≡◌, ◌<◌, ◌⊎◌, ℕ, List}
+use Rattle.vw_outside.specs.Reads.{CountsFault}
+use Rattle.vw_outside.specs.Writes.{SeenSink, appended, WrotePart, FailedAfterPart}
+use Rattle.vw_top.specs.declared.stop.File.{File}
+use Rattle.vw_top.specs.declared.reason.Reason.{Reason}
+use Rattle.vw_top.specs.Course.{Course, Outside, outside, MayWrite, MayRefuse, MayRead, ComesTo, writing, refusing, missing}
+use Rattle.vw_top.specs.Reasons.{reason_status}
 
-abbrev pub answer_status : Answer → ℕ
-answer_status (Ok done) = 0
-answer_status (Err refusal) = status_of refusal
+-- 0: out has a text of the course at its end, and nothing else changed
+pub record IsDone (course : Course) (before after : Outside) : Type 0 where
+  pub text : List ℕ
+  pub may : MayWrite course before.shelf.told text
+  pub leaves : after ≡ outside before.shelf (appended before.out text)
 
--- the texts are held, and stand for this netlist and these rows
-pub record IsAccepted (design stimulus : List ℕ) (before : Outside) (flat : Flat) (rows : List (List Bool)) : Type 0 where
-  pub design_text : List ℕ
-  pub stimulus_text : List ℕ
-  pub design_held : before.told design ≡ held design_text
-  pub stimulus_held : before.told stimulus ≡ held stimulus_text
-  pub netlist : IsDesignOf design_text flat
-  pub read : stimulus_rows flat.inputs stimulus_text ≡ Ok rows
+-- 1 to 6: the course refuses for a reason with this status, and nothing changed
+pub record IsRefusal (course : Course) (before after : Outside) (status : ℕ) : Type 0 where
+  pub reason : Reason
+  pub its_status : status ≡ reason_status reason
+  pub may : MayRefuse course before.shelf.told reason
+  pub leaves : after ≡ before
 
--- a call that yields to the outside: want of memory, or a fault in the reading of one of these files
-abbrev pub Yields : List ℕ → Outside → Outside → ℕ → Type 0
-Yields name before after status = (status ≡ 9) ⊎ ((status ≡ 7) × Rose (before.faults name) (after.faults name))
-
-pub record SimStatuses (design stimulus : List ℕ) (before after : Outside) (status : ℕ) : Type 0 where
-  -- 0: the trace of the design that is spelled, over the rows of the stimulus
-  pub done : (d s : List ℕ) → before.told design ≡ held d → before.told stimulus ≡ held s → status ≡ 0
-      → (flat : Flat) × (rows : List (List Bool)) × IsDesignOf d flat × (stimulus_rows flat.inputs s ≡ Ok rows) × (after.out ≡ appended before.out (trace_of flat rows))
-  -- 1: exactly where the design text isn't of the first form
-  pub no_design : (d : List ℕ) → before.told design ≡ held d → status ≡ 1 → IsNoDesign d
-  pub no_design_comes : (d : List ℕ) → before.told design ≡ held d → IsNoDesign d → (status ≡ 1) ⊎ Yields design before after status
-  pub no_design_leaves : (d : List ℕ) → before.told design ≡ held d → IsNoDesign d → after.out ≡ before.out
-  -- 2 isn't the status of a command that is spelled
-  pub no_usage : status ≡ 2 → ⊥
-  -- 5: exactly where the stimulus text has a fault
-  pub no_rows : (d s : List ℕ) → before.told design ≡ held d → before.told stimulus ≡ held s → status ≡ 5
-      → (flat : Flat) × (fault : StimFault) × IsDesignOf d flat × (stimulus_rows flat.inputs s ≡ Err fault)
-  pub no_rows_comes : (d s : List ℕ) (flat : Flat) (fault : StimFault) → before.told design ≡ held d → before.told stimulus ≡ held s
-      → IsDesignOf d flat → stimulus_rows flat.inputs s ≡ Err fault → (status ≡ 5) ⊎ (Yields design before after status ⊎ Yields stimulus before after status)
-  pub no_rows_leaves : (d s : List ℕ) (flat : Flat) (fault : StimFault) → before.told design ≡ held d → before.told stimulus ≡ held s
-      → IsDesignOf d flat → stimulus_rows flat.inputs s ≡ Err fault → after.out ≡ before.out
-  -- these statuses aren't those of `sim`
-  pub known : (status ≢ 3) × (status ≢ 4) × (status ≢ 6) × (status < 10)
-  -- these leave out untouched, over every shelf
-  pub untouched : (status ≡ 1) ⊎ (status ≡ 5) ⊎ (status ≡ 7) → after.out ≡ before.out
-  -- 7 and 8 have their causes, over every shelf
-  pub read_fault : status ≡ 7 → Rose (before.faults design) (after.faults design) ⊎ Rose (before.faults stimulus) (after.faults stimulus)
-  pub write_fault : status ≡ 8 → Rose before.out_faults after.out_faults
-  -- whatever the status, out has a part of what status 0 would have written
-  pub part : (flat : Flat) (rows : List (List Bool)) → IsAccepted design stimulus before flat rows
-      → (other : Flat) × (its : List (List Bool)) × IsAccepted design stimulus before other its × WrotePart before.out (trace_of other its) after.out
-  -- a file that is told to be absent
-  pub absent_design : before.told design ≡ absent → (after.out ≡ before.out) × ((status ≡ 7) ⊎ (status ≡ 9))
-  pub absent_stimulus : (d : List ℕ) (flat : Flat) → before.told design ≡ held d → IsDesignOf d flat → before.told stimulus ≡ absent → (after.out ≡ before.out) × ((status ≡ 7) ⊎ (status ≡ 9))
-  -- where no count rose, accepted texts are run, unless memory runs out
-  pub complete : (flat : Flat) (rows : List (List Bool)) → IsAccepted design stimulus before flat rows
-      → (Rose (before.faults design) (after.faults design) → ⊥) → (Rose (before.faults stimulus) (after.faults stimulus) → ⊥) → (Rose before.out_faults after.out_faults → ⊥)
-      → (status ≡ 0) ⊎ (status ≡ 9)
-
--- where words spell no command: status 2, unless memory runs out, and out is untouched
-pub record UsageStatuses (before after : Outside) (status : ℕ) : Type 0 where
-  pub comes : (status ≡ 2) ⊎ (status ≡ 9)
+-- 7: a fault was counted at a file of the course, and out is as it was
+pub record IsReadFault (course : Course) (before after : Outside) : Type 0 where
+  pub file : File
+  pub name : List ℕ
+  pub may : MayRead course before.shelf.told file name
+  pub counted : CountsFault name before.shelf after.shelf
   pub leaves : after.out ≡ before.out
+
+-- 8: a part of a text of the course was written, a fault was counted at out, and the shelf is as it was
+pub record IsWriteFault (course : Course) (before after : Outside) : Type 0 where
+  pub text : List ℕ
+  pub may : MayWrite course before.shelf.told text
+  pub counted : FailedAfterPart text before.out after.out
+  pub leaves : after.shelf ≡ before.shelf
+
+-- 9: out is as it was, or a part of a text of the course was written; the shelf is as it was
+pub record IsWantOfMemory (course : Course) (before after : Outside) : Type 0 where
+  pub part : (after.out ≡ before.out)
+      ⊎ ((text : List ℕ) × MayWrite course before.shelf.told text × WrotePart text before.out after.out)
+  pub leaves : after.shelf ≡ before.shelf
+
+-- so much of a text was written: a part of it, and a write may have failed behind it
+abbrev pub LeavesPart : List ℕ → SeenSink → SeenSink → Type 0
+LeavesPart text before after = WrotePart text before after ⊎ FailedAfterPart text before after
+
+-- the table of statuses
+pub record Statuses (course : Course) (before after : Outside) (status : ℕ) : Type 0 where
+  pub done : status ≡ 0 → IsDone course before after
+  pub refused : 0 < status → status < 7 → IsRefusal course before after status
+  pub read_fault : status ≡ 7 → IsReadFault course before after
+  pub write_fault : status ≡ 8 → IsWriteFault course before after
+  pub want_of_memory : status ≡ 9 → IsWantOfMemory course before after
+  pub known : status < 10
+  -- what is accepted is carried out, unless the outside stops the call
+  pub accepted : ComesTo writing course before.shelf.told
+      → (status ≡ 0) ⊎ ((status ≡ 7) ⊎ ((status ≡ 8) ⊎ (status ≡ 9)))
+  -- and then out has a part of what status 0 would have written
+  pub part : ComesTo writing course before.shelf.told
+      → (text : List ℕ) × MayWrite course before.shelf.told text × LeavesPart text before.out after.out
+  -- what is to be refused is refused, unless a read fails or memory runs out
+  pub rejected : ComesTo refusing course before.shelf.told
+      → ((0 < status) × (status < 7)) ⊎ ((status ≡ 7) ⊎ (status ≡ 9))
+  -- a file that is absent is a read fault, unless memory runs out
+  pub absent_file : ComesTo missing course before.shelf.told → (status ≡ 7) ⊎ (status ≡ 9)

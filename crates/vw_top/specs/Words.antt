@@ -1,5 +1,5 @@
 -- The words of commands.
-use Rattle.std.specs.Prelude.{ℕ, zero, suc, Bool, not, List, [], ◌∷◌, length, codes, if◌then◌else◌, ◌==◌, ◌+◌}
+use Rattle.std.specs.Prelude.{ℕ, zero, suc, max, Bool, not, List, [], ◌∷◌, length, codes, if◌then◌else◌, ◌==◌, ◌+◌}
 use Rattle.std.specs.Str.{bytes_eq}
 
 -- what a command has in one place: this very word, or a word that isn't empty, the name of a file
@@ -11,7 +11,7 @@ abbrev pub fits : Place → List ℕ → Bool
 fits (keyword wanted) word = bytes_eq word wanted
 fits file word = not (length word == 0)
 
--- how many words, from the first, are as the command has them
+-- how many words, from the first, are as a command has them
 abbrev pub matched : List Place → List (List ℕ) → ℕ
 matched [] words = zero
 matched (place ∷ places) [] = zero
@@ -20,6 +20,15 @@ matched (place ∷ places) (word ∷ words) = if fits place word then suc (match
 -- sim DESIGN STIM
 abbrev pub sim_places : List Place
 sim_places = keyword (codes "sim") ∷ file ∷ file ∷ []
+
+-- the places of every command
+abbrev pub commands : List (List Place)
+commands = sim_places ∷ []
+
+-- how many words, from the first, are as some command has them
+abbrev pub furthest : List (List Place) → List (List ℕ) → ℕ
+furthest [] words = zero
+furthest (places ∷ others) words = max (matched places words) (furthest others words)
 
 -- a command and its files; or none, and the number of the first word, from 1, that no command has there
 pub data Spelled : Type 0 where
@@ -30,5 +39,5 @@ pub data Spelled : Type 0 where
 abbrev pub spelled_by : List (List ℕ) → Spelled
 spelled_by (verb ∷ design ∷ stimulus ∷ []) =
     if matched sim_places (verb ∷ design ∷ stimulus ∷ []) == 3 then sim design stimulus
-    else nothing (matched sim_places (verb ∷ design ∷ stimulus ∷ []) + 1)
-spelled_by words = nothing (matched sim_places words + 1)
+    else nothing (furthest commands (verb ∷ design ∷ stimulus ∷ []) + 1)
+spelled_by words = nothing (furthest commands words + 1)

@@ -1,8 +1,9 @@
 //! A number of clocks, worked out with no memory taken inside a clock.
 ghost use Rattle.std.specs.Prelude.{◌≡◌, ◌<◌, ◌+◌, false, length, map, slice_index_or, IfOk};
 ghost use Rattle.std.specs.List.{All};
-ghost use Rattle.vw_net.specs.Cells.{latches};
+ghost use Rattle.vw_net.specs.Cells.{latch_count};
 ghost use Rattle.vw_net.specs.History.{outputs_at, next_state, outputs_of, states_of, state_after};
+ghost use Rattle.vw_top.specs.Steps.Clock.{bits_at};
 
 use crate::clock::step;
 use std::alloc::{AllocError, Global};
@@ -42,7 +43,7 @@ fn copy_bits(from: &Bits, to: &mut Bits)
 fn pick(values: &Bits, nets: &[u32], to: &mut Bits)
     requires known { All (λ net. net < length values.now) nets.now }
     requires size { length to.old ≡ length nets.now }
-    ensures { to.new ≡ map (λ net. slice_index_or values.now net false) nets.now }
+    ensures { to.new ≡ bits_at values.now nets.now }
 {
     let values = values.as_slice();
     for (i, net) in nets.iter().enumerate() {
@@ -60,7 +61,7 @@ fn record_clock(
     before: &mut Bits,
 )
     requires columns { length row.now ≡ ordered.now.flat.inputs }
-    requires latches { length state.old ≡ latches ordered.now.flat.cells }
+    requires latches { length state.old ≡ latch_count ordered.now.flat.cells }
     requires nets { length values.old ≡ ordered.now.flat.inputs + length ordered.now.flat.cells }
     requires outputs { length outputs.old ≡ length ordered.now.flat.outputs }
     requires before { length before.old ≡ length state.old }
@@ -84,11 +85,12 @@ fn record_clocks(
     states: &mut [Bits],
 )
     requires columns { All (λ row. length row ≡ ordered.now.flat.inputs) rows.now }
-    requires latches { length state.old ≡ latches ordered.now.flat.cells }
+    requires latches { length state.old ≡ latch_count ordered.now.flat.cells }
     requires nets { length values.old ≡ ordered.now.flat.inputs + length ordered.now.flat.cells }
     requires outputs { All (λ bits. length bits ≡ length ordered.now.flat.outputs) outputs.old }
-    requires states { All (λ bits. length bits ≡ latches ordered.now.flat.cells) states.old }
-    requires count { (length outputs.old ≡ length rows.now) × (length states.old ≡ length rows.now) }
+    requires states { All (λ bits. length bits ≡ latch_count ordered.now.flat.cells) states.old }
+    requires count { (length outputs.old ≡ length rows.now) × (length states.old
+        ≡ length rows.now) }
     ensures outputs { outputs.new ≡ outputs_of ordered.now.flat state.old rows.now }
     ensures states { states.new ≡ states_of ordered.now.flat state.old rows.now }
     ensures state { state.new ≡ state_after ordered.now.flat state.old rows.now }
@@ -108,10 +110,12 @@ pub fn run_batch(
     values: &mut Bits,
 ) -> Result<Batch, AllocError>
     requires columns { All (λ row. length row ≡ ordered.now.flat.inputs) rows.now }
-    requires latches { length state.old ≡ latches ordered.now.flat.cells }
+    requires latches { length state.old ≡ latch_count ordered.now.flat.cells }
     requires nets { length values.old ≡ ordered.now.flat.inputs + length ordered.now.flat.cells }
-    ensures outputs { IfOk result (λ batch. batch.outputs ≡ outputs_of ordered.now.flat state.old rows.now) }
-    ensures states { IfOk result (λ batch. batch.states ≡ states_of ordered.now.flat state.old rows.now) }
+    ensures outputs { IfOk result (λ batch. batch.outputs
+        ≡ outputs_of ordered.now.flat state.old rows.now) }
+    ensures states { IfOk result (λ batch. batch.states
+        ≡ states_of ordered.now.flat state.old rows.now) }
     ensures state { IfOk result (λ _. state.new ≡ state_after ordered.now.flat state.old rows.now) }
     ensures nets { length values.new ≡ length values.old }
 {

@@ -1,18 +1,18 @@
-ghost use Rattle.std.specs.Prelude.{◌≡◌, ℕ, List};
-ghost use Rattle.vw_top.specs.Words.{spelled_by, sim, nothing};
+ghost use Rattle.std.specs.Prelude.{◌≡◌};
+ghost use Rattle.vw_top.specs.Words.{spelled_by};
 ghost use Rattle.vw_top.specs.Commands.{course_of};
 ghost use Rattle.vw_top.specs.Course.{Follows, Answer, outside};
-ghost use Rattle.vw_top.specs.Ending.{Ends, EndsWith};
-ghost use Rattle.vw_top.specs.Statuses.{SimStatuses, UsageStatuses};
+ghost use Rattle.vw_top.specs.Endings.{Ends, EndsUnfinished};
+ghost use Rattle.vw_top.specs.Statuses.{Statuses};
 
+use crate::endings::Unfinished;
+use crate::reason::Reason;
 use crate::refusal::Refusal;
 use crate::sim::sim;
+use crate::stop::Stop;
 use crate::words::{Command, command_of};
 use std::alloc::Global;
 use vw_outside::{Name, Shelf, Sink, put_all};
-
-/// The message of want of memory, which takes none.
-const OUT_OF_MEMORY: &[u8; 14] = b"out of memory\n";
 
 /// Carries out the command that words spell, up to its message.
 fn carry_out<S: Shelf, O: Sink>(
@@ -20,31 +20,34 @@ fn carry_out<S: Shelf, O: Sink>(
     words: &[Name],
     shelf: &mut S,
     out: &mut O,
-) -> Result<(), Refusal>
+) -> Result<(), Unfinished>
     ensures { Follows (course_of (spelled_by words.now))
-        (outside S.told S.faults O.told O.faults shelf.old out.old) (outside S.told S.faults O.told O.faults shelf.new out.new) result }
+        (outside (S.seen shelf.old) (O.seen out.old)) (outside (S.seen shelf.new) (O.seen
+        out.new)) result }
 {
     match command_of(words) {
         Command::Sim { design, stimulus } => sim(alloc, design, stimulus, shelf, out),
-        Command::Nothing(place) => Err(Refusal::Usage(place)),
+        Command::Nothing(place) => Err(Unfinished::Refused(Refusal::new(Reason::Usage(place)))),
     }
 }
 
-/// Writes the message line of a refusal, and gives the exit status. Where there is no memory for the line, the
-/// refusal becomes that.
-fn tell<E: Sink>(alloc: Global, refusal: Refusal, err: &mut E) -> u8
-    ensures { EndsWith refusal (E.told err.old) (E.faults err.old) (E.told err.new) (E.faults err.new) result }
+/// Writes the message line of a call that wasn't carried out, and gives the exit status. Where there is no memory
+/// for the line of a refusal, the call ends with want of memory.
+fn report<E: Sink>(alloc: Global, unfinished: Unfinished, err: &mut E) -> u8
+    ensures { EndsUnfinished unfinished (E.seen err.old) (E.seen err.new) result }
 {
-    match refusal.text(alloc) {
-        Ok(line) => {
-            let _ = put_all(err, &line);
-            refusal.status()
-        }
-        Err(_) => {
-            let _ = put_all(err, OUT_OF_MEMORY);
-            Refusal::NoMemory.status()
-        }
-    }
+    let stop = match unfinished {
+        Unfinished::Stopped(stop) => stop,
+        Unfinished::Refused(refusal) => match refusal.reason().line(alloc) {
+            Ok(line) => {
+                let _ = put_all(err, &line);
+                return refusal.reason().status();
+            }
+            Err(_) => Stop::NoMemory,
+        },
+    };
+    let _ = put_all(err, stop.line());
+    stop.status()
 }
 
 /// Carries out the command that the words after the program's name spell, and gives the exit status. After each
@@ -58,17 +61,18 @@ pub fn virtual_wires<S: Shelf, O: Sink, E: Sink>(
 ) -> u8
     // It follows the course of the command, and ends with the status and the message of its answer.
     ensures course { (answer : Answer)
-        × Follows (course_of (spelled_by words.now)) (outside S.told S.faults O.told O.faults shelf.old out.old) (outside S.told S.faults O.told O.faults shelf.new out.new) answer
-        × Ends answer (E.told err.old) (E.faults err.old) (E.told err.new) (E.faults err.new) result }
+        × Follows (course_of (spelled_by words.now))
+        (outside (S.seen shelf.old) (O.seen out.old)) (outside (S.seen shelf.new) (O.seen
+        out.new)) answer
+        × Ends answer (E.seen err.old) (E.seen err.new) result }
 
-    // What the statuses mean, when they come, and what they leave, of `sim` and of words that spell no command.
-    ensures statuses { (design stimulus : List ℕ) → spelled_by words.now ≡ sim design stimulus
-        → SimStatuses design stimulus (outside S.told S.faults O.told O.faults shelf.old out.old) (outside S.told S.faults O.told O.faults shelf.new out.new) result }
-    ensures usage { (place : ℕ) → spelled_by words.now ≡ nothing place
-        → UsageStatuses (outside S.told S.faults O.told O.faults shelf.old out.old) (outside S.told S.faults O.told O.faults shelf.new out.new) result }
+    // What the status means, when it comes, and what it leaves.
+    ensures statuses { Statuses (course_of (spelled_by words.now))
+        (outside (S.seen shelf.old) (O.seen out.old)) (outside (S.seen shelf.new) (O.seen
+        out.new)) result }
 {
     match carry_out(alloc, words, shelf, out) {
         Ok(()) => 0,
-        Err(refusal) => tell(alloc, refusal, err),
+        Err(unfinished) => report(alloc, unfinished, err),
     }
 }

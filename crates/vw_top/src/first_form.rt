@@ -24,7 +24,8 @@ use vw_net::Ordered;
 /// the first form.
 pub fn read_first_form(alloc: Global, text: &[u8]) -> Result<Option<Ordered>, AllocError>
     requires { length text.now ≤ 16777216 }
-    ensures found { IfOk result (λ found. IfSome found (λ ordered. IsDesignOf text.now ordered.flat)) }
+    ensures found { IfOk result (λ found. IfSome found
+        (λ ordered. IsDesignOf text.now ordered.flat)) }
     ensures refused { IfOk result (λ found. IfNone found (IsNoDesign text.now)) }
 {
     let Some(body) = text.strip_suffix(b"\n.end\n") else {

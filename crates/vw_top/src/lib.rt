@@ -4,16 +4,22 @@
 mod batch;
 mod clock;
 mod commands;
+mod endings;
 mod first_form;
+mod reason;
 mod refusal;
 mod run;
 mod sim;
 mod statuses;
+mod stop;
 mod words;
 
 pub use commands::virtual_wires;
-pub use refusal::{File, Refusal};
-pub use statuses::sim_statuses;
+pub use endings::Unfinished;
+pub use reason::Reason;
+pub use refusal::Refusal;
+pub use statuses::{sim_statuses, usage_statuses};
+pub use stop::{File, Stop};
 
 #[cfg(test)]
 mod tests;

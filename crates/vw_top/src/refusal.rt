@@ -1,83 +1,29 @@
-ghost use Rattle.std.specs.Prelude.{◌≡◌, IfOk};
+ghost use Rattle.std.specs.Prelude.{◌≡◌, IsTrue};
+ghost use Rattle.vw_top.specs.Reasons.{is_of_content};
 
-use std::alloc::{AllocError, AllocFailed, Global};
-use vw_rows::StimFault;
+use crate::reason::Reason;
 
-/// A file of a command.
-#[derive(Clone, Copy, Debug, PartialEq, Eq)]
-pub enum File {
-    Design,
-    Stimulus,
-}
-
-/// Why a command was not carried out.
-#[derive(Clone, Copy, Debug, PartialEq, Eq)]
-pub enum Refusal {
-    /// The words spell no command; the number of the first wrong word, from 1.
-    Usage(u64),
-    /// The design isn't of the first form.
-    NotYet,
-    /// The stimulus text is refused.
-    Stimulus(StimFault),
-    /// A read of a file failed.
-    ReadFault(File),
-    /// A write to out failed.
-    WriteFault,
-    NoMemory,
-}
-
-impl From<AllocError> for Refusal {
-    ghost use Rattle.vw_top.specs.declared.refusal.Refusal.TheVariants.{NoMemory};
-
-    ghost from_gives = { λ _ e. e ≡ NoMemory };
-
-    fn from(_: AllocError) -> Self {
-        Refusal::NoMemory
-    }
-}
-
-impl<T: Drop> From<AllocFailed<T>> for Refusal {
-    ghost use Rattle.vw_top.specs.declared.refusal.Refusal.TheVariants.{NoMemory};
-
-    ghost from_gives = { λ _ e. e ≡ NoMemory };
-
-    fn from(_: AllocFailed<T>) -> Self {
-        Refusal::NoMemory
-    }
+/// A reason of content for which a command refuses. The faults of some crates may also be a stop of the outside,
+/// as want of memory; such a one is no refusal.
+#[derive(Debug, Drop)]
+pub struct Refusal {
+    pub reason: Reason,
+    ghost of_content: { IsTrue (is_of_content reason) },
 }
 
 impl Refusal {
-    ghost use Rattle.vw_top.specs.Refusal.{status_of, line_of};
-
-    /// The exit status.
-    pub fn status(self) -> u8
-        ensures { result ≡ status_of self }
+    /// The refusal for a reason.
+    pub fn new(reason: Reason) -> Self
+        requires { IsTrue (is_of_content reason) }
+        ensures { result.reason ≡ reason }
     {
-        match self {
-            Refusal::NotYet => 1,
-            Refusal::Usage(_) => 2,
-            Refusal::Stimulus(_) => 5,
-            Refusal::ReadFault(_) => 7,
-            Refusal::WriteFault => 8,
-            Refusal::NoMemory => 9,
-        }
+        Refusal { reason }
     }
 
-    /// The message line, with the end of the line.
-    pub fn text(self, alloc: Global) -> Result<Vec<u8>, AllocError>
-        ensures { IfOk result (λ line. line.items ≡ line_of self) }
+    /// The reason.
+    pub fn reason(&self) -> &Reason
+        ensures { result.now ≡ self.now.reason }
     {
-        match self {
-            Refusal::Usage(place) => {
-                let line = format!(in alloc; "usage: word {place}\n")?;
-                Ok(line.into_bytes())
-            }
-            Refusal::NotYet => Ok(b"design 0: not yet\n".to_vec(alloc)?),
-            Refusal::Stimulus(fault) => Ok(fault.text(alloc)?),
-            Refusal::ReadFault(File::Design) => Ok(b"read fault: design\n".to_vec(alloc)?),
-            Refusal::ReadFault(File::Stimulus) => Ok(b"read fault: stimulus\n".to_vec(alloc)?),
-            Refusal::WriteFault => Ok(b"write fault\n".to_vec(alloc)?),
-            Refusal::NoMemory => Ok(b"out of memory\n".to_vec(alloc)?),
-        }
+        &self.reason
     }
 }

@@ -1,45 +1,18 @@
 //! Runs a netlist over rows, and writes its trace piece by piece.
-ghost use Rattle.std.specs.Prelude.{◌≡◌, ◌≤◌, ◌<◌, ◌+◌, ◌^◌, length, OnOk, OnErr, IsErrOf};
+ghost use Rattle.std.specs.Prelude.{◌≡◌, ◌+◌, length, OnOk};
 ghost use Rattle.std.specs.List.{All};
-ghost use Rattle.vw_net.specs.Cells.{latches};
+ghost use Rattle.vw_net.specs.Cells.{latch_count};
 ghost use Rattle.vw_net.specs.History.{outputs_of, states_of, state_after};
-ghost use Rattle.vw_outside.specs.Told.{Rose};
-ghost use Rattle.vw_outside.specs.Appended.{appended, WrotePart};
 ghost use Rattle.vw_rows.specs.Trace.{rows_text};
 ghost use Rattle.vw_top.specs.Commands.{trace_of};
+ghost use Rattle.vw_top.specs.Steps.Stage.{WritesOut};
 
 use crate::batch::run_batch;
-use std::alloc::{AllocError, Global};
+use crate::stop::Stop;
+use std::alloc::Global;
 use vw_net::{Bits, Ordered, Rows, histories_join};
-use vw_outside::{Failed, Sink, put_all};
+use vw_outside::{Sink, put_all};
 use vw_rows::{trace_end, trace_head, trace_rows};
-
-/// Why a run ended before its trace was written whole.
-#[derive(Clone, Copy, Debug, PartialEq, Eq)]
-pub enum RunFault {
-    WriteFault,
-    NoMemory,
-}
-
-impl From<AllocError> for RunFault {
-    ghost use Rattle.vw_top.specs.declared.run.RunFault.TheVariants.{NoMemory};
-
-    ghost from_gives = { λ _ e. e ≡ NoMemory };
-
-    fn from(_: AllocError) -> Self {
-        RunFault::NoMemory
-    }
-}
-
-impl From<Failed> for RunFault {
-    ghost use Rattle.vw_top.specs.declared.run.RunFault.TheVariants.{WriteFault};
-
-    ghost from_gives = { λ _ e. e ≡ WriteFault };
-
-    fn from(_: Failed) -> Self {
-        RunFault::WriteFault
-    }
-}
 
 /// How many clocks are worked out before their lines are written.
 const BATCH: usize = 256;
@@ -52,17 +25,14 @@ fn write_clocks<O: Sink>(
     state: &mut Bits,
     values: &mut Bits,
     out: &mut O,
-) -> Result<(), RunFault>
+) -> Result<(), Stop>
     requires columns { All (λ row. length row ≡ ordered.now.flat.inputs) rows.now }
-    requires latches { length state.old ≡ latches ordered.now.flat.cells }
+    requires latches { length state.old ≡ latch_count ordered.now.flat.cells }
     requires nets { length values.old ≡ ordered.now.flat.inputs + length ordered.now.flat.cells }
-    ensures lines { OnOk result (O.told out.new ≡ appended (O.told out.old)
-        (rows_text 0 (outputs_of ordered.now.flat state.old rows.now) (states_of ordered.now.flat state.old rows.now))) }
+    ensures writes { let flat = ordered.now.flat in WritesOut
+        (rows_text 0 (outputs_of flat state.old rows.now) (states_of flat state.old rows.now))
+        (O.seen out.old) (O.seen out.new) result }
     ensures state { OnOk result (state.new ≡ state_after ordered.now.flat state.old rows.now) }
-    ensures part { OnErr result (WrotePart (O.told out.old)
-        (rows_text 0 (outputs_of ordered.now.flat state.old rows.now) (states_of ordered.now.flat state.old rows.now)) (O.told out.new)) }
-    ensures cause { IsErrOf result RunFault.WriteFault → Rose (O.faults out.old) (O.faults out.new) }
-    ensures kept { O.faults out.old ≤ O.faults out.new }
 {
     histories_join();
     let mut done = 0;
@@ -82,12 +52,10 @@ pub fn write_trace<O: Sink>(
     ordered: &Ordered,
     rows: &Rows,
     out: &mut O,
-) -> Result<(), RunFault>
+) -> Result<(), Stop>
     requires { All (λ row. length row ≡ ordered.now.flat.inputs) rows.now }
-    ensures trace { OnOk result (O.told out.new ≡ appended (O.told out.old) (trace_of ordered.now.flat rows.now)) }
-    ensures part { OnErr result (WrotePart (O.told out.old) (trace_of ordered.now.flat rows.now) (O.told out.new)) }
-    ensures cause { IsErrOf result RunFault.WriteFault → Rose (O.faults out.old) (O.faults out.new) }
-    ensures kept { O.faults out.old ≤ O.faults out.new }
+    ensures { WritesOut (trace_of ordered.now.flat rows.now) (O.seen out.old) (O.seen out.new)
+        result }
 {
     let flat = ordered.flat();
     let mut state = flat.start(alloc, false)?;

@@ -1,48 +1,60 @@
 //! The command `sim`.
-ghost use Rattle.std.specs.Prelude.{◌≡◌, ◌≤◌, ◌⊎◌, ℕ, List, length, Err, MatchResult};
-ghost use Rattle.vw_outside.specs.Told.{Rose, OfText};
-ghost use Rattle.vw_top.specs.FirstForm.{IsDesignOf, IsNoDesign};
-ghost use Rattle.vw_top.specs.Commands.{sim_course};
+ghost use Rattle.std.specs.Prelude.{◌≡◌, length, map, IfOk};
+ghost use Rattle.std.specs.List.{All};
+ghost use Rattle.vw_top.specs.FirstForm.{IsDesignOf};
 ghost use Rattle.vw_top.specs.Course.{Follows, outside};
-ghost use Rattle.vw_top.specs.Stages.{DesignRead, refusal_of};
+ghost use Rattle.vw_top.specs.Commands.{sim_course, RefusesDesign, IsRowsOf, RefusesRows};
+ghost use Rattle.vw_top.specs.Steps.Stage.{StageEnds};
 
+use crate::endings::Unfinished;
 use crate::first_form::read_first_form;
-use crate::refusal::{File, Refusal};
-use crate::run::{RunFault, write_trace};
+use crate::reason::Reason;
+use crate::refusal::Refusal;
+use crate::run::write_trace;
+use crate::stop::{File, Stop};
 use std::alloc::Global;
-use vw_net::Ordered;
+use vw_net::{Ordered, Rows};
 use vw_outside::{Name, Shelf, Sink, TextRefused, read_text};
 use vw_rows::{StimFault, read_all};
 
 /// The most bytes that a design text has.
 const TEXT_LIMIT: u64 = 16_777_216;
 
-/// Reads a design.
-fn read_design<S: Shelf>(alloc: Global, shelf: &mut S, name: &Name) -> Result<Ordered, Refusal>
-    ensures design { DesignRead (S.told shelf.old name.now) (S.faults shelf.old name.now) (S.faults shelf.new name.now) result }
-    ensures same { (other : List ℕ) → S.told shelf.new other ≡ S.told shelf.old other }
-    ensures kept { (other : List ℕ) → S.faults shelf.old other ≤ S.faults shelf.new other }
+/// Reads the design.
+fn read_design<S: Shelf>(alloc: Global, shelf: &mut S, name: &Name) -> Result<Ordered, Unfinished>
+    ensures { StageEnds File.Design name.now
+        (λ text ordered. IsDesignOf text ordered.flat) RefusesDesign
+        (S.seen shelf.old) (S.seen shelf.new) result }
 {
     match read_text(alloc, shelf, name, TEXT_LIMIT) {
         Ok(text) => match read_first_form(alloc, &text) {
             Ok(Some(ordered)) => Ok(ordered),
-            Ok(None) => Err(Refusal::NotYet),
-            Err(_) => Err(Refusal::NoMemory),
+            Ok(None) => Err(Unfinished::Refused(Refusal::new(Reason::NotYet))),
+            Err(_) => Err(Unfinished::Stopped(Stop::NoMemory)),
         },
-        Err(TextRefused::TooLarge) => Err(Refusal::NotYet),
-        Err(TextRefused::ReadFault) => Err(Refusal::ReadFault(File::Design)),
-        Err(TextRefused::NoMemory) => Err(Refusal::NoMemory),
+        Err(TextRefused::TooLarge) => Err(Unfinished::Refused(Refusal::new(Reason::NotYet))),
+        Err(TextRefused::ReadFault) => Err(Unfinished::Stopped(Stop::ReadFault(File::Design))),
+        Err(TextRefused::NoMemory) => Err(Unfinished::Stopped(Stop::NoMemory)),
     }
 }
 
-/// What a fault in the reading of a stimulus is for the command.
-fn stimulus_refusal(fault: StimFault) -> Refusal
-    ensures { result ≡ refusal_of fault }
+/// Reads the rows of the stimulus, each with a bit for each input of a netlist.
+fn read_rows<S: Shelf>(
+    alloc: Global,
+    shelf: &mut S,
+    name: &Name,
+    ordered: &Ordered,
+) -> Result<Rows, Unfinished>
+    ensures judges { let width = ordered.now.flat.inputs in
+        StageEnds File.Stimulus name.now (IsRowsOf width) (RefusesRows width)
+        (S.seen shelf.old) (S.seen shelf.new) result }
+    ensures width { IfOk result (All (λ row. length row ≡ ordered.now.flat.inputs)) }
 {
-    match fault {
-        StimFault::ReadFault => Refusal::ReadFault(File::Stimulus),
-        StimFault::NoMemory => Refusal::NoMemory,
-        fault => Refusal::Stimulus(fault),
+    match read_all(alloc, shelf, name, ordered.flat().inputs()) {
+        Ok(rows) => Ok(rows),
+        Err(StimFault::ReadFault) => Err(Unfinished::Stopped(Stop::ReadFault(File::Stimulus))),
+        Err(StimFault::NoMemory) => Err(Unfinished::Stopped(Stop::NoMemory)),
+        Err(fault) => Err(Unfinished::Refused(Refusal::new(Reason::Stimulus(fault)))),
     }
 }
 
@@ -53,18 +65,15 @@ pub fn sim<S: Shelf, O: Sink>(
     stimulus: &Name,
     shelf: &mut S,
     out: &mut O,
-) -> Result<(), Refusal>
+) -> Result<(), Unfinished>
     ensures { Follows (sim_course design.now stimulus.now)
-        (outside S.told S.faults O.told O.faults shelf.old out.old) (outside S.told S.faults O.told O.faults shelf.new out.new) result }
+        (outside (S.seen shelf.old) (O.seen out.old)) (outside (S.seen shelf.new) (O.seen
+        out.new)) result }
 {
     let ordered = read_design(alloc, shelf, design)?;
-    let rows = match read_all(alloc, shelf, stimulus, ordered.flat().inputs()) {
-        Ok(rows) => rows,
-        Err(fault) => return Err(stimulus_refusal(fault)),
-    };
+    let rows = read_rows(alloc, shelf, stimulus, &ordered)?;
     match write_trace(alloc, &ordered, &rows, out) {
         Ok(()) => Ok(()),
-        Err(RunFault::WriteFault) => Err(Refusal::WriteFault),
-        Err(RunFault::NoMemory) => Err(Refusal::NoMemory),
+        Err(stop) => Err(Unfinished::Stopped(stop)),
     }
 }

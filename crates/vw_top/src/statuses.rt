@@ -1,11 +1,20 @@
-//! Laws of the courses, as contracts of functions that do nothing.
-ghost use Rattle.std.specs.Prelude.{◌≡◌, ℕ, List};
-ghost use Rattle.vw_top.specs.Course.{Outside, Answer, Follows};
+//! Laws of the commands, as contracts of functions that do nothing.
+ghost use Rattle.std.specs.Prelude.{ℕ, List};
+ghost use Rattle.vw_top.specs.Course.{Outside, refuses};
+ghost use Rattle.vw_top.specs.Statuses.{Statuses};
 ghost use Rattle.vw_top.specs.Commands.{sim_course};
-ghost use Rattle.vw_top.specs.Statuses.{SimStatuses, answer_status};
+ghost use Rattle.vw_top.specs.CommandStatuses.{SimStatuses, UsageStatuses};
+ghost use Rattle.vw_top.specs.declared.reason.Reason.TheVariants.{Usage};
 
-/// What each status of `sim` means, when it comes, and what it leaves.
+/// What the table says of the files of `sim`.
 pub fn sim_statuses()
-    ensures { (design stimulus : List ℕ) (before after : Outside) (answer : Answer)
-        → Follows (sim_course design stimulus) before after answer → SimStatuses design stimulus before after (answer_status answer) }
+    ensures { (design stimulus : List ℕ) (before after : Outside) (status : ℕ)
+        → Statuses (sim_course design stimulus) before after status
+        → SimStatuses design stimulus before after status }
+{}
+
+/// What the table says of words that spell no command.
+pub fn usage_statuses()
+    ensures { (place : ℕ) (before after : Outside) (status : ℕ)
+        → Statuses (refuses (Usage place)) before after status → UsageStatuses before after status }
 {}

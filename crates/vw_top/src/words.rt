@@ -1,6 +1,6 @@
-ghost use Rattle.std.specs.Prelude.{◌≡◌};
-ghost use Rattle.vw_top.specs.Words.{matched, sim_places, spelled_by};
-ghost use Rattle.vw_top.specs.View.{command_view};
+ghost use Rattle.std.specs.Prelude.{◌≡◌, ◌∷◌, []};
+ghost use Rattle.vw_top.specs.Words.{matched, file, spelled_by};
+ghost use Rattle.vw_top.specs.Steps.Commands.{command_view};
 
 use vw_outside::Name;
 
@@ -15,16 +15,14 @@ pub enum Command<'a> {
     Nothing(u64),
 }
 
-/// How many words, from the first, are those of `sim`.
-fn matched_by_sim(words: &[Name]) -> usize
-    ensures { result ≡ matched sim_places words.now }
+/// How many of two words, from the first, are names of files.
+fn matched_files(words: &[Name]) -> usize
+    ensures { result ≡ matched (file ∷ file ∷ []) words.now }
 {
     match words {
-        [] => 0,
-        [verb, ..] if verb.as_slice() != b"sim".as_slice() => 0,
-        [_, design, stimulus, ..] if !design.is_empty() && !stimulus.is_empty() => 3,
-        [_, design, ..] if !design.is_empty() => 2,
-        _ => 1,
+        [first, second, ..] if !first.is_empty() && !second.is_empty() => 2,
+        [first, ..] if !first.is_empty() => 1,
+        _ => 0,
     }
 }
 
@@ -32,9 +30,15 @@ fn matched_by_sim(words: &[Name]) -> usize
 pub fn command_of(words: &[Name]) -> Command<'_>
     ensures { spelled_by words.now ≡ command_view result }
 {
-    let count = matched_by_sim(words);
-    match words {
-        [_, design, stimulus] if count == 3 => Command::Sim { design, stimulus },
-        _ => Command::Nothing(count as u64 + 1),
+    let [verb, rest @ ..] = words else {
+        return Command::Nothing(1);
+    };
+    if verb.as_slice() != b"sim".as_slice() {
+        return Command::Nothing(1);
+    }
+    let count = matched_files(rest);
+    match rest {
+        [design, stimulus] if count == 2 => Command::Sim { design, stimulus },
+        _ => Command::Nothing(count as u64 + 2),
     }
 }

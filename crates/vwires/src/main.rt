@@ -4,8 +4,8 @@
 use std::alloc::{AllocError, Global};
 use std::env::{Env, FillError};
 use std::process::ExitCode;
-use vw_outside::{ErrSink, FileShelf, Name, OutSink};
-use vw_top::{Refusal, virtual_wires};
+use vw_outside::{ErrSink, FileShelf, Name, OutSink, put_all};
+use vw_top::{Stop, virtual_wires};
 
 /// The bytes that are first taken for a word.
 const WORD_ROOM: usize = 256;
@@ -39,14 +39,25 @@ fn words(alloc: Global, environment: &impl Env) -> Result<Vec<Name>, AllocError>
     Ok(words)
 }
 
-fn main(rt: HostRuntime) -> ExitCode {
+/// Carries out the command of these words over the files of the machine, and gives the exit status.
+fn status_of(rt: &HostRuntime, words: &[Name]) -> u8 {
     let alloc = rt.alloc();
-    let Ok(words) = words(alloc, &rt) else {
-        return ExitCode::from(Refusal::NoMemory.status());
+    let mut shelf = FileShelf::new(alloc, rt);
+    let mut out = OutSink::new(rt);
+    let mut err = ErrSink::new(rt);
+    virtual_wires(alloc, words, &mut shelf, &mut out, &mut err)
+}
+
+fn main(rt: HostRuntime) -> ExitCode {
+    let status = match words(rt.alloc(), &rt) {
+        Ok(words) => status_of(&rt, &words),
+        Err(_) => {
+            let _ = put_all(&mut ErrSink::new(&rt), Stop::NoMemory.line());
+            Stop::NoMemory.status()
+        }
     };
-    let mut out = OutSink::new(&rt);
-    let mut err = ErrSink::new(&rt);
-    let mut shelf = FileShelf::new(rt);
-    let status = virtual_wires(alloc, &words, &mut shelf, &mut out, &mut err);
     ExitCode::from(status)
 }
+
+#[cfg(test)]
+mod tests;

@@ -1,7 +1,7 @@
 //! Items with names into cells with numbers.
 ghost use Rattle.std.specs.Prelude.{IfOk};
-ghost use Rattle.vw_top.specs.Views.{item_view, items_view};
-ghost use Rattle.vw_top.specs.Numbers.{number_in, IsFoundCell, AreFoundCells};
+ghost use Rattle.vw_top.specs.Steps.Views.{item_view, items_view};
+ghost use Rattle.vw_top.specs.Steps.Numbers.{number_in, IsFoundCell, AreFoundCells};
 
 use super::item::{Item, Table};
 use super::numbers::places;

@@ -1,11 +1,11 @@
 //! Lines into tables and latches.
 ghost use Rattle.std.specs.Prelude.{◌≡◌, [], option_map, IfOk};
-ghost use Rattle.vw_top.specs.Reading.{contents, table_of, latch_of, add_item, add_row, add_line, items_from};
-ghost use Rattle.vw_top.specs.Views.{item_view, items_view, if_taken};
+ghost use Rattle.vw_top.specs.Steps.Reading.{contents, table_of, latch_of, add_item, add_row, add_line, items_from};
+ghost use Rattle.vw_top.specs.Steps.Views.{item_view, items_view, if_taken};
 
 use super::item::{Item, Table};
 use super::lines::{are_names, words};
-use super::row::row_of;
+use super::row::row_by_words;
 use std::alloc::{AllocError, Global};
 use vw_net::Row;
 
@@ -47,7 +47,8 @@ fn latch_of<'a>(names: &[&'a [u8]]) -> Option<Item<'a>>
 
 /// Adds an item, if there is one, and says so.
 fn add_item<'a>(items: &mut Vec<Item<'a>>, item: Option<Item<'a>>) -> Result<bool, AllocError>
-    ensures { IfOk result (λ taken. if_taken taken (items_view items.new.items) ≡ add_item (items_view items.old.items) (option_map item_view item.entry)) }
+    ensures { IfOk result (λ taken. if_taken taken (items_view items.new.items)
+        ≡ add_item (items_view items.old.items) (option_map item_view item.entry)) }
 {
     let Some(item) = item else {
         return Ok(false);
@@ -59,7 +60,8 @@ fn add_item<'a>(items: &mut Vec<Item<'a>>, item: Option<Item<'a>>) -> Result<boo
 /// Adds a row to the last item, if that is a table with as many nets as the row has marks, and says so; where it
 /// isn't, the last item is gone.
 fn add_row(items: &mut Vec<Item<'_>>, row: Row) -> Result<bool, AllocError>
-    ensures { IfOk result (λ taken. if_taken taken (items_view items.new.items) ≡ add_row (items_view items.old.items) row.marks) }
+    ensures { IfOk result (λ taken. if_taken taken (items_view items.new.items)
+        ≡ add_row (items_view items.old.items) row.marks) }
 {
     let Some(last) = items.pop() else {
         return Ok(false);
@@ -82,7 +84,8 @@ fn add_line<'a>(
     items: &mut Vec<Item<'a>>,
     words: &[&'a [u8]],
 ) -> Result<bool, AllocError>
-    ensures { IfOk result (λ taken. if_taken taken (items_view items.new.items) ≡ add_line (items_view items.old.items) (contents words.now)) }
+    ensures { IfOk result (λ taken. if_taken taken (items_view items.new.items)
+        ≡ add_line (items_view items.old.items) (contents words.now)) }
 {
     let [keyword, names @ ..] = words else {
         return Ok(false);
@@ -94,7 +97,7 @@ fn add_line<'a>(
     if *keyword == b".latch".as_slice() {
         return add_item(items, latch_of(names));
     }
-    match row_of(alloc, words)? {
+    match row_by_words(alloc, words)? {
         Some(row) => add_row(items, row),
         None => Ok(false),
     }
@@ -102,7 +105,8 @@ fn add_line<'a>(
 
 /// The items that these lines spell.
 pub fn items_of<'a>(alloc: Global, lines: &[&'a [u8]]) -> Result<Option<Vec<Item<'a>>>, AllocError>
-    ensures { IfOk result (λ found. option_map (λ items. items_view items.items) found ≡ items_from [] (contents lines.now)) }
+    ensures { IfOk result (λ found. option_map (λ items. items_view items.items) found
+        ≡ items_from [] (contents lines.now)) }
 {
     let mut items = Vec::new(alloc);
     for line in lines {

@@ -2,13 +2,13 @@
 ghost use Rattle.std.specs.Prelude.{◌≡◌, IfOk};
 ghost use Rattle.std.specs.List.{list_all};
 ghost use Rattle.vw_top.specs.FirstForm.{is_name_byte, is_name};
-ghost use Rattle.vw_top.specs.Reading.{lines_of, words_of, contents};
+ghost use Rattle.vw_top.specs.Steps.Reading.{cut_lines, words_of, contents};
 
 use std::alloc::{AllocError, Global};
 
 /// The lines of a text: the parts before, between and after the line ends.
 pub fn lines(alloc: Global, text: &[u8]) -> Result<Vec<&[u8]>, AllocError>
-    ensures { IfOk result (λ lines. contents lines.items ≡ lines_of text.now) }
+    ensures { IfOk result (λ lines. contents lines.items ≡ cut_lines text.now) }
 {
     text.split(|byte| *byte == b'\n').collect(alloc)
 }

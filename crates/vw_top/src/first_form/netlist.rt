@@ -1,9 +1,9 @@
 //! A design with names into a netlist with numbers.
 ghost use Rattle.std.specs.Prelude.{◌≡◌, ◌≤◌, length, IfOk, IfSome, IfNone};
-ghost use Rattle.vw_top.specs.Reading.{contents};
+ghost use Rattle.vw_top.specs.Steps.Reading.{contents};
 ghost use Rattle.vw_top.specs.Source.{nets_of};
-ghost use Rattle.vw_top.specs.Views.{source_view};
-ghost use Rattle.vw_top.specs.Numbers.{IsSound, IsNamed};
+ghost use Rattle.vw_top.specs.Steps.Views.{source_view};
+ghost use Rattle.vw_top.specs.Steps.Numbers.{IsSound, IsNamed};
 
 use super::cells::cells_of;
 use super::item::Item;
@@ -33,7 +33,8 @@ pub fn netlist_of(alloc: Global, source: Source) -> Result<Option<Ordered>, Allo
     requires inputs { length source.inputs.items ≤ 4096 }
     requires outputs { length source.outputs.items ≤ 4096 }
     requires items { length source.items.items ≤ 65536 }
-    ensures found { IfOk result (λ found. IfSome found (λ ordered. IsNamed (source_view source.entry) ordered.flat)) }
+    ensures found { IfOk result (λ found. IfSome found
+        (λ ordered. IsNamed (source_view source.entry) ordered.flat)) }
     ensures refused { IfOk result (λ found. IfNone found (IsSound (source_view source.entry) → ⊥)) }
 {
     let nets = nets_of(alloc, &source)?;

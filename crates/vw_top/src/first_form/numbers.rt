@@ -1,8 +1,8 @@
 //! Names into numbers.
 ghost use Rattle.std.specs.Prelude.{◌≡◌, ◌<◌, ◌^◌, false, length, option_map, IfOk, IfSome, IfNone};
 ghost use Rattle.vw_top.specs.FirstForm.{are_distinct};
-ghost use Rattle.vw_top.specs.Reading.{contents};
-ghost use Rattle.vw_top.specs.Numbers.{number_in, places_by, IsNumbering};
+ghost use Rattle.vw_top.specs.Steps.Reading.{contents};
+ghost use Rattle.vw_top.specs.Steps.Numbers.{number_in, places_by, IsNumbering};
 
 use std::alloc::{AllocError, Global};
 use std::collections::HashMap;
@@ -13,8 +13,10 @@ pub fn number_all<'a>(
     names: &[&'a [u8]],
 ) -> Result<Option<HashMap<&'a [u8], u32>>, AllocError>
     requires { length names.now < 2 ^ 32 }
-    ensures found { IfOk result (λ found. IfSome found (λ numbers. IsNumbering (contents names.now) (number_in numbers))) }
-    ensures refused { IfOk result (λ found. IfNone found (are_distinct (contents names.now) ≡ false)) }
+    ensures found { IfOk result (λ found. IfSome found
+        (λ numbers. IsNumbering (contents names.now) (number_in numbers))) }
+    ensures refused { IfOk result (λ found. IfNone found (are_distinct (contents names.now)
+        ≡ false)) }
 {
     let mut numbers = HashMap::new(alloc);
     for (number, name) in names.iter().enumerate() {
@@ -31,7 +33,8 @@ pub fn places(
     numbers: &HashMap<&[u8], u32>,
     names: &[&[u8]],
 ) -> Result<Option<Vec<u32>>, AllocError>
-    ensures { IfOk result (λ found. option_map (λ places. places.items) found ≡ places_by (number_in numbers.now) (contents names.now)) }
+    ensures { IfOk result (λ found. option_map (λ places. places.items) found
+        ≡ places_by (number_in numbers.now) (contents names.now)) }
 {
     let mut places = Vec::new(alloc);
     for name in names {

@@ -1,6 +1,6 @@
 //! The order of gates.
 ghost use Rattle.std.specs.Prelude.{◌≡◌, ◌≤◌, length, IfOk};
-ghost use Rattle.vw_top.specs.Order.{is_before, is_ready, are_ready, gates_from};
+ghost use Rattle.vw_top.specs.Steps.Order.{is_before, may_come, are_ready, gates_from};
 
 use std::alloc::{AllocError, Global};
 use vw_net::Cell;
@@ -16,9 +16,9 @@ fn is_before(inputs: u32, cells: &[Cell], number: usize, net: u32) -> bool
 }
 
 /// Whether each net that a gate reads has its value before it.
-fn is_ready(inputs: u32, cells: &[Cell], number: usize, cell: &Cell) -> bool
+fn may_come(inputs: u32, cells: &[Cell], number: usize, cell: &Cell) -> bool
     requires { number ≤ 65536 }
-    ensures { result ≡ is_ready inputs cells.now number cell.now }
+    ensures { result ≡ may_come inputs cells.now number cell.now }
 {
     match cell {
         Cell::Gate { ins, .. } => {
@@ -36,7 +36,7 @@ pub fn are_ready(inputs: u32, cells: &[Cell]) -> bool
     ensures { result ≡ are_ready inputs cells.now 0 cells.now }
 {
     for (number, cell) in cells.iter().enumerate() {
-        if !is_ready(inputs, cells, number, cell) {
+        if !may_come(inputs, cells, number, cell) {
             return false;
         }
     }

@@ -1,6 +1,6 @@
 //! The rows of tables.
 ghost use Rattle.std.specs.Prelude.{◌≡◌, option_map, IfOk};
-ghost use Rattle.vw_top.specs.Reading.{mark_of, marks_of, row_of, contents};
+ghost use Rattle.vw_top.specs.Steps.Reading.{mark_of, marks_of, row_by_words, contents};
 
 use std::alloc::{AllocError, Global};
 use vw_net::{Mark, Row, Sequence};
@@ -32,8 +32,9 @@ fn marks_of(alloc: Global, word: &[u8]) -> Result<Option<Vec<Mark>>, AllocError>
 }
 
 /// The row that the words of a line spell: its marks in one word, where there are any, and the value 1.
-pub fn row_of(alloc: Global, words: &[&[u8]]) -> Result<Option<Row>, AllocError>
-    ensures { IfOk result (λ found. option_map (λ row. row.marks) found ≡ row_of (contents words.now)) }
+pub fn row_by_words(alloc: Global, words: &[&[u8]]) -> Result<Option<Row>, AllocError>
+    ensures { IfOk result (λ found. option_map (λ row. row.marks) found
+        ≡ row_by_words (contents words.now)) }
 {
     let (word, value) = match words {
         [value] => (b"".as_slice(), *value),

@@ -1,7 +1,7 @@
 //! A text into a design with names.
 ghost use Rattle.std.specs.Prelude.{◌≡◌, option_map, IfOk};
-ghost use Rattle.vw_top.specs.Reading.{contents, names_after, is_within, source_of};
-ghost use Rattle.vw_top.specs.Views.{source_view};
+ghost use Rattle.vw_top.specs.Steps.Reading.{contents, names_after, is_within, source_of};
+ghost use Rattle.vw_top.specs.Steps.Views.{source_view};
 
 use super::item::Item;
 use super::items::items_of;
@@ -30,7 +30,8 @@ fn names_after<'a>(
     keyword: &[u8],
     line: &'a [u8],
 ) -> Result<Option<Vec<&'a [u8]>>, AllocError>
-    ensures { IfOk result (λ found. option_map (λ names. contents names.items) found ≡ names_after keyword.now line.now) }
+    ensures { IfOk result (λ found. option_map (λ names. contents names.items) found
+        ≡ names_after keyword.now line.now) }
 {
     let words = words(alloc, line)?;
     match words.as_slice() {

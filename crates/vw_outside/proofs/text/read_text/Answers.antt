@@ -1,7 +1,13 @@
-use Rattle.std.proofs.Common.{◌≡◌, ◌≤◌, ℕ, List, ◌∙◌, ◌<◌, refl, sym, length, take, drop, ◌++◌, arith, length-append, length-take, length-drop, subst, ap}
-use Rattle.vw_outside.specs.Told.{Fills, OfText-from_cases}
-use Rattle.vw_outside.proofs.Pieces.{IsFront, front_further, whole_front}
+use Rattle.std.proofs.Common.{◌≡◌, ℕ, List, ◌∙◌, ◌<◌, ◌≤◌, sym, length, take, drop, ◌++◌, arith, length-append, length-take, length-drop, subst, ap}
+use Rattle.vw_outside.specs.Told.{Told}
+use Rattle.vw_outside.proofs.TextsTold.{IsTextOf-from_cases, OfText-from_cases}
+use Rattle.vw_outside.specs.Reads.{SeenShelf, Fills}
+use Rattle.vw_outside.proofs.Fronts.{IsFront, front_further, whole_front}
 use Rattle.vw_outside.proofs.text.read_text.Goals as goal
+
+-- what is told of a name is the same of equal shelves
+told_same : (before now : SeenShelf) (name : List ℕ) (what : Told) → now ≡ before → before.told name ≡ what → now.told name ≡ what
+told_same before now name what same told = ap (λ (shelf : SeenShelf). shelf.told name) same ∙ told
 
 pub loop-piece-preserved : goal.loop-piece-preserved
 loop-piece-preserved g c =
@@ -15,14 +21,12 @@ loop-piece-preserved g c =
     let asked : length c.read.new.into ≤ c.min-room.result = omega (arith, c.read.auto.into, length-take c.min-room.result c.loop-piece.piece) in
     record {
       front = λ bytes told.
-          let fills = subst (λ from. Fills bytes from c.read.new.into c.in-Ok.count) so_far (c.in-Ok.ensures.held bytes (kept.same c.args.name.now ∙ told)) in
+          let fills = subst (λ from. Fills bytes from c.read.new.into c.in-Ok.count) so_far (c.in-Ok.ensures.held bytes (told_same _ _ c.args.name.now _ kept.same told)) in
           subst (λ text. IsFront text bytes) (sym was.items) (front_further c.loop-piece.text.items c.read.new.into _ bytes c.in-Ok.count (kept.front bytes told) fills count);
-      present = λ told. absurd (let wrong = c.in-Ok.ensures.absent (kept.same c.args.name.now ∙ told) in cc);
+      present = λ told. absurd (let wrong = c.in-Ok.ensures.absent (told_same _ _ c.args.name.now _ kept.same told) in cc);
       within = omega (arith, longer, long, asked, length-append c.loop-piece.text.items piece, count, c.min-room.ensures, c.loop-piece.text.ok.0);
       buffer = omega (arith, length-append c.read.new.into (drop c.min-room.result c.loop-piece.piece), length-drop c.min-room.result c.loop-piece.piece, kept.buffer, c.min-room.ensures);
-      same = λ other. c.read.ensures.same other ∙ kept.same other;
-      kept = λ other. omega (arith, c.read.ensures.kept other, kept.kept other);
-      others = λ other bytes differs told. c.read.ensures.others other bytes differs (kept.same other ∙ told) ∙ kept.others other bytes differs told;
+      same = c.in-Ok.ensures.done ∙ kept.same;
     }
 
 pub returns-then-count-eq0-clause-whole : goal.returns-then-count-eq0-clause-whole
@@ -31,8 +35,16 @@ returns-then-count-eq0-clause-whole g c =
     let text = c.loop-piece.text.items in
     let so_far : c.len-in-loop-piece-2.result ≡ length text = omega (arith, c.loop-piece.text.ok.0) in
     let room : 0 < length c.read.new.into = omega (arith, c.read.auto.into, length-take c.min-room.result c.loop-piece.piece, kept.buffer, c.min-room.ensures, c.loop-piece.text.ok.0) in
-    OfText-from_cases (g.S.Shelf.told c.args.shelf.now c.args.name.now) (λ bytes. text ≡ bytes) text refl
-    (λ told. let wrong = c.in-Ok.ensures.absent (kept.same c.args.name.now ∙ told) in cc)
+    IsTextOf-from_cases ((g.S.Shelf.seen c.args.shelf.now).told c.args.name.now) text
+    (λ told. let wrong = c.in-Ok.ensures.absent (told_same _ _ c.args.name.now _ kept.same told) in cc)
     (λ bytes told.
-    let fills = subst (λ from. Fills bytes from c.read.new.into c.in-Ok.count) so_far (c.in-Ok.ensures.held bytes (kept.same c.args.name.now ∙ told)) in
+    let fills = subst (λ from. Fills bytes from c.read.new.into c.in-Ok.count) so_far (c.in-Ok.ensures.held bytes (told_same _ _ c.args.name.now _ kept.same told)) in
     whole_front text c.read.new.into bytes c.in-Ok.count (kept.front bytes told) fills room (omega arith))
+
+pub returns-clause-too_large : goal.returns-clause-too_large
+returns-clause-too_large g c = λ is.
+    let kept = c.loop-piece.invariant in
+    let past : c.args.limit < length c.loop-piece.text.items = omega (arith, c.loop-piece.text.ok.0) in
+    OfText-from_cases ((g.S.Shelf.seen c.args.shelf.now).told c.args.name.now) (λ bytes. c.args.limit < length bytes) c.loop-piece.text.items past
+    (λ told. omega (arith, kept.present told))
+    (λ bytes told. let front = kept.front bytes told in omega arith)

@@ -1,8 +1,9 @@
 use Rattle.std.proofs.Common.{◌≡◌, ◌<◌, ◌+◌, ◌∷◌, List, Bool, length, drop, arith, sym, ◌∙◌, ap}
 use Rattle.std.proofs.lemmas.List.Elements.{All-set}
-use Rattle.vw_net.specs.Cells.{latches}
+use Rattle.vw_net.specs.Cells.{latch_count}
 use Rattle.vw_net.specs.History.{outputs_of, states_of}
-use Rattle.vw_top.proofs.Clocks.{written_more, length-next_state, length-outputs_at, outputs_of-drop, states_of-drop, state_after-drop}
+use Rattle.vw_net.proofs.Counts.{length-next_state, length-outputs_at}
+use Rattle.vw_top.proofs.Clocks.{written_more, outputs_of-drop, states_of-drop, state_after-drop}
 use Rattle.vw_top.proofs.batch.record_clocks.Goals as goal
 
 pub loop-i-preserved : goal.loop-i-preserved
@@ -25,7 +26,7 @@ loop-i-preserved c =
       states = written_more c.loop-i.states i _ _ _ _ states_fit states kept.states;
       state = rw (clock.state) (sym (state_after-drop flat state row rows i c.loop-i-test.true c.index-rows-i.is) ∙ kept.state);
       output_widths = All-set (λ (bits : List Bool). length bits ≡ length flat.outputs) c.loop-i.outputs i _ (ap (λ (bits : List Bool). length bits) clock.outputs ∙ length-outputs_at flat row state) kept.output_widths;
-      state_widths = All-set (λ (bits : List Bool). length bits ≡ latches flat.cells) c.loop-i.states i _ (ap (λ (bits : List Bool). length bits) clock.before ∙ kept.latches) kept.state_widths;
+      state_widths = All-set (λ (bits : List Bool). length bits ≡ latch_count flat.cells) c.loop-i.states i _ (ap (λ (bits : List Bool). length bits) clock.before ∙ kept.latches) kept.state_widths;
       latches = ap (λ (bits : List Bool). length bits) clock.state ∙ length-next_state flat row state;
       nets = clock.nets ∙ kept.nets;
     }

@@ -1,7 +1,7 @@
 -- what was written so far and what the rows that are left give is what all rows give
 use Rattle.std.proofs.Common.{◌≡◌, ◌+◌, ◌++◌, length, take, drop}
 use Rattle.std.specs.List.{All}
-use Rattle.vw_net.specs.Cells.{latches}
+use Rattle.vw_net.specs.Cells.{latch_count}
 use Rattle.vw_net.specs.History.{outputs_of, states_of, state_after}
 use Rattle.vw_top.proofs.batch.record_clocks.Given as goal
 
@@ -11,7 +11,7 @@ invariant-loop-i l = record {
   states : take l.i l.states ++ states_of l.ordered.flat l.state (drop l.i l.rows) ≡ states_of l.ordered.flat l.fn.state l.rows;
   state : state_after l.ordered.flat l.state (drop l.i l.rows) ≡ state_after l.ordered.flat l.fn.state l.rows;
   output_widths : All (λ bits. length bits ≡ length l.ordered.flat.outputs) l.outputs;
-  state_widths : All (λ bits. length bits ≡ latches l.ordered.flat.cells) l.states;
-  latches : length l.state ≡ latches l.ordered.flat.cells;
+  state_widths : All (λ bits. length bits ≡ latch_count l.ordered.flat.cells) l.states;
+  latches : length l.state ≡ latch_count l.ordered.flat.cells;
   nets : length l.values ≡ l.ordered.flat.inputs + length l.ordered.flat.cells;
 }

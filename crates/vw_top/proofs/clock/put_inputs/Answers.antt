@@ -1,6 +1,6 @@
 use Rattle.std.proofs.Common.{arith}
 use Rattle.std.proofs.lemmas.Grind.{common_steps}
-use Rattle.vw_top.proofs.Places.{set_more}
+use Rattle.vw_top.proofs.PartlyWritten.{set_more}
 use Rattle.vw_top.proofs.clock.put_inputs.Goals as goal
 
 -- one more bit is written

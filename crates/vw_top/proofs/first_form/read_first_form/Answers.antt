@@ -4,10 +4,10 @@ use Rattle.std.proofs.lemmas.List.{length-map}
 use Rattle.std.proofs.lemmas.Option.{MatchOption-at_some, MatchOption-at_none, IfSome_then}
 use Rattle.std.proofs.lemmas.Result.{IfOk-weaker}
 use Rattle.std.proofs.lemmas.Slice.Eq.{strip_suffix_is}
-use Rattle.vw_top.specs.Reading.{source_of}
-use Rattle.vw_top.specs.Views.{item_view, source_view}
-use Rattle.vw_top.proofs.Found.{end_text, source_read}
-use Rattle.vw_top.proofs.First.{no_end, no_source, no_design, is_design, if_none_then}
+use Rattle.vw_top.specs.Steps.Reading.{source_of}
+use Rattle.vw_top.specs.Steps.Views.{item_view, source_view}
+use Rattle.vw_top.proofs.ReadIsSpelled.{end_text, source_read}
+use Rattle.vw_top.proofs.FirstFormBodies.{no_end, no_source, no_design, is_design, if_none_then}
 use Rattle.vw_top.proofs.first_form.read_first_form.Goals as goal
 
 pub returns-in_default-clause-refused : goal.returns-in_default-clause-refused

@@ -1,8 +1,9 @@
 -- the lines of the rows that are left are left to be written
 use Rattle.std.proofs.Common.{◌≡◌, ◌≤◌, ◌+◌, ◌-◌, length, drop}
-use Rattle.vw_net.specs.Cells.{latches}
+use Rattle.vw_net.specs.Cells.{latch_count}
 use Rattle.vw_net.specs.History.{state_after}
-use Rattle.vw_top.proofs.Writing.{IsLeft, lines_of}
+use Rattle.vw_outside.proofs.PiecesWritten.{IsLeft}
+use Rattle.vw_top.proofs.TraceLines.{clock_lines}
 use Rattle.vw_top.proofs.run.write_clocks.Given as goal
 
 abbrev pub invariant-loop-done : goal.invariant-loop-done
@@ -10,11 +11,10 @@ invariant-loop-done g l =
     let flat = l.ordered.flat in
     record {
       within : l.done ≤ length l.rows;
-      left : IsLeft (g.O.Sink.told l.fn.out) (lines_of flat 0 l.fn.state l.rows) (g.O.Sink.told l.out) (lines_of flat l.done l.state (drop l.done l.rows));
+      left : IsLeft (g.O.Sink.seen l.fn.out) (clock_lines flat 0 l.fn.state l.rows) (g.O.Sink.seen l.out) (clock_lines flat l.done l.state (drop l.done l.rows));
       state : state_after flat l.state (drop l.done l.rows) ≡ state_after flat l.fn.state l.rows;
-      latches : length l.state ≡ latches flat.cells;
+      latches : length l.state ≡ latch_count flat.cells;
       nets : length l.values ≡ flat.inputs + length flat.cells;
-      kept : g.O.Sink.faults l.fn.out ≤ g.O.Sink.faults l.out;
     }
 
 abbrev pub decreases-loop-done : goal.decreases-loop-done

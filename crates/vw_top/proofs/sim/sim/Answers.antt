@@ -1,57 +1,73 @@
-use Rattle.std.proofs.Common.{◌≡◌, Ok, Err, refl, ap}
+use Rattle.std.proofs.Common.{◌≡◌, ℕ, List, Bool, Ok, Err, refl, ap₂}
 use Rattle.std.proofs.lemmas.Result.{err_from_is_err_and}
-use Rattle.vw_outside.specs.Told.{Rose}
-use Rattle.vw_rows.specs.declared.stimulus.StimFault.TheVariants as faults
-use Rattle.vw_top.specs.declared.refusal.Refusal.TheVariants.{WriteFault, NoMemory}
-use Rattle.vw_top.specs.Course.{Outside, outside}
-use Rattle.vw_top.proofs.Courses.{design_refused, design_accepted, stimulus_refused, stimulus_accepted, rose_since, read_before, same_width}
+use Rattle.vw_net.specs.declared.flat.Flat.{Flat}
+use Rattle.vw_net.specs.declared.ordered.Ordered.{Ordered}
+use Rattle.vw_outside.specs.Reads.{SeenShelf}
+use Rattle.vw_outside.specs.Writes.{SeenSink}
+use Rattle.vw_top.specs.declared.stop.File.TheVariants as files
+use Rattle.vw_top.specs.declared.endings.Unfinished.{Unfinished}
+use Rattle.vw_top.specs.declared.endings.Unfinished.TheVariants.{Stopped}
+use Rattle.vw_top.specs.FirstForm.{IsDesignOf}
+use Rattle.vw_top.specs.Course.{Course, writes, reads, judges, Outside, outside, Answer, Follows, EndsWriting}
+use Rattle.vw_top.specs.Commands.{sim_course, RefusesDesign, design_apart, IsRowsOf, RefusesRows, rows_apart, trace_of}
+use Rattle.vw_top.specs.Steps.Stage.{StageEnds}
+use Rattle.vw_top.proofs.StageLaws.{stage_ends, stage_goes_on, writing_stops}
 use Rattle.vw_top.proofs.sim.sim.Goals as goal
 
-pub returns-in_err-ordered : goal.returns-in_err-ordered
-returns-in_err-ordered g c =
-    let p = err_from_is_err_and c.from_residual.result c.from_residual.ensures.1 in
-    let before : Outside = outside g.S.Shelf.told g.S.Shelf.faults g.O.Sink.told g.O.Sink.faults c.args.shelf.now c.args.out.now in
-    let after : Outside = outside g.S.Shelf.told g.S.Shelf.faults g.O.Sink.told g.O.Sink.faults c.read_design.new.shelf c.args.out.now in
-    rw (p.1, p.2) (design_refused c.args.design.now c.args.stimulus.now before after c.in_err-ordered.field-0.0 refl c.in_err-ordered.ensures.design)
+-- a netlist with an order is that of the design
+abbrev IsMadeOf : List ℕ → Ordered → Type 0
+IsMadeOf text ordered = IsDesignOf text ordered.flat
 
-pub returns-in-Err : goal.returns-in-Err
-returns-in-Err g c =
-    let flat = c.in_ok-ordered.ordered.flat in
-    let before : Outside = outside g.S.Shelf.told g.S.Shelf.faults g.O.Sink.told g.O.Sink.faults c.args.shelf.now c.args.out.now in
-    let after : Outside = outside g.S.Shelf.told g.S.Shelf.faults g.O.Sink.told g.O.Sink.faults c.read_all.new.shelf c.args.out.now in
-    let width : c.inputs.result ≡ flat.inputs = same_width c.flat.result.now flat c.inputs.result c.flat.ensures c.inputs.ensures in
-    let read = read_before (g.S.Shelf.told c.read_design.new.shelf c.args.stimulus.now) (g.S.Shelf.told c.args.shelf.now c.args.stimulus.now) c.inputs.result flat.inputs (Err c.in-Err.fault) (c.in_ok-ordered.ensures.same c.args.stimulus.now) width c.in-Err.ensures.rows in
-    let cause : c.in-Err.fault ≡ faults.ReadFault → Rose (before.faults c.args.stimulus.now) (after.faults c.args.stimulus.now) =
-    λ is. rose_since _ _ _ (c.in_ok-ordered.ensures.kept c.args.stimulus.now) (c.in-Err.ensures.cause (ap Err is)) in
-    rw c.stimulus_refusal.ensures (design_accepted c.args.design.now c.args.stimulus.now before after _ flat c.in_ok-ordered.ensures.design
-    (stimulus_refused c.args.design.now c.args.stimulus.now before after flat c.in-Err.fault refl read cause))
+module _ (design stimulus : List ℕ) (ordered : Ordered) where
+  -- what follows the rows, and what follows the netlist
+  abbrev trace_course : (flat : Flat) (text : List ℕ) (rows : List (List Bool)) → IsRowsOf flat.inputs text rows → Course
+  trace_course flat text rows are = writes (trace_of flat rows)
 
-pub returns-in-Ok-write_trace : goal.returns-in-Ok-write_trace
-returns-in-Ok-write_trace g c =
-    let flat = c.in_ok-ordered.ordered.flat in
-    let before : Outside = outside g.S.Shelf.told g.S.Shelf.faults g.O.Sink.told g.O.Sink.faults c.args.shelf.now c.args.out.now in
-    let after : Outside = outside g.S.Shelf.told g.S.Shelf.faults g.O.Sink.told g.O.Sink.faults c.read_all.new.shelf c.write_trace.new.out in
-    let width : c.inputs.result ≡ flat.inputs = same_width c.flat.result.now flat c.inputs.result c.flat.ensures c.inputs.ensures in
-    let read = read_before (g.S.Shelf.told c.read_design.new.shelf c.args.stimulus.now) (g.S.Shelf.told c.args.shelf.now c.args.stimulus.now) c.inputs.result flat.inputs (Ok c.in-Ok.rows) (c.in_ok-ordered.ensures.same c.args.stimulus.now) width c.in-Ok.ensures.rows in
-    design_accepted c.args.design.now c.args.stimulus.now before after (Ok tt) flat c.in_ok-ordered.ensures.design
-    (stimulus_accepted c.args.design.now c.args.stimulus.now before after (Ok tt) flat c.in-Ok.rows read c.in-Ok-write_trace.ensures.trace)
+  abbrev rows_course : Flat → Course
+  rows_course flat = reads files.Stimulus stimulus (λ s. judges (List (List Bool)) (IsRowsOf flat.inputs s) (RefusesRows flat.inputs s) (rows_apart flat.inputs s) (trace_course flat s))
 
-pub returns-in-Err-WriteFault : goal.returns-in-Err-WriteFault
-returns-in-Err-WriteFault g c =
-    let flat = c.in_ok-ordered.ordered.flat in
-    let before : Outside = outside g.S.Shelf.told g.S.Shelf.faults g.O.Sink.told g.O.Sink.faults c.args.shelf.now c.args.out.now in
-    let after : Outside = outside g.S.Shelf.told g.S.Shelf.faults g.O.Sink.told g.O.Sink.faults c.read_all.new.shelf c.write_trace.new.out in
-    let width : c.inputs.result ≡ flat.inputs = same_width c.flat.result.now flat c.inputs.result c.flat.ensures c.inputs.ensures in
-    let read = read_before (g.S.Shelf.told c.read_design.new.shelf c.args.stimulus.now) (g.S.Shelf.told c.args.shelf.now c.args.stimulus.now) c.inputs.result flat.inputs (Ok c.in-Ok.rows) (c.in_ok-ordered.ensures.same c.args.stimulus.now) width c.in-Ok.ensures.rows in
-    design_accepted c.args.design.now c.args.stimulus.now before after (Err WriteFault) flat c.in_ok-ordered.ensures.design
-    (stimulus_accepted c.args.design.now c.args.stimulus.now before after (Err WriteFault) flat c.in-Ok.rows read (c.in-Err-WriteFault.ensures.part, c.in-Err-WriteFault.ensures.cause (ap Err c.in-Err-WriteFault.field-0-is)))
+  after_design : (before mid after : Outside) (answer : Answer) → mid.out ≡ before.out → StageEnds files.Design design IsMadeOf RefusesDesign before.shelf mid.shelf (Ok ordered)
+      → Follows (rows_course ordered.flat) mid after answer → Follows (sim_course design stimulus) before after answer
+  after_design before mid after answer out judged goes =
+      stage_goes_on files.Design design IsMadeOf IsDesignOf RefusesDesign design_apart (λ d flat is. rows_course flat) before mid after answer ordered out judged (λ text is. (ordered.flat, is, goes))
+
+  rows_end : (before after : Outside) (unfinished : Unfinished) → after.out ≡ before.out → StageEnds files.Stimulus stimulus (IsRowsOf ordered.flat.inputs) (RefusesRows ordered.flat.inputs) before.shelf after.shelf (Err unfinished)
+      → Follows (rows_course ordered.flat) before after (Err unfinished)
+  rows_end before after unfinished out judged =
+      let width = ordered.flat.inputs in
+      stage_ends files.Stimulus stimulus (IsRowsOf width) (IsRowsOf width) (RefusesRows width) (rows_apart width) (trace_course ordered.flat) before after unfinished out judged
+
+  after_rows : (before mid after : Outside) (answer : Answer) (rows : List (List Bool)) → mid.out ≡ before.out → StageEnds files.Stimulus stimulus (IsRowsOf ordered.flat.inputs) (RefusesRows ordered.flat.inputs) before.shelf mid.shelf (Ok rows)
+      → EndsWriting (trace_of ordered.flat rows) mid after answer → Follows (rows_course ordered.flat) before after answer
+  after_rows before mid after answer rows out judged ends =
+      let width = ordered.flat.inputs in
+      stage_goes_on files.Stimulus stimulus (IsRowsOf width) (IsRowsOf width) (RefusesRows width) (rows_apart width) (trace_course ordered.flat) before mid after answer rows out judged (λ text are. (rows, are, ends))
+
+pub returns-in_err-rows : goal.returns-in_err-rows
+returns-in_err-rows g c =
+    let p = err_from_is_err_and c.from_residual-in_err-rows.result c.from_residual-in_err-rows.ensures.1 in
+    let out = g.O.Sink.seen c.args.out.now in
+    let mid : Outside = outside (g.S.Shelf.seen c.read_design.new.shelf) out in
+    let after : Outside = outside (g.S.Shelf.seen c.read_rows.new.shelf) out in
+    rw (p.1, p.2) (after_design c.args.design.now c.args.stimulus.now c.in_ok-ordered.ordered (outside (g.S.Shelf.seen c.args.shelf.now) out) mid after (Err c.in_err-rows.field-0.0) refl c.in_ok-ordered.ensures
+    (rows_end c.args.design.now c.args.stimulus.now c.in_ok-ordered.ordered mid after c.in_err-rows.field-0.0 refl c.in_err-rows.ensures.judges))
+
+pub returns-in-Ok : goal.returns-in-Ok
+returns-in-Ok g c =
+    let out = g.O.Sink.seen c.args.out.now in
+    let mid : Outside = outside (g.S.Shelf.seen c.read_design.new.shelf) out in
+    let read : Outside = outside (g.S.Shelf.seen c.read_rows.new.shelf) out in
+    let after : Outside = outside (g.S.Shelf.seen c.read_rows.new.shelf) (g.O.Sink.seen c.write_trace.new.out) in
+    after_design c.args.design.now c.args.stimulus.now c.in_ok-ordered.ordered (outside (g.S.Shelf.seen c.args.shelf.now) out) mid after (Ok tt) refl c.in_ok-ordered.ensures
+    (after_rows c.args.design.now c.args.stimulus.now c.in_ok-ordered.ordered mid read after (Ok tt) c.in_ok-rows.rows refl c.in_ok-rows.ensures.judges
+    (ap₂ (λ (s : SeenShelf) (o : SeenSink). outside s o) refl c.in-Ok.ensures))
 
 pub returns : goal.returns
 returns g c =
-    let flat = c.in_ok-ordered.ordered.flat in
-    let before : Outside = outside g.S.Shelf.told g.S.Shelf.faults g.O.Sink.told g.O.Sink.faults c.args.shelf.now c.args.out.now in
-    let after : Outside = outside g.S.Shelf.told g.S.Shelf.faults g.O.Sink.told g.O.Sink.faults c.read_all.new.shelf c.write_trace.new.out in
-    let width : c.inputs.result ≡ flat.inputs = same_width c.flat.result.now flat c.inputs.result c.flat.ensures c.inputs.ensures in
-    let read = read_before (g.S.Shelf.told c.read_design.new.shelf c.args.stimulus.now) (g.S.Shelf.told c.args.shelf.now c.args.stimulus.now) c.inputs.result flat.inputs (Ok c.in-Ok.rows) (c.in_ok-ordered.ensures.same c.args.stimulus.now) width c.in-Ok.ensures.rows in
-    design_accepted c.args.design.now c.args.stimulus.now before after (Err NoMemory) flat c.in_ok-ordered.ensures.design
-    (stimulus_accepted c.args.design.now c.args.stimulus.now before after (Err NoMemory) flat c.in-Ok.rows read c.in-Err-NoMemory.ensures.part)
+    let out = g.O.Sink.seen c.args.out.now in
+    let mid : Outside = outside (g.S.Shelf.seen c.read_design.new.shelf) out in
+    let read : Outside = outside (g.S.Shelf.seen c.read_rows.new.shelf) out in
+    let after : Outside = outside (g.S.Shelf.seen c.read_rows.new.shelf) (g.O.Sink.seen c.write_trace.new.out) in
+    after_design c.args.design.now c.args.stimulus.now c.in_ok-ordered.ordered (outside (g.S.Shelf.seen c.args.shelf.now) out) mid after (Err (Stopped c.in-Err.stop)) refl c.in_ok-ordered.ensures
+    (after_rows c.args.design.now c.args.stimulus.now c.in_ok-ordered.ordered mid read after (Err (Stopped c.in-Err.stop)) c.in_ok-rows.rows refl c.in_ok-rows.ensures.judges
+    (writing_stops (trace_of c.in_ok-ordered.ordered.flat c.in_ok-rows.rows) read after c.in-Err.stop refl c.in-Err.ensures))

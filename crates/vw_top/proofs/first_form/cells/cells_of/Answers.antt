@@ -3,8 +3,8 @@ use Rattle.std.proofs.lemmas.Iterator.Adapters.{YieldsList-from_vec}
 use Rattle.std.proofs.lemmas.Iterator.Consumers.{YieldsList-turn}
 use Rattle.std.proofs.lemmas.List.{get_or-map, length-map}
 use Rattle.std.proofs.lemmas.List.Folds.{list_all_at}
-use Rattle.vw_top.specs.Views.{item_view, items_view}
-use Rattle.vw_top.specs.Numbers.{number_in, reads_known, IsFoundCell}
+use Rattle.vw_top.specs.Steps.Views.{item_view, items_view}
+use Rattle.vw_top.specs.Steps.Numbers.{number_in, reads_known, IsFoundCell}
 use Rattle.vw_top.proofs.Cells.{reads_known-none, found_more}
 use Rattle.vw_top.proofs.first_form.cells.cells_of.Goals as goal
 

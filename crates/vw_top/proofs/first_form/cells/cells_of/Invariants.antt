@@ -1,7 +1,7 @@
 use Rattle.std.proofs.Common.{Some}
 use Rattle.std.specs.List.{AllZip}
-use Rattle.vw_top.specs.Views.{items_view}
-use Rattle.vw_top.specs.Numbers.{number_in, IsFoundCell}
+use Rattle.vw_top.specs.Steps.Views.{items_view}
+use Rattle.vw_top.specs.Steps.Numbers.{number_in, IsFoundCell}
 use Rattle.vw_top.proofs.first_form.cells.cells_of.Given as goal
 
 abbrev pub invariant-loop-item : goal.invariant-loop-item

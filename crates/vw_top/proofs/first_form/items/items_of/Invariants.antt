@@ -1,6 +1,6 @@
 use Rattle.std.proofs.Common.{◌≡◌, [], drop}
-use Rattle.vw_top.specs.Reading.{contents, items_from}
-use Rattle.vw_top.specs.Views.{items_view}
+use Rattle.vw_top.specs.Steps.Reading.{contents, items_from}
+use Rattle.vw_top.specs.Steps.Views.{items_view}
 use Rattle.vw_top.proofs.first_form.items.items_of.Given as goal
 
 abbrev pub invariant-loop-line : goal.invariant-loop-line

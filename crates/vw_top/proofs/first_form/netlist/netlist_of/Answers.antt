@@ -3,13 +3,13 @@ use Rattle.std.specs.Prelude.{IfSome}
 use Rattle.std.specs.List.{AllZip}
 use Rattle.std.proofs.lemmas.List.{length-map}
 use Rattle.vw_net.specs.declared.cell.Cell.{Cell}
-use Rattle.vw_top.specs.FirstForm.{are_distinct, net_number, IsCellOf}
-use Rattle.vw_top.specs.Reading.{contents, traverse}
-use Rattle.vw_top.specs.Views.{source_view, item_view}
-use Rattle.vw_top.specs.Numbers.{IsNumbering, number_in, AreFoundCells}
-use Rattle.vw_top.specs.Order.{are_ready, gates_from}
+use Rattle.vw_top.specs.FirstForm.{are_distinct, IsNumberOf, IsCellOf}
+use Rattle.vw_top.specs.Steps.Reading.{contents, traverse}
+use Rattle.vw_top.specs.Steps.Views.{source_view, item_view}
+use Rattle.vw_top.specs.Steps.Numbers.{IsNumbering, number_in, AreFoundCells}
+use Rattle.vw_top.specs.Steps.Order.{are_ready, gates_from}
 use Rattle.vw_top.proofs.Orders.{gates_are_order, order_along}
-use Rattle.vw_top.proofs.Sound.{unknown_read, unknown_output, not_ready, built, distinct_found, reads-ready}
+use Rattle.vw_top.proofs.DesignTests.{unknown_read, unknown_output, not_ready, built, distinct_found, reads-ready, zip_length}
 use Rattle.vw_top.proofs.first_form.netlist.netlist_of.Goals as goal
 
 pub returns-in_default-2-clause-refused : goal.returns-in_default-2-clause-refused
@@ -87,7 +87,7 @@ make-flat-requires-clause-few_outputs c =
     let all = subst (AreFoundCells number source.items) c.in-Some-3.is c.in_ok-cells.ensures in
     let found : traverse number source.outputs ≡ Some c.in-Some-2.outputs.items = ap (λ names. traverse number (contents names)) (sym c.deref-3.ensures.value) ∙ sym c.in_ok-outputs.ensures ∙ ap (option_map (λ places. places.items)) c.in-Some-2.is in
     let made = built source number numbering cells c.in-Some-2.outputs.items all found in
-    omega (arith, ap length c.of-2.ensures, ap length made.mapped, length-map source.outputs (net_number source), length-map c.args.source.outputs.items (λ slice. slice.now), c.requires.outputs)
+    omega (arith, ap length c.of-2.ensures, zip_length (IsNumberOf source) source.outputs c.in-Some-2.outputs.items made.numbered, length-map c.args.source.outputs.items (λ slice. slice.now), c.requires.outputs)
 
 pub make-flat-requires-clause-cells_fit : goal.make-flat-requires-clause-cells_fit
 make-flat-requires-clause-cells_fit c =
@@ -141,6 +141,7 @@ returns-clause-found c =
     let inputs : c.len-inputs.result ≡ length source.inputs = c.len-inputs.ensures ∙ omega (arith, c.args.source.inputs.ok.0) ∙ sym (length-map c.args.source.inputs.items (λ slice. slice.now)) in
     let ready : are_ready (length source.inputs) cells 0 cells ≡ c.are_ready.result = ap (λ n. are_ready n cells 0 cells) (sym inputs) ∙ ap (λ (cs : List Cell). are_ready c.len-inputs.result cs 0 cs) (sym c.deref-4.ensures.value) ∙ sym c.are_ready.ensures in
     let cells_are : c.make.result.flat.cells ≡ cells = ap (λ flat. flat.cells) c.make.ensures.flat ∙ c.make-flat.ensures.cells ∙ c.of.ensures in
+    let outputs_are : c.make.result.flat.outputs ≡ c.in-Some-2.outputs.items = ap (λ flat. flat.outputs) c.make.ensures.flat ∙ c.make-flat.ensures.outputs ∙ c.of-2.ensures in
     let distinct : are_distinct (contents c.deref-2.result.now) ≡ true = distinct_found number_in (contents c.deref-2.result.now) c.in_ok-number_all.field-0 (grind arith) c.in_ok-number_all.ensures.found in (
       record {
         one_driver = numbering.distinct;
@@ -151,6 +152,6 @@ returns-clause-found c =
       record {
         inputs = ap (λ flat. flat.inputs) c.make.ensures.flat ∙ c.make-flat.ensures.inputs ∙ inputs;
         cells = subst (λ cs. AllZip (IsCellOf source) source.items cs) (sym cells_are) made.zipped;
-        outputs = ap (λ flat. flat.outputs) c.make.ensures.flat ∙ c.make-flat.ensures.outputs ∙ c.of-2.ensures ∙ made.mapped;
+        outputs = subst (λ nets. AllZip (IsNumberOf source) source.outputs nets) (sym outputs_are) made.numbered;
       },
     )

@@ -1,8 +1,8 @@
 use Rattle.std.proofs.Common.{◌≡◌, ◌++◌, List, map, take, ap, ◌∙◌, arith}
 use Rattle.std.proofs.lemmas.List.{take_all}
 use Rattle.vw_top.specs.Source.{Word, driven_by}
-use Rattle.vw_top.specs.Reading.{contents}
-use Rattle.vw_top.specs.Views.{item_view}
+use Rattle.vw_top.specs.Steps.Reading.{contents}
+use Rattle.vw_top.specs.Steps.Views.{item_view}
 use Rattle.vw_top.proofs.Items.{driven-views}
 use Rattle.vw_top.proofs.first_form.netlist.nets_of.Goals as goal
 

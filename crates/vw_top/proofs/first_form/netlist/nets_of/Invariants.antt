@@ -1,7 +1,7 @@
 use Rattle.std.proofs.Common.{◌≡◌, ◌++◌, map, take}
-use Rattle.vw_top.specs.Reading.{contents}
+use Rattle.vw_top.specs.Steps.Reading.{contents}
 use Rattle.vw_top.specs.Source.{driven_by}
-use Rattle.vw_top.specs.Views.{item_view}
+use Rattle.vw_top.specs.Steps.Views.{item_view}
 use Rattle.vw_top.proofs.first_form.netlist.nets_of.Given as goal
 
 abbrev pub invariant-loop-item : goal.invariant-loop-item

@@ -1,6 +1,6 @@
 use Rattle.std.proofs.Common.{ℕ, Bor, List, [], get_or, sym, ap, ◌∙◌, is_some, arith}
 use Rattle.std.proofs.lemmas.Map.Text.{hash_map_updates_str}
-use Rattle.vw_top.specs.Numbers.{number_in}
+use Rattle.vw_top.specs.Steps.Numbers.{number_in}
 use Rattle.vw_top.proofs.Numbering.{are_distinct-again, IsNumbering-more}
 use Rattle.vw_top.proofs.first_form.numbers.number_all.Goals as goal
 

@@ -1,6 +1,6 @@
 use Rattle.std.proofs.Common.{take}
-use Rattle.vw_top.specs.Reading.{contents}
-use Rattle.vw_top.specs.Numbers.{IsNumbering, number_in}
+use Rattle.vw_top.specs.Steps.Reading.{contents}
+use Rattle.vw_top.specs.Steps.Numbers.{IsNumbering, number_in}
 use Rattle.vw_top.proofs.first_form.numbers.number_all.Given as goal
 
 abbrev pub invariant-loop-number : goal.invariant-loop-number

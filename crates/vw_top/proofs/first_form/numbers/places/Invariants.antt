@@ -1,7 +1,7 @@
 use Rattle.std.proofs.Common.{◌≡◌, drop}
-use Rattle.vw_top.specs.Reading.{contents}
-use Rattle.vw_top.specs.Numbers.{places_by, number_in}
-use Rattle.vw_top.proofs.Loops.{with_front}
+use Rattle.vw_top.specs.Steps.Reading.{contents}
+use Rattle.vw_top.specs.Steps.Numbers.{places_by, number_in}
+use Rattle.vw_top.proofs.LoopSteps.{with_front}
 use Rattle.vw_top.proofs.first_form.numbers.places.Given as goal
 
 abbrev pub invariant-loop-name : goal.invariant-loop-name

@@ -1,5 +1,5 @@
 use Rattle.std.proofs.Common.{◌≡◌, drop}
-use Rattle.vw_top.specs.Order.{are_ready}
+use Rattle.vw_top.specs.Steps.Order.{are_ready}
 use Rattle.vw_top.proofs.first_form.order.are_ready.Given as goal
 
 abbrev pub invariant-loop-number : goal.invariant-loop-number

@@ -1,5 +1,5 @@
 use Rattle.std.proofs.Common.{◌≡◌, ◌++◌, drop}
-use Rattle.vw_top.specs.Order.{gates_from}
+use Rattle.vw_top.specs.Steps.Order.{gates_from}
 use Rattle.vw_top.proofs.first_form.order.gates.Given as goal
 
 abbrev pub invariant-loop-number : goal.invariant-loop-number

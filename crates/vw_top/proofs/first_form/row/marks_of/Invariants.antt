@@ -1,6 +1,6 @@
 use Rattle.std.proofs.Common.{◌≡◌, drop}
-use Rattle.vw_top.specs.Reading.{marks_of}
-use Rattle.vw_top.proofs.Loops.{with_front}
+use Rattle.vw_top.specs.Steps.Reading.{marks_of}
+use Rattle.vw_top.proofs.LoopSteps.{with_front}
 use Rattle.vw_top.proofs.first_form.row.marks_of.Given as goal
 
 abbrev pub invariant-loop-byte : goal.invariant-loop-byte

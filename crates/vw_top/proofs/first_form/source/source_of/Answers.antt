@@ -1,9 +1,9 @@
 use Rattle.std.proofs.Common.{◌≡◌, ℕ, Bor, List, [], get_or, length, Some, option_map, ap, sym, ◌∙◌, arith}
 use Rattle.std.proofs.lemmas.List.{take_rest}
 use Rattle.vw_top.specs.Source.{Source}
-use Rattle.vw_top.specs.Reading.{contents, guarded, is_within, items_from}
-use Rattle.vw_top.specs.Views.{items_view}
-use Rattle.vw_top.proofs.Made.{source_made, source_few, source_no_items}
+use Rattle.vw_top.specs.Steps.Reading.{contents, guarded, is_within, items_from}
+use Rattle.vw_top.specs.Steps.Views.{items_view}
+use Rattle.vw_top.proofs.DesignFromLines.{source_made, source_few, source_no_items}
 use Rattle.vw_top.proofs.first_form.source.source_of.Goals as goal
 
 -- what `get_or` reads past the end of a list of slices

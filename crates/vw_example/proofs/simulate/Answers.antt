@@ -1,0 +1,56 @@
+use Rattle.std.proofs.Common.{◌≡◌, ℕ, List, [], ◌∷◌, ◌++◌, Some, sym, ◌∙◌, ap, subst, rules}
+use Rattle.std.specs.Prelude.{codes, option_map}
+use Rattle.vw_outside.specs.declared.held.Held.{Held}
+use Rattle.vw_outside.specs.Told.{held}
+use Rattle.vw_outside.specs.Files.{told_in}
+use Rattle.vw_outside.specs.Memory.{seen_shelf, seen_sink}
+use Rattle.vw_outside.specs.Writes.{SeenSink, appended}
+use Rattle.vw_top.specs.Words.{spelled_by}
+use Rattle.vw_top.specs.Course.{Outside, outside}
+use Rattle.vw_top.specs.Commands.{sim_course, course_of, trace_of}
+use Rattle.vw_top.specs.Statuses.{Statuses}
+use Rattle.vw_top.specs.CommandStatuses.{SimStatuses}
+use Rattle.vw_example.specs.Simulated.{IsSimulated}
+use Rattle.vw_example.proofs.simulate.Goals as goal
+
+-- what two files of these names hold
+record HoldBoth (files : List Held) (design stimulus : List ℕ) : Type 0 where
+  design_held : told_in files (codes "design") ≡ held design
+  stimulus_held : told_in files (codes "stimulus") ≡ held stimulus
+
+hold_both : (files : List Held) (first second : Held) (design stimulus : List ℕ) → files ≡ first ∷ second ∷ [] → first.name ≡ codes "design" → second.name ≡ codes "stimulus"
+    → first.bytes.items ≡ design → second.bytes.items ≡ stimulus → HoldBoth files design stimulus
+hold_both files first second design stimulus are first_is second_is d s =
+    rw (are, first_is, second_is) (record { design_held = ap held d; stimulus_held = ap held s })
+
+-- the bytes of a sink that had none before a text was appended
+whole_text : (before after : SeenSink) (text out : List ℕ) → before.told ≡ Some [] → after.told ≡ Some out → after ≡ appended before text → out ≡ text
+whole_text before after text out none some same =
+    let told : Some out ≡ Some text = sym some ∙ ap (λ (sink : SeenSink). sink.told) same ∙ ap (option_map (λ so_far. so_far ++ text)) none in cc
+
+simulated : (words : List (List ℕ)) (before after : Outside) (status : ℕ) (design stimulus out : List ℕ) → words ≡ codes "sim" ∷ codes "design" ∷ codes "stimulus" ∷ []
+    → ((d s : List ℕ) (b a : Outside) (n : ℕ) → Statuses (sim_course d s) b a n → SimStatuses d s b a n)
+    → Statuses (course_of (spelled_by words)) before after status → before.shelf.told (codes "design") ≡ held design → before.shelf.told (codes "stimulus") ≡ held stimulus
+    → before.out.told ≡ Some [] → after.out.told ≡ Some out → status ≡ 0 → IsSimulated design stimulus out
+simulated words before after status design stimulus out are law statuses design_held stimulus_held none some is =
+    let table = law (codes "design") (codes "stimulus") before after status (subst (λ (ws : List (List ℕ)). Statuses (course_of (spelled_by ws)) before after status) are statuses) in
+    let done = table.done design stimulus design_held stimulus_held is in
+    record {
+      flat = done.0;
+      rows = done.1;
+      netlist = done.2;
+      read = done.3;
+      trace = whole_text before.out after.out (trace_of done.0 done.1) out none some (ap (λ (o : Outside). o.out) done.4);
+    }
+
+pub returns : goal.returns
+returns c = λ is.
+    let before : Outside = outside (seen_shelf c.new-shelf.result) (seen_sink c.new-out.result) in
+    let after : Outside = outside (seen_shelf c.virtual_wires-status.new.shelf) (seen_sink c.virtual_wires-status.new.out) in
+    let words_are : c.deref.result.now ≡ codes "sim" ∷ codes "design" ∷ codes "stimulus" ∷ [] = cc (c.in_ok-name_of-3.ensures, c.in_ok-name_of-4.ensures, c.in_ok-name_of-5.ensures, c.in_ok-words.ensures.items) in
+    let files_are : c.new-shelf.result.files.items ≡ c.make.result ∷ c.make-2.result ∷ [] = c.new-shelf.ensures.files ∙ c.in_ok-files.ensures.items in
+    let both = hold_both c.new-shelf.result.files.items c.make.result c.make-2.result c.args.design.items c.args.stimulus.items files_are (c.make.ensures.name ∙ c.in_ok-name_of.ensures) (c.make-2.ensures.name ∙ c.in_ok-name_of-2.ensures) c.make.ensures.bytes c.make-2.ensures.bytes in
+    let copied : c.in_ok-to_vec.field-0.items ≡ c.bytes.result.now = search rules in
+    let out : c.virtual_wires-status.new.out.written.items ≡ c.in_ok-to_vec.field-0.items = sym (copied ∙ c.bytes.ensures) in
+    simulated c.deref.result.now before after c.virtual_wires-status.result c.args.design.items c.args.stimulus.items c.in_ok-to_vec.field-0.items words_are c.sim_statuses.ensures c.virtual_wires-status.ensures.statuses
+    both.design_held both.stimulus_held (ap Some c.new-out.ensures.written) (ap Some out) is

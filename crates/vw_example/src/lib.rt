@@ -1,0 +1,53 @@
+//! An example of a caller: it runs a design over a stimulus, both as texts in memory, and knows what it got.
+#![tactic(auto)]
+
+ghost use Rattle.std.specs.Prelude.{◌≡◌, IfOk};
+ghost use Rattle.vw_example.specs.Simulated.{IsSimulated};
+
+use std::alloc::{AllocError, Global};
+use vw_outside::{Held, MemShelf, MemSink, Name};
+use vw_top::{sim_statuses, virtual_wires};
+
+/// How a call ended, and what it wrote.
+#[derive(Drop)]
+pub struct Simulated {
+    pub status: u8,
+    pub out: Vec<u8>,
+    pub err: Vec<u8>,
+}
+
+/// The name of these bytes.
+fn name_of(alloc: Global, bytes: &[u8]) -> Result<Name, AllocError>
+    ensures { IfOk result (λ name. name ≡ bytes.now) }
+{
+    Ok(Name::of(bytes.to_vec(alloc)?))
+}
+
+/// Runs `sim` over two texts in memory. Where the status is 0, out is the trace of the design over the stimulus.
+pub fn simulate(alloc: Global, design: Vec<u8>, stimulus: Vec<u8>) -> Result<Simulated, AllocError>
+    ensures { IfOk result (λ simulated. simulated.status ≡ 0
+        → IsSimulated design.items stimulus.items simulated.out.items) }
+{
+    let files = vec![in alloc;
+        Held::make(name_of(alloc, b"design")?, design),
+        Held::make(name_of(alloc, b"stimulus")?, stimulus),
+    ]?;
+    let words = vec![in alloc;
+        name_of(alloc, b"sim")?,
+        name_of(alloc, b"design")?,
+        name_of(alloc, b"stimulus")?,
+    ]?;
+    let mut shelf = MemShelf::new(files, 65_536, Vec::new(alloc));
+    let mut out = MemSink::new(alloc, 65_536, Vec::new(alloc));
+    let mut err = MemSink::new(alloc, 65_536, Vec::new(alloc));
+    let status = virtual_wires(alloc, &words, &mut shelf, &mut out, &mut err);
+    sim_statuses();
+    Ok(Simulated {
+        status,
+        out: out.bytes().to_vec(alloc)?,
+        err: err.bytes().to_vec(alloc)?,
+    })
+}
+
+#[cfg(test)]
+mod tests;

@@ -1,0 +1,276 @@
+-- What follows from a course, whichever it is: by recursion on it.
+use Rattle.std.proofs.Common.{◌≡◌, ◌<◌, ◌⊎◌, ℕ, List, Ok, Err, refl, sym, ◌∙◌, ap, subst, inl, inr, ⊎_elim, length, lit<, arith}
+use Rattle.std.proofs.Math.Seq.{take-length}
+use Rattle.vw_outside.specs.Told.{Told, untold, absent, held, IsTextOf}
+use Rattle.vw_outside.specs.Writes.{SeenSink, appended, WrotePart}
+use Rattle.vw_outside.proofs.PiecesWritten.{appended-nil}
+use Rattle.vw_top.specs.declared.stop.File.{File}
+use Rattle.vw_top.specs.declared.stop.Stop.TheVariants.{ReadFault, WriteFault, NoMemory}
+use Rattle.vw_top.specs.declared.reason.Reason.{Reason}
+use Rattle.vw_top.specs.declared.reason.Reason.TheVariants.{NotYet, Usage, Stimulus}
+use Rattle.vw_top.specs.declared.refusal.Refusal.{Refusal}
+use Rattle.vw_top.specs.declared.endings.Unfinished.TheVariants.{Stopped, Refused}
+use Rattle.vw_top.specs.Reasons.{reason_status}
+use Rattle.vw_top.specs.Course.{Course, writes, refuses, reads, judges, Outside, Answer, Follows, EndsWriting, EndsRefused, EndsReading, MayWrite, MayRefuse, AtFile, Outcome, writing, refusing, missing, ComesTo}
+use Rattle.vw_top.specs.Endings.{answer_status}
+use Rattle.vw_top.specs.Statuses.{IsDone, IsReadFault, IsWriteFault, IsWantOfMemory, LeavesPart, Statuses}
+
+-- ---- what each way to end says of the course
+
+module _ (before after : Outside) where
+  pub done_by : (course : Course) → Follows course before after (Ok tt) → IsDone course before after
+  done_by (writes text) ends = record { text = text; may = refl; leaves = ends }
+  done_by (refuses reason) ends = absurd ends
+  done_by (reads file name next) (inl ends) = absurd ends
+  done_by (reads file name next) (inr (text, is, goes)) =
+      let done = done_by (next text) goes in record { text = done.text; may = (text, is, done.may); leaves = done.leaves }
+  done_by (judges A Good Bad apart next) (inl ends) = absurd ends
+  done_by (judges A Good Bad apart next) (inr (x, good, goes)) =
+      let done = done_by (next x good) goes in record { text = done.text; may = (x, good, done.may); leaves = done.leaves }
+
+  refused_by : (course : Course) (refusal : Refusal) → Follows course before after (Err (Refused refusal)) → MayRefuse course before.shelf.told refusal.reason × (after ≡ before)
+  refused_by (writes text) refusal ends = absurd ends
+  refused_by (refuses reason) refusal ends = (ends.1, ends.0)
+  refused_by (reads file name next) refusal (inl ends) = absurd ends
+  refused_by (reads file name next) refusal (inr (text, is, goes)) =
+      let refused = refused_by (next text) refusal goes in ((text, is, refused.0), refused.1)
+  refused_by (judges A Good Bad apart next) refusal (inl ends) = (inl ends.1, ends.0)
+  refused_by (judges A Good Bad apart next) refusal (inr (x, good, goes)) =
+      let refused = refused_by (next x good) refusal goes in (inr (x, good, refused.0), refused.1)
+
+  read_by : (course : Course) (file : File) → Follows course before after (Err (Stopped (ReadFault file))) → IsReadFault course before after
+  read_by (writes text) file ends = absurd ends
+  read_by (refuses reason) file ends = absurd ends
+  read_by (reads file name next) other (inl ends) =
+      record { file = other; name = name; may = inl (ends.0, refl); counted = ends.1; leaves = ends.2 }
+  read_by (reads file name next) other (inr (text, is, goes)) =
+      let fault = read_by (next text) other goes in
+      record { file = fault.file; name = fault.name; may = inr (text, is, fault.may); counted = fault.counted; leaves = fault.leaves }
+  read_by (judges A Good Bad apart next) file (inl ends) = absurd ends
+  read_by (judges A Good Bad apart next) file (inr (x, good, goes)) =
+      let fault = read_by (next x good) file goes in
+      record { file = fault.file; name = fault.name; may = (x, good, fault.may); counted = fault.counted; leaves = fault.leaves }
+
+  write_by : (course : Course) → Follows course before after (Err (Stopped WriteFault)) → IsWriteFault course before after
+  write_by (writes text) ends = record { text = text; may = refl; counted = ends.1; leaves = ends.0 }
+  write_by (refuses reason) ends = absurd ends
+  write_by (reads file name next) (inl ends) = absurd ends
+  write_by (reads file name next) (inr (text, is, goes)) =
+      let fault = write_by (next text) goes in
+      record { text = fault.text; may = (text, is, fault.may); counted = fault.counted; leaves = fault.leaves }
+  write_by (judges A Good Bad apart next) (inl ends) = absurd ends
+  write_by (judges A Good Bad apart next) (inr (x, good, goes)) =
+      let fault = write_by (next x good) goes in
+      record { text = fault.text; may = (x, good, fault.may); counted = fault.counted; leaves = fault.leaves }
+
+  -- where nothing changed
+  unchanged : (course : Course) → after ≡ before → IsWantOfMemory course before after
+  unchanged course same =
+      record { part = inl (ap (λ (o : Outside). o.out) same); leaves = ap (λ (o : Outside). o.shelf) same }
+
+  -- a part of a text of a later course is one of this course
+  some_part : {May More : List ℕ → Type 0} → (after.out ≡ before.out) ⊎ ((text : List ℕ) × May text × WrotePart text before.out after.out)
+      → ((text : List ℕ) → May text → More text) → (after.out ≡ before.out) ⊎ ((text : List ℕ) × More text × WrotePart text before.out after.out)
+  some_part (inl same) further = inl same
+  some_part (inr (text, may, part)) further = inr (text, further text may, part)
+
+  memory_by : (course : Course) → Follows course before after (Err (Stopped NoMemory)) → IsWantOfMemory course before after
+  memory_by (writes text) ends = record { part = inr (text, refl, ends.1); leaves = ends.0 }
+  memory_by (refuses reason) ends = unchanged (refuses reason) ends
+  memory_by (reads file name next) (inl ends) = unchanged (reads file name next) ends
+  memory_by (reads file name next) (inr (text, is, goes)) =
+      let want = memory_by (next text) goes in
+      let further : (t : List ℕ) → MayWrite (next text) before.shelf.told t → MayWrite (reads file name next) before.shelf.told t = λ t may. (text, is, may) in
+      record { part = some_part want.part further; leaves = want.leaves }
+  memory_by (judges A Good Bad apart next) (inl ends) = unchanged (judges A Good Bad apart next) ends
+  memory_by (judges A Good Bad apart next) (inr (x, good, goes)) =
+      let want = memory_by (next x good) goes in
+      let further : (t : List ℕ) → MayWrite (next x good) before.shelf.told t → MayWrite (judges A Good Bad apart next) before.shelf.told t = λ t may. (x, good, may) in
+      record { part = some_part want.part further; leaves = want.leaves }
+
+-- a call that is refused could have ended for want of memory
+module _ (before after : Outside) where
+  pub memory_instead : (course : Course) (refusal : Refusal) → Follows course before after (Err (Refused refusal)) → Follows course before after (Err (Stopped NoMemory))
+  memory_instead (writes text) refusal ends = absurd ends
+  memory_instead (refuses reason) refusal ends = ends.0
+  memory_instead (reads file name next) refusal (inl ends) = absurd ends
+  memory_instead (reads file name next) refusal (inr (text, is, goes)) = inr (text, is, memory_instead (next text) refusal goes)
+  memory_instead (judges A Good Bad apart next) refusal (inl ends) = inl ends.0
+  memory_instead (judges A Good Bad apart next) refusal (inr (x, good, goes)) = inr (x, good, memory_instead (next x good) refusal goes)
+
+-- ---- what it comes to
+
+-- the answers that go with an outcome
+abbrev Agrees : Outcome → Answer → Type 0
+Agrees outcome (Ok done) = outcome ≡ writing
+Agrees outcome (Err (Stopped WriteFault)) = outcome ≡ writing
+Agrees outcome (Err (Stopped NoMemory)) = Unit {0}
+Agrees outcome (Err (Stopped (ReadFault file))) = Unit {0}
+Agrees outcome (Err (Refused refusal)) = outcome ≡ refusing
+
+-- what holds at a file whose text may be this one
+at_text : (told : Told) (text : List ℕ) (Absent : Type 0) (Held : List ℕ → Type 0) → IsTextOf told text → AtFile told Absent Held → Held text
+at_text untold text Absent Held is at = absurd at
+at_text absent text Absent Held is at = absurd is
+at_text (held bytes) text Absent Held is at = subst Held (sym is) at
+
+writing_agrees : (outcome : Outcome) (text : List ℕ) (before after : Outside) (answer : Answer) → outcome ≡ writing → EndsWriting text before after answer → Agrees outcome answer
+writing_agrees outcome text before after (Ok done) comes ends = comes
+writing_agrees outcome text before after (Err (Stopped WriteFault)) comes ends = comes
+writing_agrees outcome text before after (Err (Stopped NoMemory)) comes ends = tt
+writing_agrees outcome text before after (Err (Stopped (ReadFault file))) comes ends = tt
+writing_agrees outcome text before after (Err (Refused refusal)) comes ends = absurd ends
+
+refused_agrees : (outcome : Outcome) (Bad : Reason → Type 0) (before after : Outside) (answer : Answer) → ((reason : Reason) → Bad reason → outcome ≡ refusing) → EndsRefused Bad before after answer → Agrees outcome answer
+refused_agrees outcome Bad before after (Ok done) bad ends = absurd ends
+refused_agrees outcome Bad before after (Err (Stopped WriteFault)) bad ends = absurd ends
+refused_agrees outcome Bad before after (Err (Stopped NoMemory)) bad ends = tt
+refused_agrees outcome Bad before after (Err (Stopped (ReadFault file))) bad ends = tt
+refused_agrees outcome Bad before after (Err (Refused refusal)) bad ends = bad refusal.reason ends.1
+
+reading_agrees : (outcome : Outcome) (file : File) (name : List ℕ) (before after : Outside) (answer : Answer) → EndsReading file name before after answer → Agrees outcome answer
+reading_agrees outcome file name before after (Ok done) ends = absurd ends
+reading_agrees outcome file name before after (Err (Stopped WriteFault)) ends = absurd ends
+reading_agrees outcome file name before after (Err (Stopped NoMemory)) ends = tt
+reading_agrees outcome file name before after (Err (Stopped (ReadFault other))) ends = tt
+reading_agrees outcome file name before after (Err (Refused refusal)) ends = absurd ends
+
+module _ (outcome : Outcome) (before after : Outside) (answer : Answer) where
+  pub outcome_agrees : (course : Course) → ComesTo outcome course before.shelf.told → Follows course before after answer → Agrees outcome answer
+  outcome_agrees (writes text) comes ends = writing_agrees outcome text before after answer comes ends
+  outcome_agrees (refuses reason) comes ends = refused_agrees outcome (λ other. other ≡ reason) before after answer (λ other is. comes) ends
+  outcome_agrees (reads file name next) comes (inl ends) = reading_agrees outcome file name before after answer ends
+  outcome_agrees (reads file name next) comes (inr (text, is, goes)) =
+      let Next : List ℕ → Type 0 = λ t. ComesTo outcome (next t) before.shelf.told in
+      outcome_agrees (next text) (at_text (before.shelf.told name) text (outcome ≡ missing) Next is comes) goes
+  outcome_agrees (judges A Good Bad apart next) (inl comes) (inl ends) = refused_agrees outcome Bad before after answer (λ reason bad. comes.0) ends
+  outcome_agrees (judges A Good Bad apart next) (inl comes) (inr (x, good, goes)) = absurd (apart x comes.1 good comes.2)
+  outcome_agrees (judges A Good Bad apart next) (inr (some, all)) (inl ends) = refused_agrees outcome Bad before after answer (λ reason bad. absurd (apart some.0 reason some.1 bad)) ends
+  outcome_agrees (judges A Good Bad apart next) (inr (some, all)) (inr (x, good, goes)) = outcome_agrees (next x good) (all x good) goes
+
+-- a file with an outcome may have a text, or the outcome is that of an absent file
+text_at : (told : Told) (Absent : Type 0) (Held : List ℕ → Type 0) → AtFile told Absent Held → Absent ⊎ ((text : List ℕ) × IsTextOf told text × Held text)
+text_at untold Absent Held at = absurd at
+text_at absent Absent Held at = inl at
+text_at (held bytes) Absent Held at = inr (bytes, refl, at)
+
+-- a course that comes to writing may write some text
+pub some_text : (told : List ℕ → Told) (course : Course) → ComesTo writing course told → (text : List ℕ) × MayWrite course told text
+some_text told (writes text) comes = (text, refl)
+some_text told (refuses reason) comes = absurd (cc)
+some_text told (reads file name next) comes =
+    ⊎_elim
+    (λ (wrong : writing ≡ missing). absurd (cc))
+    (λ (read : (text : List ℕ) × IsTextOf (told name) text × ComesTo writing (next text) told).
+    let later = some_text told (next read.0) read.2 in (later.0, (read.0, read.1, later.1)))
+    (text_at (told name) (writing ≡ missing) (λ t. ComesTo writing (next t) told) comes)
+some_text told (judges A Good Bad apart next) (inl comes) = absurd (let wrong = comes.0 in cc)
+some_text told (judges A Good Bad apart next) (inr (some, all)) =
+    let later = some_text told (next some.0 some.1) (all some.0 some.1) in (later.0, (some.0, some.1, later.1))
+
+-- ---- the table
+
+-- the statuses of reasons are those from 1 to 6
+pub refusal_status : (reason : Reason) → (0 < reason_status reason) × (reason_status reason < 7)
+refusal_status NotYet = (lit< tt, lit< tt)
+refusal_status (Usage place) = (lit< tt, lit< tt)
+refusal_status (Stimulus fault) = (lit< tt, lit< tt)
+
+-- a text that was written whole
+whole_part : (text : List ℕ) (before after : SeenSink) → after ≡ appended before text → LeavesPart text before after
+whole_part text before after all = inl (length text, omega arith, all ∙ ap (appended before) (sym (take-length text)))
+
+-- out as it was has the empty part of any text
+none_written : (text : List ℕ) (before after : SeenSink) → after ≡ before → LeavesPart text before after
+none_written text before after same = inl (0, omega arith, same ∙ sym (appended-nil before))
+
+module _ (course : Course) (before after : Outside) where
+  abbrev told : List ℕ → Told
+  told = before.shelf.told
+
+  abbrev Part : Type 0
+  Part = (text : List ℕ) × MayWrite course told text × LeavesPart text before.out after.out
+
+  -- out as it was, where the course comes to writing
+  untouched_part : after.out ≡ before.out → ComesTo writing course told → Part
+  untouched_part same comes = let some = some_text told course comes in (some.0, some.1, none_written some.0 before.out after.out same)
+
+  memory_part : IsWantOfMemory course before after → ComesTo writing course told → Part
+  memory_part want comes =
+      ⊎_elim
+      (λ (same : after.out ≡ before.out). untouched_part same comes)
+      (λ (some : (text : List ℕ) × MayWrite course told text × WrotePart text before.out after.out). (some.0, some.1, inl some.2))
+      want.part
+
+  pub statuses : (answer : Answer) → Follows course before after answer → Statuses course before after (answer_status answer)
+  statuses (Ok done) follows =
+      let is = done_by before after course follows in
+      record {
+        done = λ status. is;
+        refused = λ some few. absurd (omega arith);
+        read_fault = λ status. absurd (omega arith);
+        write_fault = λ status. absurd (omega arith);
+        want_of_memory = λ status. absurd (omega arith);
+        known = lit< tt;
+        accepted = λ comes. inl refl;
+        part = λ comes. (is.text, is.may, whole_part is.text before.out after.out (ap (λ (o : Outside). o.out) is.leaves));
+        rejected = λ comes. absurd (let wrong = outcome_agrees refusing before after (Ok tt) course comes follows in cc);
+        absent_file = λ comes. absurd (let wrong = outcome_agrees missing before after (Ok tt) course comes follows in cc);
+      }
+  statuses (Err (Stopped WriteFault)) follows =
+      let is = write_by before after course follows in
+      record {
+        done = λ status. absurd (omega arith);
+        refused = λ some few. absurd (omega arith);
+        read_fault = λ status. absurd (omega arith);
+        write_fault = λ status. is;
+        want_of_memory = λ status. absurd (omega arith);
+        known = lit< tt;
+        accepted = λ comes. inr (inr (inl refl));
+        part = λ comes. (is.text, is.may, inr is.counted);
+        rejected = λ comes. absurd (let wrong = outcome_agrees refusing before after (Err (Stopped WriteFault)) course comes follows in cc);
+        absent_file = λ comes. absurd (let wrong = outcome_agrees missing before after (Err (Stopped WriteFault)) course comes follows in cc);
+      }
+  statuses (Err (Stopped NoMemory)) follows =
+      let is = memory_by before after course follows in
+      record {
+        done = λ status. absurd (omega arith);
+        refused = λ some few. absurd (omega arith);
+        read_fault = λ status. absurd (omega arith);
+        write_fault = λ status. absurd (omega arith);
+        want_of_memory = λ status. is;
+        known = lit< tt;
+        accepted = λ comes. inr (inr (inr refl));
+        part = λ comes. memory_part is comes;
+        rejected = λ comes. inr (inr refl);
+        absent_file = λ comes. inr refl;
+      }
+  statuses (Err (Stopped (ReadFault file))) follows =
+      let is = read_by before after course file follows in
+      record {
+        done = λ status. absurd (omega arith);
+        refused = λ some few. absurd (omega arith);
+        read_fault = λ status. is;
+        write_fault = λ status. absurd (omega arith);
+        want_of_memory = λ status. absurd (omega arith);
+        known = lit< tt;
+        accepted = λ comes. inr (inl refl);
+        part = λ comes. untouched_part is.leaves comes;
+        rejected = λ comes. inr (inl refl);
+        absent_file = λ comes. inl refl;
+      }
+  statuses (Err (Refused refusal)) follows =
+      let is = refused_by before after course refusal follows in
+      let its = refusal_status refusal.reason in
+      record {
+        done = λ status. absurd (omega arith);
+        refused = λ some few. record { reason = refusal.reason; its_status = refl; may = is.0; leaves = is.1 };
+        read_fault = λ status. absurd (omega arith);
+        write_fault = λ status. absurd (omega arith);
+        want_of_memory = λ status. absurd (omega arith);
+        known = omega arith;
+        accepted = λ comes. absurd (let wrong = outcome_agrees writing before after (Err (Refused refusal)) course comes follows in cc);
+        part = λ comes. absurd (let wrong = outcome_agrees writing before after (Err (Refused refusal)) course comes follows in cc);
+        rejected = λ comes. inl its;
+        absent_file = λ comes. absurd (let wrong = outcome_agrees missing before after (Err (Refused refusal)) course comes follows in cc);
+      }

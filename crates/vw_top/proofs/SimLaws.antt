@@ -1,0 +1,271 @@
+-- What the table of statuses says of the files of `sim`, and of words that spell no command.
+use Rattle.std.proofs.Common.{◌≡◌, ◌<◌, ◌⊎◌, ℕ, Bool, List, Ok, Err, refl, sym, ◌∙◌, ap, subst, inl, inr, ⊎_elim, arith}
+use Rattle.vw_net.specs.declared.flat.Flat.{Flat}
+use Rattle.vw_outside.specs.Told.{Told, absent, held, IsTextOf}
+use Rattle.vw_outside.specs.Reads.{CountsFault}
+use Rattle.vw_outside.specs.Writes.{SeenSink, appended, WrotePart}
+use Rattle.vw_rows.specs.declared.stimulus.StimFault.{StimFault}
+use Rattle.vw_rows.specs.Stimulus.{stimulus_rows}
+use Rattle.vw_top.specs.declared.stop.File.{File}
+use Rattle.vw_top.specs.declared.reason.Reason.{Reason}
+use Rattle.vw_top.specs.declared.reason.Reason.TheVariants.{Usage, NotYet, Stimulus}
+use Rattle.vw_top.specs.Reasons.{reason_status}
+use Rattle.vw_top.specs.FirstForm.{IsDesignOf, IsNoDesign}
+use Rattle.vw_top.specs.Course.{Course, refuses, Outside, outside, MayWrite, MayRefuse, MayRead, AtFile, writing, refusing, missing, ComesTo}
+use Rattle.vw_top.specs.Statuses.{Statuses, IsRefusal, IsWantOfMemory, LeavesPart}
+use Rattle.vw_top.specs.Commands.{sim_course, trace_of}
+use Rattle.vw_top.specs.CommandStatuses.{SimStatuses, UsageStatuses, Yields}
+use Rattle.vw_top.proofs.StageLaws.{same_outside}
+
+-- ---- what is told of a file
+
+-- the text of a name that is held
+its_text : (told : Told) (text bytes : List ℕ) → told ≡ held bytes → IsTextOf told text → text ≡ bytes
+its_text told text bytes is may = subst (λ (t : Told). IsTextOf t text) is may
+
+no_text : (told : Told) (text : List ℕ) → told ≡ absent → IsTextOf told text → ⊥
+no_text told text is may = subst (λ (t : Told). IsTextOf t text) is may
+
+at_held : (told : Told) (bytes : List ℕ) (Absent : Type 0) (Held : List ℕ → Type 0) → told ≡ held bytes → Held bytes → AtFile told Absent Held
+at_held told bytes Absent Held is here = subst (λ (t : Told). AtFile t Absent Held) (sym is) here
+
+at_absent : (told : Told) (Absent : Type 0) (Held : List ℕ → Type 0) → told ≡ absent → Absent → AtFile told Absent Held
+at_absent told Absent Held is here = subst (λ (t : Told). AtFile t Absent Held) (sym is) here
+
+-- the netlists of one text have as many inputs
+same_inputs : (d : List ℕ) (flat other : Flat) → IsDesignOf d flat → IsDesignOf d other → other.inputs ≡ flat.inputs
+same_inputs d flat other is its = (its.netlist is.source is.spells).inputs ∙ sym ((is.netlist is.source is.spells).inputs)
+
+module _ (design stimulus : List ℕ) (told : List ℕ → Told) where
+  abbrev course : Course
+  course = sim_course design stimulus
+
+  -- why `sim` refuses
+  data WhyRefused (reason : Reason) : Type 0 where
+    bad_design : (d : List ℕ) → IsTextOf (told design) d → reason ≡ NotYet → IsNoDesign d → WhyRefused reason
+    bad_rows : (d s : List ℕ) (flat : Flat) (fault : StimFault) → IsTextOf (told design) d → IsDesignOf d flat → IsTextOf (told stimulus) s
+        → reason ≡ Stimulus fault → stimulus_rows flat.inputs s ≡ Err fault → WhyRefused reason
+
+  why : (reason : Reason) → MayRefuse course told reason → WhyRefused reason
+  why reason (d, d_is, inl (is, none)) = bad_design d d_is is none
+  why reason (d, d_is, inr (flat, netlist, (s, s_is, inl (fault, is, said)))) = bad_rows d s flat fault d_is netlist s_is is said
+  why reason (d, d_is, inr (flat, netlist, (s, s_is, inr (rows, are, more)))) = absurd more
+
+  -- what `sim` writes
+  record WhatWritten (text : List ℕ) : Type 0 where
+    d : List ℕ
+    s : List ℕ
+    flat : Flat
+    rows : List (List Bool)
+    d_is : IsTextOf (told design) d
+    s_is : IsTextOf (told stimulus) s
+    netlist : IsDesignOf d flat
+    are : stimulus_rows flat.inputs s ≡ Ok rows
+    text_is : text ≡ trace_of flat rows
+
+  what : (text : List ℕ) → MayWrite course told text → WhatWritten text
+  what text (d, d_is, (flat, netlist, (s, s_is, (rows, are, is)))) =
+      record { d = d; s = s; flat = flat; rows = rows; d_is = d_is; s_is = s_is; netlist = netlist; are = are; text_is = is }
+
+  -- what `sim` reads
+  which : (file : File) (name : List ℕ) → MayRead course told file name → (name ≡ design) ⊎ (name ≡ stimulus)
+  which file name (inl (is, same)) = inl same
+  which file name (inr (d, d_is, (flat, netlist, inl (is, same)))) = inr same
+  which file name (inr (d, d_is, (flat, netlist, inr (s, s_is, (rows, are, more))))) = absurd more
+
+  comes_to_no_design : (d : List ℕ) → told design ≡ held d → IsNoDesign d → ComesTo refusing course told
+  comes_to_no_design d is none = at_held (told design) d _ _ is (inl (refl, NotYet, (refl, none)))
+
+  comes_to_no_rows : (d s : List ℕ) (flat : Flat) (fault : StimFault) → told design ≡ held d → told stimulus ≡ held s → IsDesignOf d flat
+      → stimulus_rows flat.inputs s ≡ Err fault → ComesTo refusing course told
+  comes_to_no_rows d s flat fault d_is s_is netlist said = at_held (told design) d _ _ d_is (inr (
+    (flat, netlist),
+    λ other its.
+        at_held (told stimulus) s _ _ s_is (inl (refl, Stimulus fault, (fault, refl, ap (λ n. stimulus_rows n s) (same_inputs d flat other netlist its) ∙ said))),
+  ))
+
+  comes_to_trace : (d s : List ℕ) (flat : Flat) (rows : List (List Bool)) → told design ≡ held d → told stimulus ≡ held s → IsDesignOf d flat
+      → stimulus_rows flat.inputs s ≡ Ok rows → ComesTo writing course told
+  comes_to_trace d s flat rows d_is s_is netlist said = at_held (told design) d _ _ d_is (inr (
+    (flat, netlist),
+    λ other its.
+        at_held (told stimulus) s _ _ s_is (inr ((rows, ap (λ n. stimulus_rows n s) (same_inputs d flat other netlist its) ∙ said), λ these are. refl)),
+  ))
+
+  comes_to_no_file : told design ≡ absent → ComesTo missing course told
+  comes_to_no_file is = at_absent (told design) _ _ is refl
+
+  comes_to_no_stimulus : (d : List ℕ) (flat : Flat) → told design ≡ held d → IsDesignOf d flat → told stimulus ≡ absent → ComesTo missing course told
+  comes_to_no_stimulus d flat d_is netlist is = at_held (told design) d _ _ d_is (inr ((flat, netlist), λ other its. at_absent (told stimulus) _ _ is refl))
+
+module _ (design stimulus : List ℕ) (before after : Outside) (status : ℕ) (table : Statuses (sim_course design stimulus) before after status) where
+  abbrev told : List ℕ → Told
+  told = before.shelf.told
+
+  abbrev its_why : (refusal : IsRefusal (sim_course design stimulus) before after status) → WhyRefused design stimulus told refusal.reason
+  its_why refusal = why design stimulus told refusal.reason refusal.may
+
+  fault_at : (name : List ℕ) → CountsFault name before.shelf after.shelf → (name ≡ design) ⊎ (name ≡ stimulus)
+      → CountsFault design before.shelf after.shelf ⊎ CountsFault stimulus before.shelf after.shelf
+  fault_at name counted (inl same) = inl (subst (λ (n : List ℕ). CountsFault n before.shelf after.shelf) same counted)
+  fault_at name counted (inr same) = inr (subst (λ (n : List ℕ). CountsFault n before.shelf after.shelf) same counted)
+
+  read_fault : status ≡ 7 → CountsFault design before.shelf after.shelf ⊎ CountsFault stimulus before.shelf after.shelf
+  read_fault is = let fault = table.read_fault is in fault_at fault.name fault.counted (which design stimulus told fault.file fault.name fault.may)
+
+  -- a stop in the reading of either file
+  yields : (status ≡ 7) ⊎ (status ≡ 9) → Yields design before after status ⊎ Yields stimulus before after status
+  yields (inl is) =
+      ⊎_elim (λ (counted : CountsFault design before.shelf after.shelf). inl (inr (is, counted))) (λ (counted : CountsFault stimulus before.shelf after.shelf). inr (inr (is, counted))) (read_fault is)
+  yields (inr is) = inl (inl is)
+
+  -- a text without a design stops the call in its own reading
+  at_design : (d : List ℕ) (file : File) (name : List ℕ) → told design ≡ held d → IsNoDesign d → MayRead (sim_course design stimulus) told file name → name ≡ design
+  at_design d file name held_d none (inl (is, same)) = same
+  at_design d file name held_d none (inr (text, text_is, (flat, netlist, more))) =
+      let design_is : IsDesignOf d flat = subst (λ (t : List ℕ). IsDesignOf t flat) (its_text (told design) text d held_d text_is) netlist in
+      absurd (none design_is.source design_is.spells)
+
+  yields_at_design : (d : List ℕ) → told design ≡ held d → IsNoDesign d → (status ≡ 7) ⊎ (status ≡ 9) → Yields design before after status
+  yields_at_design d held_d none (inl is) =
+      let fault = table.read_fault is in
+      inr (is, subst (λ (n : List ℕ). CountsFault n before.shelf after.shelf) (at_design d fault.file fault.name held_d none fault.may) fault.counted)
+  yields_at_design d held_d none (inr is) = inl is
+
+  -- a refusal is status 1 or 5
+  one_or_five : (reason : Reason) → WhyRefused design stimulus told reason → status ≡ reason_status reason → (status ≡ 1) ⊎ (status ≡ 5)
+  one_or_five reason (bad_design d d_is is none) its = inl (its ∙ ap reason_status is)
+  one_or_five reason (bad_rows d s flat fault d_is netlist s_is is said) its = inr (its ∙ ap reason_status is)
+
+  no_other : (0 < status) → (status < 7) → (status ≡ 1) ⊎ (status ≡ 5)
+  no_other some few = let refusal = table.refused some few in one_or_five refusal.reason (its_why refusal) refusal.its_status
+
+  why_one : (d : List ℕ) (reason : Reason) → told design ≡ held d → WhyRefused design stimulus told reason → 1 ≡ reason_status reason → IsNoDesign d
+  why_one d reason held_d (bad_design text text_is is none) its = subst IsNoDesign (its_text (told design) text d held_d text_is) none
+  why_one d reason held_d (bad_rows text s flat fault text_is netlist s_is is said) its = absurd (let wrong : 1 ≡ 5 = its ∙ ap reason_status is in omega arith)
+
+  -- a text without a design gives status 1
+  one_comes : (d : List ℕ) (reason : Reason) → told design ≡ held d → IsNoDesign d → WhyRefused design stimulus told reason → status ≡ reason_status reason → status ≡ 1
+  one_comes d reason held_d none (bad_design text text_is is gone) its = its ∙ ap reason_status is
+  one_comes d reason held_d none (bad_rows text s flat fault text_is netlist s_is is said) its =
+      let design_is : IsDesignOf d flat = subst (λ (t : List ℕ). IsDesignOf t flat) (its_text (told design) text d held_d text_is) netlist in
+      absurd (none design_is.source design_is.spells)
+
+  record HasFault (d s : List ℕ) : Type 0 where
+    flat : Flat
+    fault : StimFault
+    netlist : IsDesignOf d flat
+    said : stimulus_rows flat.inputs s ≡ Err fault
+
+  why_five : (d s : List ℕ) (reason : Reason) → told design ≡ held d → told stimulus ≡ held s → WhyRefused design stimulus told reason → 5 ≡ reason_status reason → HasFault d s
+  why_five d s reason held_d held_s (bad_design text text_is is none) its = absurd (let wrong : 5 ≡ 1 = its ∙ ap reason_status is in omega arith)
+  why_five d s reason held_d held_s (bad_rows text rest flat fault text_is netlist rest_is is said) its = record {
+    flat = flat;
+    fault = fault;
+    netlist = subst (λ (t : List ℕ). IsDesignOf t flat) (its_text (told design) text d held_d text_is) netlist;
+    said = subst (λ (t : List ℕ). stimulus_rows flat.inputs t ≡ Err fault) (its_text (told stimulus) rest s held_s rest_is) said;
+  }
+
+  -- a fault of the rows gives status 5
+  five_comes : (d : List ℕ) (flat : Flat) (reason : Reason) → told design ≡ held d → IsDesignOf d flat → WhyRefused design stimulus told reason → status ≡ reason_status reason → status ≡ 5
+  five_comes d flat reason held_d netlist (bad_design text text_is is none) its =
+      let gone : IsNoDesign d = subst IsNoDesign (its_text (told design) text d held_d text_is) none in absurd (gone netlist.source netlist.spells)
+  five_comes d flat reason held_d netlist (bad_rows text rest other fault text_is its_netlist rest_is is said) its = its ∙ ap reason_status is
+
+  -- a file that is absent leaves out as it was
+  want_untouched : IsWantOfMemory (sim_course design stimulus) before after → ((text : List ℕ) → MayWrite (sim_course design stimulus) told text → ⊥) → after.out ≡ before.out
+  want_untouched want none =
+      ⊎_elim
+      (λ (same : after.out ≡ before.out). same)
+      (λ (some : (text : List ℕ) × MayWrite (sim_course design stimulus) told text × WrotePart text before.out after.out). absurd (none some.0 some.1))
+      want.part
+
+  missing_leaves : (status ≡ 7) ⊎ (status ≡ 9) → ((text : List ℕ) → MayWrite (sim_course design stimulus) told text → ⊥) → (after.out ≡ before.out) × ((status ≡ 7) ⊎ (status ≡ 9))
+  missing_leaves (inl is) none = ((table.read_fault is).leaves, inl is)
+  missing_leaves (inr is) none = (want_untouched (table.want_of_memory is) none, inr is)
+
+  ends_or_stops : (P Q : Type 0) → ((0 < status) → (status < 7) → P) → ((status ≡ 7) ⊎ (status ≡ 9) → Q) → ((0 < status) × (status < 7)) ⊎ ((status ≡ 7) ⊎ (status ≡ 9)) → P ⊎ Q
+  ends_or_stops P Q refused stopped (inl (some, few)) = inl (refused some few)
+  ends_or_stops P Q refused stopped (inr stops) = inr (stopped stops)
+
+  pub sim_table : SimStatuses design stimulus before after status
+  sim_table = record {
+    done = λ d s held_d held_s is.
+        let done = table.done is in
+        let w = what design stimulus told done.text done.may in (
+          w.flat,
+          w.rows,
+          subst (λ (t : List ℕ). IsDesignOf t w.flat) (its_text (told design) w.d d held_d w.d_is) w.netlist,
+          subst (λ (t : List ℕ). stimulus_rows w.flat.inputs t ≡ Ok w.rows) (its_text (told stimulus) w.s s held_s w.s_is) w.are,
+          done.leaves ∙ ap (λ (t : List ℕ). outside before.shelf (appended before.out t)) w.text_is,
+        );
+    no_design = λ d held_d is.
+        let refusal = table.refused (omega arith) (omega arith) in
+        why_one d refusal.reason held_d (its_why refusal) (sym is ∙ refusal.its_status);
+    no_design_comes = λ d held_d none.
+        ends_or_stops (status ≡ 1) (Yields design before after status) (λ some few. let refusal = table.refused some few in one_comes d refusal.reason held_d none (its_why refusal) refusal.its_status)
+        (yields_at_design d held_d none)
+        (table.rejected (comes_to_no_design design stimulus told d held_d none));
+    no_rows = λ d s held_d held_s is.
+        let refusal = table.refused (omega arith) (omega arith) in
+        let fault = why_five d s refusal.reason held_d held_s (its_why refusal) (sym is ∙ refusal.its_status) in
+        (fault.flat, fault.fault, fault.netlist, fault.said);
+    no_rows_comes = λ d s flat fault held_d held_s netlist said.
+        ends_or_stops (status ≡ 5) (Yields design before after status ⊎ Yields stimulus before after status)
+        (λ some few. let refusal = table.refused some few in five_comes d flat refusal.reason held_d netlist (its_why refusal) refusal.its_status) yields
+        (table.rejected (comes_to_no_rows design stimulus told d s flat fault held_d held_s netlist said));
+    read_fault = read_fault;
+    others = (
+      λ is. omega (arith, no_other (omega arith) (omega arith)),
+      λ is. omega (arith, no_other (omega arith) (omega arith)),
+      λ is. omega (arith, no_other (omega arith) (omega arith)),
+      λ is. omega (arith, no_other (omega arith) (omega arith)),
+    );
+    part = λ flat rows accepted.
+        let part = table.part (comes_to_trace design stimulus told accepted.design_text accepted.stimulus_text flat rows accepted.design_held accepted.stimulus_held accepted.netlist accepted.read) in
+        let w = what design stimulus told part.0 part.1 in (
+          w.flat,
+          w.rows,
+          record {
+            design_text = accepted.design_text;
+            stimulus_text = accepted.stimulus_text;
+            design_held = accepted.design_held;
+            stimulus_held = accepted.stimulus_held;
+            netlist = subst (λ (t : List ℕ). IsDesignOf t w.flat) (its_text (told design) w.d accepted.design_text accepted.design_held w.d_is) w.netlist;
+            read = subst (λ (t : List ℕ). stimulus_rows w.flat.inputs t ≡ Ok w.rows) (its_text (told stimulus) w.s accepted.stimulus_text accepted.stimulus_held w.s_is) w.are;
+          },
+          subst (λ (t : List ℕ). LeavesPart t before.out after.out) w.text_is part.2,
+        );
+    absent_design = λ gone.
+        missing_leaves (table.absent_file (comes_to_no_file design stimulus told gone))
+        (λ text may. let w = what design stimulus told text may in no_text (told design) w.d gone w.d_is);
+    absent_stimulus = λ d flat held_d netlist gone.
+        missing_leaves (table.absent_file (comes_to_no_stimulus design stimulus told d flat held_d netlist gone))
+        (λ text may. let w = what design stimulus told text may in no_text (told stimulus) w.s gone w.s_is);
+    complete = λ flat rows accepted no_design no_stimulus no_write.
+        ⊎_elim
+        (λ (is : status ≡ 0). inl is)
+        (λ (stops : (status ≡ 7) ⊎ ((status ≡ 8) ⊎ (status ≡ 9))). ⊎_elim
+        (λ (is : status ≡ 7). absurd (⊎_elim (λ (c : CountsFault design before.shelf after.shelf). no_design c.here) (λ (c : CountsFault stimulus before.shelf after.shelf). no_stimulus c.here) (read_fault is)))
+        (λ (more : (status ≡ 8) ⊎ (status ≡ 9)). ⊎_elim
+        (λ (is : status ≡ 8). absurd (no_write (ap (λ (o : SeenSink). o.faults) (table.write_fault is).counted.2)))
+        (λ (is : status ≡ 9). inr is) more) stops)
+        (table.accepted (comes_to_trace design stimulus told accepted.design_text accepted.stimulus_text flat rows accepted.design_held accepted.stimulus_held accepted.netlist accepted.read));
+  }
+
+-- words that spell no command
+module _ (place : ℕ) (before after : Outside) (status : ℕ) (table : Statuses (refuses (Usage place)) before after status) where
+  refusal_ends : IsRefusal (refuses (Usage place)) before after status → UsageStatuses before after status
+  refusal_ends refusal = record { comes = inl (refusal.its_status ∙ ap reason_status refusal.may); leaves = refusal.leaves }
+
+  want_ends : IsWantOfMemory (refuses (Usage place)) before after → status ≡ 9 → UsageStatuses before after status
+  want_ends want is =
+      let out : after.out ≡ before.out = ⊎_elim (λ (same : after.out ≡ before.out). same) (λ (some : (text : List ℕ) × ⊥ × WrotePart text before.out after.out). absurd some.1) want.part in
+      record { comes = inr is; leaves = same_outside before after want.leaves out }
+
+  pub usage_table : UsageStatuses before after status
+  usage_table =
+      ⊎_elim
+      (λ (refused : (0 < status) × (status < 7)). refusal_ends (table.refused refused.0 refused.1))
+      (λ (stops : (status ≡ 7) ⊎ (status ≡ 9)). ⊎_elim (λ (is : status ≡ 7). absurd ((table.read_fault is).may)) (λ (is : status ≡ 9). want_ends (table.want_of_memory is) is) stops)
+      (table.rejected refl)

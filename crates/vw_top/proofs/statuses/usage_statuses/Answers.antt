@@ -1,0 +1,5 @@
+use Rattle.vw_top.proofs.SimLaws.{usage_table}
+use Rattle.vw_top.proofs.statuses.usage_statuses.Goals as goal
+
+pub returns : goal.returns
+returns c = usage_table

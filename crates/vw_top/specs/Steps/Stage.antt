@@ -1,0 +1,29 @@
+-- The stages of a command: a file is read, and its text is judged.
+use Rattle.std.specs.Prelude.{◌≡◌, ℕ, List, Result, Ok, Err}
+use Rattle.vw_outside.specs.Told.{IsTextOf}
+use Rattle.vw_outside.specs.Reads.{SeenShelf, CountsFault}
+use Rattle.vw_outside.specs.Writes.{SeenSink, appended, WrotePart, FailedAfterPart}
+use Rattle.vw_top.specs.declared.stop.File.{File}
+use Rattle.vw_top.specs.declared.stop.Stop.{Stop}
+use Rattle.vw_top.specs.declared.stop.Stop.TheVariants.{ReadFault, WriteFault, NoMemory}
+use Rattle.vw_top.specs.declared.reason.Reason.{Reason}
+use Rattle.vw_top.specs.declared.endings.Unfinished.{Unfinished}
+use Rattle.vw_top.specs.declared.endings.Unfinished.TheVariants.{Stopped, Refused}
+
+-- a text that the name may have is good for what was made of it, or is refused, or the outside stopped the stage
+abbrev pub StageEnds : {A : Type 0} → File → List ℕ → (List ℕ → A → Type 0) → (List ℕ → Reason → Type 0)
+    → SeenShelf → SeenShelf → Result A Unfinished → Type 0
+StageEnds file name Good Bad before after (Ok x) =
+    (after ≡ before) × (text : List ℕ) × IsTextOf (before.told name) text × Good text x
+StageEnds file name Good Bad before after (Err (Refused refusal)) =
+    (after ≡ before) × (text : List ℕ) × IsTextOf (before.told name) text × Bad text refusal.reason
+StageEnds file name Good Bad before after (Err (Stopped NoMemory)) = after ≡ before
+StageEnds file name Good Bad before after (Err (Stopped (ReadFault other))) = (other ≡ file) × CountsFault name before after
+StageEnds file name Good Bad before after (Err (Stopped WriteFault)) = ⊥
+
+-- a text was written to a sink, or a stop left a part of it there
+abbrev pub WritesOut : List ℕ → SeenSink → SeenSink → Result (Unit {0}) Stop → Type 0
+WritesOut text before after (Ok done) = after ≡ appended before text
+WritesOut text before after (Err WriteFault) = FailedAfterPart text before after
+WritesOut text before after (Err NoMemory) = WrotePart text before after
+WritesOut text before after (Err (ReadFault file)) = ⊥

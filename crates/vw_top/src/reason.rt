@@ -1,0 +1,45 @@
+ghost use Rattle.std.specs.Prelude.{◌≡◌, IfOk};
+
+use std::alloc::{AllocError, Global};
+use vw_rows::StimFault;
+
+/// What is wrong with the words or the files of a command: a variant for each kind of fault, with the fault of the
+/// crate that finds it.
+#[derive(Debug, Drop)]
+pub enum Reason {
+    /// The design isn't of the first form.
+    NotYet,
+    /// The words spell no command; the number of the first wrong word, from 1.
+    Usage(u64),
+    /// The stimulus text has this fault.
+    Stimulus(StimFault),
+}
+
+impl Reason {
+    ghost use Rattle.vw_top.specs.Reasons.{reason_status, reason_line};
+
+    /// The exit status.
+    pub fn status(&self) -> u8
+        ensures { result ≡ reason_status self.now }
+    {
+        match self {
+            Reason::NotYet => 1,
+            Reason::Usage(_) => 2,
+            Reason::Stimulus(_) => 5,
+        }
+    }
+
+    /// The message line, with the end of the line.
+    pub fn line(&self, alloc: Global) -> Result<Vec<u8>, AllocError>
+        ensures { IfOk result (λ line. line.items ≡ reason_line self.now) }
+    {
+        match self {
+            Reason::NotYet => Ok(b"design 0: not yet\n".to_vec(alloc)?),
+            Reason::Usage(place) => {
+                let line = format!(in alloc; "usage: word {place}\n")?;
+                Ok(line.into_bytes())
+            }
+            Reason::Stimulus(fault) => Ok(fault.text(alloc)?),
+        }
+    }
+}
