@@ -1,4 +1,3 @@
-pub mod Lines
 pub mod Stimulus
 pub mod Trace
 pub mod Messages

@@ -3,7 +3,7 @@ use Rattle.std.specs.Prelude.{ℕ, ◌+◌, Bool, true, false, not, ◌||◌, �
 use Rattle.std.specs.List.{list_all}
 use Rattle.vw_rows.specs.declared.stimulus.StimFault.{StimFault}
 use Rattle.vw_rows.specs.declared.stimulus.StimFault.TheVariants.{TooLarge, BadLine, WrongWidth, ReadFault, NoMemory}
-use Rattle.vw_rows.specs.Lines.{text_lines}
+use Rattle.vw_text.specs.Physical.{text_lines}
 
 -- a word of `0` and `1` that isn't empty
 abbrev pub is_bits : List ℕ → Bool

@@ -1,13 +1,10 @@
 //! The rows of a stimulus text, and the text of a trace.
 #![tactic(auto)]
 
-mod laws;
-mod lines;
 mod reader;
 mod stimulus;
 mod trace;
 
-pub use laws::lines_join;
 pub use reader::read_all;
 pub use stimulus::StimFault;
 pub use trace::{trace_end, trace_head, trace_rows};

@@ -2,14 +2,14 @@ ghost use Rattle.std.specs.Prelude.{◌≡◌, ◌≢◌, ◌≤◌, ◌<◌, �
 ghost use Rattle.std.specs.List.{All};
 ghost use Rattle.vw_outside.specs.Told.{absent, OfText};
 ghost use Rattle.vw_outside.specs.Reads.{CountsFault};
-ghost use Rattle.vw_rows.specs.Lines.{text_lines};
+ghost use Rattle.vw_text.specs.Physical.{text_lines};
 ghost use Rattle.vw_rows.specs.Stimulus.{is_bits, line_row, rows_from, stimulus_rows, is_of_text};
 
-use crate::lines::first_line;
 use crate::stimulus::StimFault;
 use std::alloc::{AllocError, Global};
 use vw_net::{Bits, Rows};
 use vw_outside::{Name, Shelf, TextRefused, read_text};
+use vw_text::first_line;
 
 /// The most bytes that a stimulus text has.
 const TEXT_LIMIT: u64 = 16_777_216;

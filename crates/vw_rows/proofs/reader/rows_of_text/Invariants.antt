@@ -1,7 +1,7 @@
 -- the rows so far and those of what is left are those of the text
 use Rattle.std.proofs.Common.{◌≡◌, ◌≤◌, ◌+◌, length}
 use Rattle.std.specs.List.{All}
-use Rattle.vw_rows.specs.Lines.{text_lines}
+use Rattle.vw_text.specs.Physical.{text_lines}
 use Rattle.vw_rows.specs.Stimulus.{rows_from, with_front}
 use Rattle.vw_rows.proofs.reader.rows_of_text.Given as goal
 

@@ -1,0 +1,37 @@
+-- A number that is too large already stays so, and digits that are all read spell their number.
+use Rattle.std.proofs.Common.{◌≡◌, ◌≢◌, ◌<◌, ◌≤◌, length, slice_index, Some, sym, ap, ◌∙◌, arith}
+use Rattle.std.specs.List.{list_all}
+use Rattle.std.proofs.lemmas.Bool.{both_ways, eq-eqb, eqb-false}
+use Rattle.std.proofs.lemmas.List.{take_all, at_drop_all}
+use Rattle.vw_text.specs.Number.{number_of, is_digit, value_from}
+use Rattle.vw_text.proofs.NumberWords.{digit_too_large, number_spelled}
+use Rattle.vw_text.proofs.numbers.number.Goals as goal
+use Rattle.vw_text.proofs.numbers.number.Goals.{then-digits-gt1, else-digits-gt1}
+
+pub returns-in_err-checked_mul : goal.returns-in_err-checked_mul
+returns-in_err-checked_mul c =
+    let digits = c.as_slice-digits.result.now in
+    c.from_residual.ensures
+    ∙ sym (digit_too_large digits c.loop-digit.digit-index c.loop-digit.value c.loop-digit-test.true c.loop-digit.invariant.whole (omega (arith, c.in_err-checked_mul.ensures)))
+    ∙ ap number_of c.as_slice-digits.ensures
+
+pub returns-in_err-value : goal.returns-in_err-value
+returns-in_err-value c =
+    let digits = c.as_slice-digits.result.now in
+    c.from_residual-in_err-value.ensures
+    ∙ sym (digit_too_large digits c.loop-digit.digit-index c.loop-digit.value c.loop-digit-test.true c.loop-digit.invariant.whole (omega (arith, c.in_err-value.ensures, c.in_ok-checked_mul.ensures)))
+    ∙ ap number_of c.as_slice-digits.ensures
+
+pub returns : goal.returns
+returns c =
+    let digits = c.as_slice-digits.result.now in
+    let i = c.loop-digit.digit-index in
+    let past : length digits ≤ i = omega arith in
+    let first : 1 < length digits → slice_index digits 0 ≢ 48 =
+    elim c.if-digits-gt1.branch [ then-digits-gt1 w ↦ λ long is. both_ways _ (sym w.value-is ∙ c.if-digits-eq48.false) (eq-eqb _ _ is) | else-digits-gt1 w ↦ λ long is. absurd (omega arith) ] in
+    let all_digits = ap (list_all is_digit) (take_all i digits past) in
+    let value : value_from 0 digits ≡ c.loop-digit.value = sym c.loop-digit.invariant.whole ∙ at_drop_all (value_from c.loop-digit.value) digits i past in
+    let none = eqb-false _ _ (sym c.is_empty.ensures ∙ c.if-is_empty.false) in
+    let some : 0 < length digits = omega arith in
+    let spelled = number_spelled digits some first (sym all_digits ∙ c.loop-digit.invariant.digits) (omega arith) in
+    sym (sym (ap number_of c.as_slice-digits.ensures) ∙ spelled ∙ ap (λ n. Some n) value)

@@ -1,0 +1,6 @@
+pub mod Physical
+pub mod Bare
+pub mod Logical
+pub mod WordLines
+pub mod Number
+pub mod PlainLines

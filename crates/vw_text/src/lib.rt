@@ -1,0 +1,19 @@
+//! Lines, words and numbers of the texts that designs, boards, plans and stimuli are written in.
+#![tactic(auto)]
+
+mod bare;
+mod laws;
+mod line;
+mod numbers;
+mod physical;
+mod reader;
+mod words;
+
+pub use laws::{lines_join, plain_lines_read};
+pub use line::Line;
+pub use numbers::number;
+pub use physical::first_line;
+pub use reader::lines;
+
+#[cfg(test)]
+mod tests;
