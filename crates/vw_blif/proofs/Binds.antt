@@ -1,0 +1,56 @@
+-- Bindings, one after the other.
+use Rattle.std.proofs.Common.{◌≡◌, Bool, true, false, not, ◌||◌, List, [], ◌∷◌, ◌++◌, map, refl, sym, ◌∙◌, ap, ap₂, true≢false}
+use Rattle.std.specs.Str.{bytes_eq}
+use Rattle.std.proofs.lemmas.Bool.{or_parts, and_parts, and_from}
+use Rattle.std.proofs.lemmas.List.{map-append}
+use Rattle.std.proofs.lemmas.List.Folds.{list_any-append}
+use Rattle.std.proofs.lemmas.Slice.Eq.{bytes_eq-Decides}
+use Rattle.vw_design.specs.declared.item.Bind.{Bind}
+use Rattle.vw_design.specs.Distinct.{has_name, are_distinct}
+use Rattle.vw_blif.specs.Words.{Word}
+use Rattle.vw_blif.specs.Spelled.{Binding, spelled_bind}
+use Rattle.vw_blif.specs.Bindings.{formal_of, actual_of, is_no_bind, bind_of, repeats}
+use Rattle.vw_blif.specs.Steps.Says.{AreBinds}
+use Rattle.vw_blif.proofs.Repeats.{has_name-push, repeats-append}
+
+same_bytes : (a b : Word) → bytes_eq a b ≡ false → bytes_eq b a ≡ false
+same_bytes a b differs = by_test (bytes_eq b a) refl
+  where
+    by_test : (t : Bool) → bytes_eq b a ≡ t → t ≡ false
+    by_test true same = absurd (true≢false (sym ((bytes_eq-Decides a b).1 (sym ((bytes_eq-Decides b a).0 same))) ∙ differs))
+    by_test false same = refl
+
+-- a further name keeps names distinct
+pub are_distinct-push : (names : List Word) (name : Word) → are_distinct names ≡ true → has_name names name ≡ false → are_distinct (names ++ name ∷ []) ≡ true
+are_distinct-push [] name all new = refl
+are_distinct-push (other ∷ names) name all new =
+    let parts = and_parts (not (has_name names other)) (are_distinct names) all in
+    let apart = or_parts (bytes_eq other name) (has_name names name) new in
+    and_from (not (has_name (names ++ name ∷ []) other)) (are_distinct (names ++ name ∷ []))
+    (ap not (has_name-push names name other ∙ ap (λ b. has_name names other || b) (same_bytes other name apart.0)) ∙ ap not (or_nothing (has_name names other)) ∙ parts.0)
+    (are_distinct-push names name parts.1 apart.1)
+  where
+    or_nothing : (b : Bool) → (b || false) ≡ b
+    or_nothing true = refl
+    or_nothing false = refl
+
+-- one binding more
+pub binds_more : (words : List Word) (word : Word) (binds : List Bind) (bind : Bind) → AreBinds words binds → is_no_bind word ≡ false
+    → bind.formal ≡ formal_of word → bind.actual ≡ actual_of word → has_name (map formal_of words) (formal_of word) ≡ false → AreBinds (words ++ word ∷ []) (binds ++ bind ∷ [])
+binds_more words word binds bind are sides formal actual new =
+    let one : spelled_bind bind ≡ bind_of word = ap₂ (λ (f a : Word). record { formal = f; actual = a }) formal actual in
+    let formals = map-append (λ (b : Bind). b.formal) binds (bind ∷ []) ∙ ap₂ (λ (fs : List Word) (f : Word). fs ++ f ∷ []) are.formals formal in
+    record {
+      spelled = map-append spelled_bind binds (bind ∷ []) ∙ ap₂ (λ (bs : List Binding) (b : Binding). bs ++ b ∷ []) are.spelled one ∙ sym (map-append bind_of words (word ∷ []));
+      formals = formals ∙ sym (map-append formal_of words (word ∷ []));
+      sides = list_any-append is_no_bind words (word ∷ []) ∙ ap₂ (λ (a b : Bool). a || (b || false)) are.sides sides;
+      once = ap (repeats []) (map-append formal_of words (word ∷ [])) ∙ repeats-append [] (map formal_of words) (formal_of word ∷ []) ∙ ap₂ (λ (a b : Bool). a || (b || false)) are.once new;
+      distinct = ap are_distinct formals ∙ are_distinct-push (map formal_of words) (formal_of word) (ap are_distinct (sym are.formals) ∙ are.distinct) new;
+    }
+
+-- a formal that stands before
+pub formal_again : (words : List Word) (word : Word) (others : List Word) → repeats [] (map formal_of words) ≡ false → has_name (map formal_of words) (formal_of word) ≡ true
+    → repeats [] (map formal_of (words ++ word ∷ others)) ≡ true
+formal_again words word others once old =
+    ap (repeats []) (map-append formal_of words (word ∷ others)) ∙ repeats-append [] (map formal_of words) (map formal_of (word ∷ others))
+    ∙ ap₂ (λ (a b : Bool). a || (b || repeats (map formal_of words ++ formal_of word ∷ []) (map formal_of others))) once old

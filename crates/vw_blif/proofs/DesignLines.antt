@@ -1,0 +1,124 @@
+-- A design, line by line.
+use Rattle.std.proofs.Common.{◌≡◌, ◌<◌, ◌≤◌, ◌+◌, ◌^◌, ℕ, true, List, [], ◌∷◌, length, map, Option, Some, None, is_some, refl, sym, ◌∙◌, ap, subst, ltb, true≢false, arith}
+use Rattle.std.specs.Prelude.{Ok, Err}
+use Rattle.std.proofs.lemmas.List.{length-map}
+use Rattle.std.proofs.lemmas.Bool.{le-ltb, cond-false}
+use Rattle.vw_text.specs.declared.line.Line.{Line}
+use Rattle.vw_text.specs.WordLines.{word_lines}
+use Rattle.vw_design.specs.declared.model.Model as model
+use Rattle.vw_blif.specs.declared.fault.TextFault.{TextFault}
+use Rattle.vw_blif.specs.declared.block.Block.{Block}
+use Rattle.vw_blif.specs.declared.reader.Reader.{Reader}
+use Rattle.vw_blif.specs.declared.kind.Kind.{Kind}
+use Rattle.vw_blif.specs.declared.kind.Kind.TheVariants.{Model, Inputs, Outputs, Clock, Names, Latch, Subckt, End, Other, Row}
+use Rattle.vw_blif.specs.Kinds.{kind, is_model}
+use Rattle.vw_blif.specs.Spelled.{SpelledModel, spelled_model}
+use Rattle.vw_blif.specs.Designs.{spelled_by}
+use Rattle.vw_blif.specs.Faults.{faults_by, first_of, fault_at}
+use Rattle.vw_blif.specs.Read.{or_next, first_fault, unless, design_of_lines, design_of, is_text_fault}
+use Rattle.vw_blif.specs.Steps.Names.{names_so_far}
+use Rattle.vw_blif.specs.Steps.Readers.{models_made, ToldOpen, ToldAll, IsAtStart, ReadsLine, RefusesLine, IsRead}
+use Rattle.vw_blif.proofs.FewLines.{few_word_lines}
+
+-- so many lines of a design were read without a fault, and the rest wasn't
+pub record IsReadSoFar (lines rest : List Line) (r : Reader) : Type 0 where
+  pub before : List Line
+  pub told : ToldAll before r
+  pub faults : first_fault before rest ≡ first_fault [] lines
+  pub makes : models_made r rest ≡ spelled_by lines
+  pub few : length (names_so_far r.models.items r.block) + length rest ≤ length lines
+
+pub no_line : (lines : List Line) (r : Reader) → IsAtStart r → IsReadSoFar lines lines r
+no_line lines r start = record {
+  before = [];
+  told = record {
+    open_ = rw start.block refl;
+    names = rw (start.models, start.block) refl;
+    block = subst (λ (b : Option Block). ToldOpen [] b) (sym start.block) tt;
+  };
+  faults = refl;
+  makes = rw (start.models, start.block) refl;
+  few = rw (start.models, start.block) (omega arith);
+}
+
+pub one_line : (lines rest : List Line) (line : Line) (old new : Reader) → IsReadSoFar lines (line ∷ rest) old → ReadsLine old line new
+    → IsReadSoFar lines rest new
+one_line lines rest line old new kept reads = record {
+  before = line ∷ kept.before;
+  told = reads.tells kept.before kept.told;
+  faults = sym (ap (λ (f : Option TextFault). or_next f (first_fault (line ∷ kept.before) rest)) (reads.fine kept.before kept.told)) ∙ kept.faults;
+  makes = reads.makes rest ∙ kept.makes;
+  few = omega (reads.count, kept.few, arith);
+}
+
+pub line_at_fault : (lines rest : List Line) (line : Line) (old : Reader) (fault : TextFault) → IsReadSoFar lines (line ∷ rest) old → RefusesLine old line fault
+    → is_text_fault fault ≡ true → first_fault [] lines ≡ Some fault
+line_at_fault lines rest line old fault kept refuses is =
+    sym kept.faults ∙ ap (λ (f : Option TextFault). or_next f (first_fault (line ∷ kept.before) rest)) (refuses kept.before kept.told is)
+
+-- a text that isn't too large has the fault of its lines, or their models
+of_lines : (text : List ℕ) → length text ≤ 16777216 → design_of text ≡ design_of_lines (word_lines text)
+of_lines text small = cond-false (ltb 16777216 (length text)) _ _ (le-ltb 16777216 (length text) small)
+
+some_lines : (lines : List Line) → 0 < length lines → design_of_lines lines ≡ unless (first_fault [] lines) (spelled_by lines)
+some_lines [] some = absurd (omega (some, arith))
+some_lines (line ∷ lines) some = refl
+
+pub has_fault : (text : List ℕ) (lines : List Line) (fault : TextFault) → length text ≤ 16777216 → lines ≡ word_lines text → 0 < length lines → first_fault [] lines ≡ Some fault
+    → design_of text ≡ Err fault
+has_fault text lines fault small are some found =
+    of_lines text small ∙ ap design_of_lines (sym are) ∙ some_lines lines some
+    ∙ ap (λ (f : Option TextFault). unless f (spelled_by lines)) found
+
+has_models : (text : List ℕ) (lines : List Line) (models : List model.Model) → length text ≤ 16777216 → lines ≡ word_lines text → 0 < length lines
+    → first_fault [] lines ≡ None → map spelled_model models ≡ spelled_by lines → design_of text ≡ Ok (map spelled_model models)
+has_models text lines models small are some fine made =
+    of_lines text small ∙ ap design_of_lines (sym are) ∙ some_lines lines some
+    ∙ ap (λ (f : Option TextFault). unless f (spelled_by lines)) fine ∙ ap (λ (ms : List SpelledModel). Ok ms) (sym made)
+
+-- the first line begins a model, where it has no fault
+first_begins : (line : Line) (kind_ : Kind) → first_of (faults_by kind_ [] line) ≡ None → is_model kind_ ≡ true
+first_begins line Model fine = refl
+first_begins line Inputs fine = absurd (true≢false (ap is_some fine))
+first_begins line Outputs fine = absurd (true≢false (ap is_some fine))
+first_begins line Clock fine = absurd (true≢false (ap is_some fine))
+first_begins line Names fine = absurd (true≢false (ap is_some fine))
+first_begins line Latch fine = absurd (true≢false (ap is_some fine))
+first_begins line Subckt fine = absurd (true≢false (ap is_some fine))
+first_begins line End fine = absurd (true≢false (ap is_some fine))
+first_begins line Other fine = absurd (true≢false (ap is_some fine))
+first_begins line Row fine = absurd (true≢false (ap is_some fine))
+
+no_fault : (fault next : Option TextFault) → or_next fault next ≡ None → fault ≡ None
+no_fault None next fine = refl
+no_fault (Some fault) next fine = absurd (true≢false (ap is_some fine))
+
+some_models : (lines : List Line) → 0 < length lines → first_fault [] lines ≡ None → 0 < length (spelled_by lines)
+some_models [] some fine = absurd (omega (some, arith))
+some_models (line ∷ lines) some fine =
+    let begins = first_begins line (kind line) (no_fault (fault_at [] line) (first_fault (line ∷ []) lines) fine) in
+    rw begins (omega arith)
+
+-- the end of a text
+module _ (text : List ℕ) (lines : List Line) (r : Reader) (models : List model.Model) (small : length text ≤ 16777216) (are : lines ≡ word_lines text) (some : 0 < length lines)
+    (kept : IsReadSoFar lines [] r) (read : IsRead r models) where
+  made : map spelled_model models ≡ spelled_by lines
+  made = read.made ∙ kept.makes
+
+  pub is_design : design_of text ≡ Ok (map spelled_model models)
+  is_design = has_models text lines models small are some (sym kept.faults) made
+
+  pub has_models_some : 0 < length models
+  has_models_some =
+      let all = some_models lines some (sym kept.faults) in
+      let same = ap (λ (ms : List SpelledModel). length ms) made in
+      let kept_length = length-map models spelled_model in
+      omega (all, same, kept_length, arith)
+
+  pub has_few : length models < 2 ^ 32
+  has_few =
+      let counted = read.count in
+      let few = kept.few in
+      let read_ = few_word_lines text in
+      let lines_ = ap (λ (ls : List Line). length ls) are in
+      omega (counted, few, read_, lines_, small, arith)

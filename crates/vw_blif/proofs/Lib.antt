@@ -1,0 +1,14 @@
+pub mod LastWord
+pub mod Repeats
+pub mod Sides
+pub mod Binds
+pub mod TableSteps
+pub mod ModelSteps
+pub mod DistinctSteps
+pub mod ReaderSteps
+pub mod CutLines
+pub mod FirstFaults
+pub mod FewLines
+pub mod DesignLines
+pub mod ReaderLines
+pub mod GroupLines

@@ -1,0 +1,6 @@
+-- the copies so far
+use Rattle.std.proofs.Common.{◌≡◌, take}
+use Rattle.vw_blif.proofs.copies.copies.Given as goal
+
+abbrev pub invariant-loop-word : goal.invariant-loop-word
+invariant-loop-word l = l.copies.items ≡ take l.word-index l.words

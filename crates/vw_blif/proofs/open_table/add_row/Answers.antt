@@ -1,0 +1,26 @@
+use Rattle.std.proofs.Common.{rules, ◌≡◌, true, false, List, length, codes, refl, ◌∙◌, ap}
+use Rattle.std.specs.Str.{bytes_eq}
+use Rattle.vw_net.specs.declared.cover.Mark.{Mark}
+use Rattle.vw_blif.specs.Words.{last_word}
+use Rattle.vw_blif.specs.Rows.{is_row_of, row_marks}
+use Rattle.vw_blif.specs.Steps.Tables.{is_other}
+use Rattle.vw_blif.proofs.TableSteps.{length-row_marks, even_rows, adds_row}
+use Rattle.vw_blif.proofs.open_table.add_row.Goals as goal
+
+pub invariant_of-result : goal.invariant_of-result
+invariant_of-result c =
+    let row_is : is_row_of (length c.args.table.ins) c.args.line.now.words ≡ true = search rules in
+    let marks : c.make.result.marks ≡ row_marks c.args.line.now.words = search rules in
+    record {
+      narrow = c.args.table.narrow;
+      even = even_rows (length c.args.table.ins) c.args.table.rows.items c.push.new.self.items _ c.in_ok-push.ensures.items c.args.table.even
+          (ap (λ (ms : List Mark). length ms) marks ∙ length-row_marks (length c.args.table.ins) c.args.line.now.words row_is);
+    }
+
+pub returns-clause-row : goal.returns-clause-row
+returns-clause-row c =
+    let row_is : is_row_of (length c.args.table.ins) c.args.line.now.words ≡ true = search rules in
+    let same : is_other c.args.table.on c.eq-ends_in_one.result ≡ false = search rules in
+    let one : c.eq-ends_in_one.result ≡ bytes_eq (last_word c.args.line.now.words) (codes "1") = search rules in
+    let marks : c.make.result.marks ≡ row_marks c.args.line.now.words = search rules in
+    adds_row c.args.line.now c.args.table _ _ c.eq-ends_in_one.result refl refl refl refl c.in_ok-push.ensures.items marks one row_is same

@@ -1,0 +1,180 @@
+-- The faults of a line, given the lines before it with the nearest first. Each condition is false of a line of another
+-- kind. Source: the Berkeley description of BLIF, and this project's choices where it is silent.
+use Rattle.std.specs.Prelude.{ℕ, Bool, true, false, ◌&&◌, ◌||◌, not, List, [], ◌∷◌, ◌++◌, length, Option, Some, None, ◌==◌, nat_lt}
+use Rattle.std.specs.Str.{bytes_eq}
+use Rattle.vw_text.specs.declared.line.Line.{Line}
+use Rattle.vw_design.specs.Distinct.{has_name}
+use Rattle.vw_blif.specs.declared.fault.TextFault.{TextFault}
+use Rattle.vw_blif.specs.declared.fault.TextFault.TheVariants.{NoModel, Unsupported, BadWords, BadRow, MixedRows, TooWide, BadLatchType, BadInit, DuplicateModel, DuplicatePort, BadBind}
+use Rattle.vw_blif.specs.declared.kind.Kind.{Kind}
+use Rattle.vw_blif.specs.declared.kind.Kind.TheVariants.{Model, Inputs, Outputs, Clock, Names, Latch, Subckt, End, Other, Row}
+use Rattle.vw_blif.specs.Words.{Word, first_word, last_word}
+use Rattle.vw_blif.specs.Kinds.{kind, further, Port, input, output, clocked, adds_to}
+use Rattle.vw_blif.specs.Rows.{is_row_of}
+use Rattle.vw_blif.specs.Latches.{has_bad_type, has_bad_init}
+use Rattle.vw_blif.specs.Bindings.{repeats, has_bad_bind}
+use Rattle.vw_blif.specs.Before.{OpenTable, is_open, open_table, model_names, ports_before}
+
+-- 2: a line other than `.model` outside a model
+abbrev pub is_outside : Kind → Bool → Bool
+is_outside Model open_ = false
+is_outside Inputs open_ = not open_
+is_outside Outputs open_ = not open_
+is_outside Clock open_ = not open_
+is_outside Names open_ = not open_
+is_outside Latch open_ = not open_
+is_outside Subckt open_ = not open_
+is_outside End open_ = not open_
+is_outside Other open_ = not open_
+is_outside Row open_ = not open_
+
+-- 3: another word with a point in front
+abbrev pub is_other : Kind → Bool
+is_other Model = false
+is_other Inputs = false
+is_other Outputs = false
+is_other Clock = false
+is_other Names = false
+is_other Latch = false
+is_other Subckt = false
+is_other End = false
+is_other Other = true
+is_other Row = false
+
+-- 4: `.model` with other than one further word, `.names` or `.subckt` with none, `.latch` with fewer than two or more
+-- than five
+abbrev pub has_bad_count : Kind → ℕ → Bool
+has_bad_count Model count = not (count == 1)
+has_bad_count Inputs count = false
+has_bad_count Outputs count = false
+has_bad_count Clock count = false
+has_bad_count Names count = count == 0
+has_bad_count Latch count = nat_lt count 2 || nat_lt 5 count
+has_bad_count Subckt count = count == 0
+has_bad_count End count = false
+has_bad_count Other count = false
+has_bad_count Row count = false
+
+-- 5: a row that belongs to no table, or hasn't the form of its rows
+abbrev pub fits_table : Option OpenTable → List Word → Bool
+fits_table None words = false
+fits_table (Some table) words = is_row_of table.width words
+
+abbrev pub is_bad_row : Kind → Option OpenTable → List Word → Bool
+is_bad_row Model table words = false
+is_bad_row Inputs table words = false
+is_bad_row Outputs table words = false
+is_bad_row Clock table words = false
+is_bad_row Names table words = false
+is_bad_row Latch table words = false
+is_bad_row Subckt table words = false
+is_bad_row End table words = false
+is_bad_row Other table words = false
+is_bad_row Row table words = not (fits_table table words)
+
+-- 6: a row that ends in another digit than the first row of its table
+abbrev pub differs_from : Option Word → Word → Bool
+differs_from None value = false
+differs_from (Some first) value = not (bytes_eq first value)
+
+abbrev pub differs_in : Option OpenTable → List Word → Bool
+differs_in None words = false
+differs_in (Some table) words = differs_from table.value (last_word words)
+
+abbrev pub is_mixed_row : Kind → Option OpenTable → List Word → Bool
+is_mixed_row Model table words = false
+is_mixed_row Inputs table words = false
+is_mixed_row Outputs table words = false
+is_mixed_row Clock table words = false
+is_mixed_row Names table words = false
+is_mixed_row Latch table words = false
+is_mixed_row Subckt table words = false
+is_mixed_row End table words = false
+is_mixed_row Other table words = false
+is_mixed_row Row table words = differs_in table words
+
+-- 7: a `.names` with more than 128 inputs
+abbrev pub is_too_wide : Kind → ℕ → Bool
+is_too_wide Model count = false
+is_too_wide Inputs count = false
+is_too_wide Outputs count = false
+is_too_wide Clock count = false
+is_too_wide Names count = nat_lt 129 count
+is_too_wide Latch count = false
+is_too_wide Subckt count = false
+is_too_wide End count = false
+is_too_wide Other count = false
+is_too_wide Row count = false
+
+-- 8 and 9: the type, or the initial value, of a latch
+abbrev pub is_bad_latch : (List Word → Bool) → Kind → List Word → Bool
+is_bad_latch bad Model words = false
+is_bad_latch bad Inputs words = false
+is_bad_latch bad Outputs words = false
+is_bad_latch bad Clock words = false
+is_bad_latch bad Names words = false
+is_bad_latch bad Latch words = bad words
+is_bad_latch bad Subckt words = false
+is_bad_latch bad End words = false
+is_bad_latch bad Other words = false
+is_bad_latch bad Row words = false
+
+-- 10: a model with the name of an earlier one
+abbrev pub is_duplicate_model : Kind → List Word → List Word → Bool
+is_duplicate_model Model names words = has_name names (first_word words)
+is_duplicate_model Inputs names words = false
+is_duplicate_model Outputs names words = false
+is_duplicate_model Clock names words = false
+is_duplicate_model Names names words = false
+is_duplicate_model Latch names words = false
+is_duplicate_model Subckt names words = false
+is_duplicate_model End names words = false
+is_duplicate_model Other names words = false
+is_duplicate_model Row names words = false
+
+-- 11: a name that stands twice in a list of ports of one model
+abbrev pub repeats_port : Port → Kind → List Line → List Word → Bool
+repeats_port port kind_ before words = adds_to kind_ port && repeats (ports_before port before) words
+
+-- 12: a binding without `=`, with an empty side, or with a formal that is bound before
+abbrev pub is_bad_bind : Kind → List Word → Bool
+is_bad_bind Model words = false
+is_bad_bind Inputs words = false
+is_bad_bind Outputs words = false
+is_bad_bind Clock words = false
+is_bad_bind Names words = false
+is_bad_bind Latch words = false
+is_bad_bind Subckt words = has_bad_bind words
+is_bad_bind End words = false
+is_bad_bind Other words = false
+is_bad_bind Row words = false
+
+-- ---- all of them, in the order of their numbers
+
+abbrev pub when : Bool → TextFault → List TextFault
+when true fault = fault ∷ []
+when false fault = []
+
+abbrev pub faults_by : Kind → List Line → Line → List TextFault
+faults_by kind_ before line =
+    when (is_outside kind_ (is_open before)) (NoModel line.number)
+    ++ (when (is_other kind_) (Unsupported line.number (first_word line.words))
+    ++ (when (has_bad_count kind_ (length (further line))) (BadWords line.number)
+    ++ (when (is_bad_row kind_ (open_table before) line.words) (BadRow line.number)
+    ++ (when (is_mixed_row kind_ (open_table before) line.words) (MixedRows line.number)
+    ++ (when (is_too_wide kind_ (length (further line))) (TooWide line.number)
+    ++ (when (is_bad_latch has_bad_type kind_ (further line)) (BadLatchType line.number)
+    ++ (when (is_bad_latch has_bad_init kind_ (further line)) (BadInit line.number)
+    ++ (when (is_duplicate_model kind_ (model_names before) (further line)) (DuplicateModel line.number)
+    ++ (when (repeats_port input kind_ before (further line)
+    || (repeats_port output kind_ before (further line) || repeats_port clocked kind_ before (further line)))
+    (DuplicatePort line.number)
+    ++ when (is_bad_bind kind_ (further line)) (BadBind line.number))))))))))
+
+-- the fault of a line is the first of them
+abbrev pub first_of : List TextFault → Option TextFault
+first_of [] = None
+first_of (fault ∷ faults) = Some fault
+
+abbrev pub fault_at : List Line → Line → Option TextFault
+fault_at before line = first_of (faults_by (kind line) before line)

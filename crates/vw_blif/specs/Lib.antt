@@ -1,0 +1,16 @@
+pub mod Words
+pub mod Kinds
+pub mod Spelled
+pub mod Rows
+pub mod Latches
+pub mod Bindings
+pub mod Blocks
+pub mod Designs
+pub mod Before
+pub mod Faults
+pub mod Read
+pub mod MessageLines
+pub mod Messages
+pub mod Steps
+pub mod Cuts
+pub mod FirstFault

@@ -1,0 +1,8 @@
+-- What functions of this crate compute, step by step. No public clause cites it.
+pub mod Says
+pub mod Seen
+pub mod Blocks
+pub mod Tables
+pub mod Ports
+pub mod Names
+pub mod Readers

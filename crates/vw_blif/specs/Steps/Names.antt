@@ -1,0 +1,12 @@
+-- The names of the models that were read so far.
+use Rattle.std.specs.Prelude.{List, [], ◌∷◌, ◌++◌, map, Option, Some, None}
+use Rattle.vw_design.specs.declared.model.Model.{Model}
+use Rattle.vw_blif.specs.declared.block.Block.{Block}
+use Rattle.vw_blif.specs.Words.{Word}
+
+abbrev pub open_name : Option Block → List Word
+open_name None = []
+open_name (Some b) = b.name ∷ []
+
+abbrev pub names_so_far : List Model → Option Block → List Word
+names_so_far models open_ = map (λ model. model.name) models ++ open_name open_

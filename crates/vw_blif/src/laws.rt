@@ -1,0 +1,25 @@
+//! Laws of the definitions, as contracts of functions that do nothing.
+ghost use Rattle.std.specs.Prelude.{◌≡◌, Bool, List, [], Some};
+ghost use Rattle.vw_text.specs.declared.line.Line.{Line};
+ghost use Rattle.vw_blif.specs.declared.fault.TextFault.{TextFault};
+ghost use Rattle.vw_blif.specs.Blocks.{Cut, cut_before};
+ghost use Rattle.vw_blif.specs.Cuts.{IsCut};
+ghost use Rattle.vw_blif.specs.Read.{first_fault};
+ghost use Rattle.vw_blif.specs.FirstFault.{IsFirst};
+
+/// Lines are cut in one way: the parts together are the lines, and a line begins something exactly where it is the
+/// head of a part. No other cut is like that.
+pub fn lines_are_cut()
+    ensures cut { (begins : Line → Bool) (lines : List Line)
+        → IsCut begins lines (cut_before begins lines) }
+    ensures only { (begins : Line → Bool) (lines : List Line) (cut : Cut Line)
+        → IsCut begins lines cut → cut ≡ cut_before begins lines }
+{}
+
+/// The fault of lines is the one that stands on a line with none on the lines before it.
+pub fn the_first_fault_counts()
+    ensures first { (lines : List Line) (fault : TextFault)
+        → first_fault [] lines ≡ Some fault → IsFirst lines fault }
+    ensures counts { (lines : List Line) (fault : TextFault)
+        → IsFirst lines fault → first_fault [] lines ≡ Some fault }
+{}

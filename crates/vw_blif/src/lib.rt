@@ -1,0 +1,25 @@
+//! Reads a design text in BLIF: models with ports, tables, latches and placed models.
+#![tactic(auto)]
+
+mod bind;
+mod block;
+mod copies;
+mod design;
+mod fault;
+mod kind;
+mod latch;
+mod laws;
+mod open_table;
+mod ports;
+mod reader;
+mod row;
+mod seen;
+mod table;
+mod take;
+
+pub use design::read;
+pub use fault::TextFault;
+pub use laws::{lines_are_cut, the_first_fault_counts};
+
+#[cfg(test)]
+mod tests;

@@ -1,0 +1,62 @@
+//! The ports of a model.
+ghost use Rattle.std.specs.Prelude.{◌≡◌, [], IsTrue, IfOk, IfErr};
+ghost use Rattle.vw_design.specs.Distinct.{are_distinct};
+ghost use Rattle.vw_blif.specs.Steps.Seen.{Knows};
+
+use crate::copies::{copy, further};
+use crate::fault::TextFault;
+use crate::seen::Seen;
+use std::alloc::Global;
+use vw_outside::Name;
+use vw_text::Line;
+
+/// A list of ports of a model, none of them twice.
+#[derive(Drop)]
+pub struct Ports<'a> {
+    pub names: Vec<Name>,
+    pub seen: Seen<'a>,
+    ghost knows: { Knows names.items seen.words },
+    ghost distinct: { IsTrue (are_distinct names.items) },
+}
+
+impl<'a> Ports<'a> {
+    ghost use Rattle.vw_blif.specs.Steps.Ports.{AddsPorts, SaysPort};
+
+    /// No port. It takes no memory.
+    pub fn new(alloc: Global) -> Self
+        ensures { result.names.items ≡ [] }
+    {
+        Ports {
+            names: Vec::new(alloc),
+            seen: Seen::new(alloc),
+        }
+    }
+
+    /// These ports and those of a line.
+    pub fn add(self, alloc: Global, line: &'a Line) -> Result<Self, TextFault>
+        ensures ports { IfOk result (AddsPorts self.entry line.now) }
+        ensures fault { IfErr result (SaysPort self.entry line.now) }
+    {
+        let Ports {
+            mut names,
+            mut seen,
+        } = self;
+        let words = further(line);
+        if !seen.insert_all(words)? {
+            return Err(TextFault::DuplicatePort(line.number()));
+        }
+        for word in words {
+            names.push(copy(alloc, word.as_slice())?)?;
+        }
+        Ok(Ports { names, seen })
+    }
+
+    /// The names of the ports, in order.
+    pub fn into_names(self) -> Vec<Name>
+        ensures names { result.items ≡ self.entry.names.items }
+        ensures distinct { IsTrue (are_distinct result.items) }
+    {
+        let Ports { names, seen: _ } = self;
+        names
+    }
+}

@@ -1,0 +1,49 @@
+//! Sets of words that have been seen.
+ghost use Rattle.std.specs.Prelude.{◌≡◌, ◌||◌, not, ℕ, List, IfOk, OnOk, false};
+ghost use Rattle.std.specs.Str.{bytes_eq};
+ghost use Rattle.vw_blif.specs.Steps.Seen.{has_seen, InsertsAll};
+
+use std::alloc::{AllocError, Global};
+use std::collections::HashMap;
+use std::hash::{BuildHasherDefault, DefaultHasher};
+use vw_outside::Name;
+
+/// A set of words that lie elsewhere. Its hasher has a key: whoever writes a text chooses its words, and without a key
+/// any number of words can be chosen that collide.
+#[derive(Drop)]
+pub struct Seen<'a> {
+    pub words: HashMap<&'a [u8], (), BuildHasherDefault<DefaultHasher>>,
+}
+
+impl<'a> Seen<'a> {
+    /// No word. It takes no memory.
+    pub fn new(alloc: Global) -> Self
+        ensures { (word : List ℕ) → has_seen result.words word ≡ false }
+    {
+        Seen {
+            words: HashMap::with_hasher(alloc, BuildHasherDefault::new()),
+        }
+    }
+
+    /// Adds a word, and says whether it is new.
+    pub fn insert(&mut self, word: &'a [u8]) -> Result<bool, AllocError>
+        ensures is_new { IfOk result (λ is_new. is_new ≡ not (has_seen self.old.words word.now)) }
+        ensures words { OnOk result ((other : List ℕ)
+            → has_seen self.new.words other ≡ (bytes_eq word.now other || has_seen self.old.words other)) }
+    {
+        let old = self.words.insert(word, ())?;
+        Ok(old.is_none())
+    }
+
+    /// Adds words until one isn't new, and says whether all were.
+    pub fn insert_all(&mut self, words: &'a [Name]) -> Result<bool, AllocError>
+        ensures { IfOk result (InsertsAll self.old.words words.now self.new.words) }
+    {
+        for word in words {
+            if !self.insert(word.as_slice())? {
+                return Ok(false);
+            }
+        }
+        Ok(true)
+    }
+}

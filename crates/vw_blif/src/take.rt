@@ -1,0 +1,48 @@
+//! A model, line by line.
+ghost use Rattle.std.specs.Prelude.{◌≡◌, ◌≢◌, IfOk, IfErr};
+ghost use Rattle.vw_blif.specs.Kinds.{kind};
+ghost use Rattle.vw_blif.specs.declared.kind.Kind.{Kind};
+ghost use Rattle.vw_blif.specs.Steps.Blocks.{Takes, Refuses};
+ghost use Rattle.vw_blif.specs.Steps.Readers.{SaysOther};
+
+use crate::block::Block;
+use crate::copies::{copy, first};
+use crate::fault::TextFault;
+use crate::kind::Kind;
+use std::alloc::Global;
+use vw_text::Line;
+
+/// The fault of a line with another word that has a point in front.
+fn other_word(alloc: Global, line: &Line) -> TextFault
+    ensures { SaysOther line.now result }
+{
+    match copy(alloc, first(line)) {
+        Ok(word) => TextFault::Unsupported(line.number(), word),
+        Err(_) => TextFault::NoMemory,
+    }
+}
+
+/// The model with a line more that is neither its first nor its `.end`.
+pub fn take<'a>(
+    alloc: Global,
+    block: Block<'a>,
+    line_is: Kind,
+    line: &'a Line,
+) -> Result<Block<'a>, TextFault>
+    requires is { line_is ≡ kind line.now }
+    requires no_model { line_is ≢ Kind.Model }
+    requires no_end { line_is ≢ Kind.End }
+    ensures takes { IfOk result (Takes block.entry line.now) }
+    ensures refuses { IfErr result (Refuses block.entry line.now) }
+{
+    match line_is {
+        Kind::Inputs => block.add_inputs(alloc, line),
+        Kind::Outputs => block.add_outputs(alloc, line),
+        Kind::Clock => block.add_clocks(alloc, line),
+        Kind::Names => block.add_table(alloc, line),
+        Kind::Latch => block.add_latch(alloc, line),
+        Kind::Subckt => block.add_place(alloc, line),
+        Kind::Row => block.add_row(alloc, line),
+        Kind::Model | Kind::End | Kind::Other => Err(other_word(alloc, line)),
+    }
+}
