@@ -2,7 +2,7 @@
 use Rattle.std.specs.Prelude.{◌≡◌, ℕ, Bool, List, Ok}
 use Rattle.vw_net.specs.declared.flat.Flat.{Flat}
 use Rattle.vw_rows.specs.Stimulus.{stimulus_rows}
-use Rattle.vw_top.specs.FirstForm.{IsDesignOf}
+use Rattle.vw_top.specs.Runnable.{IsDesignOf}
 use Rattle.vw_top.specs.Commands.{trace_of}
 
 -- out is the trace of a netlist that the design stands for, over the rows of the stimulus

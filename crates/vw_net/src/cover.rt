@@ -1,8 +1,9 @@
-ghost use Rattle.std.specs.Prelude.{◌≡◌, ◌≤◌, length};
+ghost use Rattle.std.specs.Prelude.{◌≡◌, ◌≤◌, length, IfOk};
 ghost use Rattle.std.specs.List.{All};
 ghost use Rattle.vw_net.specs.Mark.{mark_matches, row_matches};
 
 use crate::sequence::{Bits, Sequence};
+use std::alloc::{AllocError, Global};
 
 /// What a row asks of one input of its table. Source: the characters `0`, `1` and `-` of a BLIF table.
 #[derive(Clone, Copy, Debug, PartialEq, Eq)]
@@ -45,6 +46,14 @@ impl Row {
         ensures { result.now ≡ self.now.marks }
     {
         self.marks.as_slice()
+    }
+
+    /// A copy of the row.
+    fn copy(&self, alloc: Global) -> Result<Self, AllocError>
+        ensures { IfOk result (λ copy. copy ≡ self.now) }
+    {
+        let marks = Vec::from_slice(alloc, self.marks.as_slice())?;
+        Ok(Row::make(Sequence::of(marks)))
     }
 
     /// Whether each mark matches the bit of its place.
@@ -107,6 +116,19 @@ impl Cover {
         ensures { result.now ≡ self.now.rows }
     {
         self.rows.as_slice()
+    }
+
+    /// A copy of the table.
+    pub fn copy(&self, alloc: Global) -> Result<Self, AllocError>
+        ensures inputs { IfOk result (λ copy. copy.inputs ≡ self.now.inputs) }
+        ensures on { IfOk result (λ copy. copy.on ≡ self.now.on) }
+        ensures rows { IfOk result (λ copy. copy.rows ≡ self.now.rows) }
+    {
+        let mut rows = Vec::with_capacity(alloc, self.rows.len())?;
+        for row in self.rows.as_slice() {
+            rows.push(row.copy(alloc)?)?;
+        }
+        Ok(Cover::make(self.inputs, self.on, Sequence::of(rows)))
     }
 
     /// The table's value for one bit per input. It takes no memory.

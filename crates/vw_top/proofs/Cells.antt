@@ -1,14 +1,13 @@
 -- The cells of items.
-use Rattle.std.proofs.Common.{◌≡◌, ℕ, true, false, ◌&&◌, List, [], ◌∷◌, ◌++◌, map, Option, Some, None, is_some, refl, sym, ap, ap₂, ◌∙◌}
+use Rattle.std.proofs.Common.{◌≡◌, ℕ, ◌+◌, ◌<◌, length, take, get_or, true, false, ◌&&◌, List, [], ◌∷◌, ◌++◌, map, Option, Some, None, is_some, refl, sym, ap, ap₂, ◌∙◌}
 use Rattle.std.specs.Prelude.{unwrap_or}
 use Rattle.std.specs.List.{list_all, AllZip}
-use Rattle.std.proofs.lemmas.List.{map_push}
+use Rattle.std.proofs.lemmas.List.{map_more}
 use Rattle.vw_net.specs.declared.cell.Cell.{Cell}
-use Rattle.vw_top.specs.declared.first_form.item.Item.{Item as Held}
-use Rattle.vw_top.specs.Source.{Word, Item, table, latch}
-use Rattle.vw_top.specs.Steps.Reading.{◌>>=◌, traverse}
-use Rattle.vw_top.specs.Steps.Views.{item_view, items_view}
-use Rattle.vw_top.specs.Steps.Numbers.{reads_known, IsFoundCell}
+use Rattle.vw_design.specs.declared.item.Item.{Item}
+use Rattle.vw_blif.specs.Words.{Word}
+use Rattle.vw_blif.specs.Spelled.{spelled_item}
+use Rattle.vw_top.specs.Steps.Numbers.{◌>>=◌, traverse, IsFoundCell}
 
 -- where a step or the rest gives nothing
 traverse_cons : (number : Word → Option ℕ) (word : Word) (found : Option ℕ) (words : List Word) (rest : Option (List ℕ)) → (found >>= λ place. rest >>= λ places. Some (place ∷ places)) ≡ None
@@ -49,11 +48,6 @@ traverse-some number (word ∷ words) (place ∷ places) e =
       each = (found, rest.each);
     }
 
--- an item without a cell reads a net that has no number
-pub reads_known-none : (number : Word → Option ℕ) (item : Item) → IsFoundCell number item None → reads_known number item ≡ false
-reads_known-none number (table ins out rows) none = traverse-none number ins none
-reads_known-none number (latch d q one) none = ap (λ (o : Option ℕ). is_some o && true) none
-
 AllZip-last : {A B : Type 0} (R : A → B → Type 0) (xs : List A) (ys : List B) (x : A) (y : B) → AllZip R xs ys → R x y → AllZip R (xs ++ x ∷ []) (ys ++ y ∷ [])
 AllZip-last R [] [] x y all holds = (holds, tt)
 AllZip-last R [] (z ∷ ys) x y all holds = absurd all
@@ -61,6 +55,8 @@ AllZip-last R (z ∷ xs) [] x y all holds = absurd all
 AllZip-last R (w ∷ xs) (z ∷ ys) x y all holds = (all.0, AllZip-last R xs ys x y all.1 holds)
 
 -- the step of the loop
-pub found_more : (number : Word → Option ℕ) (items : List Held) (cells after : List Cell) (item : Held) (cell : Cell) → AllZip (λ i c. IsFoundCell number i (Some c)) (items_view items) cells → IsFoundCell number (item_view item) (Some cell)
-    → after ≡ cells ++ cell ∷ [] → AllZip (λ i c. IsFoundCell number i (Some c)) (items_view (items ++ item ∷ [])) after
-found_more number items cells after item cell all here same = rw (same, map_push item_view items item) (AllZip-last (λ i c. IsFoundCell number i (Some c)) (items_view items) cells (item_view item) cell all here)
+pub found_more : (number : Word → Option ℕ) (items : List Item) (cells after : List Cell) (i : ℕ) (d : Item) (cell : Cell) → i < length items
+    → AllZip (λ item c. IsFoundCell number item (Some c)) (map spelled_item (take i items)) cells → IsFoundCell number (spelled_item (get_or items i d)) (Some cell)
+    → after ≡ cells ++ cell ∷ [] → AllZip (λ item c. IsFoundCell number item (Some c)) (map spelled_item (take (i + 1) items)) after
+found_more number items cells after i d cell within all here same =
+    rw (same, map_more spelled_item items i d within) (AllZip-last (λ item c. IsFoundCell number item (Some c)) (map spelled_item (take i items)) cells (spelled_item (get_or items i d)) cell all here)

@@ -1,5 +1,5 @@
 -- What the table of statuses says of the files of `sim`, and of words that spell no command.
-use Rattle.std.proofs.Common.{◌≡◌, ◌<◌, ◌⊎◌, ℕ, Bool, List, Ok, Err, refl, sym, ◌∙◌, ap, subst, inl, inr, ⊎_elim, arith}
+use Rattle.std.proofs.Common.{◌≡◌, ◌<◌, ◌⊎◌, ℕ, Bool, List, [], ◌∷◌, Ok, Err, refl, sym, ◌∙◌, ap, subst, inl, inr, ⊎_elim, arith}
 use Rattle.vw_net.specs.declared.flat.Flat.{Flat}
 use Rattle.vw_outside.specs.Told.{Told, absent, held, IsTextOf}
 use Rattle.vw_outside.specs.Reads.{CountsFault}
@@ -8,12 +8,13 @@ use Rattle.vw_rows.specs.declared.stimulus.StimFault.{StimFault}
 use Rattle.vw_rows.specs.Stimulus.{stimulus_rows}
 use Rattle.vw_top.specs.declared.stop.File.{File}
 use Rattle.vw_top.specs.declared.reason.Reason.{Reason}
-use Rattle.vw_top.specs.declared.reason.Reason.TheVariants.{Usage, NotYet, Stimulus}
+use Rattle.vw_top.specs.declared.reason.Reason.TheVariants.{Design, NotYet, Usage, Stimulus}
 use Rattle.vw_top.specs.Reasons.{reason_status}
-use Rattle.vw_top.specs.FirstForm.{IsDesignOf, IsNoDesign}
+use Rattle.vw_blif.specs.Spelled.{SpelledModel}
+use Rattle.vw_top.specs.Runnable.{IsDesignOf, IsNoDesign, IsNetlistOfModels}
 use Rattle.vw_top.specs.Course.{Course, refuses, Outside, outside, MayWrite, MayRefuse, MayRead, AtFile, writing, refusing, missing, ComesTo}
 use Rattle.vw_top.specs.Statuses.{Statuses, IsRefusal, IsWantOfMemory, LeavesPart}
-use Rattle.vw_top.specs.Commands.{sim_course, trace_of}
+use Rattle.vw_top.specs.Commands.{sim_course, trace_of, RefusesDesign, design_apart}
 use Rattle.vw_top.specs.CommandStatuses.{SimStatuses, UsageStatuses, Yields}
 use Rattle.vw_top.proofs.StageLaws.{same_outside}
 
@@ -32,9 +33,29 @@ at_held told bytes Absent Held is here = subst (λ (t : Told). AtFile t Absent H
 at_absent : (told : Told) (Absent : Type 0) (Held : List ℕ → Type 0) → told ≡ absent → Absent → AtFile told Absent Held
 at_absent told Absent Held is here = subst (λ (t : Told). AtFile t Absent Held) (sym is) here
 
--- the netlists of one text have as many inputs
+-- the netlists of one design have as many inputs, and so have those of one text
+inputs_agree : (models : List SpelledModel) (flat other : Flat) → IsNetlistOfModels models flat → IsNetlistOfModels models other → other.inputs ≡ flat.inputs
+inputs_agree [] flat other is its = absurd is
+inputs_agree (model ∷ []) flat other is its = its.1.inputs ∙ sym is.1.inputs
+inputs_agree (model ∷ next ∷ models) flat other is its = absurd is
+
 same_inputs : (d : List ℕ) (flat other : Flat) → IsDesignOf d flat → IsDesignOf d other → other.inputs ≡ flat.inputs
-same_inputs d flat other is its = (its.netlist is.source is.spells).inputs ∙ sym ((is.netlist is.source is.spells).inputs)
+same_inputs d flat other is its =
+    let said = sym is.spelled ∙ its.spelled in
+    let same : its.models ≡ is.models = cc in
+    inputs_agree is.models flat other is.netlist (subst (λ (models : List SpelledModel). IsNetlistOfModels models other) same its.netlist)
+
+-- a text without a design is refused, with status 1
+why_none : (d : List ℕ) → IsNoDesign d → (reason : Reason) × RefusesDesign d reason
+why_none d (inl (fault, said)) = (Design fault, inl (fault, refl, said))
+why_none d (inr not_yet) = (NotYet, inr (refl, not_yet))
+
+none_left : (d : List ℕ) (reason : Reason) → RefusesDesign d reason → IsNoDesign d × (reason_status reason ≡ 1)
+none_left d reason (inl (fault, is, said)) = (inl (fault, said), ap reason_status is)
+none_left d reason (inr (is, not_yet)) = (inr not_yet, ap reason_status is)
+
+no_both : (d : List ℕ) (flat : Flat) → IsDesignOf d flat → IsNoDesign d → ⊥
+no_both d flat design none = let why = why_none d none in design_apart d flat why.0 design why.1
 
 module _ (design stimulus : List ℕ) (told : List ℕ → Told) where
   abbrev course : Course
@@ -42,12 +63,12 @@ module _ (design stimulus : List ℕ) (told : List ℕ → Told) where
 
   -- why `sim` refuses
   data WhyRefused (reason : Reason) : Type 0 where
-    bad_design : (d : List ℕ) → IsTextOf (told design) d → reason ≡ NotYet → IsNoDesign d → WhyRefused reason
+    bad_design : (d : List ℕ) → IsTextOf (told design) d → reason_status reason ≡ 1 → IsNoDesign d → WhyRefused reason
     bad_rows : (d s : List ℕ) (flat : Flat) (fault : StimFault) → IsTextOf (told design) d → IsDesignOf d flat → IsTextOf (told stimulus) s
         → reason ≡ Stimulus fault → stimulus_rows flat.inputs s ≡ Err fault → WhyRefused reason
 
   why : (reason : Reason) → MayRefuse course told reason → WhyRefused reason
-  why reason (d, d_is, inl (is, none)) = bad_design d d_is is none
+  why reason (d, d_is, inl refused) = let left = none_left d reason refused in bad_design d d_is left.1 left.0
   why reason (d, d_is, inr (flat, netlist, (s, s_is, inl (fault, is, said)))) = bad_rows d s flat fault d_is netlist s_is is said
   why reason (d, d_is, inr (flat, netlist, (s, s_is, inr (rows, are, more)))) = absurd more
 
@@ -74,7 +95,7 @@ module _ (design stimulus : List ℕ) (told : List ℕ → Told) where
   which file name (inr (d, d_is, (flat, netlist, inr (s, s_is, (rows, are, more))))) = absurd more
 
   comes_to_no_design : (d : List ℕ) → told design ≡ held d → IsNoDesign d → ComesTo refusing course told
-  comes_to_no_design d is none = at_held (told design) d _ _ is (inl (refl, NotYet, (refl, none)))
+  comes_to_no_design d is none = let why = why_none d none in at_held (told design) d _ _ is (inl (refl, why.0, why.1))
 
   comes_to_no_rows : (d s : List ℕ) (flat : Flat) (fault : StimFault) → told design ≡ held d → told stimulus ≡ held s → IsDesignOf d flat
       → stimulus_rows flat.inputs s ≡ Err fault → ComesTo refusing course told
@@ -124,7 +145,7 @@ module _ (design stimulus : List ℕ) (before after : Outside) (status : ℕ) (t
   at_design d file name held_d none (inl (is, same)) = same
   at_design d file name held_d none (inr (text, text_is, (flat, netlist, more))) =
       let design_is : IsDesignOf d flat = subst (λ (t : List ℕ). IsDesignOf t flat) (its_text (told design) text d held_d text_is) netlist in
-      absurd (none design_is.source design_is.spells)
+      absurd (no_both d flat design_is none)
 
   yields_at_design : (d : List ℕ) → told design ≡ held d → IsNoDesign d → (status ≡ 7) ⊎ (status ≡ 9) → Yields design before after status
   yields_at_design d held_d none (inl is) =
@@ -134,7 +155,7 @@ module _ (design stimulus : List ℕ) (before after : Outside) (status : ℕ) (t
 
   -- a refusal is status 1 or 5
   one_or_five : (reason : Reason) → WhyRefused design stimulus told reason → status ≡ reason_status reason → (status ≡ 1) ⊎ (status ≡ 5)
-  one_or_five reason (bad_design d d_is is none) its = inl (its ∙ ap reason_status is)
+  one_or_five reason (bad_design d d_is is none) its = inl (its ∙ is)
   one_or_five reason (bad_rows d s flat fault d_is netlist s_is is said) its = inr (its ∙ ap reason_status is)
 
   no_other : (0 < status) → (status < 7) → (status ≡ 1) ⊎ (status ≡ 5)
@@ -146,10 +167,10 @@ module _ (design stimulus : List ℕ) (before after : Outside) (status : ℕ) (t
 
   -- a text without a design gives status 1
   one_comes : (d : List ℕ) (reason : Reason) → told design ≡ held d → IsNoDesign d → WhyRefused design stimulus told reason → status ≡ reason_status reason → status ≡ 1
-  one_comes d reason held_d none (bad_design text text_is is gone) its = its ∙ ap reason_status is
+  one_comes d reason held_d none (bad_design text text_is is gone) its = its ∙ is
   one_comes d reason held_d none (bad_rows text s flat fault text_is netlist s_is is said) its =
       let design_is : IsDesignOf d flat = subst (λ (t : List ℕ). IsDesignOf t flat) (its_text (told design) text d held_d text_is) netlist in
-      absurd (none design_is.source design_is.spells)
+      absurd (no_both d flat design_is none)
 
   record HasFault (d s : List ℕ) : Type 0 where
     flat : Flat
@@ -158,7 +179,7 @@ module _ (design stimulus : List ℕ) (before after : Outside) (status : ℕ) (t
     said : stimulus_rows flat.inputs s ≡ Err fault
 
   why_five : (d s : List ℕ) (reason : Reason) → told design ≡ held d → told stimulus ≡ held s → WhyRefused design stimulus told reason → 5 ≡ reason_status reason → HasFault d s
-  why_five d s reason held_d held_s (bad_design text text_is is none) its = absurd (let wrong : 5 ≡ 1 = its ∙ ap reason_status is in omega arith)
+  why_five d s reason held_d held_s (bad_design text text_is is none) its = absurd (let wrong : 5 ≡ 1 = its ∙ is in omega arith)
   why_five d s reason held_d held_s (bad_rows text rest flat fault text_is netlist rest_is is said) its = record {
     flat = flat;
     fault = fault;
@@ -169,7 +190,7 @@ module _ (design stimulus : List ℕ) (before after : Outside) (status : ℕ) (t
   -- a fault of the rows gives status 5
   five_comes : (d : List ℕ) (flat : Flat) (reason : Reason) → told design ≡ held d → IsDesignOf d flat → WhyRefused design stimulus told reason → status ≡ reason_status reason → status ≡ 5
   five_comes d flat reason held_d netlist (bad_design text text_is is none) its =
-      let gone : IsNoDesign d = subst IsNoDesign (its_text (told design) text d held_d text_is) none in absurd (gone netlist.source netlist.spells)
+      let gone : IsNoDesign d = subst IsNoDesign (its_text (told design) text d held_d text_is) none in absurd (no_both d flat netlist gone)
   five_comes d flat reason held_d netlist (bad_rows text rest other fault text_is its_netlist rest_is is said) its = its ∙ ap reason_status is
 
   -- a file that is absent leaves out as it was

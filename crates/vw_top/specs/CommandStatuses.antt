@@ -7,7 +7,7 @@ use Rattle.vw_outside.specs.Reads.{CountsFault}
 use Rattle.vw_outside.specs.Writes.{appended}
 use Rattle.vw_rows.specs.declared.stimulus.StimFault.{StimFault}
 use Rattle.vw_rows.specs.Stimulus.{stimulus_rows}
-use Rattle.vw_top.specs.FirstForm.{IsDesignOf, IsNoDesign}
+use Rattle.vw_top.specs.Runnable.{IsDesignOf, IsNoDesign}
 use Rattle.vw_top.specs.Course.{Outside, outside}
 use Rattle.vw_top.specs.Statuses.{LeavesPart}
 use Rattle.vw_top.specs.Commands.{trace_of}
@@ -38,7 +38,7 @@ pub record SimStatuses (design stimulus : List ℕ) (before after : Outside) (st
   pub done : (d s : List ℕ) → Holds before design d → Holds before stimulus s → status ≡ 0
       → (flat : Flat) × (rows : List (List Bool)) × IsDesignOf d flat × (stimulus_rows flat.inputs s ≡ Ok rows)
       × (after ≡ outside before.shelf (appended before.out (trace_of flat rows)))
-  -- 1: exactly where the design text isn't of the first form
+  -- 1: exactly where the design text has a fault, or its design doesn't run yet
   pub no_design : (d : List ℕ) → Holds before design d → status ≡ 1 → IsNoDesign d
   pub no_design_comes : (d : List ℕ) → Holds before design d → IsNoDesign d
       → (status ≡ 1) ⊎ Yields design before after status

@@ -4,8 +4,7 @@ pub mod Stops
 pub mod Course
 pub mod Endings
 pub mod Statuses
-pub mod Source
-pub mod FirstForm
+pub mod Runnable
 pub mod Commands
 pub mod CommandStatuses
 pub mod Steps

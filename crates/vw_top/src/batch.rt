@@ -3,11 +3,11 @@ ghost use Rattle.std.specs.Prelude.{◌≡◌, ◌<◌, ◌+◌, false, length, 
 ghost use Rattle.std.specs.List.{All};
 ghost use Rattle.vw_net.specs.Cells.{latch_count};
 ghost use Rattle.vw_net.specs.History.{outputs_at, next_state, outputs_of, states_of, state_after};
-ghost use Rattle.vw_top.specs.Steps.Clock.{bits_at};
+ghost use Rattle.vw_sim.specs.Values.{bits_at};
 
-use crate::clock::step;
 use std::alloc::{AllocError, Global};
 use vw_net::{Bits, Ordered, Rows};
+use vw_sim::step;
 
 /// What a netlist did in a number of clocks: the outputs of each, and the latch values before its step.
 #[derive(Drop)]

@@ -4,7 +4,7 @@ use crate::refusal::Refusal;
 use crate::stop::Stop;
 
 /// Why a command wasn't carried out: the outside stopped it, or it refused its words or files.
-#[derive(Debug, Drop)]
+#[derive(Drop)]
 pub enum Unfinished {
     Stopped(Stop),
     Refused(Refusal),

@@ -2,10 +2,9 @@
 #![tactic(auto)]
 
 mod batch;
-mod clock;
 mod commands;
 mod endings;
-mod first_form;
+mod netlist;
 mod reason;
 mod refusal;
 mod run;

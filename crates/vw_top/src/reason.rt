@@ -1,13 +1,16 @@
 ghost use Rattle.std.specs.Prelude.{◌≡◌, IfOk};
 
 use std::alloc::{AllocError, Global};
+use vw_blif::TextFault;
 use vw_rows::StimFault;
 
 /// What is wrong with the words or the files of a command: a variant for each kind of fault, with the fault of the
 /// crate that finds it.
-#[derive(Debug, Drop)]
+#[derive(Drop)]
 pub enum Reason {
-    /// The design isn't of the first form.
+    /// The design text has this fault.
+    Design(TextFault),
+    /// The design doesn't run yet.
     NotYet,
     /// The words spell no command; the number of the first wrong word, from 1.
     Usage(u64),
@@ -23,7 +26,7 @@ impl Reason {
         ensures { result ≡ reason_status self.now }
     {
         match self {
-            Reason::NotYet => 1,
+            Reason::Design(_) | Reason::NotYet => 1,
             Reason::Usage(_) => 2,
             Reason::Stimulus(_) => 5,
         }
@@ -34,6 +37,7 @@ impl Reason {
         ensures { IfOk result (λ line. line.items ≡ reason_line self.now) }
     {
         match self {
+            Reason::Design(fault) => Ok(fault.text(alloc)?),
             Reason::NotYet => Ok(b"design 0: not yet\n".to_vec(alloc)?),
             Reason::Usage(place) => {
                 let line = format!(in alloc; "usage: word {place}\n")?;

@@ -5,7 +5,7 @@ use crate::reason::Reason;
 
 /// A reason of content for which a command refuses. The faults of some crates may also be a stop of the outside,
 /// as want of memory; such a one is no refusal.
-#[derive(Debug, Drop)]
+#[derive(Drop)]
 pub struct Refusal {
     pub reason: Reason,
     ghost of_content: { IsTrue (is_of_content reason) },

@@ -1,5 +1,5 @@
 -- Names and the numbers of nets.
-use Rattle.std.specs.Prelude.{◌≡◌, ℕ, Bool, true, false, List, [], map, length, Option, Some, None, is_some, IsTrue, if◌then◌else◌}
+use Rattle.std.specs.Prelude.{◌≡◌, ℕ, Bool, true, false, ◌&&◌, List, [], ◌∷◌, map, length, Option, Some, None, is_some, IsTrue}
 use Rattle.std.specs.List.{list_all, AllZip}
 use Rattle.std.specs.Str.{bytes_eq}
 use Rattle.std.specs.HashMap as hash
@@ -7,11 +7,24 @@ use Rattle.std.specs.Borrow.{Bor}
 use Rattle.std.specs.Global.{Vec}
 use Rattle.vw_net.specs.declared.cell.Cell.{Cell}
 use Rattle.vw_net.specs.declared.cell.Cell.TheVariants.{Gate, Latch}
-use Rattle.vw_net.specs.declared.cell.Init.TheVariants.{Zero, One}
-use Rattle.vw_net.specs.declared.flat.Flat.{Flat}
-use Rattle.vw_top.specs.Source.{Word, Item, table, latch, Source, nets_of, read_by}
-use Rattle.vw_top.specs.FirstForm.{are_distinct, has_word, name_place, read_well_from, IsNetlistOf}
-use Rattle.vw_top.specs.Steps.Reading.{traverse}
+use Rattle.vw_design.specs.Distinct.{are_distinct}
+use Rattle.vw_blif.specs.Words.{Word}
+use Rattle.vw_blif.specs.Spelled.{SpelledItem, table, latch, place}
+use Rattle.vw_top.specs.Runnable.{name_place, is_unclocked}
+
+-- what slices have in them
+abbrev pub contents : List (Bor (List ℕ)) → List Word
+contents slices = map (λ slice. slice.now) slices
+
+infixl 10 ◌>>=◌
+abbrev pub ◌>>=◌ : {A B : Type 0} → Option A → (A → Option B) → Option B
+(Some x) >>= f = f x
+None >>= f = None
+
+-- what a function gives of each element, where it gives something of each
+abbrev pub traverse : {A B : Type 0} → (A → Option B) → List A → Option (List B)
+traverse f [] = Some []
+traverse f (x ∷ xs) = f x >>= λ y. traverse f xs >>= λ ys. Some (y ∷ ys)
 
 abbrev pub number_in : {S : Type 0} → hash.HashMap (Bor (List ℕ)) ℕ S → Word → Option ℕ
 number_in numbers word = hash.get_by (λ key. bytes_eq word key.now) numbers
@@ -21,35 +34,24 @@ pub record IsNumbering (names : List Word) (number : Word → Option ℕ) : Type
   pub distinct : IsTrue (are_distinct names)
   pub places : (word : Word) → number word ≡ name_place names word
 
--- the numbers of words, where each has one
-abbrev pub places_by : (Word → Option ℕ) → List Word → Option (List ℕ)
-places_by number words = traverse number words
+-- whether an item has a cell: each net that it reads has a number, and it is no placed model and has no clock
+abbrev pub has_cell : (Word → Option ℕ) → SpelledItem → Bool
+has_cell number (table line ins out on rows) = list_all (λ word. is_some (number word)) ins
+has_cell number (latch line d q edge control init) = is_unclocked edge control && is_some (number d)
+has_cell number (place line model binds) = false
 
--- the cell of an item, where each net that it reads has a number
-abbrev pub IsFoundCell : (Word → Option ℕ) → Item → Option Cell → Type 0
-IsFoundCell number (table ins out rows) None = places_by number ins ≡ None
-IsFoundCell number (table ins out rows) (Some (Gate nets cover)) = (places_by number ins ≡ Some nets) × (cover.inputs ≡ length ins) × (cover.on ≡ true) × (map (λ row. row.marks) cover.rows ≡ rows)
-IsFoundCell number (table ins out rows) (Some (Latch d init)) = ⊥
-IsFoundCell number (latch d q one) None = number d ≡ None
-IsFoundCell number (latch d q one) (Some (Gate nets cover)) = ⊥
-IsFoundCell number (latch d q one) (Some (Latch net init)) = (number d ≡ Some net) × (init ≡ (if one then One else Zero))
+-- the cell of an item, where it has one
+abbrev pub IsFoundCell : (Word → Option ℕ) → SpelledItem → Option Cell → Type 0
+IsFoundCell number item None = has_cell number item ≡ false
+IsFoundCell number (table line ins out on rows) (Some (Gate nets cover)) =
+    (traverse number ins ≡ Some nets) × (cover.inputs ≡ length ins) × (cover.on ≡ on) × (map (λ row. row.marks) cover.rows ≡ rows)
+IsFoundCell number (table line ins out on rows) (Some (Latch net start)) = ⊥
+IsFoundCell number (latch line d q edge control init) (Some (Gate nets cover)) = ⊥
+IsFoundCell number (latch line d q edge control init) (Some (Latch net start)) =
+    (is_unclocked edge control ≡ true) × (number d ≡ Some net) × (start ≡ init)
+IsFoundCell number (place line model binds) (Some cell) = ⊥
 
--- whether each net that an item reads has a number
-abbrev pub reads_known : (Word → Option ℕ) → Item → Bool
-reads_known number item = list_all (λ word. is_some (number word)) (read_by item)
-
--- the cells of items, where each net that they read has a number
-abbrev pub AreFoundCells : (Word → Option ℕ) → List Item → Option (Vec Cell) → Type 0
-AreFoundCells number items None = list_all (reads_known number) items ≡ false
+-- the cells of items, where each has one
+abbrev pub AreFoundCells : (Word → Option ℕ) → List SpelledItem → Option (Vec Cell) → Type 0
+AreFoundCells number items None = list_all (has_cell number) items ≡ false
 AreFoundCells number items (Some cells) = AllZip (λ item cell. IsFoundCell number item (Some cell)) items cells.items
-
--- what a design has to be, beside its spelling
-pub record IsSound (source : Source) : Type 0 where
-  pub one_driver : IsTrue (are_distinct (nets_of source))
-  pub one_output : IsTrue (are_distinct source.outputs)
-  pub reads : IsTrue (read_well_from source [] source.items)
-  pub outputs_known : IsTrue (list_all (has_word (nets_of source)) source.outputs)
-
--- such a design, and its netlist
-abbrev pub IsNamed : Source → Flat → Type 0
-IsNamed source flat = IsSound source × IsNetlistOf source flat

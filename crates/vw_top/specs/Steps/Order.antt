@@ -1,9 +1,11 @@
 -- The order of the cells as an order in which the gates can be worked out.
-use Rattle.std.specs.Prelude.{ℕ, ◌+◌, ◌-◌, Bool, true, ◌&&◌, ◌||◌, List, [], ◌∷◌, nat_lt, slice_get}
+use Rattle.std.specs.Prelude.{◌≡◌, ◌==◌, ℕ, ◌+◌, ◌-◌, Bool, true, ◌&&◌, ◌||◌, List, [], ◌∷◌, length, nat_lt, nat_le, slice_get}
 use Rattle.std.specs.List.{list_all}
 use Rattle.vw_net.specs.declared.cell.Cell.{Cell}
 use Rattle.vw_net.specs.declared.cell.Cell.TheVariants.{Gate, Latch}
+use Rattle.vw_net.specs.declared.ordered.Ordered.{Ordered}
 use Rattle.vw_net.specs.Order.{is_latch}
+use Rattle.vw_design.specs.declared.model.Model.{Model}
 
 -- a net of an input, of a cell before the cell of this number, or of a latch
 abbrev pub is_before : ℕ → List Cell → ℕ → ℕ → Bool
@@ -23,3 +25,15 @@ abbrev pub gates_from : ℕ → List Cell → List ℕ
 gates_from number [] = []
 gates_from number (Gate ins cover ∷ rest) = number ∷ gates_from (number + 1) rest
 gates_from number (Latch d init ∷ rest) = gates_from (number + 1) rest
+
+-- a netlist of these inputs, cells and outputs, whose cells are ready in their order
+pub record IsInOrder (inputs : ℕ) (cells : List Cell) (outputs : List ℕ) (ordered : Ordered) : Type 0 where
+  pub ready : are_ready inputs cells 0 cells ≡ true
+  pub same_inputs : ordered.flat.inputs ≡ inputs
+  pub same_cells : ordered.flat.cells ≡ cells
+  pub same_outputs : ordered.flat.outputs ≡ outputs
+
+-- whether a model has no clock and is within the limits
+abbrev pub is_within : Model → Bool
+is_within model =
+    length model.clocks == 0 && (nat_le (length model.inputs) 4096 && (nat_le (length model.outputs) 4096 && nat_le (length model.items) 65536))

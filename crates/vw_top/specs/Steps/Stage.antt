@@ -27,3 +27,11 @@ WritesOut text before after (Ok done) = after ≡ appended before text
 WritesOut text before after (Err WriteFault) = FailedAfterPart text before after
 WritesOut text before after (Err NoMemory) = WrotePart text before after
 WritesOut text before after (Err (ReadFault file)) = ⊥
+
+-- something was made of a text for which it is good, or the text is refused, or memory ran out
+abbrev pub JudgesText : {A : Type 0} → (A → Type 0) → (Reason → Type 0) → Result A Unfinished → Type 0
+JudgesText Good Bad (Ok x) = Good x
+JudgesText Good Bad (Err (Refused refusal)) = Bad refusal.reason
+JudgesText Good Bad (Err (Stopped NoMemory)) = Unit {0}
+JudgesText Good Bad (Err (Stopped WriteFault)) = ⊥
+JudgesText Good Bad (Err (Stopped (ReadFault file))) = ⊥

@@ -7,7 +7,7 @@ use Rattle.vw_outside.specs.Writes.{SeenSink}
 use Rattle.vw_top.specs.declared.stop.File.TheVariants as files
 use Rattle.vw_top.specs.declared.endings.Unfinished.{Unfinished}
 use Rattle.vw_top.specs.declared.endings.Unfinished.TheVariants.{Stopped}
-use Rattle.vw_top.specs.FirstForm.{IsDesignOf}
+use Rattle.vw_top.specs.Runnable.{IsDesignOf}
 use Rattle.vw_top.specs.Course.{Course, writes, reads, judges, Outside, outside, Answer, Follows, EndsWriting}
 use Rattle.vw_top.specs.Commands.{sim_course, RefusesDesign, design_apart, IsRowsOf, RefusesRows, rows_apart, trace_of}
 use Rattle.vw_top.specs.Steps.Stage.{StageEnds}

@@ -1,0 +1,4 @@
+pub mod PartlyWritten
+pub mod Latches
+pub mod Gates
+pub mod Values

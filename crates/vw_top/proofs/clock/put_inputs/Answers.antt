@@ -1,8 +1,0 @@
-use Rattle.std.proofs.Common.{arith}
-use Rattle.std.proofs.lemmas.Grind.{common_steps}
-use Rattle.vw_top.proofs.PartlyWritten.{set_more}
-use Rattle.vw_top.proofs.clock.put_inputs.Goals as goal
-
--- one more bit is written
-pub loop-net-preserved : goal.loop-net-preserved
-loop-net-preserved c = grind (arith, common_steps, set_more)

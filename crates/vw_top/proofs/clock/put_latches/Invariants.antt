@@ -1,6 +1,0 @@
--- the nets of the latches so far have their bits, and the other nets what they had
-use Rattle.vw_top.proofs.Latches.{ArePut}
-use Rattle.vw_top.proofs.clock.put_latches.Given as goal
-
-abbrev pub invariant-loop-number : goal.invariant-loop-number
-invariant-loop-number l = ArePut l.first l.cell-items l.state l.initial.values l.values l.number l.latch

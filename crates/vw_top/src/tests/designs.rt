@@ -1,0 +1,173 @@
+//! What designs do, and which are refused.
+use super::*;
+
+#[test]
+fn texts_of_other_tools_run(rt: HostRuntime) -> Result<(), Fail> {
+    let table = [
+        // a comment, a continued line, and a latch of three words that starts at the free value
+        (
+            "# continued line\n.model top\n.inputs \\\n a b\n.outputs y\n.latch n1 q 2\n.names a b n1\n11 1\n.names q y\n1 1\n.end\n",
+            "11\n00\n",
+            "trace 1 1 1\n0 0 0\n1 1 1\nend 2 0\n",
+        ),
+        // a table by the inputs for which it is 0; nothing ends the model
+        (
+            ".model m\n.inputs a b\n.outputs y\n.names a b y\n11 0\n",
+            "00\n01\n10\n11\n",
+            "trace 1 1 0\n0 1 -\n1 1 -\n2 1 -\n3 0 -\nend 4 -\n",
+        ),
+        // ports on several lines, and a latch of two words
+        (
+            ".model m\n.outputs q\n.inputs a\n.inputs b\n.outputs b\n.latch a q\n.end\n",
+            "11\n00\n",
+            "trace 1 2 1\n0 01 0\n1 10 1\nend 2 0\n",
+        ),
+        // returns before the newlines, a blank in front, and a latch whose start is unknown
+        (
+            "\t.model m\r\n.inputs a\r\n.outputs q\r\n.latch a q 3\r\n.end\r\n",
+            "1\n",
+            "trace 1 1 1\n0 0 0\nend 1 1\n",
+        ),
+        // constants without a row and with one of either kind
+        (
+            ".model m\n.outputs z o i\n.names z\n.names o\n1\n.names i\n0\n",
+            "",
+            "trace 1 3 0\nend 0 -\n",
+        ),
+    ];
+    for (design, stimulus, trace) in table {
+        let ran = sim(rt.alloc(), design, stimulus)?;
+        assert_eq!(rt; ran.status, 0, "{design}");
+        assert_eq!(rt; ran.out.as_slice(), trace.as_bytes(), "{design}");
+        assert!(rt; ran.err.is_empty());
+    }
+    Ok(())
+}
+
+#[test]
+fn each_fault_of_a_design_has_its_line(rt: HostRuntime) -> Result<(), Fail> {
+    let table = [
+        ("", "design 2: line 0: no model\n"),
+        ("\n# nothing\n", "design 2: line 0: no model\n"),
+        (
+            ".inputs a\n.outputs a\n.end\n",
+            "design 2: line 1: no model\n",
+        ),
+        (
+            ".model m\n.inputs a\n.outputs a\n.end\n.end\n",
+            "design 2: line 5: no model\n",
+        ),
+        (
+            ".model m\n.gate nand2 A=a B=b O=c\n",
+            "design 3: line 2: unsupported .gate\n",
+        ),
+        (
+            ".model m\n.latch a\n",
+            "design 4: line 2: wrong number of words\n",
+        ),
+        (
+            ".model m\n.inputs a\n.outputs a\n1 1\n.end\n",
+            "design 5: line 4: bad row\n",
+        ),
+        (
+            ".model m\n.inputs a b\n.outputs y\n.names a b y\n11 0\n00 1\n",
+            "design 6: line 6: rows of both kinds\n",
+        ),
+        (
+            ".model m\n.inputs a\n.outputs q\n.latch a q ah a 0\n",
+            "design 8: line 4: bad latch type\n",
+        ),
+        (
+            ".model m\n.inputs a\n.outputs q\n.latch a q re\n",
+            "design 9: line 4: bad initial value\n",
+        ),
+        (
+            ".model m\n.model m\n",
+            "design 10: line 2: duplicate model\n",
+        ),
+        (
+            ".model m\n.inputs a\n.inputs a\n",
+            "design 11: line 3: duplicate port\n",
+        ),
+        (
+            ".model m\n.subckt n a=\n",
+            "design 12: line 2: bad binding\n",
+        ),
+    ];
+    for (design, line) in table {
+        let ran = sim(rt.alloc(), design, "")?;
+        assert_eq!(rt; ran.status, 1, "{design}");
+        assert_eq!(rt; ran.err.as_slice(), line.as_bytes(), "{design}");
+        assert!(rt; ran.out.is_empty());
+    }
+    Ok(())
+}
+
+#[test]
+fn a_table_of_129_inputs_is_refused(rt: HostRuntime) -> Result<(), Fail> {
+    let mut design = String::from_str(rt.alloc(), ".model m\n.inputs a\n.outputs b\n.names")?;
+    for _ in 0..129u32 {
+        design.push_str(" a")?;
+    }
+    design.push_str(" b\n")?;
+    let ran = sim(rt.alloc(), design.as_str(), "")?;
+    assert_eq!(rt; ran.status, 1);
+    assert_eq!(rt;
+        ran.err.as_slice(),
+        b"design 7: line 4: more than 128 inputs\n".as_slice()
+    );
+    Ok(())
+}
+
+#[test]
+fn a_word_is_shown_as_its_bytes(rt: HostRuntime) -> Result<(), Fail> {
+    let alloc = rt.alloc();
+    let words = vec![in alloc;
+        Name::of(b"sim".to_vec(alloc)?),
+        Name::of(b"d".to_vec(alloc)?),
+        Name::of(b"s".to_vec(alloc)?),
+    ]?;
+    let design = b".model m\n.\x00\xff # a comment\n".to_vec(alloc)?;
+    let files = vec![in alloc; Held::make(Name::of(b"d".to_vec(alloc)?), design)]?;
+    let mut shelf = MemShelf::new(files, 4096, Vec::new(alloc));
+    let mut out = MemSink::new(alloc, 4096, Vec::new(alloc));
+    let mut err = MemSink::new(alloc, 4096, Vec::new(alloc));
+    let status = virtual_wires(alloc, &words, &mut shelf, &mut out, &mut err);
+    assert_eq!(rt; status, 1);
+    assert_eq!(rt;
+        err.bytes(),
+        b"design 3: line 2: unsupported .\x00\xff\n".as_slice()
+    );
+    Ok(())
+}
+
+#[test]
+fn other_designs_do_not_run_yet(rt: HostRuntime) -> Result<(), Fail> {
+    let table = [
+        // gates that read each other, and a gate that reads a later one
+        ".model m\n.outputs a\n.names a b\n1 1\n.names b a\n1 1\n.end\n",
+        ".model m\n.inputs a\n.outputs y\n.names n y\n1 1\n.names a n\n1 1\n.end\n",
+        ".model m\n.inputs a\n.outputs y\n.names y y\n1 1\n.end\n",
+        // nets that nothing drives
+        ".model m\n.inputs a\n.outputs y\n.end\n",
+        ".model m\n.inputs a\n.outputs y\n.names b y\n1 1\n.end\n",
+        ".model m\n.inputs a\n.outputs q\n.latch b q 0\n.end\n",
+        // nets with two drivers
+        ".model m\n.inputs a\n.outputs a\n.names a\n1\n.end\n",
+        ".model m\n.inputs a\n.outputs y\n.names a y\n1 1\n.latch a y 0\n.end\n",
+        // clocks: a port, a control, a type
+        ".model m\n.inputs a\n.outputs a\n.clock c\n.end\n",
+        ".model m\n.inputs a c\n.outputs q\n.latch a q re c 0\n.end\n",
+        ".model m\n.inputs a\n.outputs q\n.latch a q re NIL 0\n.end\n",
+        // a second model, and a placed one
+        ".model m\n.inputs a\n.outputs a\n.end\n.model n\n.end\n",
+        ".model m\n.inputs a\n.outputs a\n.subckt m a=a\n.end\n",
+    ];
+    for design in table {
+        let ran = sim(rt.alloc(), design, "")?;
+        assert_eq!(rt; ran.status, 1, "{design}");
+        assert_eq!(rt; ran.err.as_slice(), b"design 0: not yet\n".as_slice());
+        assert!(rt; ran.out.is_empty());
+    }
+    Ok(())
+}
