@@ -1,2 +1,17 @@
 pub mod Distinct
 pub mod Shape
+pub mod Lists
+pub mod Paths
+pub mod Claims
+pub mod Drivers
+pub mod Preorder
+pub mod Reads
+pub mod Clocks
+pub mod PathValue
+pub mod PathHistory
+pub mod Flattened
+pub mod ModelFaults
+pub mod Limits
+pub mod NetFaults
+pub mod Accepted
+pub mod Loops
