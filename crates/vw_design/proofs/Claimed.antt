@@ -1,5 +1,5 @@
 -- What a claim says of the item that it comes from.
-use Rattle.std.proofs.Common.{◌≡◌, ◌+◌, ◌&&◌, ℕ, zero, suc, Bool, true, false, cond, List, [], ◌∷◌, ◌++◌, Option, Some, None, slice_get, if◌then◌else◌, ◌⊎◌, inl, inr, ⊎_elim, refl, sym, ◌∙◌, ap, subst, true≢false, flat_map, filter_map, option_and_then, arith}
+use Rattle.std.proofs.Common.{◌≡◌, ◌&&◌, ℕ, suc, Bool, true, false, [], ◌∷◌, Option, Some, None, slice_get, if◌then◌else◌, ⊎_elim, refl, sym, ◌∙◌, ap, subst, true≢false, flat_map, option_and_then}
 use Rattle.std.specs.Str.{bytes_eq}
 use Rattle.std.proofs.lemmas.Bool.{and_parts}
 use Rattle.std.proofs.lemmas.Option.{same_Some, none-some}
@@ -9,8 +9,8 @@ use Rattle.vw_design.specs.declared.item.Item.TheVariants.{Names, Latch, Sub}
 use Rattle.vw_design.specs.declared.model.Model.{Model}
 use Rattle.vw_design.specs.declared.design.Design.{Design}
 use Rattle.vw_design.specs.Distinct.{has_name}
-use Rattle.vw_design.specs.Paths.{Word, Path, Placing, placings, placing_at, model_named, model_placed, outputs_of, is_port}
-use Rattle.vw_design.specs.Claims.{Numbered, and_behind, numbered, Claim, port, driven, bound, bind_claim, item_claims, claims}
+use Rattle.vw_design.specs.Paths.{Word, Placing, placings, model_named, model_placed, outputs_of, is_port}
+use Rattle.vw_design.specs.Claims.{Numbered, numbered, Claim, port, driven, bound, bind_claim, item_claims, claims}
 use Rattle.vw_design.specs.Preorder.{is_cell}
 use Rattle.vw_design.proofs.Has.{Has, Has-append, from-flat_map, from-filter_map}
 use Rattle.vw_design.proofs.Entries.{IsEntry, entry_of}
@@ -63,6 +63,6 @@ claim_is design model name claim has =
     let of_entry = λ (entry : Numbered). item_claims design name entry.number entry.before entry.item in
     let ports = if is_port model name then port ∷ [] else [] in
     let by_item = λ (found : Has claim (flat_map of_entry (numbered 0 0 model.items))).
-        let from = from-flat_map of_entry (numbered 0 0 model.items) claim found in
-        item_claim design model name from.0 from.0.item refl (entry_of model.items from.0 from.1) claim from.2 in
+    let from = from-flat_map of_entry (numbered 0 0 model.items) claim found in
+    item_claim design model name from.0 from.0.item refl (entry_of model.items from.0 from.1) claim from.2 in
     ⊎_elim (λ found. port_claim design model name claim (is_port model name) refl found) by_item (Has-append claim ports (flat_map of_entry (numbered 0 0 model.items)) has)

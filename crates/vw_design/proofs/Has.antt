@@ -1,8 +1,8 @@
 -- What elements a list has, where it is made from others.
-use Rattle.std.proofs.Common.{◌≡◌, ◌<◌, ◌+◌, ℕ, zero, suc, Bool, true, false, not, ◌||◌, cond, List, [], ◌∷◌, ◌++◌, length, map, Option, Some, None, slice_get, ◌⊎◌, inl, inr, ⊎_elim, refl, sym, ◌∙◌, ap, subst, true≢false, is_some, filter, find, flat_map, filter_map, option_map, arith}
+use Rattle.std.proofs.Common.{◌≡◌, ◌<◌, ℕ, zero, suc, Bool, true, false, cond, List, [], ◌∷◌, ◌++◌, length, map, get_or, Option, Some, None, slice_get, ◌⊎◌, inl, inr, ⊎_elim, refl, sym, ◌∙◌, ap, subst, true≢false, filter, find, flat_map, filter_map, option_map, Contains, arith}
 use Rattle.std.specs.List.{cons_option, list_any}
 use Rattle.std.specs.Option.{option_or}
-use Rattle.std.proofs.lemmas.Bool.{cases_Bool, cond-true, cond-false, or_cases, or_left, or_right, or_parts}
+use Rattle.std.proofs.lemmas.Bool.{or_cases, or_left, or_right}
 use Rattle.std.proofs.lemmas.Option.{same_Some, none-some}
 use Rattle.vw_design.specs.Lists.{first_found, first_place}
 
@@ -163,3 +163,18 @@ module _ {A B : Type 0} where
   none-found f x (y ∷ ys) none has =
       let parts = or_none (f y) (first_found f ys) none in
       ⊎_elim (λ same. ap f (sym same) ∙ parts.0) (λ later. none-found f x ys parts.1 later) has
+
+-- in std's words
+module _ {A : Type 0} where
+  pub Contains-Has : (x : A) (xs : List A) → Has x xs → Contains xs x
+  Contains-Has x [] has = absurd has
+  Contains-Has x (y ∷ ys) has =
+      ⊎_elim (λ same. (0, omega arith, same)) (λ later. let rest = Contains-Has x ys later in (suc rest.0, omega (arith, rest.1), rest.2)) has
+
+  at-index : (x : A) (xs : List A) (k : ℕ) → k < length xs → get_or xs k x ≡ x → Has x xs
+  at-index x [] k within is = absurd (omega arith)
+  at-index x (y ∷ ys) zero within is = inl is
+  at-index x (y ∷ ys) (suc k) within is = inr (at-index x ys k (omega arith) is)
+
+  pub Has-Contains : (x : A) (xs : List A) → Contains xs x → Has x xs
+  Has-Contains x xs has = at-index x xs has.0 has.1 has.2

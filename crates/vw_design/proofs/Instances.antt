@@ -1,25 +1,15 @@
 -- Each instance is listed in preorder, and so is each item of it.
-use Rattle.std.proofs.Common.{◌≡◌, ◌<◌, ◌≤◌, ◌+◌, ℕ, zero, suc, max, Bool, true, false, List, [], ◌∷◌, ◌++◌, length, map, Option, Some, None, slice_get, option_and_then, option_map, find, ◌⊎◌, inl, inr, ⊎_elim, refl, sym, ◌∙◌, ap, subst, true≢false, flat_map, arith}
-use Rattle.std.specs.Str.{bytes_eq}
-use Rattle.std.proofs.lemmas.Bool.{cases_lt}
+use Rattle.std.proofs.Common.{◌≡◌, ◌<◌, ◌≤◌, ◌+◌, ℕ, zero, suc, List, [], ◌∷◌, length, Option, Some, None, slice_get, option_and_then, inl, inr, ⊎_elim, refl, sym, ◌∙◌, ap, subst, flat_map, arith}
 use Rattle.std.proofs.lemmas.Option.{none-some}
-use Rattle.vw_design.specs.declared.item.Bind.{Bind}
 use Rattle.vw_design.specs.declared.item.Item.{Item}
 use Rattle.vw_design.specs.declared.item.Item.TheVariants.{Names, Latch, Sub}
 use Rattle.vw_design.specs.declared.model.Model.{Model}
 use Rattle.vw_design.specs.declared.design.Design.{Design}
-use Rattle.vw_design.specs.Distinct.{has_name}
-use Rattle.vw_design.specs.Lists.{greatest}
-use Rattle.vw_design.specs.Paths.{Word, Path, Placing, placings, placing_at, model_named, model_placed, model_at, items_of, is_port}
+use Rattle.vw_design.specs.Paths.{Path, Placing, placings, model_named, model_placed, model_at, items_of}
 use Rattle.vw_design.specs.Claims.{Numbered, numbered}
 use Rattle.vw_design.specs.Preorder.{Site, site_at, inside, with_inside, sites_below, sites, instances_at, paths_of, instances}
-use Rattle.vw_design.specs.ModelFaults.{has_model_name, is_reached, reached, by_placing, first_placing, at_model, both_ways}
-use Rattle.vw_design.specs.Limits.{depth_at, greatest_depth, IsSmall}
-use Rattle.vw_design.specs.Accepted.{IsAccepted}
-use Rattle.vw_design.proofs.Has.{Has, Has-append, Has-flat_map, from-flat_map, Has-map, Has-at, Has-filter, any-Has, from-find, none-find, none-found}
-use Rattle.vw_design.proofs.Names.{name_same, Has-has_name}
+use Rattle.vw_design.proofs.Has.{Has, Has-flat_map, from-flat_map}
 use Rattle.vw_design.proofs.Entries.{placing_entry}
-use Rattle.vw_design.proofs.Ways.{IsShallow, IsOneWay}
 
 -- an instance that is listed below another one is placed by an item of that one, or listed below what the item places
 record IsBelow (list : List Numbered) (below : Path → List Site) (base path : Path) : Type 0 where
@@ -57,7 +47,7 @@ is_below list below base path has =
     let site = placed_by.0 in
     let entry = in_entry.0 in
     let own = λ (same : site_at base entry ≡ site).
-        of_item list below base path entry in_entry.1 entry.item refl (subst (λ (s : Site). Has path (instances_at s.path s.before s.item)) (sym same) placed_by.2) in
+    of_item list below base path entry in_entry.1 entry.item refl (subst (λ (s : Site). Has path (instances_at s.path s.before s.item)) (sym same) placed_by.2) in
     ⊎_elim own (λ deeper. of_inside list below base path entry in_entry.1 entry.item refl site deeper placed_by.2) in_entry.2
 
 module _ (design : Design) where
@@ -72,13 +62,13 @@ module _ (design : Design) where
   site_listed (suc depth) base path listed deep entry has =
       let below = sites_below design depth in
       let root = λ (same : base ≡ path).
-          subst (λ (p : Path). Has (site_at p entry) (flat_map (with_inside below base) (entries base))) same
-          (Has-flat_map (with_inside below base) entry (entries base) (site_at base entry) (subst (λ (p : Path). Has entry (entries p)) (sym same) has) (inl refl)) in
+      subst (λ (p : Path). Has (site_at p entry) (flat_map (with_inside below base) (entries base))) same
+      (Has-flat_map (with_inside below base) entry (entries base) (site_at base entry) (subst (λ (p : Path). Has entry (entries p)) (sym same) has) (inl refl)) in
       let deeper = λ (found : Has path (paths_of (flat_map (with_inside below base) (entries base)))).
-          let is = is_below (entries base) below base path found in
-          let there : Has (site_at path entry) (below (suc is.entry.before ∷ base)) = site_listed depth (suc is.entry.before ∷ base) path is.under (omega arith) entry has in
-          Has-flat_map (with_inside below base) is.entry (entries base) (site_at path entry) is.has
-          (inr (subst (λ (list : List Site). Has (site_at path entry) list) (sym is.within) there)) in
+      let is = is_below (entries base) below base path found in
+      let there : Has (site_at path entry) (below (suc is.entry.before ∷ base)) = site_listed depth (suc is.entry.before ∷ base) path is.under (omega arith) entry has in
+      Has-flat_map (with_inside below base) is.entry (entries base) (site_at path entry) is.has
+      (inr (subst (λ (list : List Site). Has (site_at path entry) list) (sym is.within) there)) in
       ⊎_elim root deeper listed
 
   -- what stands at a place of an instance comes from an item of it
@@ -110,7 +100,7 @@ module _ (design : Design) where
       let listed = path_listed depth path above.0 above.1 (omega arith) in
       let site : Has (site_at path entry.entry) (sites_below design depth []) = site_listed depth [] path listed (omega arith) entry.entry has in
       let same : instances_at path entry.entry.before entry.entry.item ≡ (place ∷ path) ∷ [] =
-          ap (instances_at path entry.entry.before) entry.item_is ∙ ap (λ (k : ℕ). (k ∷ path) ∷ []) (ap suc entry.before_is ∙ sym placing.2) in
+      ap (instances_at path entry.entry.before) entry.item_is ∙ ap (λ (k : ℕ). (k ∷ path) ∷ []) (ap suc entry.before_is ∙ sym placing.2) in
       let at : Has (place ∷ path) (instances_at path entry.entry.before entry.entry.item) = subst (λ (list : List Path). Has (place ∷ path) list) (sym same) (inl refl) in
       inr (Has-flat_map (λ s. instances_at s.path s.before s.item) (site_at path entry.entry) (sites_below design depth []) (place ∷ path) site at)
 

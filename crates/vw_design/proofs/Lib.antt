@@ -5,3 +5,6 @@ pub mod Entries
 pub mod Claimed
 pub mod Ways
 pub mod Instances
+pub mod Reached
+pub mod Placed
+pub mod Sites

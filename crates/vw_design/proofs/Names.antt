@@ -1,5 +1,5 @@
 -- Names that are the same, and names among others.
-use Rattle.std.proofs.Common.{◌≡◌, ℕ, Bool, true, List, ◌⊎◌, refl, subst}
+use Rattle.std.proofs.Common.{◌≡◌, true, List, refl, subst}
 use Rattle.std.specs.Str.{bytes_eq}
 use Rattle.std.proofs.lemmas.Slice.Eq.{bytes_eq-Decides}
 use Rattle.vw_design.specs.Distinct.{has_name}

@@ -1,5 +1,5 @@
 -- The way from a net to its driver: it goes up and then down, and so it ends.
-use Rattle.std.proofs.Common.{◌≡◌, ◌<◌, ◌≤◌, ◌+◌, ℕ, zero, suc, Bool, true, false, List, [], ◌∷◌, length, Option, Some, None, slice_get, option_and_then, ◌⊎◌, ⊎_elim, refl, sym, ◌∙◌, ap, true≢false, arith}
+use Rattle.std.proofs.Common.{◌≡◌, ◌≤◌, ◌+◌, ℕ, zero, suc, true, false, [], ◌∷◌, length, Option, Some, None, option_and_then, ⊎_elim, refl, sym, ◌∙◌, ap, true≢false, arith}
 use Rattle.std.proofs.lemmas.Bool.{cases_lt}
 use Rattle.std.proofs.lemmas.Option.{none-some}
 use Rattle.vw_design.specs.declared.model.Model.{Model}
@@ -7,8 +7,8 @@ use Rattle.vw_design.specs.declared.design.Design.{Design}
 use Rattle.vw_design.specs.Distinct.{has_name}
 use Rattle.vw_design.specs.Paths.{Word, Path, model_placed, model_at, is_port}
 use Rattle.vw_design.specs.Claims.{Claim, port, driven, bound, claims, first_claim}
-use Rattle.vw_design.specs.Drivers.{Source, at_port, at_cell, Turn, ends, goes_on, actual_of, turn_up, turn_by, turn, follow_turn, follow, driver}
-use Rattle.vw_design.proofs.Has.{Has, Has-at}
+use Rattle.vw_design.specs.Drivers.{Source, Turn, ends, goes_on, actual_of, turn_up, turn_by, turn, follow_turn, follow, driver}
+use Rattle.vw_design.proofs.Has.{Has-at}
 use Rattle.vw_design.proofs.Claimed.{IsClaim, claim_is}
 
 -- no instance lies at this depth or deeper, and an output of a placed model is no port of it
@@ -41,6 +41,7 @@ no_port design one place path name formal is port_too =
   where
     some_same : {A : Type 0} {x y : A} → Some x ≡ Some y → x ≡ y
     some_same e = cc
+
     subst_outputs : (one other : Model) → one ≡ other → (name : Word) → has_name one.outputs name ≡ true → has_name other.outputs name ≡ true
     subst_outputs one other same name has = ap (λ (m : Model). has_name m.outputs name) (sym same) ∙ has
 
@@ -82,6 +83,7 @@ module _ (design : Design) (limit : ℕ) (shallow : IsShallow design limit) (one
         upward : (actual : Option Word) → ((actual : Word) → next turns path actual ≡ follow design turns path actual) → follow_turn (next turns) (turn_up path actual) ≡ follow_turn (follow design turns) (turn_up path actual)
         upward None higher = refl
         upward (Some actual) higher = higher actual
+
         by : (claim : Option Claim) → first_claim design (model_at design (at ∷ path)) name ≡ claim → ((actual : Word) → next turns path actual ≡ follow design turns path actual)
             → follow_turn (next turns) (turn_by design (at ∷ path) name claim) ≡ follow_turn (follow design turns) (turn_by design (at ∷ path) name claim)
         by None is higher = refl
@@ -134,5 +136,5 @@ module _ (design : Design) (shallow : IsShallow design 64) (one : IsOneWay desig
   unfolding driver
   only_driver found along path name =
       let none = λ (deep : 64 ≤ length path). along path name ∙ ap (λ (m : Option Model). follow_turn found (turn_by design path name (first_claim design m name))) (shallow.shallow path deep)
-          ∙ sym (no_instance design 128 path name (shallow.shallow path deep)) in
+      ∙ sym (no_instance design 128 path name (shallow.shallow path deep)) in
       ⊎_elim (λ short. only_follow design 64 shallow one found along path 128 name (omega arith)) none (cases_lt (length path) 64)
