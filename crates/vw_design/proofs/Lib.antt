@@ -8,3 +8,6 @@ pub mod Instances
 pub mod Reached
 pub mod Placed
 pub mod Sites
+pub mod Lists
+pub mod FlatValues
+pub mod FlatHistories

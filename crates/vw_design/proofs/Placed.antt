@@ -9,12 +9,13 @@ use Rattle.vw_design.specs.declared.model.Model.{Model}
 use Rattle.vw_design.specs.declared.design.Design.{Design}
 use Rattle.vw_design.specs.Paths.{Word, Path, Placing, model_named, model_placed, model_at, items_of}
 use Rattle.vw_design.specs.Claims.{Numbered, numbered}
-use Rattle.vw_design.specs.Preorder.{Site, inside, with_inside, sites_below, sites, instances_at, paths_of, instances}
+use Rattle.vw_design.specs.Preorder.{Site, site_at, inside, with_inside, sites_below, sites, instances_at, paths_of, instances}
 use Rattle.vw_design.specs.ModelFaults.{unknown_model}
+use Rattle.vw_design.specs.PathValue.{item_at}
 use Rattle.vw_design.specs.Accepted.{IsAccepted}
 use Rattle.vw_design.proofs.Has.{Has, Has-at, from-flat_map, Contains-Has, Has-Contains}
-use Rattle.vw_design.proofs.Entries.{entry_of}
-use Rattle.vw_design.proofs.Instances.{instance_listed}
+use Rattle.vw_design.proofs.Entries.{entry_of, item_entry}
+use Rattle.vw_design.proofs.Instances.{instance_listed, item_listed}
 use Rattle.vw_design.proofs.Sites.{site_is}
 use Rattle.vw_design.proofs.Ways.{IsShallow}
 use Rattle.vw_design.proofs.Reached.{nothing_placed, accepted_shallow}
@@ -104,3 +105,17 @@ pub accepted_placed : (design : Design) → IsAccepted design → (path : Path) 
 accepted_placed design accepted path listed =
     let found = path_placed design (accepted_shallow design accepted) accepted.models_known path (Has-Contains path (instances design) listed) (root_model design) in
     (found.model, found.stands)
+
+-- in an accepted design each item of an instance is a site
+pub accepted_site : (design : Design) → IsAccepted design → (path : Path) (number : ℕ) (item : Item) → item_at design path number ≡ Some item
+    → (site : Site) × Contains (sites design) site × (site.path ≡ path) × (site.number ≡ number) × (site.item ≡ item)
+accepted_site design accepted path number item at = by (model_at design path) refl where
+  by : (found : Option Model) → model_at design path ≡ found
+      → (site : Site) × Contains (sites design) site × (site.path ≡ path) × (site.number ≡ number) × (site.item ≡ item)
+  by None is = absurd (none-some item (sym (ap (λ (m : Option Model). slice_get (items_of m) number) is) ∙ at))
+  by (Some model) is =
+      let is_shallow = accepted_shallow design accepted in
+      let short : length path < 64 = ⊎_elim (λ short. short) (λ deep. absurd (none-some model (sym (is_shallow.shallow path deep) ∙ is))) (cases_lt (length path) 64) in
+      let entry = item_entry (items_of (model_at design path)) number item at in
+      let listed = item_listed design path (instance_listed design path model is (omega arith)) (omega arith) entry.entry entry.has in
+      (site_at path entry.entry, Contains-Has (site_at path entry.entry) (sites design) listed, refl, entry.number_is, entry.item_is)

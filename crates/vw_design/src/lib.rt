@@ -8,7 +8,10 @@ mod model;
 
 pub use design::Design;
 pub use item::{Bind, Edge, Item};
-pub use laws::{drivers_are_one, drivers_turn, instances_are_listed};
+pub use laws::{
+    drivers_are_one, drivers_turn, histories_agree, instances_are_listed, items_are_sites,
+    sites_are_items, values_agree,
+};
 pub use model::Model;
 
 #[cfg(test)]
