@@ -65,7 +65,7 @@ same_table : (cover table : Cover) → IsTableOf cover table → (bits : List Bo
 same_table cover table same bits = rw (same.on, same.rows) refl
 
 -- the site at the first place of an item is of that item
-site_of_place : (list : List Site) (path : Path) (number place : ℕ) → place_of_site list path number ≡ Some place → (site : Site) × (slice_get list place ≡ Some site) × (site.path ≡ path) × (site.number ≡ number)
+pub site_of_place : (list : List Site) (path : Path) (number place : ℕ) → place_of_site list path number ≡ Some place → (site : Site) × (slice_get list place ≡ Some site) × (site.path ≡ path) × (site.number ≡ number)
 site_of_place list path number place found =
     let at = at-place (is_site_of path number) list place found in
     let parts = and_parts (bytes_eq at.0.path path) _ at.2 in

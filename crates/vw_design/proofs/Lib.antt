@@ -11,3 +11,5 @@ pub mod Sites
 pub mod Lists
 pub mod FlatValues
 pub mod FlatHistories
+pub mod Found
+pub mod LoopFree

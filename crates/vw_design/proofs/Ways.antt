@@ -25,7 +25,7 @@ record GoesAlong (design : Design) (found : ℕ → Path → Word → Option Sou
   along : (turns : ℕ) (path : Path) (name : Word) → found (suc turns) path name ≡ follow_turn (found turns) (turn design path name)
 
 -- the first claim on a net is one of its model
-claim_at : (design : Design) (name : Word) (claim : Claim) (model : Option Model) → first_claim design model name ≡ Some claim → (found : Model) × (model ≡ Some found) × IsClaim design found name claim
+pub claim_at : (design : Design) (name : Word) (claim : Claim) (model : Option Model) → first_claim design model name ≡ Some claim → (found : Model) × (model ≡ Some found) × IsClaim design found name claim
 claim_at design name claim None is = absurd (none-some claim is)
 claim_at design name claim (Some model) is = (model, refl, claim_is design model name claim (Has-at claim (claims design model name) 0 is))
 

@@ -1,5 +1,5 @@
 //! Laws of the definitions on paths, as contracts of functions that do nothing.
-ghost use Rattle.std.specs.Prelude.{◌≡◌, ◌≤◌, ◌+◌, ℕ, Bool, List, Option, Some, None, Contains, filter, length};
+ghost use Rattle.std.specs.Prelude.{◌≡◌, ◌<◌, ◌≤◌, ◌+◌, ℕ, Bool, List, Option, Some, None, Contains, filter, length};
 ghost use Rattle.vw_net.specs.declared.flat.Flat.{Flat};
 ghost use Rattle.vw_net.specs.Cells.{start_values};
 ghost use Rattle.vw_net.specs.Value.{level_value, net_value};
@@ -7,13 +7,16 @@ ghost use Rattle.vw_net.specs.History.{flat_history};
 ghost use Rattle.vw_design.specs.declared.design.Design.{Design};
 ghost use Rattle.vw_design.specs.declared.item.Item.{Item};
 ghost use Rattle.vw_design.specs.declared.model.Model.{Model};
-ghost use Rattle.vw_design.specs.Paths.{Word, Path, model_at};
+ghost use Rattle.vw_design.specs.Paths.{Word, Path, Net, model_at};
 ghost use Rattle.vw_design.specs.Drivers.{Source, turn, follow_turn, driver};
 ghost use Rattle.vw_design.specs.Preorder.{Site, is_latch, instances, sites, cells, latches};
+ghost use Rattle.vw_design.specs.Reads.{data_reads};
+ghost use Rattle.vw_design.specs.Clocks.{columns};
 ghost use Rattle.vw_design.specs.PathValue.{item_at, path_level, path_value};
 ghost use Rattle.vw_design.specs.PathHistory.{path_history};
 ghost use Rattle.vw_design.specs.Flattened.{number_of, IsFlatOf};
 ghost use Rattle.vw_design.specs.Accepted.{IsAccepted};
+ghost use Rattle.vw_design.specs.Loops.{IsLoopFree};
 
 /// In an accepted design the driver of a net is that of the net to which one turn leads, where the turn doesn't end.
 pub fn drivers_turn()
@@ -70,4 +73,18 @@ pub fn histories_agree()
     ensures { (design : Design) (flat : Flat) → IsFlatOf design flat → (unknown : Bool)
         (rows : List (List Bool)) → flat_history flat (start_values unknown flat.cells) rows
         ≡ path_history design unknown rows }
+{}
+
+/// In an accepted design each net that is read as data has a number, that of a column or of a cell.
+pub fn reads_are_numbered()
+    ensures { (design : Design) → IsAccepted design → (net : Net) → Contains (data_reads design) net
+        → (number : ℕ) × (number_of design net.path net.name ≡ Some number)
+        × (number < length (columns design) + length (cells design)) }
+{}
+
+/// In an accepted design without loops following more drivers in a row than there are cells changes no value.
+pub fn deeper_is_the_same()
+    ensures { (design : Design) → IsAccepted design → IsLoopFree design → (row state : List Bool)
+        (level : ℕ) (path : Path) (name : Word) → length (cells design) + 1 ≤ level
+        → path_level level design row state path name ≡ path_value design row state path name }
 {}

@@ -9,8 +9,8 @@ mod model;
 pub use design::Design;
 pub use item::{Bind, Edge, Item};
 pub use laws::{
-    drivers_are_one, drivers_turn, histories_agree, instances_are_listed, items_are_sites,
-    sites_are_items, values_agree,
+    deeper_is_the_same, drivers_are_one, drivers_turn, histories_agree, instances_are_listed,
+    items_are_sites, reads_are_numbered, sites_are_items, values_agree,
 };
 pub use model::Model;
 
