@@ -13,3 +13,6 @@ pub mod FlatValues
 pub mod FlatHistories
 pub mod Found
 pub mod LoopFree
+pub mod Once
+pub mod Weights
+pub mod Heights

@@ -15,3 +15,4 @@ pub mod Limits
 pub mod NetFaults
 pub mod Accepted
 pub mod Loops
+pub mod Counts

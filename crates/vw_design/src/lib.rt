@@ -9,8 +9,9 @@ mod model;
 pub use design::Design;
 pub use item::{Bind, Edge, Item};
 pub use laws::{
-    deeper_is_the_same, drivers_are_one, drivers_turn, histories_agree, instances_are_listed,
-    items_are_sites, reads_are_numbered, sites_are_items, values_agree,
+    counts_are_weights, deeper_is_the_same, drivers_are_one, drivers_turn, heights_are_counted,
+    histories_agree, instances_are_listed, items_are_once, items_are_sites, reads_are_numbered,
+    sites_are_items, values_agree, weights_are_counted,
 };
 pub use model::Model;
 

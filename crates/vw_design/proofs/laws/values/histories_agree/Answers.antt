@@ -1,5 +1,5 @@
 use Rattle.vw_design.proofs.FlatHistories.{histories_agree}
-use Rattle.vw_design.proofs.laws.histories_agree.Goals as goal
+use Rattle.vw_design.proofs.laws.values.histories_agree.Goals as goal
 
 -- clock by clock, since all values agree
 pub returns : goal.returns

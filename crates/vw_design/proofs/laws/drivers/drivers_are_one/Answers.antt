@@ -1,6 +1,6 @@
 use Rattle.vw_design.proofs.Ways.{only_driver}
 use Rattle.vw_design.proofs.Reached.{accepted_shallow, accepted_one_way}
-use Rattle.vw_design.proofs.laws.drivers_are_one.Goals as goal
+use Rattle.vw_design.proofs.laws.drivers.drivers_are_one.Goals as goal
 
 -- the way goes up and then down
 pub returns : goal.returns

@@ -1,6 +1,6 @@
 use Rattle.vw_design.proofs.Ways.{driver-turn}
 use Rattle.vw_design.proofs.Reached.{accepted_shallow, accepted_one_way}
-use Rattle.vw_design.proofs.laws.drivers_turn.Goals as goal
+use Rattle.vw_design.proofs.laws.drivers.drivers_turn.Goals as goal
 
 -- the 127 turns behind the first are enough
 pub returns : goal.returns

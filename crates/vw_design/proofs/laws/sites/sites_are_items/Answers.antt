@@ -2,7 +2,7 @@ use Rattle.vw_design.proofs.Has.{Has-Contains}
 use Rattle.vw_design.proofs.Sites.{site_item}
 use Rattle.vw_design.proofs.FlatValues.{latches_of_cells}
 use Rattle.vw_design.specs.Preorder.{sites}
-use Rattle.vw_design.proofs.laws.sites_are_items.Goals as goal
+use Rattle.vw_design.proofs.laws.sites.sites_are_items.Goals as goal
 
 -- a site is made from a numbered item of its instance
 pub returns-clause-items : goal.returns-clause-items

@@ -1,5 +1,5 @@
 use Rattle.vw_design.proofs.Placed.{accepted_listed, accepted_placed}
-use Rattle.vw_design.proofs.laws.instances_are_listed.Goals as goal
+use Rattle.vw_design.proofs.laws.sites.instances_are_listed.Goals as goal
 
 -- by the length of the path; and what an item of an instance places has a model, which is known
 pub returns-clause-listed : goal.returns-clause-listed
