@@ -158,6 +158,15 @@ module _ {A B : Type 0} where
   Has-filter_map h z x (y ∷ ys) has gives = option_keep h z x y ys (h y) refl gives (λ later. Has-filter_map h z x ys later gives) has
 
   -- nothing is found anywhere
+  found_step : (f : A → Option B) (z : B) (y : A) (ys : List A) (o : Option B) → f y ≡ o → (first_found f ys ≡ Some z → (x : A) × Has x ys × (f x ≡ Some z))
+      → option_or o (first_found f ys) ≡ Some z → (x : A) × Has x (y ∷ ys) × (f x ≡ Some z)
+  found_step f z y ys None is rest found = let further = rest found in (further.0, inr further.1, further.2)
+  found_step f z y ys (Some w) is rest found = (y, inl refl, is ∙ found)
+
+  pub from-found : (f : A → Option B) (z : B) (xs : List A) → first_found f xs ≡ Some z → (x : A) × Has x xs × (f x ≡ Some z)
+  from-found f z [] found = absurd (none-some z found)
+  from-found f z (y ∷ ys) found = found_step f z y ys (f y) refl (from-found f z ys) found
+
   pub none-found : (f : A → Option B) (x : A) (xs : List A) → first_found f xs ≡ None → Has x xs → f x ≡ None
   none-found f x [] none has = absurd has
   none-found f x (y ∷ ys) none has =

@@ -16,3 +16,5 @@ pub mod LoopFree
 pub mod Once
 pub mod Weights
 pub mod Heights
+pub mod SlotDrivers
+pub mod ClaimedOnce

@@ -5,6 +5,8 @@ mod sites;
 mod values;
 
 pub use counts::{counts_are_weights, heights_are_counted, weights_are_counted};
-pub use drivers::{drivers_are_one, drivers_turn, reads_are_numbered};
+pub use drivers::{
+    claims_are_single, drivers_are_one, drivers_turn, reads_are_numbered, slots_give_drivers,
+};
 pub use sites::{instances_are_listed, items_are_once, items_are_sites, sites_are_items};
 pub use values::{deeper_is_the_same, histories_agree, values_agree};
