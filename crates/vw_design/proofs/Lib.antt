@@ -1,4 +1,7 @@
+pub mod WorkedParts
 pub mod Worked
+pub mod WorkedRows
+pub mod WorkedFaults
 pub mod Has
 pub mod Names
 pub mod Entries

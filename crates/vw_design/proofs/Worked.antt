@@ -6,21 +6,15 @@
 --     .subckt pair i=a o=m c=clk      .subckt stage d=i q=t k=c      .latch d s re k 0
 --     .subckt pair i=n o=y c=clk      .subckt stage d=t q=o k=c      .names s q / 1 1
 --     .names m n / 0 1
-use Rattle.std.proofs.Common.{◌≡◌, ◌<◌, ◌≤◌, ◌^◌, true, false, [], ◌∷◌, length, Some, None, map, codes, refl, All, arith}
-use Rattle.std.proofs.lemmas.List.Elements.{All-cons, All-nil}
+use Rattle.std.proofs.Common.{◌≡◌, true, false, [], ◌∷◌, Some, None, map, codes, refl}
 use Rattle.std.specs.Fmt.{digits}
 use Rattle.vw_net.specs.declared.cell.Init.TheVariants.{Zero}
-use Rattle.vw_net.specs.declared.cover.Mark.{Mark}
 use Rattle.vw_net.specs.declared.cover.Mark.TheVariants.{Zero as AskZero, One as AskOne}
-use Rattle.vw_net.specs.declared.cover.Row.{Row}
-use Rattle.vw_net.specs.declared.cover.Cover.{Cover}
-use Rattle.vw_design.specs.declared.item.Bind.{Bind}
 use Rattle.vw_design.specs.declared.item.Edge.TheVariants.{Rise}
 use Rattle.vw_design.specs.declared.item.Item.TheVariants.{Names, Latch, Sub}
 use Rattle.vw_design.specs.declared.model.Model.{Model}
 use Rattle.vw_design.specs.declared.design.Design.{Design}
-use Rattle.vw_design.specs.Shape.{IsWellMade}
-use Rattle.vw_design.specs.Paths.{Word, printed}
+use Rattle.vw_design.specs.Paths.{printed}
 use Rattle.vw_design.specs.Drivers.{at_port, at_cell, driver}
 use Rattle.vw_design.specs.Preorder.{sites, instances, cells}
 use Rattle.vw_design.specs.Clocks.{clock_ports, columns}
@@ -28,19 +22,7 @@ use Rattle.vw_design.specs.PathValue.{path_value}
 use Rattle.vw_design.specs.PathHistory.{path_history}
 use Rattle.vw_design.specs.ModelFaults.{reached}
 use Rattle.vw_design.specs.Accepted.{fault_of_models, fault_of_nets}
-
-abbrev bind : Word → Word → Bind
-bind formal actual = record { formal = formal; actual = actual }
-
-narrow_one : 1 ≤ 128
-narrow_one = omega arith
-
-even_one : (mark : Mark) → All (λ (row : Row). length row.marks ≡ 1) (record { marks = mark ∷ [] } ∷ [])
-even_one mark = All-cons (λ (row : Row). length row.marks ≡ 1) (record { marks = mark ∷ [] }) [] refl (All-nil (λ (row : Row). length row.marks ≡ 1))
-
--- the table of one row, over one input
-abbrev one_row : Mark → Cover
-one_row mark = record { inputs = 1; on = true; rows = record { marks = mark ∷ [] } ∷ []; narrow = narrow_one; even = even_one mark }
+use Rattle.vw_design.proofs.WorkedParts.{bind, table, design}
 
 abbrev stage : Model
 stage = record {
@@ -48,7 +30,7 @@ stage = record {
   inputs = codes "d" ∷ codes "k" ∷ [];
   outputs = codes "q" ∷ [];
   clocks = [];
-  items = Latch 1 (codes "d") (codes "s") Rise (Some (codes "k")) Zero ∷ Names 2 (codes "s" ∷ []) (codes "q") (one_row AskOne) ∷ [];
+  items = Latch 1 (codes "d") (codes "s") Rise (Some (codes "k")) Zero ∷ Names 2 (codes "s" ∷ []) (codes "q") (table 1 true ((AskOne ∷ []) ∷ []) refl) ∷ [];
 }
 
 abbrev pair : Model
@@ -69,25 +51,11 @@ top = record {
   clocks = [];
   items = Sub 5 (codes "pair") (bind (codes "i") (codes "a") ∷ bind (codes "o") (codes "m") ∷ bind (codes "c") (codes "clk") ∷ [])
       ∷ Sub 6 (codes "pair") (bind (codes "i") (codes "n") ∷ bind (codes "o") (codes "y") ∷ bind (codes "c") (codes "clk") ∷ [])
-      ∷ Names 7 (codes "m" ∷ []) (codes "n") (one_row AskZero) ∷ [];
+      ∷ Names 7 (codes "m" ∷ []) (codes "n") (table 1 true ((AskZero ∷ []) ∷ []) refl) ∷ [];
 }
 
-some_models : 0 < 3
-some_models = omega arith
-
-few_models : 3 < 2 ^ 32
-few_models = omega arith
-
-models_made : All IsWellMade (top ∷ pair ∷ stage ∷ [])
-models_made =
-    let made_top : IsWellMade top = record { inputs = refl; outputs = refl; clocks = refl; items = refl } in
-    let made_pair : IsWellMade pair = record { inputs = refl; outputs = refl; clocks = refl; items = refl } in
-    let made_stage : IsWellMade stage = record { inputs = refl; outputs = refl; clocks = refl; items = refl } in
-    All-cons IsWellMade top (pair ∷ stage ∷ []) made_top
-    (All-cons IsWellMade pair (stage ∷ []) made_pair (All-cons IsWellMade stage [] made_stage (All-nil IsWellMade)))
-
 abbrev worked : Design
-worked = record { models = top ∷ pair ∷ stage ∷ []; some = some_models; few = few_models; named = refl; well_made = models_made }
+worked = design (top ∷ pair ∷ stage ∷ []) refl
 
 -- the instances: the root, and then each placed model with those below it
 instances_worked : instances worked ≡ [] ∷ (1 ∷ []) ∷ (1 ∷ 1 ∷ []) ∷ (2 ∷ 1 ∷ []) ∷ (2 ∷ []) ∷ (1 ∷ 2 ∷ []) ∷ (2 ∷ 2 ∷ []) ∷ []
