@@ -21,3 +21,7 @@ pub mod Weights
 pub mod Heights
 pub mod SlotDrivers
 pub mod ClaimedOnce
+pub mod Closed
+pub mod Circles
+pub mod Sizes
+pub mod FaultLaws
