@@ -25,3 +25,5 @@ pub mod Closed
 pub mod Circles
 pub mod Sizes
 pub mod FaultLaws
+pub mod FlatReads
+pub mod Numbers

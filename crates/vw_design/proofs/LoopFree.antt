@@ -183,3 +183,13 @@ module _ (design : Design) (accepted : IsAccepted design) (free : IsLoopFree des
   level_settles level path name late =
       let none : IsMet design [] [] = record { distinct = none_distinct design; within = λ n has. absurd has; gate_of = λ n has. absurd has } in
       settles (length (cells design)) [] [] none (omega arith) path name (λ gate drives. tt) level (length (cells design) + 1) late (omega arith)
+
+  -- a net that a gate drives has its table's value of the values of the gate's inputs
+  pub gate_value : (path : Path) (name : Word) (at : Path) (number line : ℕ) (ins : List Word) (out : Word) (cover : Cover) → driver design path name ≡ Some (at_cell at number)
+      → item_at design at number ≡ Some (Names line ins out cover) → path_value design row state path name ≡ cover_value cover (map (path_value design row state at) ins)
+  unfolding path_value
+  gate_value path name at number line ins out cover drives is =
+      let deeper = level_settles (suc (length (cells design) + 1)) path name (omega arith) in
+      sym deeper
+      ∙ ap (source_value design row state (path_level (length (cells design) + 1) design row state)) drives
+      ∙ ap (item_value design state (path_level (length (cells design) + 1) design row state) at number) is

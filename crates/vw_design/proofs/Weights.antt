@@ -34,7 +34,7 @@ module _ (design : Design) where
 
   module _ (weight : Item → ℕ) where
     -- items, where what each of them places has its model's weight
-    items_weigh : (depth : ℕ) (path : Path) (number before : ℕ) (items : List Item)
+    pub items_weigh : (depth : ℕ) (path : Path) (number before : ℕ) (items : List Item)
         → ((entry : Numbered) → Has entry (numbered number before items) → (line : ℕ) (name : Word) (binds : List Bind) → entry.item ≡ Sub line name binds
         → weight_of weight (sites_below design depth (suc entry.before ∷ path)) ≡ model_weight design weight depth name)
         → weight_of weight (flat_map (with_inside (sites_below design depth) path) (numbered number before items)) ≡ items_weight weight (model_weight design weight depth) items
@@ -57,6 +57,14 @@ module _ (design : Design) where
     sites_weigh (suc depth) path =
         items_weigh (suc depth) path 0 0 (items_of (model_at design path)) (λ e has line name binds is.
         sites_weigh depth (suc e.before ∷ path) ∙ ap (λ (m : Option Model). items_weight weight (model_weight design weight depth) (items_of m)) (model_behind path e has line name binds is))
+
+    -- what an item places weighs what its model does
+    pub placed_weighs : (depth : ℕ) (path : Path) (entry : Numbered) → Has entry (numbered 0 0 (items_of (model_at design path))) → (line : ℕ) (name : Word) (binds : List Bind) → entry.item ≡ Sub line name binds
+        → weight_of weight (sites_below design depth (suc entry.before ∷ path)) ≡ model_weight design weight depth name
+    placed_weighs zero path entry has line name binds is = refl
+    placed_weighs (suc depth) path entry has line name binds is =
+        sites_weigh depth (suc entry.before ∷ path)
+        ∙ ap (λ (m : Option Model). items_weight weight (model_weight design weight depth) (items_of m)) (model_behind path entry has line name binds is)
 
   -- the root is the model of its name
   pub root_named : (root : Model) → model_at design [] ≡ Some root → model_named design.models root.name ≡ Some root
@@ -120,6 +128,24 @@ module _ (design : Design) (among : Word → Bool) (rank : Word → ℕ) (rankin
         counts name is
         ∙ items_capped (rank name) (model_weight design weight depth) (items_of (model_named design.models name)) (ranking.falls name is)
         (λ placed known lower. capped_weight counts depth placed known (omega arith))
+
+  -- a weight is the same at each depth past the rank
+  items_same : (weight : Item → ℕ) (limit : ℕ) (one other : Word → ℕ) (items : List Item) → list_all (is_below among rank limit) items ≡ true
+      → ((name : Word) → among name ≡ true → rank name < limit → one name ≡ other name) → items_weight weight one items ≡ items_weight weight other items
+  items_same weight limit one other [] falls each = refl
+  items_same weight limit one other (Names line ins out cover ∷ items) falls each = omega (arith, items_same weight limit one other items falls each)
+  items_same weight limit one other (Latch line d q edge control init ∷ items) falls each = omega (arith, items_same weight limit one other items falls each)
+  items_same weight limit one other (Sub line name binds ∷ items) falls each =
+      let parts = and_parts (among name && nat_lt (rank name) limit) (list_all (is_below among rank limit) items) falls in
+      let here = and_parts (among name) (nat_lt (rank name) limit) parts.0 in
+      omega (arith, items_same weight limit one other items parts.1 each, each name here.0 (ltb-true (rank name) limit here.1))
+
+  pub weight_stays : (weight : Item → ℕ) (one other : ℕ) (name : Word) → among name ≡ true → rank name < one → rank name < other → model_weight design weight one name ≡ model_weight design weight other name
+  weight_stays weight zero other name is low low_too = absurd (omega arith)
+  weight_stays weight (suc one) zero name is low low_too = absurd (omega arith)
+  weight_stays weight (suc one) (suc other) name is low low_too =
+      items_same weight (rank name) (model_weight design weight one) (model_weight design weight other) (items_of (model_named design.models name)) (ranking.falls name is)
+      (λ placed known lower. weight_stays weight one other placed known (omega arith) (omega arith))
 
   module _ (height : Word → ℕ) where
     items_high : (limit : ℕ) (below : Word → ℕ) (items : List Item) → list_all (is_below among rank limit) items ≡ true

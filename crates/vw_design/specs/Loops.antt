@@ -8,12 +8,16 @@ use Rattle.vw_design.specs.declared.design.Design.{Design}
 use Rattle.vw_design.specs.Lists.{turned}
 use Rattle.vw_design.specs.Paths.{Path}
 use Rattle.vw_design.specs.Drivers.{Source, at_port, at_cell, driver}
+use Rattle.vw_design.specs.Preorder.{Site}
 use Rattle.vw_design.specs.PathValue.{item_at}
 
 -- an item of an instance
 pub record Gate : Type 0 where
   pub path : Path
   pub number : ℕ
+
+abbrev pub gate_at : Site → Gate
+gate_at site = record { path = site.path; number = site.number }
 
 -- whether a driver is this item
 abbrev pub is_driven_by : Gate → Option Source → Bool
