@@ -12,11 +12,11 @@ use Rattle.vw_design.proofs.Has.{Has, Has-flat_map, from-flat_map}
 use Rattle.vw_design.proofs.Entries.{placing_entry}
 
 -- an instance that is listed below another one is placed by an item of that one, or listed below what the item places
-record IsBelow (list : List Numbered) (below : Path → List Site) (base path : Path) : Type 0 where
-  entry : Numbered
-  has : Has entry list
-  under : Has path ((suc entry.before ∷ base) ∷ paths_of (below (suc entry.before ∷ base)))
-  within : inside below base entry.before entry.item ≡ below (suc entry.before ∷ base)
+pub record IsBelow (list : List Numbered) (below : Path → List Site) (base path : Path) : Type 0 where
+  pub entry : Numbered
+  pub has : Has entry list
+  pub under : Has path ((suc entry.before ∷ base) ∷ paths_of (below (suc entry.before ∷ base)))
+  pub within : inside below base entry.before entry.item ≡ below (suc entry.before ∷ base)
 
 of_item : (list : List Numbered) (below : Path → List Site) (base path : Path) (entry : Numbered) → Has entry list → (item : Item) → entry.item ≡ item
     → Has path (instances_at base entry.before item) → IsBelow list below base path
@@ -40,7 +40,7 @@ of_inside list below base path entry has (Sub line model binds) is site in_it fo
   within = ap (inside below base entry.before) is;
 }
 
-is_below : (list : List Numbered) (below : Path → List Site) (base path : Path) → Has path (paths_of (flat_map (with_inside below base) list)) → IsBelow list below base path
+pub is_below : (list : List Numbered) (below : Path → List Site) (base path : Path) → Has path (paths_of (flat_map (with_inside below base) list)) → IsBelow list below base path
 is_below list below base path has =
     let placed_by = from-flat_map (λ s. instances_at s.path s.before s.item) (flat_map (with_inside below base) list) path has in
     let in_entry = from-flat_map (with_inside below base) list placed_by.0 placed_by.1 in

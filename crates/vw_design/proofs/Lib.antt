@@ -27,3 +27,4 @@ pub mod Sizes
 pub mod FaultLaws
 pub mod FlatReads
 pub mod Numbers
+pub mod OncePaths

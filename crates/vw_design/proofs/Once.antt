@@ -37,7 +37,7 @@ apart_filter keep (site ∷ list) apart = by (keep site) (apart_filter keep list
   by false rest = rest
 
 -- lists that end alike, where the ends are as long
-same_ends : (one other : Path) (left right : Path) → one ++ left ≡ other ++ right → length left ≡ length right → left ≡ right
+pub same_ends : (one other : Path) (left right : Path) → one ++ left ≡ other ++ right → length left ≡ length right → left ≡ right
 same_ends [] [] left right same long = same
 same_ends [] (b ∷ other) left right same long = absurd (omega (arith, ap (λ (p : Path). length p) same, length-append other right))
 same_ends (a ∷ one) [] left right same long = absurd (omega (arith, ap (λ (p : Path). length p) same, length-append one left))
@@ -65,7 +65,7 @@ abbrev IsBehind : Path → ℕ → ℕ → Site → Type 0
 IsBehind base number before site =
     ((site.path ≡ base) × (number ≤ site.number)) ⊎ ((front : Path) × (b : ℕ) × (before ≤ b) × (site.path ≡ front ++ (suc b ∷ base)))
 
-entry_from : (number before : ℕ) (items : List Item) (entry : Numbered) → Has entry (numbered number before items) → (number ≤ entry.number) × (before ≤ entry.before)
+pub entry_from : (number before : ℕ) (items : List Item) (entry : Numbered) → Has entry (numbered number before items) → (number ≤ entry.number) × (before ≤ entry.before)
 entry_from number before [] entry has = absurd has
 entry_from number before (item ∷ items) entry has =
     let later = λ (found : Has entry (numbered (suc number) (and_behind item before) items)).

@@ -15,9 +15,12 @@ use Rattle.vw_design.specs.Clocks.{columns}
 abbrev pub item_at : Design → Path → ℕ → Option Item
 item_at design path number = slice_get (items_of (model_at design path)) number
 
--- the place of a name among names, and of an item of an instance among sites
+-- the place of a name among names, of a path among paths, and of an item of an instance among sites
 abbrev pub place_of_name : List Word → Word → Option ℕ
 place_of_name names name = first_place (λ other. bytes_eq other name) names
+
+abbrev pub place_of_path : List Path → Path → Option ℕ
+place_of_path paths path = first_place (λ other. bytes_eq other path) paths
 
 abbrev pub is_site_of : Path → ℕ → Site → Bool
 is_site_of path number site = bytes_eq site.path path && site.number == number

@@ -5,7 +5,7 @@ ghost use Rattle.vw_design.specs.declared.item.Item.{Item};
 ghost use Rattle.vw_design.specs.declared.model.Model.{Model};
 ghost use Rattle.vw_design.specs.Paths.{Path, model_at};
 ghost use Rattle.vw_design.specs.Preorder.{Site, is_latch, instances, sites, cells, latches};
-ghost use Rattle.vw_design.specs.PathValue.{item_at, place_of_site};
+ghost use Rattle.vw_design.specs.PathValue.{item_at, place_of_path, place_of_site};
 ghost use Rattle.vw_design.specs.Accepted.{IsAccepted};
 
 /// In an accepted design a path is an instance exactly where it is listed among the instances.
@@ -33,7 +33,7 @@ pub fn items_are_sites()
         × (site.number ≡ number) × (site.item ≡ item) }
 {}
 
-/// Each site of a design, and each cell, stands where its item is first listed, so that no item is listed twice.
+/// Each site of a design, each cell and each instance stands where it is first listed, so that none is listed twice.
 pub fn items_are_once()
     ensures sites { (design : Design) (place : ℕ) (site : Site)
         → slice_get (sites design) place ≡ Some site
@@ -41,4 +41,7 @@ pub fn items_are_once()
     ensures cells { (design : Design) (place : ℕ) (site : Site)
         → slice_get (cells design) place ≡ Some site
         → place_of_site (cells design) site.path site.number ≡ Some place }
+    ensures instances { (design : Design) (place : ℕ) (path : Path)
+        → slice_get (instances design) place ≡ Some path
+        → place_of_path (instances design) path ≡ Some place }
 {}

@@ -1,4 +1,5 @@
 use Rattle.vw_design.proofs.Once.{site_once, cell_once}
+use Rattle.vw_design.proofs.OncePaths.{instance_once}
 use Rattle.vw_design.proofs.laws.sites.items_are_once.Goals as goal
 
 -- what stands below a path ends in it, and the numbers of its own items rise
@@ -7,3 +8,6 @@ returns-clause-sites c = site_once
 
 pub returns-clause-cells : goal.returns-clause-cells
 returns-clause-cells c = cell_once
+
+pub returns-clause-instances : goal.returns-clause-instances
+returns-clause-instances c = instance_once
