@@ -26,22 +26,23 @@ pub fn counts_are_weights()
 /// Where models are ranked, a count that is made model by model, and capped at each, is the capped weight at each depth
 /// past the rank; and the weight itself is the same at each.
 pub fn weights_are_counted()
-    ensures counts { (design : Design) (among : Word → Bool) (rank : Word → ℕ) → IsRanking design among rank
-        → (weight : Item → ℕ) (cap : ℕ) (count : Word → ℕ)
+    ensures counts { (design : Design) (among : Word → Bool) (rank : Word → ℕ)
+        → IsRanking design among rank → (weight : Item → ℕ) (cap : ℕ) (count : Word → ℕ)
         → ((name : Word) → IsTrue (among name)
-        → count name ≡ min cap (items_weight weight count (items_of (model_named design.models name))))
+        → count name
+        ≡ min cap (items_weight weight count (items_of (model_named design.models name))))
         → (depth : ℕ) (name : Word) → IsTrue (among name) → rank name < depth
         → count name ≡ min cap (model_weight design weight depth name) }
-    ensures depths { (design : Design) (among : Word → Bool) (rank : Word → ℕ) → IsRanking design among rank
-        → (weight : Item → ℕ) (one other : ℕ) (name : Word) → IsTrue (among name)
+    ensures depths { (design : Design) (among : Word → Bool) (rank : Word → ℕ)
+        → IsRanking design among rank → (weight : Item → ℕ) (one other : ℕ) (name : Word) → IsTrue (among name)
         → rank name < one → rank name < other
         → model_weight design weight one name ≡ model_weight design weight other name }
 {}
 
 /// Where models are ranked, a height that is made model by model is the height at each depth past the rank.
 pub fn heights_are_counted()
-    ensures { (design : Design) (among : Word → Bool) (rank : Word → ℕ) → IsRanking design among rank
-        → (height : Word → ℕ)
+    ensures { (design : Design) (among : Word → Bool) (rank : Word → ℕ)
+        → IsRanking design among rank → (height : Word → ℕ)
         → ((name : Word) → IsTrue (among name)
         → height name ≡ items_height height (items_of (model_named design.models name)))
         → (depth : ℕ) (name : Word) → IsTrue (among name) → rank name < depth

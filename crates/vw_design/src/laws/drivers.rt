@@ -22,7 +22,8 @@ pub fn drivers_turn()
 /// In an accepted design whatever goes along the turns like this gives each net its driver.
 pub fn drivers_are_one()
     ensures { (design : Design) → IsAccepted design → (found : Path → Word → Option Source)
-        → ((path : Path) (name : Word) → found path name ≡ follow_turn found (turn design path name))
+        → ((path : Path) (name : Word)
+        → found path name ≡ follow_turn found (turn design path name))
         → (path : Path) (name : Word) → found path name ≡ driver design path name }
 {}
 

@@ -8,10 +8,12 @@ ghost use Rattle.vw_design.specs.Accepted.{IsAccepted, Fault, recursive, IsFault
 
 /// A design is accepted exactly where it has no fault, and it has one fault, but for the list of a circle.
 pub fn faults_are_exact()
-    ensures accepted { (design : Design) → IsAccepted design → (fault : Fault) → IsFaultOf design fault → ⊥ }
-    ensures faultless { (design : Design) → ((fault : Fault) → IsFaultOf design fault → ⊥) → IsAccepted design }
-    ensures single { (design : Design) (one other : Fault) → IsFaultOf design one → IsFaultOf design other
-        → ((names : List Word) → one ≡ recursive names → ⊥) → one ≡ other }
+    ensures accepted { (design : Design) → IsAccepted design → (fault : Fault)
+        → IsFaultOf design fault → ⊥ }
+    ensures faultless { (design : Design) → ((fault : Fault) → IsFaultOf design fault → ⊥)
+        → IsAccepted design }
+    ensures single { (design : Design) (one other : Fault) → IsFaultOf design one
+        → IsFaultOf design other → ((names : List Word) → one ≡ recursive names → ⊥) → one ≡ other }
 {}
 
 /// No quantity of a design is too big exactly where all are small, and the columns are no more than the inputs that

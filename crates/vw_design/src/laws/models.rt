@@ -8,8 +8,8 @@ ghost use Rattle.vw_design.specs.Counts.{IsRanking};
 
 /// The models that are reached are the root, those that a reached model places, and no others.
 pub fn reached_models()
-    ensures instances { (design : Design) (path : Path) (model : Model) → model_at design path ≡ Some model
-        → IsTrue (is_reached design model.name) }
+    ensures instances { (design : Design) (path : Path) (model : Model)
+        → model_at design path ≡ Some model → IsTrue (is_reached design model.name) }
     ensures placed { (design : Design) (name placed : Word) → IsTrue (is_reached design name)
         → IsTrue (model_places (model_named design.models name) placed)
         → IsTrue (is_some (model_named design.models placed)) → IsTrue (is_reached design placed) }

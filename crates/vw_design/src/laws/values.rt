@@ -22,11 +22,12 @@ ghost use Rattle.vw_design.specs.Loops.{gate_at, gate_reads, IsLoopFree};
 /// A netlist of a design, whether it has loops or not, gives each net with a number the value that the design gives it
 /// by its paths, at each level.
 pub fn values_agree()
-    ensures levels { (design : Design) (flat : Flat) → IsFlatOf design flat → (row state : List Bool)
-        (level : ℕ) (path : Path) (name : Word) (net : ℕ) → number_of design path name ≡ Some net
+    ensures levels { (design : Design) (flat : Flat) → IsFlatOf design flat
+        → (row state : List Bool) (level : ℕ) (path : Path) (name : Word) (net : ℕ)
+        → number_of design path name ≡ Some net
         → level_value level flat row state net ≡ path_level level design row state path name }
-    ensures values { (design : Design) (flat : Flat) → IsFlatOf design flat → (row state : List Bool)
-        (path : Path) (name : Word) (net : ℕ) → number_of design path name ≡ Some net
+    ensures values { (design : Design) (flat : Flat) → IsFlatOf design flat
+        → (row state : List Bool) (path : Path) (name : Word) (net : ℕ) → number_of design path name ≡ Some net
         → net_value flat row state net ≡ path_value design row state path name }
 {}
 
