@@ -1,5 +1,5 @@
 -- Where models have ranks, they don't place each other in a circle.
-use Rattle.std.proofs.Common.{◌≡◌, ◌<◌, ℕ, Bool, true, List, [], ◌∷◌, ◌++◌, Option, Some, None, nat_lt, ⊎_elim, sym, ◌∙◌, ap, subst, true≢false, arith}
+use Rattle.std.proofs.Common.{◌≡◌, ◌<◌, ℕ, Bool, true, List, [], ◌∷◌, ◌++◌, Option, Some, None, nat_lt, sym, subst, true≢false, arith}
 use Rattle.std.specs.List.{list_all, AllZip}
 use Rattle.std.proofs.lemmas.Bool.{and_parts, ltb-true}
 use Rattle.vw_design.specs.declared.item.Item.{Item}
@@ -9,15 +9,8 @@ use Rattle.vw_design.specs.declared.design.Design.{Design}
 use Rattle.vw_design.specs.Paths.{Word, model_named, items_of}
 use Rattle.vw_design.specs.ModelFaults.{is_reached, names_model, model_places, IsCircle}
 use Rattle.vw_design.specs.Counts.{is_below, IsRanking}
-use Rattle.vw_design.proofs.Has.{Has, from-any}
+use Rattle.vw_design.proofs.Has.{from-any, all-Has}
 use Rattle.vw_design.proofs.Names.{same_name}
-
--- an element of a list that passes a test throughout
-all_has : {A : Type 0} (test : A → Bool) (x : A) (xs : List A) → list_all test xs ≡ true → Has x xs → test x ≡ true
-all_has test x [] all has = absurd has
-all_has test x (y ∷ ys) all has =
-    let parts = and_parts (test y) (list_all test ys) all in
-    ⊎_elim (λ same. ap test (sym same) ∙ parts.0) (λ later. all_has test x ys parts.1 later) has
 
 module _ (design : Design) (among : Word → Bool) (rank : Word → ℕ) (ranking : IsRanking design among rank) where
   -- what an item places has a smaller rank
@@ -32,7 +25,7 @@ module _ (design : Design) (among : Word → Bool) (rank : Word → ℕ) (rankin
   by_model limit next None below places = absurd (true≢false (sym places))
   by_model limit next (Some model) below places =
       let item = from-any (names_model next) model.items places in
-      by_item limit next item.0 (all_has (is_below among rank limit) item.0 model.items below item.1) item.2
+      by_item limit next item.0 (all-Has (is_below among rank limit) item.0 model.items below item.1) item.2
 
   -- along models of which each places the next, ranks fall
   falls : (name : Word) (names : List Word) (last : Word) → among name ≡ true

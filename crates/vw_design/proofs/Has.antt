@@ -1,8 +1,8 @@
 -- What elements a list has, where it is made from others.
 use Rattle.std.proofs.Common.{◌≡◌, ◌<◌, ℕ, zero, suc, Bool, true, false, cond, List, [], ◌∷◌, ◌++◌, length, map, get_or, Option, Some, None, slice_get, ◌⊎◌, inl, inr, ⊎_elim, refl, sym, ◌∙◌, ap, subst, true≢false, filter, find, flat_map, filter_map, option_map, Contains, arith}
-use Rattle.std.specs.List.{cons_option, list_any}
+use Rattle.std.specs.List.{cons_option, list_any, list_all}
 use Rattle.std.specs.Option.{option_or}
-use Rattle.std.proofs.lemmas.Bool.{or_cases, or_left, or_right}
+use Rattle.std.proofs.lemmas.Bool.{or_cases, or_left, or_right, and_parts}
 use Rattle.std.proofs.lemmas.Option.{same_Some, none-some}
 use Rattle.vw_design.specs.Lists.{first_found, first_place}
 
@@ -91,6 +91,12 @@ module _ {A : Type 0} where
   from-any p [] any = absurd (true≢false (sym any))
   from-any p (y ∷ ys) any =
       ⊎_elim (λ here. (y, inl refl, here)) (λ there. let rest = from-any p ys there in (rest.0, inr rest.1, rest.2)) (or_cases (p y) (list_any p ys) any)
+
+  pub all-Has : (test : A → Bool) (x : A) (xs : List A) → list_all test xs ≡ true → Has x xs → test x ≡ true
+  all-Has test x [] all has = absurd has
+  all-Has test x (y ∷ ys) all has =
+      let parts = and_parts (test y) (list_all test ys) all in
+      ⊎_elim (λ same. ap test (sym same) ∙ parts.0) (λ later. all-Has test x ys parts.1 later) has
 
   -- the first place of an element that passes a test
   place_step : (p : A → Bool) (x y : A) (ys : List A) (b : Bool) → p y ≡ b → p x ≡ true → (Has x ys → (place : ℕ) × (first_place p ys ≡ Some place)) → Has x (y ∷ ys)

@@ -28,3 +28,4 @@ pub mod FaultLaws
 pub mod FlatReads
 pub mod Numbers
 pub mod OncePaths
+pub mod Ordered

@@ -34,8 +34,8 @@ pub fn weights_are_counted()
         → (depth : ℕ) (name : Word) → IsTrue (among name) → rank name < depth
         → count name ≡ min cap (model_weight design weight depth name) }
     ensures depths { (design : Design) (among : Word → Bool) (rank : Word → ℕ)
-        → IsRanking design among rank → (weight : Item → ℕ) (one other : ℕ) (name : Word) → IsTrue (among name)
-        → rank name < one → rank name < other
+        → IsRanking design among rank → (weight : Item → ℕ) (one other : ℕ)
+        (name : Word) → IsTrue (among name) → rank name < one → rank name < other
         → model_weight design weight one name ≡ model_weight design weight other name }
 {}
 

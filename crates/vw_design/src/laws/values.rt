@@ -3,6 +3,7 @@ ghost use Rattle.std.specs.Prelude.{◌≡◌, ◌≤◌, ◌+◌, ◌==◌, ℕ
 ghost use Rattle.std.specs.List.{list_any};
 ghost use Rattle.vw_net.specs.declared.cover.Cover.{Cover};
 ghost use Rattle.vw_net.specs.declared.flat.Flat.{Flat};
+ghost use Rattle.vw_net.specs.declared.ordered.Ordered.{Ordered};
 ghost use Rattle.vw_net.specs.Cells.{start_values};
 ghost use Rattle.vw_net.specs.Cover.{cover_value};
 ghost use Rattle.vw_net.specs.Order.{read_nets_at};
@@ -27,8 +28,8 @@ pub fn values_agree()
         → number_of design path name ≡ Some net
         → level_value level flat row state net ≡ path_level level design row state path name }
     ensures values { (design : Design) (flat : Flat) → IsFlatOf design flat
-        → (row state : List Bool) (path : Path) (name : Word) (net : ℕ) → number_of design path name ≡ Some net
-        → net_value flat row state net ≡ path_value design row state path name }
+        → (row state : List Bool) (path : Path) (name : Word) (net : ℕ)
+        → number_of design path name ≡ Some net → net_value flat row state net ≡ path_value design row state path name }
 {}
 
 /// The history of a design's netlist, from the start values of its latches, is the history of the design by its paths,
@@ -67,4 +68,10 @@ pub fn reads_agree()
         → site.item ≡ Names line ins out cover
         → gate_reads design (gate_at site) (gate_at read)
         ≡ list_any (λ net. net == flat.inputs + other) (read_nets_at (slice_get flat.cells place)) }
+{}
+
+/// An accepted design is free of loops where the gates of its netlist have an order.
+pub fn ordered_is_loop_free()
+    ensures { (design : Design) → IsAccepted design → (ordered : Ordered)
+        → IsFlatOf design ordered.flat → IsLoopFree design }
 {}
