@@ -1,0 +1,89 @@
+-- Lists that are filtered, and lists that go along with each other.
+use Rattle.std.proofs.Common.{◌≡◌, ℕ, zero, suc, Bool, true, false, cond, List, [], ◌∷◌, length, map, take, Option, Some, None, slice_get, option_map, filter, refl, sym, ◌∙◌, ap, ap₂, subst, true≢false}
+use Rattle.std.specs.List.{AllZip}
+use Rattle.std.proofs.lemmas.Bool.{cond-false}
+use Rattle.std.proofs.lemmas.Option.{same_Some, none-some}
+use Rattle.vw_design.specs.Lists.{first_place}
+
+module _ {A : Type 0} where
+  -- a filter behind one that keeps more keeps what it keeps alone
+  filter_by : (wide narrow : A → Bool) → ((x : A) → narrow x ≡ true → wide x ≡ true) → (x : A) (xs : List A) → filter narrow (filter wide xs) ≡ filter narrow xs
+      → (kept : Bool) → wide x ≡ kept → filter narrow (cond kept (x ∷ filter wide xs) (filter wide xs)) ≡ filter narrow (x ∷ xs)
+  filter_by wide narrow keeps x xs rest true is = ap (λ (ys : List A). cond (narrow x) (x ∷ ys) ys) rest
+  filter_by wide narrow keeps x xs rest false is = rest ∙ sym (cond-false (narrow x) (x ∷ filter narrow xs) (filter narrow xs) (out (narrow x) refl)) where
+    out : (b : Bool) → narrow x ≡ b → narrow x ≡ false
+    out true passes = absurd (true≢false (sym (keeps x passes) ∙ is))
+    out false fails = fails
+
+  pub filter-filter : (wide narrow : A → Bool) → ((x : A) → narrow x ≡ true → wide x ≡ true) → (xs : List A) → filter narrow (filter wide xs) ≡ filter narrow xs
+  filter-filter wide narrow keeps [] = refl
+  filter-filter wide narrow keeps (x ∷ xs) = filter_by wide narrow keeps x xs (filter-filter wide narrow keeps xs) (wide x) refl
+
+  -- the first place of an element that is kept, among those that are kept: as many as are kept before it
+  kept_before : (keep : A → Bool) (k : ℕ) (xs : List A) → ℕ
+  kept_before keep k xs = length (filter keep (take k xs))
+
+  place_by : (passes keep : A → Bool) (y : A) (ys : List A) (k : ℕ) (x : A) → slice_get (y ∷ ys) k ≡ Some x → keep x ≡ true
+      → (rest : (before : ℕ) → first_place passes ys ≡ Some before → slice_get ys before ≡ Some x → first_place passes (filter keep ys) ≡ Some (length (filter keep (take before ys))))
+      → (b : Bool) → passes y ≡ b → (further : Option ℕ) → first_place passes ys ≡ further → cond b (Some 0) (option_map (λ at. suc at) further) ≡ Some k
+      → (c : Bool) → keep y ≡ c → first_place passes (cond c (y ∷ filter keep ys) (filter keep ys)) ≡ Some (length (filter keep (take k (y ∷ ys))))
+  place_by passes keep y ys zero x at kept rest true is further is_further found true keeps =
+      ap (λ (b : Bool). cond b (Some 0) (option_map (λ place. suc place) (first_place passes (filter keep ys)))) is
+  place_by passes keep y ys zero x at kept rest true is further is_further found false keeps = absurd (true≢false (sym kept ∙ ap keep (sym (same_Some y x at)) ∙ keeps))
+  place_by passes keep y ys (suc k) x at kept rest true is further is_further found c keeps = absurd (zero_suc k (same_Some 0 (suc k) found)) where
+    zero_suc : (k : ℕ) → 0 ≡ suc k → ⊥
+    zero_suc k e = cc
+  place_by passes keep y ys k x at kept rest false is None is_further found c keeps = absurd (none-some k found)
+  place_by passes keep y ys zero x at kept rest false is (Some before) is_further found c keeps = absurd (suc_zero before (same_Some (suc before) 0 found)) where
+    suc_zero : (k : ℕ) → suc k ≡ 0 → ⊥
+    suc_zero k e = cc
+  place_by passes keep y ys (suc k) x at kept rest false is (Some before) is_further found true keeps =
+      let same : before ≡ k = suc_same before k (same_Some (suc before) (suc k) found) in
+      let there = rest before is_further (ap (slice_get ys) same ∙ at) in
+      ap (λ (b : Bool). cond b (Some 0) (option_map (λ place. suc place) (first_place passes (filter keep ys)))) is
+      ∙ ap (option_map (λ (place : ℕ). suc place)) there
+      ∙ ap (λ (n : ℕ). Some (suc (length (filter keep (take n ys))))) same
+      ∙ sym (ap (λ (b : Bool). Some (length (cond b (y ∷ filter keep (take k ys)) (filter keep (take k ys))))) keeps)
+    where
+      suc_same : (a b : ℕ) → suc a ≡ suc b → a ≡ b
+      suc_same a b e = cc
+  place_by passes keep y ys (suc k) x at kept rest false is (Some before) is_further found false keeps =
+      let same : before ≡ k = suc_same before k (same_Some (suc before) (suc k) found) in
+      let there = rest before is_further (ap (slice_get ys) same ∙ at) in
+      there ∙ ap (λ (n : ℕ). Some (length (filter keep (take n ys)))) same
+      ∙ sym (ap (λ (b : Bool). Some (length (cond b (y ∷ filter keep (take k ys)) (filter keep (take k ys))))) keeps)
+    where
+      suc_same : (a b : ℕ) → suc a ≡ suc b → a ≡ b
+      suc_same a b e = cc
+
+  pub place_in_filter : (passes keep : A → Bool) (xs : List A) (k : ℕ) (x : A) → first_place passes xs ≡ Some k → slice_get xs k ≡ Some x → keep x ≡ true
+      → first_place passes (filter keep xs) ≡ Some (length (filter keep (take k xs)))
+  place_in_filter passes keep [] k x found at kept = absurd (none-some x at)
+  place_in_filter passes keep (y ∷ ys) k x found at kept =
+      place_by passes keep y ys k x at kept (λ before is there. place_in_filter passes keep ys before x is there kept) (passes y) refl (first_place passes ys) refl found (keep y) refl
+
+module _ {A B : Type 0} where
+  -- the element that goes along with one
+  pub AllZip-at : (R : A → B → Type 0) (xs : List A) (ys : List B) (k : ℕ) (x : A) → AllZip R xs ys → slice_get xs k ≡ Some x → (y : B) × (slice_get ys k ≡ Some y) × R x y
+  AllZip-at R [] ys k x along at = absurd (none-some x at)
+  AllZip-at R (first ∷ xs) [] k x along at = absurd along
+  AllZip-at R (first ∷ xs) (y ∷ ys) zero x along at = (y, refl, subst (λ (z : A). R z y) (same_Some first x at) along.0)
+  AllZip-at R (first ∷ xs) (y ∷ ys) (suc k) x along at = AllZip-at R xs ys k x along.1 at
+
+  pub AllZip-length : (R : A → B → Type 0) (xs : List A) (ys : List B) → AllZip R xs ys → length xs ≡ length ys
+  AllZip-length R [] [] along = refl
+  AllZip-length R [] (y ∷ ys) along = absurd along
+  AllZip-length R (x ∷ xs) [] along = absurd along
+  AllZip-length R (x ∷ xs) (y ∷ ys) along = ap suc (AllZip-length R xs ys along.1)
+
+module _ {A : Type 0} where
+  -- values of things by their numbers
+  pub map_numbered : {V : Type 0} (number : A → Option ℕ) (value : ℕ → V) (other : A → V) → ((x : A) (n : ℕ) → number x ≡ Some n → value n ≡ other x)
+      → (xs : List A) (ns : List ℕ) → map number xs ≡ map (λ n. Some n) ns → map value ns ≡ map other xs
+  map_numbered number value other agree [] [] are = refl
+  map_numbered number value other agree [] (n ∷ ns) are = cc
+  map_numbered number value other agree (x ∷ xs) [] are = cc
+  map_numbered {V} number value other agree (x ∷ xs) (n ∷ ns) are =
+      let first : number x ≡ Some n = cc in
+      let rest : map number xs ≡ map (λ (m : ℕ). Some m) ns = cc in
+      ap₂ (λ (v : V) (vs : List V). v ∷ vs) (agree x n first) (map_numbered number value other agree xs ns rest)
