@@ -17,3 +17,4 @@ pub mod Accepted
 pub mod Loops
 pub mod Counts
 pub mod Slots
+pub mod ModelNumbers
