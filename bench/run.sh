@@ -10,11 +10,11 @@ mkdir -p "$folder" && cd "$folder" || exit 1
 
 # ---- texts
 
-# statements BYTES LINE: a model with so many bytes of one statement, in which @ is a new number each time
+# statements BYTES FORMAT: a model with so many bytes of one statement, whose format takes a number
 statements() {
-  awk -v bytes="$1" -v line="$2" 'BEGIN {
-    text = ".model m\n.inputs a b\n.outputs a\n"; printf "%s", text; size = length(text)
-    for (n = 0; size < bytes - 64; n++) { text = line "\n"; gsub("@", n, text); printf "%s", text; size += length(text) }
+  awk -v bytes="$1" -v format="$2\n" 'BEGIN {
+    printf ".model m\n.inputs a b\n.outputs a\n"
+    for (n = size = 0; size < bytes - 128; n++) { text = sprintf(format, n); printf "%s", text; size += length(text) }
     printf ".end\n" }'
 }
 # models BYTES: one-line models
@@ -77,9 +77,9 @@ echo "| design | text, kB | status | message | seconds | peak, MB | million tabl
 echo "|---|---|---|---|---|---|---|"
 : > none.stim
 for bytes in 1000000 16700000; do
-  statements $bytes '.names a b n@\n11 1' > tables.blif
+  statements $bytes '.names a b n%d\n11 1' > tables.blif
   row "tables of one row" 0 sim tables.blif none.stim
-  statements $bytes '.latch a n@ 0' > latches.blif
+  statements $bytes '.latch a n%d 0' > latches.blif
   row "latches" 0 sim latches.blif none.stim
   models $bytes > models.blif
   row "models of one line" 0 sim models.blif none.stim
