@@ -57,7 +57,7 @@ line_at_fault lines rest line old fault kept refuses is =
     sym kept.faults ∙ ap (λ (f : Option TextFault). or_next f (first_fault (line ∷ kept.before) rest)) (refuses kept.before kept.told is)
 
 -- a text that isn't too large has the fault of its lines, or their models
-of_lines : (text : List ℕ) → length text ≤ 16777216 → design_of text ≡ design_of_lines (word_lines text)
+pub of_lines : (text : List ℕ) → length text ≤ 16777216 → design_of text ≡ design_of_lines (word_lines text)
 of_lines text small = cond-false (ltb 16777216 (length text)) _ _ (le-ltb 16777216 (length text) small)
 
 some_lines : (lines : List Line) → 0 < length lines → design_of_lines lines ≡ unless (first_fault [] lines) (spelled_by lines)

@@ -12,3 +12,8 @@ pub mod FewLines
 pub mod DesignLines
 pub mod ReaderLines
 pub mod GroupLines
+pub mod PrintedWords
+pub mod PrintedGroups
+pub mod PrintedModels
+pub mod PrintedFaults
+pub mod PrintedDesigns
