@@ -46,10 +46,18 @@ impl<'a> Seen<'a> {
         self.insert(kept)
     }
 
+    /// Takes memory for so many words more.
+    fn make_room(&mut self, count: usize) -> Result<(), AllocError>
+        ensures { (word : List ℕ) → has_seen self.new.words word ≡ has_seen self.old.words word }
+    {
+        self.words.reserve(count)
+    }
+
     /// Adds words until one isn't new, and says whether all were.
     pub fn keep_all(&mut self, arena: &'a Bump, words: &[Name]) -> Result<bool, AllocError>
         ensures { IfOk result (InsertsAll self.old.words words.now self.new.words) }
     {
+        self.make_room(words.len())?;
         for word in words {
             if !self.keep(arena, word.as_slice())? {
                 return Ok(false);
