@@ -25,7 +25,7 @@ pub fn read(alloc: Global, text: &[u8]) -> Result<Design, TextFault>
     // the words that are looked for again
     let arena = Bump::new(alloc);
     let mut lines = LineReader::new(text);
-    let mut reader = Reader::new(alloc);
+    let mut reader = Reader::new(alloc)?;
     while let Some(line) = lines.next_line(alloc)? {
         reader = reader.read_line(alloc, &arena, &line)?;
     }

@@ -24,10 +24,10 @@ pub struct Reader<'a> {
     /// The models that have ended.
     pub models: Vec<Model>,
     /// The names of the models so far.
-    pub names: Seen<'a>,
+    pub names: Box<Seen<'a>>,
     /// The model to which the next line belongs.
     pub block: Option<Box<Block<'a>>>,
-    ghost knows: { Knows (names_so_far models.items (opened block)) names.words },
+    ghost knows: { Knows (names_so_far models.items (opened block)) names.value.words },
     ghost distinct: { IsTrue (are_distinct (names_so_far models.items (opened block))) },
     ghost well_made: { All IsWellMade models.items },
 }
@@ -37,15 +37,15 @@ impl<'a> Reader<'a> {
     ghost use Rattle.vw_blif.specs.declared.kind.Kind.{Kind};
     ghost use Rattle.vw_blif.specs.Steps.Readers.{IsAtStart, Ends, IsRead, ReadsLine, RefusesLine};
 
-    /// Nothing was read. It takes no memory.
-    pub fn new(alloc: Global) -> Self
-        ensures { IsAtStart result }
+    /// Nothing was read.
+    pub fn new(alloc: Global) -> Result<Self, AllocError>
+        ensures { IfOk result IsAtStart }
     {
-        Reader {
+        Ok(Reader {
             models: Vec::new(alloc),
-            names: Seen::new(alloc),
+            names: Box::new(alloc, Seen::new(alloc))?,
             block: None,
-        }
+        })
     }
 
     /// The same design, with its open model among the models.

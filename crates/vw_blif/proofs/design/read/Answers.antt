@@ -10,16 +10,16 @@ use Rattle.vw_blif.proofs.design.read.Goals as goal
 
 pub loop-reader-init : goal.loop-reader-init
 loop-reader-init c =
-    subst (λ (ls : List Line). IsReadSoFar (word_lines c.args.text.now) ls c.new-reader.result) (sym c.new-lines.ensures)
-    (no_line (word_lines c.args.text.now) c.new-reader.result c.new-reader.ensures)
+    subst (λ (ls : List Line). IsReadSoFar (word_lines c.args.text.now) ls c.in_ok-reader.reader) (sym c.new-lines.ensures)
+    (no_line (word_lines c.args.text.now) c.in_ok-reader.reader c.in_ok-reader.ensures)
 
-pub returns-in_err-reader-clause-fault : goal.returns-in_err-reader-clause-fault
-returns-in_err-reader-clause-fault c =
+pub returns-in_err-reader-2-clause-fault : goal.returns-in_err-reader-2-clause-fault
+returns-in_err-reader-2-clause-fault c =
     let next = rw c.in-Some.is at c.in_ok-line.ensures in
     let kept = subst (λ (ls : List Line). IsReadSoFar (word_lines c.args.text.now) ls c.loop-reader.reader) next.0 c.loop-reader.invariant in
-    let p = err_from_is_err_and c.from_residual-in_err-reader.result c.from_residual-in_err-reader.ensures.1 in
-    rw (p.1, p.2) (has_fault c.args.text.now (lines_left c.next_line.new.self) c.in-Some.line c.loop-reader.reader c.in_err-reader.field-0.0
-    (omega (c.if-text-gt-TEXT_LIMIT.false, arith)) kept c.in_err-reader.ensures.refuses)
+    let p = err_from_is_err_and c.from_residual-in_err-reader-2.result c.from_residual-in_err-reader-2.ensures.1 in
+    rw (p.1, p.2) (has_fault c.args.text.now (lines_left c.next_line.new.self) c.in-Some.line c.loop-reader.reader c.in_err-reader-2.field-0.0
+    (omega (c.if-text-gt-TEXT_LIMIT.false, arith)) kept c.in_err-reader-2.ensures.refuses)
 
 pub make-requires-clause-few : goal.make-requires-clause-few
 make-requires-clause-few c =
