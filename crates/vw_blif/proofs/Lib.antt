@@ -15,3 +15,4 @@ pub mod PrintedGroups
 pub mod PrintedModels
 pub mod PrintedFaults
 pub mod PrintedDesigns
+pub mod PrintedExample
