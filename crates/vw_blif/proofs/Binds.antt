@@ -13,7 +13,7 @@ use Rattle.vw_blif.specs.Bindings.{formal_of, actual_of, is_no_bind, bind_of, re
 use Rattle.vw_blif.specs.Steps.Says.{AreBinds}
 use Rattle.vw_blif.proofs.Repeats.{has_name-push, repeats-append}
 
-same_bytes : (a b : Word) → bytes_eq a b ≡ false → bytes_eq b a ≡ false
+pub same_bytes : (a b : Word) → bytes_eq a b ≡ false → bytes_eq b a ≡ false
 same_bytes a b differs = by_test (bytes_eq b a) refl
   where
     by_test : (t : Bool) → bytes_eq b a ≡ t → t ≡ false

@@ -26,7 +26,7 @@ module _ (begins : Line → Bool) where
   is_cut [] = record { whole = refl; before = refl; heads = refl; tails = refl }
   is_cut (line ∷ lines) = with_line line lines (cut_before begins lines) (begins line) refl (is_cut lines)
 
-  cut_front : (front rest : List Line) → list_any begins front ≡ false
+  pub cut_front : (front rest : List Line) → list_any begins front ≡ false
       → cut_before begins (front ++ rest) ≡ record { before = front ++ (cut_before begins rest).before; parts = (cut_before begins rest).parts }
   cut_front [] rest none = refl
   cut_front (line ∷ front) rest none =

@@ -7,6 +7,7 @@ use Rattle.vw_text.specs.declared.line.Line.{Line}
 use Rattle.vw_text.specs.WordLines.{word_lines}
 use Rattle.vw_design.specs.declared.model.Model as model
 use Rattle.vw_blif.specs.declared.fault.TextFault.{TextFault}
+use Rattle.vw_blif.specs.declared.fault.TextFault.TheVariants.{NoModel}
 use Rattle.vw_blif.specs.declared.block.Block.{Block}
 use Rattle.vw_blif.specs.declared.reader.Reader.{Reader}
 use Rattle.vw_blif.specs.declared.kind.Kind.{Kind}
@@ -16,7 +17,7 @@ use Rattle.vw_blif.specs.Spelled.{SpelledModel, spelled_model}
 use Rattle.vw_blif.specs.Designs.{spelled_by}
 use Rattle.vw_blif.specs.Faults.{faults_by, first_of, fault_at}
 use Rattle.vw_blif.specs.Read.{or_next, first_fault, unless, design_of_lines, design_of, is_text_fault}
-use Rattle.vw_blif.specs.Steps.Names.{names_so_far}
+use Rattle.vw_blif.specs.Steps.Names.{opened, names_so_far}
 use Rattle.vw_blif.specs.Steps.Readers.{models_made, ToldOpen, ToldAll, IsAtStart, ReadsLine, RefusesLine, IsRead}
 use Rattle.vw_blif.proofs.FewLines.{few_word_lines}
 
@@ -26,7 +27,7 @@ pub record IsReadSoFar (lines rest : List Line) (r : Reader) : Type 0 where
   pub told : ToldAll before r
   pub faults : first_fault before rest ≡ first_fault [] lines
   pub makes : models_made r rest ≡ spelled_by lines
-  pub few : length (names_so_far r.models.items r.block) + length rest ≤ length lines
+  pub few : length (names_so_far r.models.items (opened r.block)) + length rest ≤ length lines
 
 pub no_line : (lines : List Line) (r : Reader) → IsAtStart r → IsReadSoFar lines lines r
 no_line lines r start = record {
@@ -51,30 +52,26 @@ one_line lines rest line old new kept reads = record {
   few = omega (reads.count, kept.few, arith);
 }
 
-pub line_at_fault : (lines rest : List Line) (line : Line) (old : Reader) (fault : TextFault) → IsReadSoFar lines (line ∷ rest) old → RefusesLine old line fault
+line_at_fault : (lines rest : List Line) (line : Line) (old : Reader) (fault : TextFault) → IsReadSoFar lines (line ∷ rest) old → RefusesLine old line fault
     → is_text_fault fault ≡ true → first_fault [] lines ≡ Some fault
 line_at_fault lines rest line old fault kept refuses is =
     sym kept.faults ∙ ap (λ (f : Option TextFault). or_next f (first_fault (line ∷ kept.before) rest)) (refuses kept.before kept.told is)
 
 -- a text that isn't too large has the fault of its lines, or their models
-of_lines : (text : List ℕ) → length text ≤ 16777216 → design_of text ≡ design_of_lines (word_lines text)
+pub of_lines : (text : List ℕ) → length text ≤ 16777216 → design_of text ≡ design_of_lines (word_lines text)
 of_lines text small = cond-false (ltb 16777216 (length text)) _ _ (le-ltb 16777216 (length text) small)
 
 some_lines : (lines : List Line) → 0 < length lines → design_of_lines lines ≡ unless (first_fault [] lines) (spelled_by lines)
 some_lines [] some = absurd (omega (some, arith))
 some_lines (line ∷ lines) some = refl
 
-pub has_fault : (text : List ℕ) (lines : List Line) (fault : TextFault) → length text ≤ 16777216 → lines ≡ word_lines text → 0 < length lines → first_fault [] lines ≡ Some fault
-    → design_of text ≡ Err fault
-has_fault text lines fault small are some found =
-    of_lines text small ∙ ap design_of_lines (sym are) ∙ some_lines lines some
-    ∙ ap (λ (f : Option TextFault). unless f (spelled_by lines)) found
-
-has_models : (text : List ℕ) (lines : List Line) (models : List model.Model) → length text ≤ 16777216 → lines ≡ word_lines text → 0 < length lines
-    → first_fault [] lines ≡ None → map spelled_model models ≡ spelled_by lines → design_of text ≡ Ok (map spelled_model models)
-has_models text lines models small are some fine made =
-    of_lines text small ∙ ap design_of_lines (sym are) ∙ some_lines lines some
-    ∙ ap (λ (f : Option TextFault). unless f (spelled_by lines)) fine ∙ ap (λ (ms : List SpelledModel). Ok ms) (sym made)
+-- a line at fault
+pub has_fault : (text : List ℕ) (rest : List Line) (line : Line) (old : Reader) (fault : TextFault) → length text ≤ 16777216 → IsReadSoFar (word_lines text) (line ∷ rest) old
+    → RefusesLine old line fault → is_text_fault fault ≡ true → design_of text ≡ Err fault
+has_fault text rest line old fault small kept refuses is =
+    let lines = word_lines text in
+    of_lines text small ∙ some_lines lines (omega (kept.few, arith))
+    ∙ ap (λ (f : Option TextFault). unless f (spelled_by lines)) (line_at_fault lines rest line old fault kept refuses is)
 
 -- the first line begins a model, where it has no fault
 first_begins : (line : Line) (kind_ : Kind) → first_of (faults_by kind_ [] line) ≡ None → is_model kind_ ≡ true
@@ -99,26 +96,37 @@ some_models (line ∷ lines) some fine =
     let begins = first_begins line (kind line) (no_fault (fault_at [] line) (first_fault (line ∷ []) lines) fine) in
     rw begins (omega arith)
 
+-- lines without a fault that spell no model
+no_models : (lines : List Line) → first_fault [] lines ≡ None → length (spelled_by lines) ≡ 0 → lines ≡ []
+no_models [] fine none = refl
+no_models (line ∷ lines) fine none = absurd (omega (some_models (line ∷ lines) (omega arith) fine, none, arith))
+
+-- lines that spell a model
+models_left : (lines : List Line) → 0 < length (spelled_by lines) → 0 < length lines
+models_left [] some = absurd (omega (some, arith))
+models_left (line ∷ lines) some = omega arith
+
 -- the end of a text
-module _ (text : List ℕ) (lines : List Line) (r : Reader) (models : List model.Model) (small : length text ≤ 16777216) (are : lines ≡ word_lines text) (some : 0 < length lines)
-    (kept : IsReadSoFar lines [] r) (read : IsRead r models) where
-  made : map spelled_model models ≡ spelled_by lines
+module _ (text : List ℕ) (r : Reader) (models : List model.Model) (small : length text ≤ 16777216)
+    (kept : IsReadSoFar (word_lines text) [] r) (read : IsRead r models) where
+  made : map spelled_model models ≡ spelled_by (word_lines text)
   made = read.made ∙ kept.makes
 
-  pub is_design : design_of text ≡ Ok (map spelled_model models)
-  is_design = has_models text lines models small are some (sym kept.faults) made
+  count : length (spelled_by (word_lines text)) ≡ length models
+  count = sym (ap (λ (ms : List SpelledModel). length ms) made) ∙ length-map models spelled_model
 
-  pub has_models_some : 0 < length models
-  has_models_some =
-      let all = some_models lines some (sym kept.faults) in
-      let same = ap (λ (ms : List SpelledModel). length ms) made in
-      let kept_length = length-map models spelled_model in
-      omega (all, same, kept_length, arith)
+  pub is_design : 0 < length models → design_of text ≡ Ok (map spelled_model models)
+  is_design some =
+      of_lines text small ∙ some_lines (word_lines text) (models_left (word_lines text) (omega (some, count, arith)))
+      ∙ ap (λ (f : Option TextFault). unless f (spelled_by (word_lines text))) (sym kept.faults)
+      ∙ ap (λ (ms : List SpelledModel). Ok ms) (sym made)
+
+  pub has_no_model : length models ≡ 0 → design_of text ≡ Err (NoModel 0)
+  has_no_model none = of_lines text small ∙ ap design_of_lines (no_models (word_lines text) (sym kept.faults) (count ∙ none))
 
   pub has_few : length models < 2 ^ 32
   has_few =
       let counted = read.count in
       let few = kept.few in
       let read_ = few_word_lines text in
-      let lines_ = ap (λ (ls : List Line). length ls) are in
-      omega (counted, few, read_, lines_, small, arith)
+      omega (counted, few, read_, small, arith)

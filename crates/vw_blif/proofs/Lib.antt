@@ -3,7 +3,6 @@ pub mod Repeats
 pub mod Sides
 pub mod Binds
 pub mod TableSteps
-pub mod ModelSteps
 pub mod DistinctSteps
 pub mod ReaderSteps
 pub mod CutLines
@@ -11,4 +10,9 @@ pub mod FirstFaults
 pub mod FewLines
 pub mod DesignLines
 pub mod ReaderLines
-pub mod GroupLines
+pub mod PrintedWords
+pub mod PrintedGroups
+pub mod PrintedModels
+pub mod PrintedFaults
+pub mod PrintedDesigns
+pub mod PrintedExample

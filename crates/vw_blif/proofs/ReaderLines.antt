@@ -18,7 +18,7 @@ use Rattle.vw_blif.specs.Spelled.{SpelledModel, spelled_model}
 use Rattle.vw_blif.specs.Designs.{blocks, model_of}
 use Rattle.vw_blif.specs.Before.{is_open, open_behind, names_behind, model_names, table_behind, open_table, ports_behind, ports_before}
 use Rattle.vw_blif.specs.Faults.{when, faults_by, first_of, fault_at}
-use Rattle.vw_blif.specs.Steps.Names.{names_so_far}
+use Rattle.vw_blif.specs.Steps.Names.{opened, names_so_far}
 use Rattle.vw_blif.specs.Steps.Blocks.{block_made, Told, Takes, Refuses, IsNew}
 use Rattle.vw_blif.specs.Steps.Readers.{models_with, models_made, ToldOpen, ToldAll, Ends, ReadsLine, RefusesLine}
 use Rattle.vw_blif.proofs.Repeats.{has_name-push}
@@ -49,9 +49,9 @@ same_names End line names other = refl
 same_names Other line names other = refl
 same_names Row line names other = refl
 
-module _ (old new : Reader) (line : Line) (b taken : Block) (was : old.block ≡ Some b) (is : new.block ≡ Some taken) (same : new.models ≡ old.models)
+module _ (old new : Reader) (line : Line) (b taken : Block) (was : opened old.block ≡ Some b) (is : opened new.block ≡ Some taken) (same : new.models ≡ old.models)
     (other : is_model (kind line) ≡ false) (takes : Takes b line taken) where
-  names_taken : names_so_far new.models.items new.block ≡ names_so_far old.models.items old.block
+  names_taken : names_so_far new.models.items (opened new.block) ≡ names_so_far old.models.items (opened old.block)
   names_taken = rw (same, was, is, takes.name) refl
 
   told_block : (before : List Line) → ToldAll before old → Told before b
@@ -72,7 +72,7 @@ module _ (old new : Reader) (line : Line) (b taken : Block) (was : old.block ≡
   }
 
 -- a line that the open model refuses
-pub line_refused : (old : Reader) (line : Line) (b : Block) (fault : TextFault) → old.block ≡ Some b → Refuses b line fault → RefusesLine old line fault
+pub line_refused : (old : Reader) (line : Line) (b : Block) (fault : TextFault) → opened old.block ≡ Some b → Refuses b line fault → RefusesLine old line fault
 line_refused old line b fault was refuses = λ before told. refuses before (subst (λ (o : Option Block). ToldOpen before o) was told.block)
 
 -- a `.end` line
@@ -84,11 +84,11 @@ end_faults k before line is = rw is refl
 made_end : (b : Block) (line : Line) (lines : List Line) → kind line ≡ End → block_made b (line ∷ lines) ≡ block_made b []
 made_end b line lines is = rw (ap is_end is) refl
 
-pub model_ended : (old ended new : Reader) (line : Line) (b : Block) → old.block ≡ Some b → ended.models ≡ old.models → ended.block ≡ Some b → kind line ≡ End → Ends ended new
+pub model_ended : (old ended new : Reader) (line : Line) (b : Block) → opened old.block ≡ Some b → ended.models ≡ old.models → opened ended.block ≡ Some b → kind line ≡ End → Ends ended new
     → ReadsLine old line new
 model_ended old ended new line b was same is is_end_ ends =
     let other : is_model (kind line) ≡ false = ap is_model is_end_ in
-    let names : names_so_far new.models.items new.block ≡ names_so_far old.models.items old.block = ends.names ∙ rw (same, is, was) refl in
+    let names : names_so_far new.models.items (opened new.block) ≡ names_so_far old.models.items (opened old.block) = ends.names ∙ rw (same, is, was) refl in
     record {
       tells = λ before told. record {
         open_ = ap (λ (k : Kind). open_behind k (is_open before)) is_end_ ∙ sym (ap is_some ends.block);
@@ -137,24 +137,24 @@ behind line rest is None = rw (ap is_model is) refl
 behind line rest is (Some b) = rw (ap is_model is) refl
 
 module _ (old mid : Reader) (line : Line) (name : Word) (is_kind : kind line ≡ Model) (one : further line ≡ name ∷ []) (ends : Ends old mid) where
-  names_mid : (before : List Line) → ToldAll before old → model_names before ≡ names_so_far mid.models.items mid.block
+  names_mid : (before : List Line) → ToldAll before old → model_names before ≡ names_so_far mid.models.items (opened mid.block)
   names_mid before told = told.names ∙ sym ends.names
 
-  fault_is : (before : List Line) → ToldAll before old → (again : Bool) → has_name (names_so_far mid.models.items mid.block) name ≡ again
+  fault_is : (before : List Line) → ToldAll before old → (again : Bool) → has_name (names_so_far mid.models.items (opened mid.block)) name ≡ again
       → fault_at before line ≡ first_of (when again (DuplicateModel line.number) ++ [])
   fault_is before told again test =
       ap first_of (model_faults (kind line) before line is_kind)
       ∙ rw (one) (ap (λ (b : Bool). first_of (when b (DuplicateModel line.number) ++ [])) (ap (λ (names : List Word). has_name names name) (names_mid before told) ∙ test))
 
-  pub model_again : has_name (names_so_far mid.models.items mid.block) name ≡ true → (before : List Line) → ToldAll before old → fault_at before line ≡ Some (DuplicateModel line.number)
+  pub model_again : has_name (names_so_far mid.models.items (opened mid.block)) name ≡ true → (before : List Line) → ToldAll before old → fault_at before line ≡ Some (DuplicateModel line.number)
   model_again again before told = fault_is before told true again
 
-  module _ (new : Reader) (b : Block) (same : new.models ≡ mid.models) (is : new.block ≡ Some b) (fresh : IsNew name b)
-      (unseen : has_name (names_so_far mid.models.items mid.block) name ≡ false) where
-    names_new : names_so_far new.models.items new.block ≡ names_so_far mid.models.items mid.block ++ name ∷ []
-    names_new = rw (same, is) (names_begun mid.models.items mid.block b name ends.block fresh.named)
+  module _ (new : Reader) (b : Block) (same : new.models ≡ mid.models) (is : opened new.block ≡ Some b) (fresh : IsNew name b)
+      (unseen : has_name (names_so_far mid.models.items (opened mid.block)) name ≡ false) where
+    names_new : names_so_far new.models.items (opened new.block) ≡ names_so_far mid.models.items (opened mid.block) ++ name ∷ []
+    names_new = rw (same, is) (names_begun mid.models.items (opened mid.block) b name ends.block fresh.named)
 
-    names_told : (before : List Line) → ToldAll before old → model_names (line ∷ before) ≡ names_so_far new.models.items new.block
+    names_told : (before : List Line) → ToldAll before old → model_names (line ∷ before) ≡ names_so_far new.models.items (opened new.block)
     names_told before told =
         ap (λ (k : Kind). names_behind k line (model_names before)) is_kind
         ∙ ap₂ (λ (names ws : List Word). names ++ first_word ws ∷ []) (names_mid before told) one
@@ -179,8 +179,8 @@ module _ (old mid : Reader) (line : Line) (name : Word) (is_kind : kind line ≡
         let front : map spelled_model mid.models.items ≡ models_made old [] = ends.made in
         let next : models_made new rest ≡ models_made old [] ++ (model_of (record { head = line; tail = cut.before }) ∷ map model_of cut.parts) =
         rw (same, is, model_made cut.before, front) refl in
-        next ∙ append_assoc (map spelled_model old.models.items) (models_with old.block (blocks [])) _
-        ∙ ap (λ (ms : List SpelledModel). map spelled_model old.models.items ++ ms) (behind line rest is_kind old.block)
+        next ∙ append_assoc (map spelled_model old.models.items) (models_with (opened old.block) (blocks [])) _
+        ∙ ap (λ (ms : List SpelledModel). map spelled_model old.models.items ++ ms) (behind line rest is_kind (opened old.block))
 
     pub model_begun : ReadsLine old line new
     model_begun = record {
@@ -193,7 +193,7 @@ module _ (old mid : Reader) (line : Line) (name : Word) (is_kind : kind line ≡
       makes = made_new;
       count =
           let more = ap (λ (names : List Word). length names) names_new in
-          let longer = length-append (names_so_far mid.models.items mid.block) (name ∷ []) in
+          let longer = length-append (names_so_far mid.models.items (opened mid.block)) (name ∷ []) in
           let kept = ap (λ (names : List Word). length names) ends.names in
           omega (more, longer, kept, arith);
     }

@@ -13,10 +13,10 @@ use Rattle.vw_blif.specs.declared.table.Table.{Table}
 use Rattle.vw_blif.specs.Words.{Word, front_words, last_word}
 use Rattle.vw_blif.specs.Kinds.{further}
 use Rattle.vw_blif.specs.Spelled.{table}
-use Rattle.vw_blif.specs.Rows.{mark_of, is_value, is_row_of, row_marks, are_on_set}
+use Rattle.vw_blif.specs.Rows.{mark_of, is_value, value_word, is_row_of, row_marks, are_on_set}
 use Rattle.vw_blif.specs.Before.{or_value}
 use Rattle.vw_blif.specs.Faults.{differs_from}
-use Rattle.vw_blif.specs.Steps.Blocks.{value_word, on_or}
+use Rattle.vw_blif.specs.Steps.Blocks.{on_or}
 use Rattle.vw_blif.specs.Steps.Tables.{BeginsTable, AddsRow, is_other}
 use Rattle.vw_blif.proofs.LastWord.{front_words-take}
 
@@ -75,7 +75,7 @@ same_value true false same = absurd (true≢false same)
 same_value false true same = absurd (true≢false same)
 same_value false false same = refl
 
-same_word : (word : Word) → bytes_eq word word ≡ true
+pub same_word : (word : Word) → bytes_eq word word ≡ true
 same_word word = (bytes_eq-Decides word word).1 refl
 
 module _ (line : Line) (one : Bool) (width : ℕ) (ends : one ≡ bytes_eq (last_word line.words) (codes "1")) (row_is : is_row_of width line.words ≡ true) where

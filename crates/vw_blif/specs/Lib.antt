@@ -14,3 +14,5 @@ pub mod Messages
 pub mod Steps
 pub mod Cuts
 pub mod FirstFault
+pub mod Printed
+pub mod PlainDesigns

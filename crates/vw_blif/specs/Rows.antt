@@ -17,6 +17,10 @@ mark_of b = if b == 48 then Zero else if b == 49 then One else Any
 abbrev pub is_value : Word → Bool
 is_value word = bytes_eq word (codes "0") || bytes_eq word (codes "1")
 
+abbrev pub value_word : Bool → Word
+value_word true = codes "1"
+value_word false = codes "0"
+
 -- whether words are a row of a table with so many inputs: a mark for each of them in one word, where there are any,
 -- and a value
 abbrev pub is_row_of : ℕ → List Word → Bool

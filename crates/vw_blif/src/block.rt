@@ -1,5 +1,5 @@
 //! Models, line by line.
-ghost use Rattle.std.specs.Prelude.{◌≡◌, [], IsTrue, IfOk, IfErr};
+ghost use Rattle.std.specs.Prelude.{◌≡◌, [], IsTrue, IfOk, IfErr, OnOk};
 ghost use Rattle.std.specs.List.{list_all};
 ghost use Rattle.vw_design.specs.Shape.{IsWellMade, has_its_shape};
 
@@ -10,7 +10,9 @@ use crate::latch::latch_of;
 use crate::open_table::{add_row, begin_table, close_table};
 use crate::ports::Ports;
 use crate::table::Table;
+use bumpalo::Bump;
 use std::alloc::{AllocError, Global};
+use std::mem::replace;
 use vw_design::{Item, Model};
 use vw_net::Sequence;
 use vw_outside::Name;
@@ -35,226 +37,153 @@ impl<'a> Block<'a> {
     ghost use Rattle.vw_blif.specs.Spelled.{spelled_model};
     ghost use Rattle.vw_blif.specs.Steps.Blocks.{IsNew, Closes, HasItem, block_made, Takes, Refuses};
 
-    /// A model of which nothing but the name was read. It takes no memory.
-    pub fn new(alloc: Global, name: Name) -> Self
-        ensures { IsNew name result }
+    /// A model of which nothing but the name was read.
+    pub fn new(alloc: Global, name: Name) -> Result<Box<Self>, AllocError>
+        ensures { IfOk result (λ block. IsNew name block.value) }
     {
-        Block {
+        let block = Block {
             name,
             inputs: Ports::new(alloc),
             outputs: Ports::new(alloc),
             clocks: Ports::new(alloc),
             items: Vec::new(alloc),
             table: None,
-        }
+        };
+        Ok(Box::new(alloc, block)?)
     }
 
-    /// The same model with its open table among the items.
-    fn close(self) -> Result<Self, AllocError>
-        ensures { IfOk result (Closes self.entry) }
+    /// Puts the open table behind the items.
+    fn close(&mut self) -> Result<(), AllocError>
+        ensures { OnOk result (Closes self.old self.new) }
     {
-        let Block {
-            name,
-            inputs,
-            outputs,
-            clocks,
-            mut items,
-            table,
-        } = self;
-        if let Some(table) = table {
-            items.push(close_table(table))?;
+        if let Some(table) = self.table.take() {
+            self.items.push(close_table(table))?;
         }
-        Ok(Block {
-            name,
-            inputs,
-            outputs,
-            clocks,
-            items,
-            table: None,
-        })
+        Ok(())
     }
 
-    /// The same model with an item behind the others.
-    fn with_item(self, item: Item) -> Result<Self, AllocError>
+    /// Puts an item behind the others.
+    fn add_item(&mut self, item: Item) -> Result<(), AllocError>
         requires { IsTrue (has_its_shape item) }
-        ensures { IfOk result (HasItem self.entry item) }
+        ensures { OnOk result (HasItem self.old item self.new) }
     {
-        let Block {
-            name,
-            inputs,
-            outputs,
-            clocks,
-            mut items,
-            table,
-        } = self.close()?;
-        items.push(item)?;
-        Ok(Block {
-            name,
-            inputs,
-            outputs,
-            clocks,
-            items,
-            table,
-        })
+        self.close()?;
+        self.items.push(item)?;
+        Ok(())
     }
 
     /// Takes an `.inputs` line.
-    pub fn add_inputs(self, alloc: Global, line: &'a Line) -> Result<Self, TextFault>
+    pub fn add_inputs(
+        &mut self,
+        alloc: Global,
+        arena: &'a Bump,
+        line: &Line,
+    ) -> Result<(), TextFault>
         requires { kind line.now ≡ Kind.Inputs }
-        ensures takes { IfOk result (Takes self.entry line.now) }
-        ensures refuses { IfErr result (Refuses self.entry line.now) }
+        ensures takes { OnOk result (Takes self.old line.now self.new) }
+        ensures refuses { IfErr result (Refuses self.old line.now) }
     {
-        let Block {
-            name,
-            inputs,
-            outputs,
-            clocks,
-            items,
-            table,
-        } = self.close()?;
-        Ok(Block {
-            name,
-            inputs: inputs.add(alloc, line)?,
-            outputs,
-            clocks,
-            items,
-            table,
-        })
+        self.close()?;
+        let inputs = replace(&mut self.inputs, Ports::new(alloc));
+        self.inputs = inputs.add(alloc, arena, line)?;
+        Ok(())
     }
 
     /// Takes an `.outputs` line.
-    pub fn add_outputs(self, alloc: Global, line: &'a Line) -> Result<Self, TextFault>
+    pub fn add_outputs(
+        &mut self,
+        alloc: Global,
+        arena: &'a Bump,
+        line: &Line,
+    ) -> Result<(), TextFault>
         requires { kind line.now ≡ Kind.Outputs }
-        ensures takes { IfOk result (Takes self.entry line.now) }
-        ensures refuses { IfErr result (Refuses self.entry line.now) }
+        ensures takes { OnOk result (Takes self.old line.now self.new) }
+        ensures refuses { IfErr result (Refuses self.old line.now) }
     {
-        let Block {
-            name,
-            inputs,
-            outputs,
-            clocks,
-            items,
-            table,
-        } = self.close()?;
-        Ok(Block {
-            name,
-            inputs,
-            outputs: outputs.add(alloc, line)?,
-            clocks,
-            items,
-            table,
-        })
+        self.close()?;
+        let outputs = replace(&mut self.outputs, Ports::new(alloc));
+        self.outputs = outputs.add(alloc, arena, line)?;
+        Ok(())
     }
 
     /// Takes a `.clock` line.
-    pub fn add_clocks(self, alloc: Global, line: &'a Line) -> Result<Self, TextFault>
+    pub fn add_clocks(
+        &mut self,
+        alloc: Global,
+        arena: &'a Bump,
+        line: &Line,
+    ) -> Result<(), TextFault>
         requires { kind line.now ≡ Kind.Clock }
-        ensures takes { IfOk result (Takes self.entry line.now) }
-        ensures refuses { IfErr result (Refuses self.entry line.now) }
+        ensures takes { OnOk result (Takes self.old line.now self.new) }
+        ensures refuses { IfErr result (Refuses self.old line.now) }
     {
-        let Block {
-            name,
-            inputs,
-            outputs,
-            clocks,
-            items,
-            table,
-        } = self.close()?;
-        Ok(Block {
-            name,
-            inputs,
-            outputs,
-            clocks: clocks.add(alloc, line)?,
-            items,
-            table,
-        })
+        self.close()?;
+        let clocks = replace(&mut self.clocks, Ports::new(alloc));
+        self.clocks = clocks.add(alloc, arena, line)?;
+        Ok(())
     }
 
     /// Takes a `.names` line.
-    pub fn add_table(self, alloc: Global, line: &Line) -> Result<Self, TextFault>
+    pub fn add_table(&mut self, alloc: Global, line: &Line) -> Result<(), TextFault>
         requires { kind line.now ≡ Kind.Names }
-        ensures takes { IfOk result (Takes self.entry line.now) }
-        ensures refuses { IfErr result (Refuses self.entry line.now) }
+        ensures takes { OnOk result (Takes self.old line.now self.new) }
+        ensures refuses { IfErr result (Refuses self.old line.now) }
     {
-        let new = begin_table(alloc, line)?;
-        let Block {
-            name,
-            inputs,
-            outputs,
-            clocks,
-            items,
-            table: _,
-        } = self.close()?;
-        Ok(Block {
-            name,
-            inputs,
-            outputs,
-            clocks,
-            items,
-            table: Some(new),
-        })
+        let table = begin_table(alloc, line)?;
+        self.close()?;
+        self.table = Some(table);
+        Ok(())
     }
 
     /// Takes a `.latch` line.
-    pub fn add_latch(self, alloc: Global, line: &Line) -> Result<Self, TextFault>
+    pub fn add_latch(&mut self, alloc: Global, line: &Line) -> Result<(), TextFault>
         requires { kind line.now ≡ Kind.Latch }
-        ensures takes { IfOk result (Takes self.entry line.now) }
-        ensures refuses { IfErr result (Refuses self.entry line.now) }
+        ensures takes { OnOk result (Takes self.old line.now self.new) }
+        ensures refuses { IfErr result (Refuses self.old line.now) }
     {
         let words = further(line);
         if words.len() < 2 || words.len() > 5 {
             return Err(TextFault::BadWords(line.number()));
         }
         let latch = latch_of(alloc, line.number(), words)?;
-        Ok(self.with_item(latch)?)
+        self.add_item(latch)?;
+        Ok(())
     }
 
     /// Takes a `.subckt` line.
-    pub fn add_place(self, alloc: Global, line: &Line) -> Result<Self, TextFault>
+    pub fn add_place(&mut self, alloc: Global, line: &Line) -> Result<(), TextFault>
         requires { kind line.now ≡ Kind.Subckt }
-        ensures takes { IfOk result (Takes self.entry line.now) }
-        ensures refuses { IfErr result (Refuses self.entry line.now) }
+        ensures takes { OnOk result (Takes self.old line.now self.new) }
+        ensures refuses { IfErr result (Refuses self.old line.now) }
     {
         let words = further(line);
         if words.is_empty() {
             return Err(TextFault::BadWords(line.number()));
         }
         let place = place_of(alloc, line.number(), words)?;
-        Ok(self.with_item(place)?)
+        self.add_item(place)?;
+        Ok(())
     }
 
     /// Takes a row.
-    pub fn add_row(self, alloc: Global, line: &Line) -> Result<Self, TextFault>
+    pub fn add_row(&mut self, alloc: Global, line: &Line) -> Result<(), TextFault>
         requires { kind line.now ≡ Kind.Row }
-        ensures takes { IfOk result (Takes self.entry line.now) }
-        ensures refuses { IfErr result (Refuses self.entry line.now) }
+        ensures takes { OnOk result (Takes self.old line.now self.new) }
+        ensures refuses { IfErr result (Refuses self.old line.now) }
     {
-        let Block {
-            name,
-            inputs,
-            outputs,
-            clocks,
-            items,
-            table,
-        } = self;
-        let Some(table) = table else {
+        let Some(table) = self.table.take() else {
             return Err(TextFault::BadRow(line.number()));
         };
-        Ok(Block {
-            name,
-            inputs,
-            outputs,
-            clocks,
-            items,
-            table: Some(add_row(alloc, table, line)?),
-        })
+        self.table = Some(add_row(alloc, table, line)?);
+        Ok(())
     }
 
     /// The model, which has no further line.
-    pub fn finish(self) -> Result<Model, AllocError>
+    pub fn finish(mut self) -> Result<Model, AllocError>
         ensures model { IfOk result (λ model. spelled_model model ≡ block_made self.entry []) }
         ensures well_made { IfOk result IsWellMade }
     {
+        self.close()?;
         let Block {
             name,
             inputs,
@@ -262,7 +191,7 @@ impl<'a> Block<'a> {
             clocks,
             items,
             table: _,
-        } = self.close()?;
+        } = self;
         Ok(Model::make(
             name,
             Sequence::of(inputs.into_names()),

@@ -5,10 +5,11 @@ ghost use Rattle.vw_blif.specs.Read.{design_of, is_text_fault};
 
 use crate::fault::TextFault;
 use crate::reader::Reader;
+use bumpalo::Bump;
 use std::alloc::Global;
 use vw_design::Design;
 use vw_net::Sequence;
-use vw_text::lines;
+use vw_text::LineReader;
 
 /// The most bytes that a design text has.
 const TEXT_LIMIT: usize = 16_777_216;
@@ -21,13 +22,16 @@ pub fn read(alloc: Global, text: &[u8]) -> Result<Design, TextFault>
     if text.len() > TEXT_LIMIT {
         return Err(TextFault::TooLarge);
     }
-    let lines = lines(alloc, text)?;
-    if lines.is_empty() {
+    // the words that are looked for again
+    let arena = Bump::new(alloc);
+    let mut lines = LineReader::new(text);
+    let mut reader = Reader::new(alloc)?;
+    while let Some(line) = lines.next_line(alloc)? {
+        reader = reader.read_line(alloc, &arena, &line)?;
+    }
+    let models = reader.finish()?;
+    if models.is_empty() {
         return Err(TextFault::NoModel(0));
     }
-    let mut reader = Reader::new(alloc);
-    for line in &lines {
-        reader = reader.read_line(alloc, line)?;
-    }
-    Ok(Design::make(Sequence::of(reader.finish()?)))
+    Ok(Design::make(Sequence::of(models)))
 }

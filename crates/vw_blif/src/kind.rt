@@ -25,7 +25,10 @@ pub enum Kind {
 fn kind_of(word: &[u8]) -> Kind
     ensures { result ≡ kind_of word.now }
 {
-    if word == b".model".as_slice() {
+    // most lines are rows
+    if word.first() != Some(&b'.') {
+        Kind::Row
+    } else if word == b".model".as_slice() {
         Kind::Model
     } else if word == b".inputs".as_slice() {
         Kind::Inputs
@@ -41,10 +44,8 @@ fn kind_of(word: &[u8]) -> Kind
         Kind::Subckt
     } else if word == b".end".as_slice() {
         Kind::End
-    } else if word.first() == Some(&b'.') {
-        Kind::Other
     } else {
-        Kind::Row
+        Kind::Other
     }
 }
 

@@ -1,11 +1,16 @@
 //! Laws of the definitions, as contracts of functions that do nothing.
-ghost use Rattle.std.specs.Prelude.{◌≡◌, Bool, List, [], Some};
+ghost use Rattle.std.specs.Prelude.{◌≡◌, Bool, List, [], Some, Ok};
 ghost use Rattle.vw_text.specs.declared.line.Line.{Line};
 ghost use Rattle.vw_blif.specs.declared.fault.TextFault.{TextFault};
 ghost use Rattle.vw_blif.specs.Blocks.{Cut, cut_before};
 ghost use Rattle.vw_blif.specs.Cuts.{IsCut};
-ghost use Rattle.vw_blif.specs.Read.{first_fault};
+ghost use Rattle.vw_blif.specs.Read.{first_fault, design_of};
 ghost use Rattle.vw_blif.specs.FirstFault.{IsFirst};
+ghost use Rattle.vw_blif.specs.Spelled.{SpelledModel};
+ghost use Rattle.vw_blif.specs.Printed.{printed};
+ghost use Rattle.vw_blif.specs.PlainDesigns.{IsPlainDesign};
+
+use vw_text::plain_lines_read;
 
 /// Lines are cut in one way: the parts together are the lines, and a line begins something exactly where it is the
 /// head of a part. No other cut is like that.
@@ -23,3 +28,11 @@ pub fn the_first_fault_counts()
     ensures counts { (lines : List Line) (fault : TextFault)
         → IsFirst lines fault → first_fault [] lines ≡ Some fault }
 {}
+
+/// A design that is printed in the plain way is read back.
+pub fn printed_designs_read()
+    ensures { (design : List SpelledModel) → IsPlainDesign design
+        → design_of (printed design) ≡ Ok design }
+{
+    plain_lines_read();
+}

@@ -6,6 +6,7 @@ ghost use Rattle.vw_blif.specs.Steps.Seen.{Knows};
 use crate::copies::{copy, further};
 use crate::fault::TextFault;
 use crate::seen::Seen;
+use bumpalo::Bump;
 use std::alloc::Global;
 use vw_outside::Name;
 use vw_text::Line;
@@ -33,7 +34,7 @@ impl<'a> Ports<'a> {
     }
 
     /// These ports and those of a line.
-    pub fn add(self, alloc: Global, line: &'a Line) -> Result<Self, TextFault>
+    pub fn add(self, alloc: Global, arena: &'a Bump, line: &Line) -> Result<Self, TextFault>
         ensures ports { IfOk result (AddsPorts self.entry line.now) }
         ensures fault { IfErr result (SaysPort self.entry line.now) }
     {
@@ -42,7 +43,7 @@ impl<'a> Ports<'a> {
             mut seen,
         } = self;
         let words = further(line);
-        if !seen.insert_all(words)? {
+        if !seen.keep_all(arena, words)? {
             return Err(TextFault::DuplicatePort(line.number()));
         }
         for word in words {

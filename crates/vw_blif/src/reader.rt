@@ -4,7 +4,7 @@ ghost use Rattle.std.specs.List.{All};
 ghost use Rattle.vw_design.specs.Distinct.{are_distinct};
 ghost use Rattle.vw_design.specs.Shape.{IsWellMade};
 ghost use Rattle.vw_blif.specs.Steps.Seen.{Knows};
-ghost use Rattle.vw_blif.specs.Steps.Names.{names_so_far};
+ghost use Rattle.vw_blif.specs.Steps.Names.{opened, names_so_far};
 
 use crate::block::Block;
 use crate::copies::{copy, further};
@@ -12,6 +12,7 @@ use crate::fault::TextFault;
 use crate::kind::{Kind, line_kind};
 use crate::seen::Seen;
 use crate::take::take;
+use bumpalo::Bump;
 use std::alloc::{AllocError, Global};
 use vw_design::Model;
 use vw_outside::Name;
@@ -23,11 +24,11 @@ pub struct Reader<'a> {
     /// The models that have ended.
     pub models: Vec<Model>,
     /// The names of the models so far.
-    pub names: Seen<'a>,
+    pub names: Box<Seen<'a>>,
     /// The model to which the next line belongs.
-    pub block: Option<Block<'a>>,
-    ghost knows: { Knows (names_so_far models.items block) names.words },
-    ghost distinct: { IsTrue (are_distinct (names_so_far models.items block)) },
+    pub block: Option<Box<Block<'a>>>,
+    ghost knows: { Knows (names_so_far models.items (opened block)) names.value.words },
+    ghost distinct: { IsTrue (are_distinct (names_so_far models.items (opened block))) },
     ghost well_made: { All IsWellMade models.items },
 }
 
@@ -36,15 +37,15 @@ impl<'a> Reader<'a> {
     ghost use Rattle.vw_blif.specs.declared.kind.Kind.{Kind};
     ghost use Rattle.vw_blif.specs.Steps.Readers.{IsAtStart, Ends, IsRead, ReadsLine, RefusesLine};
 
-    /// Nothing was read. It takes no memory.
-    pub fn new(alloc: Global) -> Self
-        ensures { IsAtStart result }
+    /// Nothing was read.
+    pub fn new(alloc: Global) -> Result<Self, AllocError>
+        ensures { IfOk result IsAtStart }
     {
-        Reader {
+        Ok(Reader {
             models: Vec::new(alloc),
-            names: Seen::new(alloc),
+            names: Box::new(alloc, Seen::new(alloc))?,
             block: None,
-        }
+        })
     }
 
     /// The same design, with its open model among the models.
@@ -57,7 +58,7 @@ impl<'a> Reader<'a> {
             block,
         } = self;
         if let Some(block) = block {
-            models.push(block.finish()?)?;
+            models.push(Box::into_inner(block).finish()?)?;
         }
         Ok(Reader {
             models,
@@ -67,7 +68,7 @@ impl<'a> Reader<'a> {
     }
 
     /// Takes a `.model` line.
-    fn begin_model(self, alloc: Global, line: &'a Line) -> Result<Self, TextFault>
+    fn begin_model(self, alloc: Global, arena: &'a Bump, line: &Line) -> Result<Self, TextFault>
         requires { kind line.now ≡ Kind.Model }
         ensures reads { IfOk result (ReadsLine self.entry line.now) }
         ensures refuses { IfErr result (RefusesLine self.entry line.now) }
@@ -80,18 +81,24 @@ impl<'a> Reader<'a> {
             mut names,
             block: _,
         } = self.end()?;
-        if !names.insert(name.as_slice())? {
+        if !names.keep(arena, name.as_slice())? {
             return Err(TextFault::DuplicateModel(line.number()));
         }
         Ok(Reader {
             models,
             names,
-            block: Some(Block::new(alloc, copy(alloc, name.as_slice())?)),
+            block: Some(Block::new(alloc, copy(alloc, name.as_slice())?)?),
         })
     }
 
     /// Takes a line that isn't a `.model` line.
-    fn add_line(self, alloc: Global, line_is: Kind, line: &'a Line) -> Result<Self, TextFault>
+    fn add_line(
+        self,
+        alloc: Global,
+        arena: &'a Bump,
+        line_is: Kind,
+        line: &Line,
+    ) -> Result<Self, TextFault>
         requires is { line_is ≡ kind line.now }
         requires no_model { line_is ≢ Kind.Model }
         ensures reads { IfOk result (ReadsLine self.entry line.now) }
@@ -102,7 +109,7 @@ impl<'a> Reader<'a> {
             names,
             block,
         } = self;
-        let Some(block) = block else {
+        let Some(mut block) = block else {
             return Err(TextFault::NoModel(line.number()));
         };
         if line_is == Kind::End {
@@ -113,21 +120,22 @@ impl<'a> Reader<'a> {
             };
             return Ok(open.end()?);
         }
+        take(alloc, arena, &mut block, line_is, line)?;
         Ok(Reader {
             models,
             names,
-            block: Some(take(alloc, block, line_is, line)?),
+            block: Some(block),
         })
     }
 
     /// Takes a line.
-    pub fn read_line(self, alloc: Global, line: &'a Line) -> Result<Self, TextFault>
+    pub fn read_line(self, alloc: Global, arena: &'a Bump, line: &Line) -> Result<Self, TextFault>
         ensures reads { IfOk result (ReadsLine self.entry line.now) }
         ensures refuses { IfErr result (RefusesLine self.entry line.now) }
     {
         match line_kind(line) {
-            Kind::Model => self.begin_model(alloc, line),
-            line_is => self.add_line(alloc, line_is, line),
+            Kind::Model => self.begin_model(alloc, arena, line),
+            line_is => self.add_line(alloc, arena, line_is, line),
         }
     }
 

@@ -3,6 +3,7 @@ ghost use Rattle.std.specs.Prelude.{◌≡◌, ◌||◌, not, ℕ, List, IfOk, O
 ghost use Rattle.std.specs.Str.{bytes_eq};
 ghost use Rattle.vw_blif.specs.Steps.Seen.{has_seen, InsertsAll};
 
+use bumpalo::Bump;
 use std::alloc::{AllocError, Global};
 use std::collections::HashMap;
 use std::hash::{BuildHasherDefault, DefaultHasher};
@@ -35,12 +36,30 @@ impl<'a> Seen<'a> {
         Ok(old.is_none())
     }
 
+    /// Adds a word that lies in an arena from then on, and says whether it is new.
+    pub fn keep(&mut self, arena: &'a Bump, word: &[u8]) -> Result<bool, AllocError>
+        ensures is_new { IfOk result (λ is_new. is_new ≡ not (has_seen self.old.words word.now)) }
+        ensures words { OnOk result ((other : List ℕ)
+            → has_seen self.new.words other ≡ (bytes_eq word.now other || has_seen self.old.words other)) }
+    {
+        let kept = arena.try_alloc_slice_copy(word)?;
+        self.insert(kept)
+    }
+
+    /// Takes memory for so many words more.
+    fn make_room(&mut self, count: usize) -> Result<(), AllocError>
+        ensures { (word : List ℕ) → has_seen self.new.words word ≡ has_seen self.old.words word }
+    {
+        self.words.reserve(count)
+    }
+
     /// Adds words until one isn't new, and says whether all were.
-    pub fn insert_all(&mut self, words: &'a [Name]) -> Result<bool, AllocError>
+    pub fn keep_all(&mut self, arena: &'a Bump, words: &[Name]) -> Result<bool, AllocError>
         ensures { IfOk result (InsertsAll self.old.words words.now self.new.words) }
     {
+        self.make_room(words.len())?;
         for word in words {
-            if !self.insert(word.as_slice())? {
+            if !self.keep(arena, word.as_slice())? {
                 return Ok(false);
             }
         }

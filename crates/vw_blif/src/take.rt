@@ -1,5 +1,5 @@
 //! A model, line by line.
-ghost use Rattle.std.specs.Prelude.{◌≡◌, ◌≢◌, IfOk, IfErr};
+ghost use Rattle.std.specs.Prelude.{◌≡◌, ◌≢◌, IfErr, OnOk};
 ghost use Rattle.vw_blif.specs.Kinds.{kind};
 ghost use Rattle.vw_blif.specs.declared.kind.Kind.{Kind};
 ghost use Rattle.vw_blif.specs.Steps.Blocks.{Takes, Refuses};
@@ -9,6 +9,7 @@ use crate::block::Block;
 use crate::copies::{copy, first};
 use crate::fault::TextFault;
 use crate::kind::Kind;
+use bumpalo::Bump;
 use std::alloc::Global;
 use vw_text::Line;
 
@@ -25,20 +26,21 @@ fn other_word(alloc: Global, line: &Line) -> TextFault
 /// The model with a line more that is neither its first nor its `.end`.
 pub fn take<'a>(
     alloc: Global,
-    block: Block<'a>,
+    arena: &'a Bump,
+    block: &mut Block<'a>,
     line_is: Kind,
-    line: &'a Line,
-) -> Result<Block<'a>, TextFault>
+    line: &Line,
+) -> Result<(), TextFault>
     requires is { line_is ≡ kind line.now }
     requires no_model { line_is ≢ Kind.Model }
     requires no_end { line_is ≢ Kind.End }
-    ensures takes { IfOk result (Takes block.entry line.now) }
-    ensures refuses { IfErr result (Refuses block.entry line.now) }
+    ensures takes { OnOk result (Takes block.old line.now block.new) }
+    ensures refuses { IfErr result (Refuses block.old line.now) }
 {
     match line_is {
-        Kind::Inputs => block.add_inputs(alloc, line),
-        Kind::Outputs => block.add_outputs(alloc, line),
-        Kind::Clock => block.add_clocks(alloc, line),
+        Kind::Inputs => block.add_inputs(alloc, arena, line),
+        Kind::Outputs => block.add_outputs(alloc, arena, line),
+        Kind::Clock => block.add_clocks(alloc, arena, line),
         Kind::Names => block.add_table(alloc, line),
         Kind::Latch => block.add_latch(alloc, line),
         Kind::Subckt => block.add_place(alloc, line),

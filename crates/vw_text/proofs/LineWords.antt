@@ -1,5 +1,5 @@
 -- The words of a line, the first of them first.
-use Rattle.std.proofs.Common.{◌≡◌, ℕ, ◌+◌, ◌-◌, ◌<◌, ◌≤◌, min, not, Option, Some, None, MatchOption, unwrap_or, List, [], ◌∷◌, ◌++◌, length, take, drop, sym, ◌∙◌, ap, ⊎_elim, arith}
+use Rattle.std.proofs.Common.{◌≡◌, ℕ, ◌+◌, ◌-◌, ◌<◌, ◌≤◌, min, not, List, [], ◌∷◌, ◌++◌, length, take, drop, sym, ◌∙◌, ap, ⊎_elim, arith}
 use Rattle.std.specs.List.{position_or_len, slice_split, filter}
 use Rattle.std.proofs.lemmas.Bool.{cases_lt, cond-true, not_from_false, ne_eqb}
 use Rattle.std.proofs.lemmas.List.{append-nil, append_assoc, take_all, drop_all, take_rest, drop_min, length-take-le}
@@ -44,13 +44,6 @@ word_taken line end is some =
 pub blank_passed : (line : List ℕ) (end : ℕ) → position_or_len is_blank line ≡ end → end ≡ 0 → words_of line ≡ words_of (drop (end + 1) line)
 blank_passed line end is none =
     words_cut line end is ∙ ap (λ n. kept (take n line) ++ words_of (drop (end + 1) line)) none
-
--- the end of the first word, or of the line
-pub end_found : (line : List ℕ) (Found : ℕ → Type 0) (Nowhere : Type 0) (result : Option ℕ) → MatchOption result Nowhere Found
-    → ((at : ℕ) → Found at → position_or_len is_blank line ≡ at) → (Nowhere → position_or_len is_blank line ≡ length line)
-    → position_or_len is_blank line ≡ unwrap_or result (length line)
-end_found line Found Nowhere None h some none = none h
-end_found line Found Nowhere (Some at) h some none = some at h
 
 -- what is left behind the end of a word, or of the line
 pub rest_left : (line : List ℕ) (end : ℕ) → words_of (take (length line - min (length line) (end + 1)) (drop (min (length line) (end + 1)) line)) ≡ words_of (drop (end + 1) line)

@@ -1,10 +1,10 @@
 -- A physical line that ends a logical line.
-use Rattle.std.proofs.Common.{◌≡◌, ℕ, ◌+◌, not, List, [], ◌∷◌, ◌++◌, map, Option, Some, None, refl, sym, ◌∙◌, ap}
+use Rattle.std.proofs.Common.{◌≡◌, ℕ, ◌+◌, Bool, true, cond, not, List, [], ◌∷◌, ◌++◌, map, Option, Some, None, refl, sym, ◌∙◌, ap}
 use Rattle.std.proofs.lemmas.List.{append_assoc}
 use Rattle.std.proofs.lemmas.List.Elements.{filter-append}
 use Rattle.vw_text.specs.declared.line.Line.{Line}
 use Rattle.vw_text.specs.Logical.{Logical, before_backslash, continued, with_line, joined}
-use Rattle.vw_text.specs.WordLines.{is_empty, word_line, word_lines_of}
+use Rattle.vw_text.specs.WordLines.{is_empty, words_of, word_line, word_lines_of}
 
 -- with nothing before it, a line stays as it is
 fresh_line : (number : ℕ) (line : List ℕ) (front : Option (List ℕ)) (lines : List Logical)
@@ -31,3 +31,11 @@ ends done number next front line bytes lines is whole =
     (ap (λ bytes. word_lines_of (record { number = number; bytes = bytes } ∷ []) ++ rest) whole
     ∙ ap (λ lines. word_lines_of (ended ∷ []) ++ lines) (fresh (next + 1) lines)
     ∙ sym (ap (λ part. word_lines_of (continued number front (with_line next line part (joined (next + 1) lines)))) is ∙ cut))
+
+-- the same, where the logical line has no words
+pub passes : (number next : ℕ) (front line : List ℕ) (lines : List (List ℕ)) → before_backslash line ≡ None → is_empty (words_of (front ++ line)) ≡ true
+    → word_lines_of (continued (next + 1) [] (joined (next + 1) lines)) ≡ word_lines_of (continued number front (joined next (line ∷ lines)))
+passes number next front line lines is none =
+    let rest = word_lines_of (continued (next + 1) [] (joined (next + 1) lines)) in
+    let whole : Logical = record { number = number; bytes = front ++ line } in
+    sym (ap (λ (b : Bool). cond (not b) (word_line whole ∷ []) [] ++ rest) none) ∙ ends [] number next front line (front ++ line) lines is refl

@@ -4,3 +4,4 @@ pub mod Logical
 pub mod WordLines
 pub mod Number
 pub mod PlainLines
+pub mod Reading

@@ -1,12 +1,16 @@
 //! Physical lines without their comments and the blanks at their ends.
 ghost use Rattle.std.specs.Prelude.{◌≡◌, option_map};
-ghost use Rattle.vw_text.specs.Bare.{without_comment, trimmed, bare};
+ghost use Rattle.vw_text.specs.Bare.{is_blank, without_comment, trimmed, bare};
 ghost use Rattle.vw_text.specs.Logical.{before_backslash};
 
 use bstr::ByteSlice;
 
-/// The bytes that separate words: tabs and feeds, the return, and the space.
-pub const BLANKS: &[u8; 5] = b"\t\x0b\x0c\r ";
+/// Whether a byte separates words: tabs and feeds, the return, and the space.
+pub fn is_blank(byte: u8) -> bool
+    ensures { result ≡ is_blank byte }
+{
+    matches!(byte, b'\t' | b'\x0b' | b'\x0c' | b'\r' | b' ')
+}
 
 /// The line without its comment.
 fn without_comment(line: &[u8]) -> &[u8]
@@ -22,10 +26,11 @@ fn without_comment(line: &[u8]) -> &[u8]
 fn trimmed(line: &[u8]) -> &[u8]
     ensures { result.now ≡ trimmed line.now }
 {
-    match line.rfind_not_byteset(BLANKS) {
-        Some(last) => &line[..last + 1],
-        None => &line[..0],
+    let mut end = line.len();
+    while end > 0 && is_blank(line[end - 1]) {
+        end -= 1;
     }
+    &line[..end]
 }
 
 /// A physical line without its comment and without the blanks at its end.

@@ -13,7 +13,7 @@ pub use laws::{lines_join, plain_lines_read};
 pub use line::Line;
 pub use numbers::number;
 pub use physical::first_line;
-pub use reader::lines;
+pub use reader::{LineReader, lines};
 
 #[cfg(test)]
 mod tests;

@@ -1,45 +1,54 @@
-ghost use Rattle.std.specs.Prelude.{◌≡◌, ◌<◌, ◌∷◌, ◌++◌, [], length, IfOk, OnOk};
-ghost use Rattle.std.specs.List.{slice_split};
+ghost use Rattle.std.specs.Prelude.{◌≡◌, ◌++◌, [], IfOk, OnOk};
+ghost use Rattle.std.specs.List.{position_or_len};
 ghost use Rattle.vw_text.specs.Bare.{is_blank};
-ghost use Rattle.vw_text.specs.Logical.{Logical};
-ghost use Rattle.vw_text.specs.WordLines.{words_of, word_lines_of};
+ghost use Rattle.vw_text.specs.WordLines.{words_of};
 
-use crate::bare::BLANKS;
-use crate::line::Line;
-use bstr::ByteSlice;
+use crate::bare::is_blank;
 use std::alloc::{AllocError, Global};
-use vw_net::Sequence;
 use vw_outside::Name;
 
+/// The number of bytes before the first blank of a line.
+fn word_end(line: &[u8]) -> usize
+    ensures { result ≡ position_or_len is_blank line.now }
+{
+    for (at, byte) in line.iter().enumerate() {
+        if is_blank(*byte) {
+            return at;
+        }
+    }
+    line.len()
+}
+
 /// The words of a line.
-fn words_of(alloc: Global, line: &[u8]) -> Result<Vec<Name>, AllocError>
+pub fn words_of(alloc: Global, line: &[u8]) -> Result<Vec<Name>, AllocError>
     ensures { IfOk result (λ words. words.items ≡ words_of line.now) }
 {
     let mut words = Vec::new(alloc);
     let mut rest = line;
     while !rest.is_empty() {
-        let end = rest.find_byteset(BLANKS).unwrap_or(rest.len());
+        let end = word_end(rest);
         if end > 0 {
-            words.push(Name::of(rest[..end].to_vec(alloc)?))?;
+            words.push(Name::of(Vec::from_slice(alloc, &rest[..end])?))?;
         }
         rest = &rest[rest.len().min(end + 1)..];
     }
     Ok(words)
 }
 
-/// Adds a logical line to lines, where it has words.
-pub fn push_line(
+/// The words of a logical line of which this is the front and this the rest. The front is empty afterwards.
+pub fn joined_words(
     alloc: Global,
-    lines: &mut Vec<Line>,
-    number: u64,
-    bytes: &[u8],
-) -> Result<(), AllocError>
-    ensures { OnOk result (lines.new.items
-        ≡ lines.old.items ++ word_lines_of (record { number = number; bytes = bytes.now } ∷ [])) }
+    front: &mut Vec<u8>,
+    line: &[u8],
+) -> Result<Vec<Name>, AllocError>
+    ensures words { IfOk result (λ words. words.items ≡ words_of (front.old.items ++ line.now)) }
+    ensures front { OnOk result (front.new.items ≡ []) }
 {
-    let words = words_of(alloc, bytes)?;
-    if !words.is_empty() {
-        lines.push(Line::make(number, Sequence::of(words)))?;
+    if front.is_empty() {
+        return words_of(alloc, line);
     }
-    Ok(())
+    front.extend_from_slice(line)?;
+    let words = words_of(alloc, front)?;
+    front.clear();
+    Ok(words)
 }

@@ -1,5 +1,5 @@
 -- What a model that is being read has become, and what it tells of the next line.
-use Rattle.std.specs.Prelude.{◌≡◌, Bool, true, false, List, [], ◌∷◌, ◌++◌, map, length, Option, Some, None, option_map, codes}
+use Rattle.std.specs.Prelude.{◌≡◌, Bool, true, List, [], ◌∷◌, ◌++◌, map, length, Option, Some, None, option_map}
 use Rattle.std.specs.List.{flat_map, filter_map}
 use Rattle.vw_design.specs.declared.item.Item.{Item}
 use Rattle.vw_text.specs.declared.line.Line.{Line}
@@ -9,7 +9,7 @@ use Rattle.vw_blif.specs.declared.block.Block.{Block}
 use Rattle.vw_blif.specs.Words.{Word}
 use Rattle.vw_blif.specs.Kinds.{input, output, clocked}
 use Rattle.vw_blif.specs.Spelled.{SpelledItem, table, SpelledModel, spelled_item}
-use Rattle.vw_blif.specs.Rows.{row_marks, are_on_set}
+use Rattle.vw_blif.specs.Rows.{value_word, row_marks, are_on_set}
 use Rattle.vw_blif.specs.Blocks.{Cut}
 use Rattle.vw_blif.specs.Designs.{groups, item_of, ports_of}
 use Rattle.vw_blif.specs.Before.{OpenTable, is_open, open_table, ports_before}
@@ -17,10 +17,6 @@ use Rattle.vw_blif.specs.Faults.{fault_at}
 use Rattle.vw_blif.specs.Steps.Says.{Says}
 
 -- ---- tables
-
-abbrev pub value_word : Bool → Word
-value_word true = codes "1"
-value_word false = codes "0"
 
 -- what an open table tells of the next row
 abbrev pub table_told : Table → OpenTable

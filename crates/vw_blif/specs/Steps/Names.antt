@@ -1,8 +1,13 @@
 -- The names of the models that were read so far.
-use Rattle.std.specs.Prelude.{List, [], ◌∷◌, ◌++◌, map, Option, Some, None}
+use Rattle.std.specs.Prelude.{List, [], ◌∷◌, ◌++◌, map, Option, Some, None, Box}
 use Rattle.vw_design.specs.declared.model.Model.{Model}
 use Rattle.vw_blif.specs.declared.block.Block.{Block}
 use Rattle.vw_blif.specs.Words.{Word}
+
+-- the model that is open, out of its box
+abbrev pub opened : {A : Type 0} → Option (Box Block A) → Option Block
+opened None = None
+opened (Some b) = Some b.value
 
 abbrev pub open_name : Option Block → List Word
 open_name None = []

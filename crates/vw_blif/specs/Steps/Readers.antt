@@ -16,7 +16,7 @@ use Rattle.vw_blif.specs.Designs.{blocks, model_of}
 use Rattle.vw_blif.specs.Before.{is_open, model_names}
 use Rattle.vw_blif.specs.Faults.{fault_at}
 use Rattle.vw_blif.specs.Read.{is_text_fault}
-use Rattle.vw_blif.specs.Steps.Names.{names_so_far}
+use Rattle.vw_blif.specs.Steps.Names.{opened, names_so_far}
 use Rattle.vw_blif.specs.Steps.Says.{Says}
 use Rattle.vw_blif.specs.Steps.Blocks.{block_made, Told}
 
@@ -27,7 +27,7 @@ models_with (Some b) cut = block_made b cut.before ∷ map model_of cut.parts
 
 -- the models that a design becomes with these further lines
 abbrev pub models_made : Reader → List Line → List SpelledModel
-models_made r lines = map spelled_model r.models.items ++ models_with r.block (blocks lines)
+models_made r lines = map spelled_model r.models.items ++ models_with (opened r.block) (blocks lines)
 
 -- what the lines before say is what the open model has
 abbrev pub ToldOpen : List Line → Option Block → Type 0
@@ -36,27 +36,27 @@ ToldOpen before (Some b) = Told before b
 
 -- what the lines before say is what the design has
 pub record ToldAll (before : List Line) (r : Reader) : Type 0 where
-  pub open_ : is_open before ≡ is_some r.block
-  pub names : model_names before ≡ names_so_far r.models.items r.block
-  pub block : ToldOpen before r.block
+  pub open_ : is_open before ≡ is_some (opened r.block)
+  pub names : model_names before ≡ names_so_far r.models.items (opened r.block)
+  pub block : ToldOpen before (opened r.block)
 
 -- nothing was read
 pub record IsAtStart (r : Reader) : Type 0 where
   pub models : r.models.items ≡ []
-  pub block : r.block ≡ None
+  pub block : opened r.block ≡ None
 
 -- the open model came to the models
 pub record Ends (old new : Reader) : Type 0 where
   pub made : map spelled_model new.models.items ≡ models_made old []
-  pub names : names_so_far new.models.items new.block ≡ names_so_far old.models.items old.block
-  pub block : new.block ≡ None
+  pub names : names_so_far new.models.items (opened new.block) ≡ names_so_far old.models.items (opened old.block)
+  pub block : opened new.block ≡ None
 
 -- a line was read
 pub record ReadsLine (old : Reader) (line : Line) (new : Reader) : Type 0 where
   pub tells : (before : List Line) → ToldAll before old → ToldAll (line ∷ before) new
   pub fine : (before : List Line) → ToldAll before old → fault_at before line ≡ None
   pub makes : (rest : List Line) → models_made new rest ≡ models_made old (line ∷ rest)
-  pub count : length (names_so_far new.models.items new.block) ≤ length (names_so_far old.models.items old.block) + 1
+  pub count : length (names_so_far new.models.items (opened new.block)) ≤ length (names_so_far old.models.items (opened old.block)) + 1
 
 -- a line was refused
 abbrev pub RefusesLine : Reader → Line → TextFault → Type 0
@@ -69,6 +69,6 @@ SaysOther line fault = is_text_fault fault ≡ true → fault ≡ Unsupported li
 -- the models of a design that has no further line
 pub record IsRead (r : Reader) (models : List Model) : Type 0 where
   pub made : map spelled_model models ≡ models_made r []
-  pub count : length models ≡ length (names_so_far r.models.items r.block)
+  pub count : length models ≡ length (names_so_far r.models.items (opened r.block))
   pub distinct : IsTrue (are_distinct (map (λ model. model.name) models))
   pub well_made : All IsWellMade models

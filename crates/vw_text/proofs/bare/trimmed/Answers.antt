@@ -1,9 +1,16 @@
 -- A line is cut behind its last byte that isn't blank.
-use Rattle.vw_text.proofs.FoundBytes.{last_found, all_blank}
+use Rattle.std.proofs.Common.{◌≡◌, ◌<◌, ◌-◌, false, slice_index, sym, ◌∙◌, arith}
+use Rattle.vw_text.specs.Bare.{is_blank}
+use Rattle.vw_text.proofs.FoundBytes.{end_found}
 use Rattle.vw_text.proofs.bare.trimmed.Goals as goal
+use Rattle.vw_text.proofs.bare.trimmed.Goals.{then-loop-end-test+else-is_blank, else-loop-end-test}
 
-pub returns-in-Some : goal.returns-in-Some
-returns-in-Some c = let h = c.in-Some.ensures in last_found _ _ h.0.high h.0.after h.1
-
-pub returns-in-None : goal.returns-in-None
-returns-in-None c = all_blank _ c.in-None.ensures
+pub returns : goal.returns
+returns c =
+    let line = c.args.line.now in
+    let other : 0 < c.loop-end.end → is_blank (slice_index line (c.loop-end.end - 1)) ≡ false =
+    elim c.loop-end-test.branch [
+      | then-loop-end-test+else-is_blank w ↦ λ some. sym w.is_blank.ensures ∙ w.if-is_blank.false
+      | else-loop-end-test w ↦ λ some. absurd (omega (some, w.loop-end-test.false, arith))
+    ] in
+    end_found line c.loop-end.end c.loop-end.invariant.within c.loop-end.invariant.blank other

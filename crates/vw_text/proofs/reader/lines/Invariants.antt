@@ -1,16 +1,11 @@
--- The lines so far, and then what the bytes of a line that isn't at its end begin, with the physical lines that are left.
-use Rattle.std.proofs.Common.{◌≡◌, ◌≤◌, ◌+◌, ◌++◌, length, map}
-use Rattle.vw_text.specs.Physical.{text_lines}
-use Rattle.vw_text.specs.Bare.{bare}
-use Rattle.vw_text.specs.Logical.{continued, joined}
-use Rattle.vw_text.specs.WordLines.{word_lines, word_lines_of}
+-- The lines so far, and then those that are left.
+use Rattle.std.proofs.Common.{◌≡◌, ◌++◌, length}
+use Rattle.vw_text.specs.WordLines.{word_lines}
+use Rattle.vw_text.specs.Reading.{lines_left}
 use Rattle.vw_text.proofs.reader.lines.Given as goal
 
-abbrev pub invariant-loop-rest : goal.invariant-loop-rest
-invariant-loop-rest l = record {
-  whole : l.lines.items ++ word_lines_of (continued l.number l.front.items (joined l.next (map bare (text_lines l.rest)))) ≡ word_lines l.bytes;
-  counted : l.next + length l.rest ≤ length l.bytes + 1;
-}
+abbrev pub invariant-loop-lines : goal.invariant-loop-lines
+invariant-loop-lines l = l.lines.items ++ lines_left l.reader ≡ word_lines l.bytes
 
-abbrev pub decreases-loop-rest : goal.decreases-loop-rest
-decreases-loop-rest l = length l.rest
+abbrev pub decreases-loop-lines : goal.decreases-loop-lines
+decreases-loop-lines l = length l.reader.rest.now

@@ -3,21 +3,19 @@ use Rattle.std.proofs.Common.{◌≡◌, ◌-◌, ◌++◌, length, take, drop, 
 use Rattle.std.specs.List.{position_or_len}
 use Rattle.vw_text.specs.Bare.{is_blank}
 use Rattle.vw_text.specs.WordLines.{words_of}
-use Rattle.vw_text.proofs.FoundBytes.{first_blank, no_blank}
-use Rattle.vw_text.proofs.LineWords.{word_taken, blank_passed, end_found, rest_left, word_goes_over}
+use Rattle.vw_text.proofs.LineWords.{word_taken, blank_passed, rest_left, word_goes_over}
 use Rattle.vw_text.proofs.words.words_of.Goals as goal
-use Rattle.vw_text.proofs.words.words_of.Goals.{then-end-gt0+in_ok-to_vec+in_ok-push, else-end-gt0}
+use Rattle.vw_text.proofs.words.words_of.Goals.{then-end-gt0+in_ok-from_slice+in_ok-push, else-end-gt0}
 
 pub loop-rest-preserved : goal.loop-rest-preserved
 loop-rest-preserved c =
     let rest = c.loop-rest.rest.now in
-    let end = c.unwrap_or-end.result in
-    let is : position_or_len is_blank rest ≡ end =
-    end_found rest _ _ c.find_byteset.result c.find_byteset.ensures (λ at h. first_blank rest at h.0.high h.0.before h.1) (no_blank rest) ∙ sym c.unwrap_or-end.ensures in
+    let end = c.word_end-end.result in
+    let is : position_or_len is_blank rest ≡ end = sym c.word_end-end.ensures in
     let left = ap (λ n. words_of (take (length rest - n) (drop n rest))) c.min.ensures ∙ rest_left rest end in
     elim c.if-end-gt0.branch [
-      | then-end-gt0+in_ok-to_vec+in_ok-push w ↦
-          let word : w.of.result ≡ take end rest = w.of.ensures ∙ w.in_ok-to_vec.ensures.items_if_clones_equal (λ x y same. same) in
+      | then-end-gt0+in_ok-from_slice+in_ok-push w ↦
+          let word : w.of.result ≡ take end rest = w.of.ensures ∙ w.in_ok-from_slice.ensures.items in
           let items = ap (λ words. words.items) w.words-is ∙ w.in_ok-push.ensures.items in
           word_goes_over c.loop-rest.words.items items word (word_taken rest end is w.if-end-gt0.true) left ∙ c.loop-rest.invariant
       | else-end-gt0 w ↦

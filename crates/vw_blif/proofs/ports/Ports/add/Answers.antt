@@ -18,9 +18,9 @@ pub invariant_of-result : goal.invariant_of-result
 invariant_of-result c =
     let old = c.args.self.names.items in
     let words = c.further-words.result.now in
-    let told = c.in_ok-insert_all.ensures old c.args.self.knows in
+    let told = c.in_ok-keep_all.ensures old c.args.self.knows in
     let names : c.loop-word.names.items ≡ old ++ words = c.loop-word.invariant ∙ ap (λ (ws : List Word). old ++ ws) (take_all c.loop-word.word-index words c.loop-word-test.false) in
-    let fresh : repeats old words ≡ false = none_again c.in_ok-insert_all.field-0 (repeats old words) told.0 c.if-not-branch.false in
+    let fresh : repeats old words ≡ false = none_again c.in_ok-keep_all.field-0 (repeats old words) told.0 c.if-not-branch.false in
     record {
       knows = λ word. told.1 c.if-not-branch.false word ∙ ap (λ (ns : List Word). has_name ns word) (sym names);
       distinct = ap are_distinct names ∙ are_distinct-append old words c.args.self.distinct fresh;
@@ -30,8 +30,8 @@ pub returns-clause-ports : goal.returns-clause-ports
 returns-clause-ports c =
     let old = c.args.self.names.items in
     let words = c.further-words.result.now in
-    let told = c.in_ok-insert_all.ensures old c.args.self.knows in
+    let told = c.in_ok-keep_all.ensures old c.args.self.knows in
     record {
       names = c.loop-word.invariant ∙ ap (λ (ws : List Word). old ++ ws) (take_all c.loop-word.word-index words c.loop-word-test.false ∙ c.further-words.ensures);
-      fresh = ap (λ (ws : List Word). repeats old ws) (sym c.further-words.ensures) ∙ none_again c.in_ok-insert_all.field-0 (repeats old words) told.0 c.if-not-branch.false;
+      fresh = ap (λ (ws : List Word). repeats old ws) (sym c.further-words.ensures) ∙ none_again c.in_ok-keep_all.field-0 (repeats old words) told.0 c.if-not-branch.false;
     }

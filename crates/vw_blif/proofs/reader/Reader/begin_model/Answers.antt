@@ -1,10 +1,11 @@
-use Rattle.std.proofs.Common.{rules, ◌≡◌, ◌∷◌, ◌++◌, [], ℕ, true, false, not, ◌||◌, List, length, Some, refl, sym, ◌∙◌, ap}
+use Rattle.std.proofs.Common.{rules, ◌≡◌, ◌∷◌, ◌++◌, [], ℕ, true, false, not, ◌||◌, List, length, Some, refl, sym, ◌∙◌, ap, ap₂}
 use Rattle.std.specs.Str.{bytes_eq}
 use Rattle.vw_design.specs.Distinct.{has_name, are_distinct}
 use Rattle.vw_blif.specs.declared.fault.TextFault.TheVariants.{BadWords, DuplicateModel}
+use Rattle.vw_blif.specs.declared.seen.Seen.{Seen}
 use Rattle.vw_blif.specs.Words.{Word}
 use Rattle.vw_blif.specs.Kinds.{further}
-use Rattle.vw_blif.specs.Steps.Names.{names_so_far}
+use Rattle.vw_blif.specs.Steps.Names.{opened, names_so_far}
 use Rattle.vw_blif.specs.Steps.Blocks.{IsNew}
 use Rattle.vw_blif.specs.Steps.Seen.{has_seen}
 use Rattle.vw_blif.proofs.Binds.{are_distinct-push}
@@ -23,12 +24,12 @@ pub returns-then-not-branch-clause-refuses : goal.returns-then-not-branch-clause
 returns-then-not-branch-clause-refuses c =
     let mid = c.in_ok-models.field-0 in
     let name = c.name-item.result in
-    let old = λ (w : Word). has_seen mid.names.words w in
+    let old = λ (w : Word). has_seen mid.names.value.words w in
     let one : further c.args.line.now ≡ name ∷ [] =
     sym c.further.ensures ∙ one_word c.further.result.now name c.in-len1.len_at_least c.in-len1.len_below c.name-item.is in
-    let again : has_name (names_so_far mid.models.items mid.block) name ≡ true =
-    seen_before (names_so_far mid.models.items mid.block) name (old name) c.in_ok-insert.field-0 (mid.knows name)
-    (c.in_ok-insert.ensures.is_new ∙ ap (λ (w : Word). not (old w)) c.as_slice.ensures) ∙ ap not c.if-not-branch.true in
+    let again : has_name (names_so_far mid.models.items (opened mid.block)) name ≡ true =
+    seen_before (names_so_far mid.models.items (opened mid.block)) name (old name) c.in_ok-keep.field-0 (mid.knows name)
+    (c.in_ok-keep.ensures.is_new ∙ ap₂ (λ (s : Seen) (w : Word). not (has_seen s.words w)) c.deref_mut.ensures.value c.as_slice.ensures) ∙ ap not c.if-not-branch.true in
     λ before told is.
     model_again c.args.self mid c.args.line.now name c.requires one c.in_ok-models.ensures again before told
     ∙ ap (λ (n : ℕ). Some (DuplicateModel n)) (sym c.number-then-not-branch.ensures)
@@ -37,16 +38,16 @@ pub invariant_of-result : goal.invariant_of-result
 invariant_of-result c =
     let mid = c.in_ok-models.field-0 in
     let name = c.name-item.result in
-    let old = λ (w : Word). has_seen mid.names.words w in
-    let new = λ (w : Word). has_seen c.insert.new.self.words w in
-    let names = names_so_far mid.models.items mid.block in
-    let more : names_so_far mid.models.items (Some c.new.result) ≡ names ++ name ∷ [] =
-    names_begun mid.models.items mid.block c.new.result name c.in_ok-models.ensures.block (c.new.ensures.named ∙ c.in_ok-copy.ensures ∙ c.as_slice-2.ensures) in
+    let old = λ (w : Word). has_seen mid.names.value.words w in
+    let new = λ (w : Word). has_seen c.keep.new.self.words w in
+    let names = names_so_far mid.models.items (opened mid.block) in
+    let more : names_so_far mid.models.items (Some c.in_ok-new.field-0.value) ≡ names ++ name ∷ [] =
+    names_begun mid.models.items (opened mid.block) c.in_ok-new.field-0.value name c.in_ok-models.ensures.block (c.in_ok-new.ensures.named ∙ c.in_ok-copy.ensures ∙ c.as_slice-2.ensures) in
     let unseen : has_name names name ≡ false =
-    seen_before names name (old name) c.in_ok-insert.field-0 (mid.knows name)
-    (c.in_ok-insert.ensures.is_new ∙ ap (λ (w : Word). not (old w)) c.as_slice.ensures) ∙ ap not c.if-not-branch.false in
+    seen_before names name (old name) c.in_ok-keep.field-0 (mid.knows name)
+    (c.in_ok-keep.ensures.is_new ∙ ap₂ (λ (s : Seen) (w : Word). not (has_seen s.words w)) c.deref_mut.ensures.value c.as_slice.ensures) ∙ ap not c.if-not-branch.false in
     let adds : (other : Word) → new other ≡ (bytes_eq name other || old other) =
-    λ other. c.in_ok-insert.ensures.words other ∙ ap (λ (w : Word). bytes_eq w other || old other) c.as_slice.ensures in
+    λ other. c.in_ok-keep.ensures.words other ∙ ap₂ (λ (s : Seen) (w : Word). bytes_eq w other || has_seen s.words other) c.deref_mut.ensures.value c.as_slice.ensures in
     record {
       knows = λ word. knows_more names name old new mid.knows adds word ∙ ap (λ (ns : List Word). has_name ns word) (sym more);
       distinct = ap are_distinct more ∙ are_distinct-push names name mid.distinct unseen;
@@ -57,19 +58,19 @@ pub returns-clause-reads : goal.returns-clause-reads
 returns-clause-reads c =
     let mid = c.in_ok-models.field-0 in
     let name = c.name-item.result in
-    let old = λ (w : Word). has_seen mid.names.words w in
+    let old = λ (w : Word). has_seen mid.names.value.words w in
     let one : further c.args.line.now ≡ name ∷ [] =
     sym c.further.ensures ∙ one_word c.further.result.now name c.in-len1.len_at_least c.in-len1.len_below c.name-item.is in
-    let unseen : has_name (names_so_far mid.models.items mid.block) name ≡ false =
-    seen_before (names_so_far mid.models.items mid.block) name (old name) c.in_ok-insert.field-0 (mid.knows name)
-    (c.in_ok-insert.ensures.is_new ∙ ap (λ (w : Word). not (old w)) c.as_slice.ensures) ∙ ap not c.if-not-branch.false in
+    let unseen : has_name (names_so_far mid.models.items (opened mid.block)) name ≡ false =
+    seen_before (names_so_far mid.models.items (opened mid.block)) name (old name) c.in_ok-keep.field-0 (mid.knows name)
+    (c.in_ok-keep.ensures.is_new ∙ ap₂ (λ (s : Seen) (w : Word). not (has_seen s.words w)) c.deref_mut.ensures.value c.as_slice.ensures) ∙ ap not c.if-not-branch.false in
     let same : c.in_ok-copy.field-0 ≡ name = c.in_ok-copy.ensures ∙ c.as_slice-2.ensures in
-    let fresh : IsNew name c.new.result = record {
-      named = c.new.ensures.named ∙ same;
-      inputs = c.new.ensures.inputs;
-      outputs = c.new.ensures.outputs;
-      clocks = c.new.ensures.clocks;
-      items = c.new.ensures.items;
-      table_ = c.new.ensures.table_;
+    let fresh : IsNew name c.in_ok-new.field-0.value = record {
+      named = c.in_ok-new.ensures.named ∙ same;
+      inputs = c.in_ok-new.ensures.inputs;
+      outputs = c.in_ok-new.ensures.outputs;
+      clocks = c.in_ok-new.ensures.clocks;
+      items = c.in_ok-new.ensures.items;
+      table_ = c.in_ok-new.ensures.table_;
     } in
-    model_begun c.args.self mid c.args.line.now name c.requires one c.in_ok-models.ensures _ c.new.result refl refl fresh unseen
+    model_begun c.args.self mid c.args.line.now name c.requires one c.in_ok-models.ensures _ c.in_ok-new.field-0.value refl refl fresh unseen

@@ -3,7 +3,7 @@ use Rattle.std.proofs.Common.{◌≡◌, false, List, ◌++◌, take}
 use Rattle.vw_blif.specs.Words.{Word}
 use Rattle.vw_blif.specs.Bindings.{repeats}
 use Rattle.vw_blif.specs.Steps.Seen.{Knows}
-use Rattle.vw_blif.proofs.seen.Seen.insert_all.Given as goal
+use Rattle.vw_blif.proofs.seen.Seen.keep_all.Given as goal
 
 abbrev pub invariant-loop-word : goal.invariant-loop-word
 invariant-loop-word l = (before : List Word) → Knows before l.fn.self.words

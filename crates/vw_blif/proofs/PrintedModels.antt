@@ -1,0 +1,241 @@
+-- A printed design is cut into its models, and a printed model into its ports and items.
+use Rattle.std.proofs.Common.{◌≡◌, ℕ, ◌+◌, Bool, true, false, ◌||◌, List, [], ◌∷◌, ◌++◌, length, map, Option, Some, eqb, refl, sym, ◌∙◌, ap, ap₂, subst, append_assoc, append-nil, length-append, eqb-true, if◌then◌else◌, arith}
+use Rattle.std.specs.Prelude.{codes}
+use Rattle.std.specs.List.{list_any, list_all, flat_map, filter_map, cons_option}
+use Rattle.std.proofs.lemmas.Bool.{and_parts, or_parts}
+use Rattle.std.proofs.lemmas.List.Folds.{list_any-append}
+use Rattle.vw_design.specs.Distinct.{are_distinct}
+use Rattle.vw_text.specs.declared.line.Line.{Line}
+use Rattle.vw_text.specs.PlainLines.{is_plain, numbered}
+use Rattle.vw_blif.specs.Words.{Word}
+use Rattle.vw_blif.specs.Kinds.{kind, is_model, is_end, input, output, clocked}
+use Rattle.vw_blif.specs.Spelled.{Binding, SpelledItem, table, latch, place, SpelledModel}
+use Rattle.vw_blif.specs.Blocks.{Part, Cut, with_element, cut_before, until}
+use Rattle.vw_blif.specs.Designs.{item_of, ports_of, model_by, model_of, blocks, spelled_by}
+use Rattle.vw_blif.specs.Printed.{latch_words, bind_word, item_lines, port_lines, head_lines, model_lines, design_lines}
+use Rattle.vw_blif.specs.PlainDesigns.{is_plain_bind, is_plain_item, can_stand_beside, is_plain_model, line_of, are_numbered, have_numbers}
+use Rattle.vw_blif.proofs.CutLines.{cut_front}
+use Rattle.vw_blif.proofs.PrintedWords.{plain_parts}
+use Rattle.vw_blif.proofs.PrintedGroups.{numbered-append, begins_group, leaves, rows_at, rows_begin_none, rows_stay, table_back, latch_back, binds_back}
+
+-- a line that begins a part, others that don't, and lines that begin with a part
+part_cut : (begins : Line → Bool) (line : Line) (tail rest : List Line) → begins line ≡ true → list_any begins tail ≡ false → (cut_before begins rest).before ≡ []
+    → cut_before begins (line ∷ (tail ++ rest)) ≡ record { before = []; parts = record { head = line; tail = tail } ∷ (cut_before begins rest).parts }
+part_cut begins line tail rest is none fresh =
+    let cut = cut_before begins rest in
+    ap₂ (λ (test : Bool) (c : Cut Line). with_element test line c) is (cut_front begins tail rest none)
+    ∙ ap (λ (ls : List Line). record { before = []; parts = record { head = line; tail = ls } ∷ cut.parts })
+    (ap (λ (ls : List Line). tail ++ ls) fresh ∙ append-nil tail)
+
+-- ---- groups
+
+-- what groups add, where no row stands before them
+record Adds (lines : List Line) (inputs outputs clocks : List Word) (items : List SpelledItem) : Type 0 where
+  before : (cut_before begins_group lines).before ≡ []
+  inputs_ : flat_map (ports_of input) (cut_before begins_group lines).parts ≡ inputs
+  outputs_ : flat_map (ports_of output) (cut_before begins_group lines).parts ≡ outputs
+  clocks_ : flat_map (ports_of clocked) (cut_before begins_group lines).parts ≡ clocks
+  items_ : filter_map item_of (cut_before begins_group lines).parts ≡ items
+  stay : list_any leaves lines ≡ false
+
+no_line : Adds [] [] [] [] []
+no_line = record { before = refl; inputs_ = refl; outputs_ = refl; clocks_ = refl; items_ = refl; stay = refl }
+
+-- a group of a line and rows before others
+group_first : (line : Line) (rows rest : List Line) (inputs outputs clocks : List Word) (items : List SpelledItem) → begins_group line ≡ true → leaves line ≡ false
+    → list_any begins_group rows ≡ false → list_any leaves rows ≡ false → Adds rest inputs outputs clocks items
+    → Adds (line ∷ (rows ++ rest)) (ports_of input (record { head = line; tail = rows }) ++ inputs) (ports_of output (record { head = line; tail = rows }) ++ outputs)
+    (ports_of clocked (record { head = line; tail = rows }) ++ clocks) (cons_option (item_of (record { head = line; tail = rows })) items)
+group_first line rows rest inputs outputs clocks items begins stays none stay adds =
+    let part : Part Line = record { head = line; tail = rows } in
+    let cut = part_cut begins_group line rows rest begins none adds.before in
+    record {
+      before = ap (λ (c : Cut Line). c.before) cut;
+      inputs_ = ap (λ (c : Cut Line). flat_map (ports_of input) c.parts) cut ∙ ap (λ (ws : List Word). ports_of input part ++ ws) adds.inputs_;
+      outputs_ = ap (λ (c : Cut Line). flat_map (ports_of output) c.parts) cut ∙ ap (λ (ws : List Word). ports_of output part ++ ws) adds.outputs_;
+      clocks_ = ap (λ (c : Cut Line). flat_map (ports_of clocked) c.parts) cut ∙ ap (λ (ws : List Word). ports_of clocked part ++ ws) adds.clocks_;
+      items_ = ap (λ (c : Cut Line). filter_map item_of c.parts) cut ∙ ap (λ (is : List SpelledItem). cons_option (item_of part) is) adds.items_;
+      stay = ap₂ (λ (a b : Bool). a || b) stays (list_any-append leaves rows rest ∙ ap₂ (λ (a b : Bool). a || b) stay adds.stay);
+    }
+
+-- ---- items
+
+-- the lines of an item, and then those of the others
+pub item_first : (n : ℕ) (item : SpelledItem) (items : List SpelledItem)
+    → numbered n (flat_map item_lines (item ∷ items)) ≡ numbered n (item_lines item) ++ numbered (n + length (item_lines item)) (flat_map item_lines items)
+item_first n item items = numbered-append n (item_lines item) (flat_map item_lines items)
+
+with_item : (lines : List Line) (items : List SpelledItem) (found : Option SpelledItem) (item : SpelledItem) → found ≡ Some item → Adds lines [] [] [] (cons_option found items) → Adds lines [] [] [] (item ∷ items)
+with_item lines items found item is adds = record {
+  before = adds.before;
+  inputs_ = adds.inputs_;
+  outputs_ = adds.outputs_;
+  clocks_ = adds.clocks_;
+  items_ = adds.items_ ∙ ap (λ (o : Option SpelledItem). cons_option o items) is;
+  stay = adds.stay;
+}
+
+one_item : (n : ℕ) (item : SpelledItem) (rest : List Line) (items : List SpelledItem) → is_plain_item item ≡ true → line_of item ≡ n → Adds rest [] [] [] items
+    → Adds (numbered n (item_lines item) ++ rest) [] [] [] (item ∷ items)
+one_item n (table line ins out on rows) rest items plain at adds =
+    let first : Line = record { number = n; words = codes ".names" ∷ (ins ++ out ∷ []) } in
+    with_item (first ∷ (rows_at (n + 1) on rows ++ rest)) items (item_of (record { head = first; tail = rows_at (n + 1) on rows })) (table line ins out on rows)
+    (ap (λ (i : SpelledItem). Some i) (table_back n line ins out on rows at plain))
+    (group_first first (rows_at (n + 1) on rows) rest [] [] [] items refl refl (rows_begin_none (n + 1) on rows) (rows_stay (n + 1) on rows) adds)
+one_item n (latch line d q edge control init) rest items plain at adds =
+    let first : Line = record { number = n; words = codes ".latch" ∷ d ∷ q ∷ latch_words edge control init } in
+    let beside = (and_parts (is_plain q) (can_stand_beside edge control) (and_parts (is_plain d) _ plain).1).1 in
+    with_item (first ∷ rest) items (item_of (record { head = first; tail = [] })) (latch line d q edge control init)
+    (latch_back n line d q edge control init at beside)
+    (group_first first [] rest [] [] [] items refl refl refl refl adds)
+one_item n (place line model binds) rest items plain at adds =
+    let first : Line = record { number = n; words = codes ".subckt" ∷ model ∷ map bind_word binds } in
+    let all = (and_parts (list_all is_plain_bind binds) (are_distinct (map (λ (b : Binding). b.formal) binds)) (and_parts (is_plain model) _ plain).1).0 in
+    with_item (first ∷ rest) items (item_of (record { head = first; tail = [] })) (place line model binds)
+    (ap₂ (λ (m : ℕ) (bs : List Binding). Some (place m model bs)) (sym at) (binds_back binds all))
+    (group_first first [] rest [] [] [] items refl refl refl refl adds)
+
+all_items : (n : ℕ) (items : List SpelledItem) → list_all is_plain_item items ≡ true → are_numbered n items ≡ true → Adds (numbered n (flat_map item_lines items)) [] [] [] items
+all_items n [] plain at = no_line
+all_items n (item ∷ items) plain at =
+    let parts = and_parts (is_plain_item item) (list_all is_plain_item items) plain in
+    let numbers = and_parts (eqb (line_of item) n) (are_numbered (n + length (item_lines item)) items) at in
+    let rest = all_items (n + length (item_lines item)) items parts.1 numbers.1 in
+    let P : List Line → Type 0 = λ ls. Adds ls [] [] [] (item ∷ items) in
+    subst P (sym (item_first n item items)) (one_item n item (numbered (n + length (item_lines item)) (flat_map item_lines items)) items parts.0 (eqb-true (line_of item) n numbers.0) rest)
+
+-- ---- ports
+
+-- the lines of a list of ports before others
+inputs_first : (n : ℕ) (ports outputs clocks : List Word) (items : List SpelledItem) (rest : List Line) → Adds rest [] outputs clocks items
+    → Adds (numbered n (port_lines (codes ".inputs") ports) ++ rest) ports outputs clocks items
+inputs_first n [] outputs clocks items rest adds = adds
+inputs_first n (port ∷ ports) outputs clocks items rest adds =
+    let line : Line = record { number = n; words = codes ".inputs" ∷ port ∷ ports } in
+    let P : List Word → Type 0 = λ ws. Adds (line ∷ rest) ws outputs clocks items in
+    subst P (append-nil (port ∷ ports)) (group_first line [] rest [] outputs clocks items refl refl refl refl adds)
+
+outputs_first : (n : ℕ) (ports clocks : List Word) (items : List SpelledItem) (rest : List Line) → Adds rest [] [] clocks items
+    → Adds (numbered n (port_lines (codes ".outputs") ports) ++ rest) [] ports clocks items
+outputs_first n [] clocks items rest adds = adds
+outputs_first n (port ∷ ports) clocks items rest adds =
+    let line : Line = record { number = n; words = codes ".outputs" ∷ port ∷ ports } in
+    let P : List Word → Type 0 = λ ws. Adds (line ∷ rest) [] ws clocks items in
+    subst P (append-nil (port ∷ ports)) (group_first line [] rest [] [] clocks items refl refl refl refl adds)
+
+clocks_first : (n : ℕ) (ports : List Word) (items : List SpelledItem) (rest : List Line) → Adds rest [] [] [] items
+    → Adds (numbered n (port_lines (codes ".clock") ports) ++ rest) [] [] ports items
+clocks_first n [] items rest adds = adds
+clocks_first n (port ∷ ports) items rest adds =
+    let line : Line = record { number = n; words = codes ".clock" ∷ port ∷ ports } in
+    let P : List Word → Type 0 = λ ws. Adds (line ∷ rest) [] [] ws items in
+    subst P (append-nil (port ∷ ports)) (group_first line [] rest [] [] [] items refl refl refl refl adds)
+
+-- ---- models
+
+-- the lines of a model between its first and its `.end`
+abbrev pub body_lines : SpelledModel → List (List Word)
+body_lines model =
+    port_lines (codes ".inputs") model.inputs ++ (port_lines (codes ".outputs") model.outputs
+    ++ (port_lines (codes ".clock") model.clocks ++ flat_map item_lines model.items))
+
+body_adds : (n : ℕ) (model : SpelledModel) → is_plain_model model ≡ true → are_numbered (n + length (head_lines model)) model.items ≡ true
+    → Adds (numbered (n + 1) (body_lines model)) model.inputs model.outputs model.clocks model.items
+body_adds n model plain at =
+    let a = port_lines (codes ".inputs") model.inputs in
+    let b = port_lines (codes ".outputs") model.outputs in
+    let c = port_lines (codes ".clock") model.clocks in
+    let i = flat_map item_lines model.items in
+    let m = n + 1 + length a + length b + length c in
+    let long = length-append a (b ++ c) in
+    let longer = length-append b c in
+    let same : n + length (head_lines model) ≡ m = omega (long, longer, arith) in
+    let numbers : are_numbered m model.items ≡ true = ap (λ k. are_numbered k model.items) (sym same) ∙ at in
+    let A : List Line → Type 0 = λ ls. Adds ls [] [] model.clocks model.items in
+    let B : List Line → Type 0 = λ ls. Adds ls [] model.outputs model.clocks model.items in
+    let C : List Line → Type 0 = λ ls. Adds ls model.inputs model.outputs model.clocks model.items in
+    let items = all_items m model.items (plain_parts model plain).items numbers in
+    let clocks = subst A (sym (numbered-append (n + 1 + length a + length b) c i)) (clocks_first (n + 1 + length a + length b) model.clocks model.items (numbered m i) items) in
+    let outputs = subst B (sym (numbered-append (n + 1 + length a) b (c ++ i))) (outputs_first (n + 1 + length a) model.outputs model.clocks model.items (numbered (n + 1 + length a + length b) (c ++ i)) clocks) in
+    subst C (sym (numbered-append (n + 1) a (b ++ (c ++ i)))) (inputs_first (n + 1) model.inputs model.outputs model.clocks model.items (numbered (n + 1 + length a) (b ++ (c ++ i))) outputs)
+
+abbrev pub first_line : ℕ → SpelledModel → Line
+first_line n model = record { number = n; words = codes ".model" ∷ model.name ∷ [] }
+
+abbrev pub end_line : ℕ → Line
+end_line n = record { number = n; words = codes ".end" ∷ [] }
+
+end_last : (a b c d e : List (List Word)) → (a ++ (b ++ c)) ++ (d ++ e) ≡ (a ++ (b ++ (c ++ d))) ++ e
+end_last a b c d e = simp append_assoc
+
+-- the first line of a model, its body, and its `.end`
+pub model_cut : (n : ℕ) (model : SpelledModel)
+    → numbered n (model_lines model) ≡ first_line n model ∷ (numbered (n + 1) (body_lines model) ++ end_line (n + 1 + length (body_lines model)) ∷ [])
+model_cut n model =
+    ap (λ (ls : List (List Word)). first_line n model ∷ numbered (n + 1) ls)
+    (end_last (port_lines (codes ".inputs") model.inputs) (port_lines (codes ".outputs") model.outputs) (port_lines (codes ".clock") model.clocks) (flat_map item_lines model.items) ((codes ".end" ∷ []) ∷ []))
+    ∙ ap (λ (ls : List Line). first_line n model ∷ ls) (numbered-append (n + 1) (body_lines model) ((codes ".end" ∷ []) ∷ []))
+
+-- lines none of which leaves the model, in parts
+neither : (lines : List Line) → list_any leaves lines ≡ false → (list_any (λ line. is_model (kind line)) lines ≡ false) × (list_any (λ line. is_end (kind line)) lines ≡ false)
+neither [] stay = (refl, refl)
+neither (line ∷ lines) stay =
+    let parts = or_parts (leaves line) (list_any leaves lines) stay in
+    let here = or_parts (is_model (kind line)) (is_end (kind line)) parts.0 in
+    let there = neither lines parts.1 in
+    (ap₂ (λ (a b : Bool). a || b) here.0 there.0, ap₂ (λ (a b : Bool). a || b) here.1 there.1)
+
+until_end : (ends : Line → Bool) (lines : List Line) (last : Line) → list_any ends lines ≡ false → ends last ≡ true → until ends (lines ++ last ∷ []) ≡ lines
+until_end ends [] last none is = ap (λ (b : Bool). if b then [] else last ∷ []) is
+until_end ends (line ∷ lines) last none is =
+    let parts = or_parts (ends line) (list_any ends lines) none in
+    ap₂ (λ (b : Bool) (ls : List Line). if b then [] else line ∷ ls) parts.0 (until_end ends lines last parts.1 is)
+
+same_model : (a b : SpelledModel) → a.name ≡ b.name → a.inputs ≡ b.inputs → a.outputs ≡ b.outputs → a.clocks ≡ b.clocks → a.items ≡ b.items → a ≡ b
+same_model a b name inputs outputs clocks items =
+    ap (λ (w : Word). record { name = w; inputs = a.inputs; outputs = a.outputs; clocks = a.clocks; items = a.items }) name
+    ∙ ap (λ (ws : List Word). record { name = b.name; inputs = ws; outputs = a.outputs; clocks = a.clocks; items = a.items }) inputs
+    ∙ ap (λ (ws : List Word). record { name = b.name; inputs = b.inputs; outputs = ws; clocks = a.clocks; items = a.items }) outputs
+    ∙ ap (λ (ws : List Word). record { name = b.name; inputs = b.inputs; outputs = b.outputs; clocks = ws; items = a.items }) clocks
+    ∙ ap (λ (is : List SpelledItem). record { name = b.name; inputs = b.inputs; outputs = b.outputs; clocks = b.clocks; items = is }) items
+
+model_back : (n : ℕ) (model : SpelledModel) (body : List Line) (last : Line) → is_end (kind last) ≡ true → Adds body model.inputs model.outputs model.clocks model.items
+    → model_of (record { head = first_line n model; tail = body ++ last ∷ [] }) ≡ model
+model_back n model body last is adds =
+    ap (λ (ls : List Line). model_by model.name ((cut_before begins_group ls).parts)) (until_end (λ line. is_end (kind line)) body last (neither body adds.stay).1 is)
+    ∙ same_model (model_by model.name ((cut_before begins_group body).parts)) model refl adds.inputs_ adds.outputs_ adds.clocks_ adds.items_
+
+-- ---- designs
+
+record AreModels (lines : List Line) (design : List SpelledModel) : Type 0 where
+  before : (blocks lines).before ≡ []
+  models : map model_of (blocks lines).parts ≡ design
+
+model_first : (n : ℕ) (model : SpelledModel) (rest : List Line) (design : List SpelledModel) → is_plain_model model ≡ true → are_numbered (n + length (head_lines model)) model.items ≡ true
+    → AreModels rest design → AreModels (numbered n (model_lines model) ++ rest) (model ∷ design)
+model_first n model rest design plain at are =
+    let first = first_line n model in
+    let body = numbered (n + 1) (body_lines model) in
+    let last = end_line (n + 1 + length (body_lines model)) in
+    let adds = body_adds n model plain at in
+    let none : list_any (λ line. is_model (kind line)) (body ++ last ∷ []) ≡ false =
+    list_any-append (λ line. is_model (kind line)) body (last ∷ []) ∙ ap (λ (b : Bool). b || false) (neither body adds.stay).0 in
+    let cut = ap (λ (ls : List Line). blocks (ls ++ rest)) (model_cut n model) ∙ part_cut (λ line. is_model (kind line)) first (body ++ last ∷ []) rest refl none are.before in
+    record {
+      before = ap (λ (c : Cut Line). c.before) cut;
+      models = ap (λ (c : Cut Line). map model_of c.parts) cut ∙ ap₂ (λ (m : SpelledModel) (ms : List SpelledModel). m ∷ ms) (model_back n model body last refl adds) are.models;
+    }
+
+all_models : (n : ℕ) (design : List SpelledModel) → list_all is_plain_model design ≡ true → have_numbers n design ≡ true → AreModels (numbered n (design_lines design)) design
+all_models n [] plain at = record { before = refl; models = refl }
+all_models n (model ∷ design) plain at =
+    let parts = and_parts (is_plain_model model) (list_all is_plain_model design) plain in
+    let numbers = and_parts (are_numbered (n + length (head_lines model)) model.items) (have_numbers (n + length (model_lines model)) design) at in
+    let rest = all_models (n + length (model_lines model)) design parts.1 numbers.1 in
+    let P : List Line → Type 0 = λ ls. AreModels ls (model ∷ design) in
+    subst P (sym (numbered-append n (model_lines model) (design_lines design)))
+    (model_first n model (numbered (n + length (model_lines model)) (design_lines design)) design parts.0 numbers.0 rest)
+
+-- a design is what its printed lines spell
+pub spelled_back : (n : ℕ) (design : List SpelledModel) → list_all is_plain_model design ≡ true → have_numbers n design ≡ true → spelled_by (numbered n (design_lines design)) ≡ design
+spelled_back n design plain at = (all_models n design plain at).models
