@@ -16,3 +16,4 @@ pub mod PrintedModels
 pub mod PrintedFaults
 pub mod PrintedDesigns
 pub mod PrintedExample
+pub mod SpelledOnce

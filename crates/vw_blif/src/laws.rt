@@ -1,12 +1,13 @@
 //! Laws of the definitions, as contracts of functions that do nothing.
-ghost use Rattle.std.specs.Prelude.{◌≡◌, Bool, List, [], Some, Ok};
+ghost use Rattle.std.specs.Prelude.{◌≡◌, Bool, List, [], map, Some, Ok};
+ghost use Rattle.vw_design.specs.declared.design.Design.{Design};
 ghost use Rattle.vw_text.specs.declared.line.Line.{Line};
 ghost use Rattle.vw_blif.specs.declared.fault.TextFault.{TextFault};
 ghost use Rattle.vw_blif.specs.Blocks.{Cut, cut_before};
 ghost use Rattle.vw_blif.specs.Cuts.{IsCut};
 ghost use Rattle.vw_blif.specs.Read.{first_fault, design_of};
 ghost use Rattle.vw_blif.specs.FirstFault.{IsFirst};
-ghost use Rattle.vw_blif.specs.Spelled.{SpelledModel};
+ghost use Rattle.vw_blif.specs.Spelled.{SpelledModel, spelled_model};
 ghost use Rattle.vw_blif.specs.Printed.{printed};
 ghost use Rattle.vw_blif.specs.PlainDesigns.{IsPlainDesign};
 
@@ -36,3 +37,9 @@ pub fn printed_designs_read()
 {
     plain_lines_read();
 }
+
+/// Designs that spell the same are the same, so a text spells one design.
+pub fn designs_spell_once()
+    ensures { (one other : Design)
+        → map spelled_model one.models ≡ map spelled_model other.models → one ≡ other }
+{}
