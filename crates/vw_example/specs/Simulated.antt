@@ -1,5 +1,5 @@
 -- What a caller knows of a simulation that ended with status 0.
-use Rattle.std.specs.Prelude.{◌≡◌, ℕ, Bool, List, Ok}
+use Rattle.std.specs.Prelude.{◌≡◌, ℕ, Bool, false, List, Ok}
 use Rattle.vw_net.specs.declared.flat.Flat.{Flat}
 use Rattle.vw_rows.specs.Stimulus.{stimulus_rows}
 use Rattle.vw_top.specs.Runnable.{IsDesignOf}
@@ -11,4 +11,4 @@ pub record IsSimulated (design stimulus out : List ℕ) : Type 0 where
   pub rows : List (List Bool)
   pub netlist : IsDesignOf design flat
   pub read : stimulus_rows flat.inputs stimulus ≡ Ok rows
-  pub trace : out ≡ trace_of flat rows
+  pub trace : out ≡ trace_of false flat rows

@@ -57,9 +57,9 @@ none_left d reason (inr (is, not_yet)) = (inr not_yet, ap reason_status is)
 no_both : (d : List ℕ) (flat : Flat) → IsDesignOf d flat → IsNoDesign d → ⊥
 no_both d flat design none = let why = why_none d none in design_apart d flat why.0 design why.1
 
-module _ (design stimulus : List ℕ) (told : List ℕ → Told) where
+module _ (design stimulus : List ℕ) (unknown : Bool) (told : List ℕ → Told) where
   abbrev course : Course
-  course = sim_course design stimulus
+  course = sim_course design stimulus unknown
 
   -- why `sim` refuses
   data WhyRefused (reason : Reason) : Type 0 where
@@ -82,7 +82,7 @@ module _ (design stimulus : List ℕ) (told : List ℕ → Told) where
     s_is : IsTextOf (told stimulus) s
     netlist : IsDesignOf d flat
     are : stimulus_rows flat.inputs s ≡ Ok rows
-    text_is : text ≡ trace_of flat rows
+    text_is : text ≡ trace_of unknown flat rows
 
   what : (text : List ℕ) → MayWrite course told text → WhatWritten text
   what text (d, d_is, (flat, netlist, (s, s_is, (rows, are, is)))) =
@@ -119,12 +119,12 @@ module _ (design stimulus : List ℕ) (told : List ℕ → Told) where
   comes_to_no_stimulus : (d : List ℕ) (flat : Flat) → told design ≡ held d → IsDesignOf d flat → told stimulus ≡ absent → ComesTo missing course told
   comes_to_no_stimulus d flat d_is netlist is = at_held (told design) d _ _ d_is (inr ((flat, netlist), λ other its. at_absent (told stimulus) _ _ is refl))
 
-module _ (design stimulus : List ℕ) (before after : Outside) (status : ℕ) (table : Statuses (sim_course design stimulus) before after status) where
+module _ (design stimulus : List ℕ) (unknown : Bool) (before after : Outside) (status : ℕ) (table : Statuses (sim_course design stimulus unknown) before after status) where
   abbrev told : List ℕ → Told
   told = before.shelf.told
 
-  abbrev its_why : (refusal : IsRefusal (sim_course design stimulus) before after status) → WhyRefused design stimulus told refusal.reason
-  its_why refusal = why design stimulus told refusal.reason refusal.may
+  abbrev its_why : (refusal : IsRefusal (sim_course design stimulus unknown) before after status) → WhyRefused design stimulus unknown told refusal.reason
+  its_why refusal = why design stimulus unknown told refusal.reason refusal.may
 
   fault_at : (name : List ℕ) → CountsFault name before.shelf after.shelf → (name ≡ design) ⊎ (name ≡ stimulus)
       → CountsFault design before.shelf after.shelf ⊎ CountsFault stimulus before.shelf after.shelf
@@ -132,7 +132,7 @@ module _ (design stimulus : List ℕ) (before after : Outside) (status : ℕ) (t
   fault_at name counted (inr same) = inr (subst (λ (n : List ℕ). CountsFault n before.shelf after.shelf) same counted)
 
   read_fault : status ≡ 7 → CountsFault design before.shelf after.shelf ⊎ CountsFault stimulus before.shelf after.shelf
-  read_fault is = let fault = table.read_fault is in fault_at fault.name fault.counted (which design stimulus told fault.file fault.name fault.may)
+  read_fault is = let fault = table.read_fault is in fault_at fault.name fault.counted (which design stimulus unknown told fault.file fault.name fault.may)
 
   -- a stop in the reading of either file
   yields : (status ≡ 7) ⊎ (status ≡ 9) → Yields design before after status ⊎ Yields stimulus before after status
@@ -141,7 +141,7 @@ module _ (design stimulus : List ℕ) (before after : Outside) (status : ℕ) (t
   yields (inr is) = inl (inl is)
 
   -- a text without a design stops the call in its own reading
-  at_design : (d : List ℕ) (file : File) (name : List ℕ) → told design ≡ held d → IsNoDesign d → MayRead (sim_course design stimulus) told file name → name ≡ design
+  at_design : (d : List ℕ) (file : File) (name : List ℕ) → told design ≡ held d → IsNoDesign d → MayRead (sim_course design stimulus unknown) told file name → name ≡ design
   at_design d file name held_d none (inl (is, same)) = same
   at_design d file name held_d none (inr (text, text_is, (flat, netlist, more))) =
       let design_is : IsDesignOf d flat = subst (λ (t : List ℕ). IsDesignOf t flat) (its_text (told design) text d held_d text_is) netlist in
@@ -154,19 +154,19 @@ module _ (design stimulus : List ℕ) (before after : Outside) (status : ℕ) (t
   yields_at_design d held_d none (inr is) = inl is
 
   -- a refusal is status 1 or 5
-  one_or_five : (reason : Reason) → WhyRefused design stimulus told reason → status ≡ reason_status reason → (status ≡ 1) ⊎ (status ≡ 5)
+  one_or_five : (reason : Reason) → WhyRefused design stimulus unknown told reason → status ≡ reason_status reason → (status ≡ 1) ⊎ (status ≡ 5)
   one_or_five reason (bad_design d d_is is none) its = inl (its ∙ is)
   one_or_five reason (bad_rows d s flat fault d_is netlist s_is is said) its = inr (its ∙ ap reason_status is)
 
   no_other : (0 < status) → (status < 7) → (status ≡ 1) ⊎ (status ≡ 5)
   no_other some few = let refusal = table.refused some few in one_or_five refusal.reason (its_why refusal) refusal.its_status
 
-  why_one : (d : List ℕ) (reason : Reason) → told design ≡ held d → WhyRefused design stimulus told reason → 1 ≡ reason_status reason → IsNoDesign d
+  why_one : (d : List ℕ) (reason : Reason) → told design ≡ held d → WhyRefused design stimulus unknown told reason → 1 ≡ reason_status reason → IsNoDesign d
   why_one d reason held_d (bad_design text text_is is none) its = subst IsNoDesign (its_text (told design) text d held_d text_is) none
   why_one d reason held_d (bad_rows text s flat fault text_is netlist s_is is said) its = absurd (let wrong : 1 ≡ 5 = its ∙ ap reason_status is in omega arith)
 
   -- a text without a design gives status 1
-  one_comes : (d : List ℕ) (reason : Reason) → told design ≡ held d → IsNoDesign d → WhyRefused design stimulus told reason → status ≡ reason_status reason → status ≡ 1
+  one_comes : (d : List ℕ) (reason : Reason) → told design ≡ held d → IsNoDesign d → WhyRefused design stimulus unknown told reason → status ≡ reason_status reason → status ≡ 1
   one_comes d reason held_d none (bad_design text text_is is gone) its = its ∙ is
   one_comes d reason held_d none (bad_rows text s flat fault text_is netlist s_is is said) its =
       let design_is : IsDesignOf d flat = subst (λ (t : List ℕ). IsDesignOf t flat) (its_text (told design) text d held_d text_is) netlist in
@@ -178,7 +178,7 @@ module _ (design stimulus : List ℕ) (before after : Outside) (status : ℕ) (t
     netlist : IsDesignOf d flat
     said : stimulus_rows flat.inputs s ≡ Err fault
 
-  why_five : (d s : List ℕ) (reason : Reason) → told design ≡ held d → told stimulus ≡ held s → WhyRefused design stimulus told reason → 5 ≡ reason_status reason → HasFault d s
+  why_five : (d s : List ℕ) (reason : Reason) → told design ≡ held d → told stimulus ≡ held s → WhyRefused design stimulus unknown told reason → 5 ≡ reason_status reason → HasFault d s
   why_five d s reason held_d held_s (bad_design text text_is is none) its = absurd (let wrong : 5 ≡ 1 = its ∙ is in omega arith)
   why_five d s reason held_d held_s (bad_rows text rest flat fault text_is netlist rest_is is said) its = record {
     flat = flat;
@@ -188,20 +188,20 @@ module _ (design stimulus : List ℕ) (before after : Outside) (status : ℕ) (t
   }
 
   -- a fault of the rows gives status 5
-  five_comes : (d : List ℕ) (flat : Flat) (reason : Reason) → told design ≡ held d → IsDesignOf d flat → WhyRefused design stimulus told reason → status ≡ reason_status reason → status ≡ 5
+  five_comes : (d : List ℕ) (flat : Flat) (reason : Reason) → told design ≡ held d → IsDesignOf d flat → WhyRefused design stimulus unknown told reason → status ≡ reason_status reason → status ≡ 5
   five_comes d flat reason held_d netlist (bad_design text text_is is none) its =
       let gone : IsNoDesign d = subst IsNoDesign (its_text (told design) text d held_d text_is) none in absurd (no_both d flat netlist gone)
   five_comes d flat reason held_d netlist (bad_rows text rest other fault text_is its_netlist rest_is is said) its = its ∙ ap reason_status is
 
   -- a file that is absent leaves out as it was
-  want_untouched : IsWantOfMemory (sim_course design stimulus) before after → ((text : List ℕ) → MayWrite (sim_course design stimulus) told text → ⊥) → after.out ≡ before.out
+  want_untouched : IsWantOfMemory (sim_course design stimulus unknown) before after → ((text : List ℕ) → MayWrite (sim_course design stimulus unknown) told text → ⊥) → after.out ≡ before.out
   want_untouched want none =
       ⊎_elim
       (λ (same : after.out ≡ before.out). same)
-      (λ (some : (text : List ℕ) × MayWrite (sim_course design stimulus) told text × WrotePart text before.out after.out). absurd (none some.0 some.1))
+      (λ (some : (text : List ℕ) × MayWrite (sim_course design stimulus unknown) told text × WrotePart text before.out after.out). absurd (none some.0 some.1))
       want.part
 
-  missing_leaves : (status ≡ 7) ⊎ (status ≡ 9) → ((text : List ℕ) → MayWrite (sim_course design stimulus) told text → ⊥) → (after.out ≡ before.out) × ((status ≡ 7) ⊎ (status ≡ 9))
+  missing_leaves : (status ≡ 7) ⊎ (status ≡ 9) → ((text : List ℕ) → MayWrite (sim_course design stimulus unknown) told text → ⊥) → (after.out ≡ before.out) × ((status ≡ 7) ⊎ (status ≡ 9))
   missing_leaves (inl is) none = ((table.read_fault is).leaves, inl is)
   missing_leaves (inr is) none = (want_untouched (table.want_of_memory is) none, inr is)
 
@@ -209,11 +209,11 @@ module _ (design stimulus : List ℕ) (before after : Outside) (status : ℕ) (t
   ends_or_stops P Q refused stopped (inl (some, few)) = inl (refused some few)
   ends_or_stops P Q refused stopped (inr stops) = inr (stopped stops)
 
-  pub sim_table : SimStatuses design stimulus before after status
+  pub sim_table : SimStatuses design stimulus unknown before after status
   sim_table = record {
     done = λ d s held_d held_s is.
         let done = table.done is in
-        let w = what design stimulus told done.text done.may in (
+        let w = what design stimulus unknown told done.text done.may in (
           w.flat,
           w.rows,
           subst (λ (t : List ℕ). IsDesignOf t w.flat) (its_text (told design) w.d d held_d w.d_is) w.netlist,
@@ -226,7 +226,7 @@ module _ (design stimulus : List ℕ) (before after : Outside) (status : ℕ) (t
     no_design_comes = λ d held_d none.
         ends_or_stops (status ≡ 1) (Yields design before after status) (λ some few. let refusal = table.refused some few in one_comes d refusal.reason held_d none (its_why refusal) refusal.its_status)
         (yields_at_design d held_d none)
-        (table.rejected (comes_to_no_design design stimulus told d held_d none));
+        (table.rejected (comes_to_no_design design stimulus unknown told d held_d none));
     no_rows = λ d s held_d held_s is.
         let refusal = table.refused (omega arith) (omega arith) in
         let fault = why_five d s refusal.reason held_d held_s (its_why refusal) (sym is ∙ refusal.its_status) in
@@ -234,7 +234,7 @@ module _ (design stimulus : List ℕ) (before after : Outside) (status : ℕ) (t
     no_rows_comes = λ d s flat fault held_d held_s netlist said.
         ends_or_stops (status ≡ 5) (Yields design before after status ⊎ Yields stimulus before after status)
         (λ some few. let refusal = table.refused some few in five_comes d flat refusal.reason held_d netlist (its_why refusal) refusal.its_status) yields
-        (table.rejected (comes_to_no_rows design stimulus told d s flat fault held_d held_s netlist said));
+        (table.rejected (comes_to_no_rows design stimulus unknown told d s flat fault held_d held_s netlist said));
     read_fault = read_fault;
     others = (
       λ is. omega (arith, no_other (omega arith) (omega arith)),
@@ -243,8 +243,8 @@ module _ (design stimulus : List ℕ) (before after : Outside) (status : ℕ) (t
       λ is. omega (arith, no_other (omega arith) (omega arith)),
     );
     part = λ flat rows accepted.
-        let part = table.part (comes_to_trace design stimulus told accepted.design_text accepted.stimulus_text flat rows accepted.design_held accepted.stimulus_held accepted.netlist accepted.read) in
-        let w = what design stimulus told part.0 part.1 in (
+        let part = table.part (comes_to_trace design stimulus unknown told accepted.design_text accepted.stimulus_text flat rows accepted.design_held accepted.stimulus_held accepted.netlist accepted.read) in
+        let w = what design stimulus unknown told part.0 part.1 in (
           w.flat,
           w.rows,
           record {
@@ -258,11 +258,11 @@ module _ (design stimulus : List ℕ) (before after : Outside) (status : ℕ) (t
           subst (λ (t : List ℕ). LeavesPart t before.out after.out) w.text_is part.2,
         );
     absent_design = λ gone.
-        missing_leaves (table.absent_file (comes_to_no_file design stimulus told gone))
-        (λ text may. let w = what design stimulus told text may in no_text (told design) w.d gone w.d_is);
+        missing_leaves (table.absent_file (comes_to_no_file design stimulus unknown told gone))
+        (λ text may. let w = what design stimulus unknown told text may in no_text (told design) w.d gone w.d_is);
     absent_stimulus = λ d flat held_d netlist gone.
-        missing_leaves (table.absent_file (comes_to_no_stimulus design stimulus told d flat held_d netlist gone))
-        (λ text may. let w = what design stimulus told text may in no_text (told stimulus) w.s gone w.s_is);
+        missing_leaves (table.absent_file (comes_to_no_stimulus design stimulus unknown told d flat held_d netlist gone))
+        (λ text may. let w = what design stimulus unknown told text may in no_text (told stimulus) w.s gone w.s_is);
     complete = λ flat rows accepted no_design no_stimulus no_write.
         ⊎_elim
         (λ (is : status ≡ 0). inl is)
@@ -271,7 +271,7 @@ module _ (design stimulus : List ℕ) (before after : Outside) (status : ℕ) (t
         (λ (more : (status ≡ 8) ⊎ (status ≡ 9)). ⊎_elim
         (λ (is : status ≡ 8). absurd (no_write (ap (λ (o : SeenSink). o.faults) (table.write_fault is).counted.2)))
         (λ (is : status ≡ 9). inr is) more) stops)
-        (table.accepted (comes_to_trace design stimulus told accepted.design_text accepted.stimulus_text flat rows accepted.design_held accepted.stimulus_held accepted.netlist accepted.read));
+        (table.accepted (comes_to_trace design stimulus unknown told accepted.design_text accepted.stimulus_text flat rows accepted.design_held accepted.stimulus_held accepted.netlist accepted.read));
   }
 
 -- words that spell no command

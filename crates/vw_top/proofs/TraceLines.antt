@@ -59,20 +59,20 @@ pub lines_written : (flat : Flat) (first : ℕ) (state : List Bool) (rows output
 lines_written flat first state rows outputs states lines made o s = made ∙ ap (λ os. rows_text first os states) o ∙ ap (λ ss. rows_text first (outputs_of flat state rows) ss) s
 
 -- the parts of a trace
-pub trace_parts : (flat : Flat) (rows : List (List Bool)) → trace_of flat rows ≡ head_text (length flat.outputs) (latch_count flat.cells) ++ (clock_lines flat 0 (start_values false flat.cells) rows ++ end_text (length rows) (state_after flat (start_values false flat.cells) rows))
-trace_parts flat rows =
-    append_assoc (head_text (length flat.outputs) (latch_count flat.cells)) (clock_lines flat 0 (start_values false flat.cells) rows) (end_text (length (outputs_of flat (start_values false flat.cells) rows)) (state_after flat (start_values false flat.cells) rows))
-    ∙ ap (λ n. head_text (length flat.outputs) (latch_count flat.cells) ++ (clock_lines flat 0 (start_values false flat.cells) rows ++ end_text n (state_after flat (start_values false flat.cells) rows))) (length-outputs_of flat (start_values false flat.cells) rows)
+pub trace_parts : (unknown : Bool) (flat : Flat) (rows : List (List Bool)) → trace_of unknown flat rows ≡ head_text (length flat.outputs) (latch_count flat.cells) ++ (clock_lines flat 0 (start_values unknown flat.cells) rows ++ end_text (length rows) (state_after flat (start_values unknown flat.cells) rows))
+trace_parts unknown flat rows =
+    append_assoc (head_text (length flat.outputs) (latch_count flat.cells)) (clock_lines flat 0 (start_values unknown flat.cells) rows) (end_text (length (outputs_of flat (start_values unknown flat.cells) rows)) (state_after flat (start_values unknown flat.cells) rows))
+    ∙ ap (λ n. head_text (length flat.outputs) (latch_count flat.cells) ++ (clock_lines flat 0 (start_values unknown flat.cells) rows ++ end_text n (state_after flat (start_values unknown flat.cells) rows))) (length-outputs_of flat (start_values unknown flat.cells) rows)
 
 -- the lines of all clocks of a trace, and its last line
-abbrev pub all_lines : Flat → List (List Bool) → List ℕ
-all_lines flat rows = clock_lines flat 0 (start_values false flat.cells) rows
+abbrev pub all_lines : Bool → Flat → List (List Bool) → List ℕ
+all_lines unknown flat rows = clock_lines flat 0 (start_values unknown flat.cells) rows
 
-abbrev pub last_line : Flat → List (List Bool) → List ℕ
-last_line flat rows = end_text (length rows) (state_after flat (start_values false flat.cells) rows)
+abbrev pub last_line : Bool → Flat → List (List Bool) → List ℕ
+last_line unknown flat rows = end_text (length rows) (state_after flat (start_values unknown flat.cells) rows)
 
 -- at first all of a trace is left
-pub head_left : (flat : Flat) (rows : List (List Bool)) (before : SeenSink) (head : List ℕ) → head ≡ head_text (length flat.outputs) (latch_count flat.cells) → IsLeft before (trace_of flat rows) before (head ++ (all_lines flat rows ++ last_line flat rows))
-head_left flat rows before head is =
-    let text : trace_of flat rows ≡ head ++ (all_lines flat rows ++ last_line flat rows) = rw is (trace_parts flat rows) in
-    subst (λ (rest : List ℕ). IsLeft before (trace_of flat rows) before rest) text (nothing_written before (trace_of flat rows))
+pub head_left : (unknown : Bool) (flat : Flat) (rows : List (List Bool)) (before : SeenSink) (head : List ℕ) → head ≡ head_text (length flat.outputs) (latch_count flat.cells) → IsLeft before (trace_of unknown flat rows) before (head ++ (all_lines unknown flat rows ++ last_line unknown flat rows))
+head_left unknown flat rows before head is =
+    let text : trace_of unknown flat rows ≡ head ++ (all_lines unknown flat rows ++ last_line unknown flat rows) = rw is (trace_parts unknown flat rows) in
+    subst (λ (rest : List ℕ). IsLeft before (trace_of unknown flat rows) before rest) text (nothing_written before (trace_of unknown flat rows))

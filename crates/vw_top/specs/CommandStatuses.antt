@@ -33,11 +33,11 @@ IsOneMore before now = now ≡ one_more before
 abbrev pub Yields : List ℕ → Outside → Outside → ℕ → Type 0
 Yields name before after status = (status ≡ 9) ⊎ ((status ≡ 7) × CountsFault name before.shelf after.shelf)
 
-pub record SimStatuses (design stimulus : List ℕ) (before after : Outside) (status : ℕ) : Type 0 where
+pub record SimStatuses (design stimulus : List ℕ) (unknown : Bool) (before after : Outside) (status : ℕ) : Type 0 where
   -- 0: the trace of the design that is spelled, over the rows of the stimulus, and nothing else changed
   pub done : (d s : List ℕ) → Holds before design d → Holds before stimulus s → status ≡ 0
       → (flat : Flat) × (rows : List (List Bool)) × IsDesignOf d flat × (stimulus_rows flat.inputs s ≡ Ok rows)
-      × (after ≡ outside before.shelf (appended before.out (trace_of flat rows)))
+      × (after ≡ outside before.shelf (appended before.out (trace_of unknown flat rows)))
   -- 1: exactly where the design text has a fault, or its design doesn't run yet
   pub no_design : (d : List ℕ) → Holds before design d → status ≡ 1 → IsNoDesign d
   pub no_design_comes : (d : List ℕ) → Holds before design d → IsNoDesign d
@@ -55,7 +55,7 @@ pub record SimStatuses (design stimulus : List ℕ) (before after : Outside) (st
   -- whatever the status, out has a part of what status 0 would have written
   pub part : (flat : Flat) (rows : List (List Bool)) → IsAccepted design stimulus before flat rows
       → (other : Flat) × (its : List (List Bool)) × IsAccepted design stimulus before other its
-      × LeavesPart (trace_of other its) before.out after.out
+      × LeavesPart (trace_of unknown other its) before.out after.out
   -- a file that is told to be absent
   pub absent_design : before.shelf.told design ≡ absent → (after.out ≡ before.out) × ((status ≡ 7) ⊎ (status ≡ 9))
   pub absent_stimulus : (d : List ℕ) (flat : Flat) → Holds before design d → IsDesignOf d flat

@@ -67,18 +67,18 @@ rows_apart width text rows reason are refused =
 
 -- ---- the commands
 
--- the trace of a netlist over rows, from the start values
-abbrev pub trace_of : Flat → List (List Bool) → List ℕ
-trace_of flat rows =
-    trace_text (length flat.outputs) (latch_count flat.cells) (flat_history flat (start_values false flat.cells) rows)
+-- the trace of a netlist over rows, from the start values, where free latches start at `unknown`
+abbrev pub trace_of : Bool → Flat → List (List Bool) → List ℕ
+trace_of unknown flat rows =
+    trace_text (length flat.outputs) (latch_count flat.cells) (flat_history flat (start_values unknown flat.cells) rows)
 
 -- the design first, and then the stimulus for its columns
-abbrev pub sim_course : List ℕ → List ℕ → Course
-sim_course design stimulus =
+abbrev pub sim_course : List ℕ → List ℕ → Bool → Course
+sim_course design stimulus unknown =
     reads files.Design design (λ d. judges Flat (IsDesignOf d) (RefusesDesign d) (design_apart d)
     (λ flat is. reads files.Stimulus stimulus (λ s. judges (List (List Bool)) (IsRowsOf flat.inputs s) (RefusesRows flat.inputs s) (rows_apart flat.inputs s)
-    (λ rows are. writes (trace_of flat rows)))))
+    (λ rows are. writes (trace_of unknown flat rows)))))
 
 abbrev pub course_of : Spelled → Course
-course_of (sim design stimulus) = sim_course design stimulus
+course_of (sim design stimulus unknown) = sim_course design stimulus unknown
 course_of (nothing place) = refuses (Usage place)

@@ -26,7 +26,11 @@ fn carry_out<S: Shelf, O: Sink>(
         out.new)) result }
 {
     match command_of(words) {
-        Command::Sim { design, stimulus } => sim(alloc, design, stimulus, shelf, out),
+        Command::Sim {
+            design,
+            stimulus,
+            unknown,
+        } => sim(alloc, design, stimulus, unknown, shelf, out),
         Command::Nothing(place) => Err(Unfinished::Refused(Refusal::new(Reason::Usage(place)))),
     }
 }

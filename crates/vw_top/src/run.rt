@@ -46,19 +46,20 @@ fn write_clocks<O: Sink>(
     Ok(())
 }
 
-/// Runs a netlist over rows from the start values on, and writes its trace.
+/// Runs a netlist over rows from the start values on, free latches starting at `unknown`, and writes its trace.
 pub fn write_trace<O: Sink>(
     alloc: Global,
     ordered: &Ordered,
+    unknown: bool,
     rows: &Rows,
     out: &mut O,
 ) -> Result<(), Stop>
     requires { All (λ row. length row ≡ ordered.now.flat.inputs) rows.now }
-    ensures { WritesOut (trace_of ordered.now.flat rows.now) (O.seen out.old) (O.seen out.new)
+    ensures { WritesOut (trace_of unknown ordered.now.flat rows.now) (O.seen out.old) (O.seen out.new)
         result }
 {
     let flat = ordered.flat();
-    let mut state = flat.start(alloc, false)?;
+    let mut state = flat.start(alloc, unknown)?;
     let nets = flat.inputs() as usize + flat.cells().len();
     let mut values = Bits::of(vec![in alloc; false; nets]?);
     let head = trace_head(alloc, flat.outputs().len() as u32, state.len() as u32)?;

@@ -74,21 +74,22 @@ fn read_rows<S: Shelf>(
     }
 }
 
-/// Runs a design over a stimulus, and writes its trace.
+/// Runs a design over a stimulus, free latches starting at `unknown`, and writes its trace.
 pub fn sim<S: Shelf, O: Sink>(
     alloc: Global,
     design: &Name,
     stimulus: &Name,
+    unknown: bool,
     shelf: &mut S,
     out: &mut O,
 ) -> Result<(), Unfinished>
-    ensures { Follows (sim_course design.now stimulus.now)
+    ensures { Follows (sim_course design.now stimulus.now unknown)
         (outside (S.seen shelf.old) (O.seen out.old)) (outside (S.seen shelf.new) (O.seen
         out.new)) result }
 {
     let ordered = read_design(alloc, shelf, design)?;
     let rows = read_rows(alloc, shelf, stimulus, &ordered)?;
-    match write_trace(alloc, &ordered, &rows, out) {
+    match write_trace(alloc, &ordered, unknown, &rows, out) {
         Ok(()) => Ok(()),
         Err(stop) => Err(Unfinished::Stopped(stop)),
     }

@@ -1,5 +1,5 @@
 //! Laws of the commands, as contracts of functions that do nothing.
-ghost use Rattle.std.specs.Prelude.{ℕ, List};
+ghost use Rattle.std.specs.Prelude.{ℕ, Bool, List};
 ghost use Rattle.vw_top.specs.Course.{Outside, refuses};
 ghost use Rattle.vw_top.specs.Statuses.{Statuses};
 ghost use Rattle.vw_top.specs.Commands.{sim_course};
@@ -8,9 +8,9 @@ ghost use Rattle.vw_top.specs.declared.reason.Reason.TheVariants.{Usage};
 
 /// What the table says of the files of `sim`.
 pub fn sim_statuses()
-    ensures { (design stimulus : List ℕ) (before after : Outside) (status : ℕ)
-        → Statuses (sim_course design stimulus) before after status
-        → SimStatuses design stimulus before after status }
+    ensures { (design stimulus : List ℕ) (unknown : Bool) (before after : Outside) (status : ℕ)
+        → Statuses (sim_course design stimulus unknown) before after status
+        → SimStatuses design stimulus unknown before after status }
 {}
 
 /// What the table says of words that spell no command.

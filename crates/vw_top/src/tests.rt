@@ -86,7 +86,7 @@ fn a_toggle_runs_in_pieces_of_any_size(rt: HostRuntime) -> Result<(), Fail> {
 
 #[test]
 fn wrong_words_are_named_by_their_place(rt: HostRuntime) -> Result<(), Fail> {
-    let table: [(&[&str], &str); 8] = [
+    let table: [(&[&str], &str); 12] = [
         (&[], "usage: word 1\n"),
         (&["fly"], "usage: word 1\n"),
         (&["", "d", "s"], "usage: word 1\n"),
@@ -95,6 +95,13 @@ fn wrong_words_are_named_by_their_place(rt: HostRuntime) -> Result<(), Fail> {
         (&["sim", "d"], "usage: word 3\n"),
         (&["sim", "d", ""], "usage: word 3\n"),
         (&["sim", "d", "s", "x"], "usage: word 4\n"),
+        (&["sim", "d", "s", "unknown=2"], "usage: word 4\n"),
+        (&["sim", "d", "s", "unknown="], "usage: word 4\n"),
+        (&["sim", "d", "s", "unknown=0", "x"], "usage: word 5\n"),
+        (
+            &["sim", "d", "s", "unknown=1", "unknown=0"],
+            "usage: word 5\n",
+        ),
     ];
     for (words, line) in table {
         let ran = run(rt.alloc(), words, TOGGLE, TOGGLE_ROWS, NO_FAULTS)?;
@@ -106,8 +113,31 @@ fn wrong_words_are_named_by_their_place(rt: HostRuntime) -> Result<(), Fail> {
 }
 
 #[test]
+fn free_latches_start_as_the_setting_says(rt: HostRuntime) -> Result<(), Fail> {
+    let design = ".model m\n.inputs a\n.outputs p q r\n.latch a p 2\n.latch a q\n.latch a r 0\n";
+    let table: [(&[&str], &str); 3] = [
+        (&["sim", "d", "s"], "trace 1 3 3\n0 000 000\nend 1 111\n"),
+        (
+            &["sim", "d", "s", "unknown=0"],
+            "trace 1 3 3\n0 000 000\nend 1 111\n",
+        ),
+        (
+            &["sim", "d", "s", "unknown=1"],
+            "trace 1 3 3\n0 110 110\nend 1 111\n",
+        ),
+    ];
+    for (words, trace) in table {
+        let ran = run(rt.alloc(), words, design, "1\n", NO_FAULTS)?;
+        assert_eq!(rt; ran.status, 0);
+        assert_eq!(rt; ran.out.as_slice(), trace.as_bytes());
+    }
+    Ok(())
+}
+
+#[test]
 fn a_missing_file_is_a_read_fault(rt: HostRuntime) -> Result<(), Fail> {
-    let table: [([&str; 3], &str); 2] = [
+    let table: [([&str; 3], &str); 3] = [
+        (["sim", "unknown=0", "s"], "read fault: design\n"),
         (["sim", "missing", "s"], "read fault: design\n"),
         (["sim", "d", "missing"], "read fault: stimulus\n"),
     ];

@@ -1,29 +1,88 @@
-ghost use Rattle.std.specs.Prelude.{◌≡◌, ◌∷◌, []};
-ghost use Rattle.vw_top.specs.Words.{matched, file, spelled_by};
-ghost use Rattle.vw_top.specs.Steps.Commands.{command_view};
+ghost use Rattle.std.specs.Prelude.{◌≡◌, ◌≤◌, [], length};
+ghost use Rattle.std.specs.List.{list_any};
+ghost use Rattle.vw_top.specs.Words.{gives, is_new_setting, matched_settings, unknown_in, spelled_by};
+ghost use Rattle.vw_top.specs.Steps.Commands.{command_view, setting_view, settings_view};
 
 use vw_outside::Name;
 
-/// What words spell: a command, with the names of its files, or none.
+/// What words spell: a command, with the names of its files and its settings, or none.
 pub enum Command<'a> {
     /// Runs a design over a stimulus, and writes its trace.
     Sim {
         design: &'a Name,
         stimulus: &'a Name,
+        /// The value that free latches start at.
+        unknown: bool,
     },
     /// No command; the number of the first wrong word, from 1.
     Nothing(u64),
 }
 
-/// How many of two words, from the first, are names of files.
-fn matched_files(words: &[Name]) -> usize
-    ensures { result ≡ matched (file ∷ file ∷ []) words.now }
+/// What may be set by a word behind the names of the files.
+#[derive(Clone, Copy, Debug, PartialEq, Eq)]
+pub enum Setting {
+    /// `unknown=0` or `unknown=1`: the value that free latches start at.
+    Unknown,
+}
+
+/// Whether a word gives a setting one of its values.
+fn gives(setting: Setting, word: &Name) -> bool
+    ensures { result ≡ gives (setting_view setting) word.now }
 {
-    match words {
-        [first, second, ..] if !first.is_empty() && !second.is_empty() => 2,
-        [first, ..] if !first.is_empty() => 1,
-        _ => 0,
+    match setting {
+        Setting::Unknown => {
+            word.as_slice() == b"unknown=0".as_slice() || word.as_slice() == b"unknown=1".as_slice()
+        }
     }
+}
+
+/// Whether one of these words gives a setting.
+fn is_given(setting: Setting, words: &[Name]) -> bool
+    ensures { result ≡ list_any (gives (setting_view setting)) words.now }
+{
+    for word in words {
+        if gives(setting, word) {
+            return true;
+        }
+    }
+    false
+}
+
+/// Whether a word gives a setting that no word before it gives.
+fn is_new_setting(settings: &[Setting], before: &[Name], word: &Name) -> bool
+    ensures { result ≡ is_new_setting (settings_view settings.now) before.now word.now }
+{
+    for setting in settings {
+        if gives(*setting, word) && !is_given(*setting, before) {
+            return true;
+        }
+    }
+    false
+}
+
+/// How many words, from the first, give settings, each at most once.
+fn matched_settings(settings: &[Setting], words: &[Name]) -> usize
+    ensures count { result ≡ matched_settings (settings_view settings.now) [] words.now }
+    ensures within { result ≤ length words.now }
+{
+    for (at, word) in words.iter().enumerate() {
+        if !is_new_setting(settings, &words[..at], word) {
+            return at;
+        }
+    }
+    words.len()
+}
+
+/// The value of `unknown` among settings, 0 where it isn't set.
+fn unknown_in(settings: &[Name]) -> bool
+    ensures { result ≡ unknown_in settings.now }
+{
+    for word in settings {
+        if word.as_slice() == b"unknown=1".as_slice() {
+            return true;
+        }
+    }
+    false
 }
 
 /// The command that words spell.
@@ -36,9 +95,19 @@ pub fn command_of(words: &[Name]) -> Command<'_>
     if verb.as_slice() != b"sim".as_slice() {
         return Command::Nothing(1);
     }
-    let count = matched_files(rest);
     match rest {
-        [design, stimulus] if count == 2 => Command::Sim { design, stimulus },
-        _ => Command::Nothing(count as u64 + 2),
+        [design, stimulus, settings @ ..] if !design.is_empty() && !stimulus.is_empty() => {
+            let count = matched_settings(&[Setting::Unknown], settings);
+            if count != settings.len() {
+                return Command::Nothing(count as u64 + 4);
+            }
+            Command::Sim {
+                design,
+                stimulus,
+                unknown: unknown_in(settings),
+            }
+        }
+        [design, ..] if !design.is_empty() => Command::Nothing(3),
+        _ => Command::Nothing(2),
     }
 }

@@ -1,4 +1,4 @@
-use Rattle.std.proofs.Common.{◌≡◌, ℕ, List, [], ◌∷◌, ◌++◌, Some, sym, ◌∙◌, ap, subst, rules}
+use Rattle.std.proofs.Common.{◌≡◌, ℕ, Bool, false, List, [], ◌∷◌, ◌++◌, Some, sym, ◌∙◌, ap, subst, rules}
 use Rattle.std.specs.Prelude.{codes, option_map}
 use Rattle.vw_outside.specs.declared.held.Held.{Held}
 use Rattle.vw_outside.specs.Told.{held}
@@ -29,18 +29,18 @@ whole_text before after text out none some same =
     let told : Some out ≡ Some text = sym some ∙ ap (λ (sink : SeenSink). sink.told) same ∙ ap (option_map (λ so_far. so_far ++ text)) none in cc
 
 simulated : (words : List (List ℕ)) (before after : Outside) (status : ℕ) (design stimulus out : List ℕ) → words ≡ codes "sim" ∷ codes "design" ∷ codes "stimulus" ∷ []
-    → ((d s : List ℕ) (b a : Outside) (n : ℕ) → Statuses (sim_course d s) b a n → SimStatuses d s b a n)
+    → ((d s : List ℕ) (unknown : Bool) (b a : Outside) (n : ℕ) → Statuses (sim_course d s unknown) b a n → SimStatuses d s unknown b a n)
     → Statuses (course_of (spelled_by words)) before after status → before.shelf.told (codes "design") ≡ held design → before.shelf.told (codes "stimulus") ≡ held stimulus
     → before.out.told ≡ Some [] → after.out.told ≡ Some out → status ≡ 0 → IsSimulated design stimulus out
 simulated words before after status design stimulus out are law statuses design_held stimulus_held none some is =
-    let table = law (codes "design") (codes "stimulus") before after status (subst (λ (ws : List (List ℕ)). Statuses (course_of (spelled_by ws)) before after status) are statuses) in
+    let table = law (codes "design") (codes "stimulus") false before after status (subst (λ (ws : List (List ℕ)). Statuses (course_of (spelled_by ws)) before after status) are statuses) in
     let done = table.done design stimulus design_held stimulus_held is in
     record {
       flat = done.0;
       rows = done.1;
       netlist = done.2;
       read = done.3;
-      trace = whole_text before.out after.out (trace_of done.0 done.1) out none some (ap (λ (o : Outside). o.out) done.4);
+      trace = whole_text before.out after.out (trace_of false done.0 done.1) out none some (ap (λ (o : Outside). o.out) done.4);
     }
 
 pub returns : goal.returns

@@ -1,8 +1,17 @@
--- Commands of the code as those of the words.
+-- Commands and settings of the code as those of the words.
+use Rattle.std.specs.Prelude.{List, map}
 use Rattle.vw_top.specs.declared.words.Command.{Command}
 use Rattle.vw_top.specs.declared.words.Command.TheVariants.{Sim, Nothing}
-use Rattle.vw_top.specs.Words.{Spelled, sim, nothing}
+use Rattle.vw_top.specs.declared.words.Setting.{Setting as Held}
+use Rattle.vw_top.specs.declared.words.Setting.TheVariants.{Unknown}
+use Rattle.vw_top.specs.Words.{Setting, unknown_bit, Spelled, sim, nothing}
+
+abbrev pub setting_view : Held → Setting
+setting_view Unknown = unknown_bit
+
+abbrev pub settings_view : List Held → List Setting
+settings_view settings = map setting_view settings
 
 abbrev pub command_view : Command → Spelled
-command_view (Sim design stimulus) = sim design.now stimulus.now
+command_view (Sim design stimulus unknown) = sim design.now stimulus.now unknown
 command_view (Nothing place) = nothing place
