@@ -3,6 +3,7 @@
 
 mod board;
 mod checked;
+mod laws;
 mod link;
 mod need;
 mod plan;
@@ -10,6 +11,7 @@ mod wire;
 
 pub use board::Board;
 pub use checked::Checked;
+pub use laws::{distances_are_least, leads_settle};
 pub use link::Link;
 pub use need::{Need, Route};
 pub use plan::Plan;

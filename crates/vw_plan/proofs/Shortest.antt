@@ -1,0 +1,90 @@
+-- The shortest walks go through no node twice, so they have no more links than there are chips.
+use Rattle.std.proofs.Common.{◌≡◌, ◌<◌, ◌≤◌, ◌+◌, ℕ, true, false, List, [], ◌∷◌, length, eqb, ap, sym, subst, ◌∙◌, ⊎_elim, true≢false, eqb-true, arith}
+use Rattle.std.specs.List.{list_any, IsDistinct, AllByRecursion}
+use Rattle.std.proofs.Math.Logic.{∥∥₁_elim}
+use Rattle.std.proofs.Math.Bool.{Bool-set}
+use Rattle.std.proofs.lemmas.Bool.{cases_Bool, cases_lt, or_cases, or_parts}
+use Rattle.std.proofs.lemmas.Map.Steps.{length-le_from_distinct_below}
+use Rattle.vw_plan.specs.declared.link.Link.{Link}
+use Rattle.vw_plan.specs.declared.board.Board.{Board}
+use Rattle.vw_plan.specs.Walks.{has_link, IsWalk}
+use Rattle.vw_plan.specs.Distance.{IsDistance, distance, has_walk}
+use Rattle.vw_plan.proofs.Walking.{Found, found_link, has_walk-IsWalk, Walked, walk-has_walk, IsLeast, least_passes}
+
+-- a walk that goes through no node twice
+record Simple (links : List Link) (from to : ℕ) : Type 0 where
+  nodes : List ℕ
+  walk : IsWalk links from nodes to
+  once : IsDistinct eqb (from ∷ nodes)
+
+-- what isn't among numbers differs from each of them
+differs : (number : ℕ) (numbers : List ℕ) → list_any (eqb number) numbers ≡ false → AllByRecursion (λ other. eqb number other ≡ false) numbers
+differs number [] none = tt
+differs number (other ∷ numbers) none =
+    let parts : (eqb number other ≡ false) × (list_any (eqb number) numbers ≡ false) = or_parts (eqb number other) (list_any (eqb number) numbers) none in
+    (parts.0, differs number numbers parts.1)
+
+-- of a walk that goes through no node twice, the part from a node on that it goes through
+part_from : (links : List Link) (node from : ℕ) (nodes : List ℕ) (to : ℕ) → IsWalk links from nodes to → IsDistinct eqb (from ∷ nodes) → list_any (eqb node) (from ∷ nodes) ≡ true → Simple links node to
+unfolding IsDistinct
+part_from links node from [] to walk once among =
+    let if_here = λ (here : eqb node from ≡ true). let whole : Simple links node to = record { nodes = []; walk = eqb-true node from here ∙ walk; once = (tt, tt) } in whole in
+    let if_later = λ (later : false ≡ true). let whole : Simple links node to = absurd (true≢false (sym later)) in whole in
+    ⊎_elim if_here if_later (or_cases (eqb node from) false among)
+part_from links node from (next ∷ nodes) to walk once among =
+    let later_part = part_from links node next nodes to walk.1 once.1 in
+    let if_here = λ (here : eqb node from ≡ true). let same : from ≡ node = sym (eqb-true node from here) in let whole : Simple links node to = record { nodes = next ∷ nodes; walk = subst (λ (n : ℕ). IsWalk links n (next ∷ nodes) to) same walk; once = subst (λ (n : ℕ). IsDistinct eqb (n ∷ next ∷ nodes)) same once } in whole in
+    ⊎_elim if_here later_part (or_cases (eqb node from) (list_any (eqb node) (next ∷ nodes)) among)
+
+-- where there is a walk, there is one that goes through no node twice
+shortened : (links : List Link) (from : ℕ) (nodes : List ℕ) (to : ℕ) → IsWalk links from nodes to → Simple links from to
+unfolding IsDistinct
+shortened links from [] to walk = record { nodes = []; walk = walk; once = (tt, tt) }
+shortened links from (node ∷ nodes) to walk =
+    let rest : Simple links node to = shortened links node nodes to walk.1 in
+    let if_again = λ (again : list_any (eqb from) (node ∷ rest.nodes) ≡ true). part_from links from node rest.nodes to rest.walk rest.once again in
+    let if_new = λ (new : list_any (eqb from) (node ∷ rest.nodes) ≡ false). let whole : Simple links from to = record { nodes = node ∷ rest.nodes; walk = (walk.0, rest.walk); once = (differs from (node ∷ rest.nodes) new, rest.once) } in whole in
+    ⊎_elim if_again if_new (cases_Bool (list_any (eqb from) (node ∷ rest.nodes)))
+
+module _ (board : Board) where
+  -- a node that a link reaches is a node of the board
+  reached : (from to : ℕ) → has_link board.links from to ≡ true → to ≤ board.chips
+  reached from to has =
+      let found : Found board.links from to = found_link board.links from to has in
+      let ends = board.linked.ends found.place found.link found.within in
+      subst (λ (node : ℕ). node ≤ board.chips) (ap (λ (link : Link). link.to) found.is ∙ found.reaches) ends.1
+
+  -- a walk goes through nodes of the board
+  on_board : (from : ℕ) (nodes : List ℕ) (to : ℕ) → from ≤ board.chips → IsWalk board.links from nodes to → (node : ℕ) → list_any (eqb node) (from ∷ nodes) ≡ true → node ≤ board.chips
+  on_board from [] to within walk node among =
+      let if_here = λ (here : eqb node from ≡ true). let same : node ≡ from = eqb-true node from here in let whole : node ≤ board.chips = omega arith in whole in
+      let if_later = λ (later : false ≡ true). let whole : node ≤ board.chips = absurd (true≢false (sym later)) in whole in
+      ⊎_elim if_here if_later (or_cases (eqb node from) false among)
+  on_board from (next ∷ nodes) to within walk node among =
+      let later = on_board next nodes to (reached from next walk.0) walk.1 node in
+      let if_here = λ (here : eqb node from ≡ true). let same : node ≡ from = eqb-true node from here in let whole : node ≤ board.chips = omega arith in whole in
+      ⊎_elim if_here later (or_cases (eqb node from) (list_any (eqb node) (next ∷ nodes)) among)
+
+  -- a walk that goes through no node twice has at most as many links as there are chips
+  few_links : (from to : ℕ) → from ≤ board.chips → (simple : Simple board.links from to) → length simple.nodes ≤ board.chips
+  few_links from to within simple =
+      let few : length (from ∷ simple.nodes) ≤ board.chips + 1 = length-le_from_distinct_below (from ∷ simple.nodes) (board.chips + 1) simple.once (λ node among. let on : node ≤ board.chips = on_board from simple.nodes to within simple.walk node among in omega arith) in
+      omega arith
+
+  -- the distance is at most the number of links of a walk, and it passes the test for a walk
+  distance_of_walk : (from : ℕ) (nodes : List ℕ) (to : ℕ) → from ≤ board.chips → IsWalk board.links from nodes to → IsLeast (λ count. has_walk board.links count from to) board.chips (length nodes)
+  distance_of_walk from nodes to within walk =
+      let simple : Simple board.links from to = shortened board.links from nodes to walk in
+      let few : length simple.nodes ≤ board.chips = few_links from to within simple in
+      let test = λ (count : ℕ). has_walk board.links count from to in
+      let short : IsLeast test board.chips (length simple.nodes) = least_passes test board.chips (length simple.nodes) few (has_walk-IsWalk board.links from simple.nodes to simple.walk) in
+      let if_long = λ (long : board.chips < length nodes). let whole : IsLeast test board.chips (length nodes) = record { below = omega (arith, short.below); passes = short.passes } in whole in
+      let if_short = λ (fits : length nodes ≤ board.chips). least_passes test board.chips (length nodes) fits (has_walk-IsWalk board.links from nodes to walk) in
+      ⊎_elim if_long if_short (cases_lt board.chips (length nodes))
+
+  pub distance_is_least : (from to : ℕ) → from ≤ board.chips → to ≤ board.chips → IsDistance board.links from to (distance board from to)
+  unfolding distance
+  distance_is_least from to from_node to_node =
+      let has : has_walk board.links (distance board from to) from to ≡ true = ∥∥₁_elim (board.linked.joined from to from_node to_node) (Bool-set _ _) (λ walk. (distance_of_walk from walk.0 to from_node walk.1).passes) in
+      let walked : Walked board.links (distance board from to) from to = walk-has_walk board.links (distance board from to) from to has in
+      record { nodes = walked.nodes; walk = walked.walk; count = walked.links_; least = λ others other_walk. (distance_of_walk from others to from_node other_walk).below }
