@@ -16,3 +16,6 @@ pub use link::Link;
 pub use need::{Need, Route};
 pub use plan::Plan;
 pub use wire::{Hop, Wire};
+
+#[cfg(test)]
+mod tests;
