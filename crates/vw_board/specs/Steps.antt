@@ -1,0 +1,5 @@
+-- What the private functions of this crate compute. No public clause cites it.
+pub mod Tables
+pub mod Heads
+pub mod Separate
+pub mod Links

@@ -1,0 +1,39 @@
+-- Tables of walks and distances.
+use Rattle.std.specs.Prelude.{◌≡◌, ◌≤◌, ◌<◌, ◌+◌, ℕ, zero, suc, Bool, false, List, [], length, slice_index, slice_index_or, Option, Some, None, if◌then◌else◌}
+use Rattle.std.specs.Option.{option_or}
+use Rattle.vw_plan.specs.declared.link.Link.{Link}
+use Rattle.vw_plan.specs.declared.board.Board.{Board}
+use Rattle.vw_plan.specs.Distance.{distance, has_walk}
+use Rattle.vw_board.specs.FirstStep.{IsFirstStep}
+
+-- the first number below a limit that passes a test
+abbrev pub first_below : (ℕ → Bool) → ℕ → Option ℕ
+first_below test zero = None
+first_below test (suc limit) = option_or (first_below test limit) (if test limit then Some limit else None)
+
+-- for each node, whether a walk of this many links leads from it to a node
+pub record HaveWalks (links : List Link) (nodes count to : ℕ) (walks : List Bool) : Type 0 where
+  pub each : length walks ≡ nodes
+  pub walk : (from : ℕ) → from < nodes → slice_index_or walks from false ≡ has_walk links count from to
+
+-- for each node, the least number of links below a limit of a walk that leads from it to a node
+pub record HaveLeast (links : List Link) (nodes limit to : ℕ) (least : List (Option ℕ)) : Type 0 where
+  pub each : length least ≡ nodes
+  pub number : (from : ℕ) → from < nodes → slice_index_or least from None ≡ first_below (λ count. has_walk links count from to) limit
+
+-- for each node, its distance to a node
+pub record AreDistances (board : Board) (to : ℕ) (distances : List ℕ) : Type 0 where
+  pub each : length distances ≡ board.chips + 1
+  pub number : (from : ℕ) → from ≤ board.chips → slice_index distances from ≡ distance board from to
+
+-- for each node but this one, the first step to it
+pub record AreFirstSteps (board : Board) (to : ℕ) (steps : List ℕ) : Type 0 where
+  pub each : length steps ≡ board.chips + 1
+  pub step : (from : ℕ) → from ≤ board.chips → (from ≡ to → ⊥) → IsFirstStep board from to (slice_index steps from)
+
+-- one list for each node that is led to
+pub record IsTable (board : Board) (distances steps : List (List ℕ)) : Type 0 where
+  pub distance_lists : length distances ≡ board.chips + 1
+  pub step_lists : length steps ≡ board.chips + 1
+  pub distances_ : (to : ℕ) → to ≤ board.chips → AreDistances board to (slice_index_or distances to [])
+  pub steps_ : (to : ℕ) → to ≤ board.chips → AreFirstSteps board to (slice_index_or steps to [])

@@ -1,0 +1,8 @@
+//! Reads board texts, and finds how far the nodes of a board are from each other.
+#![tactic(auto)]
+
+mod fault;
+mod head;
+mod link_lines;
+
+pub use fault::BoardFault;
