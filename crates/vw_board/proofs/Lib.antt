@@ -1,1 +1,2 @@
 mod LinkReads
+mod Counted

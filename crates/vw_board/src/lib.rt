@@ -4,5 +4,7 @@
 mod fault;
 mod head;
 mod link_lines;
+mod pins;
+mod walks;
 
 pub use fault::BoardFault;

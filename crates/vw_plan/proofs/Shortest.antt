@@ -1,5 +1,5 @@
 -- The shortest walks go through no node twice, so they have no more links than there are chips.
-use Rattle.std.proofs.Common.{◌≡◌, ◌<◌, ◌≤◌, ◌+◌, ℕ, true, false, List, [], ◌∷◌, length, eqb, ap, sym, subst, ◌∙◌, ⊎_elim, true≢false, eqb-true, arith}
+use Rattle.std.proofs.Common.{◌≡◌, ◌<◌, ◌≤◌, ◌+◌, ℕ, true, false, List, [], ◌∷◌, length, eqb, ap, sym, subst, ◌∙◌, ⊎_elim, true≢false, eqb-true, All, arith}
 use Rattle.std.specs.List.{list_any, IsDistinct, AllByRecursion}
 use Rattle.std.proofs.Math.Logic.{∥∥₁_elim}
 use Rattle.std.proofs.Math.Bool.{Bool-set}
@@ -46,45 +46,59 @@ shortened links from (node ∷ nodes) to walk =
     let if_new = λ (new : list_any (eqb from) (node ∷ rest.nodes) ≡ false). let whole : Simple links from to = record { nodes = node ∷ rest.nodes; walk = (walk.0, rest.walk); once = (differs from (node ∷ rest.nodes) new, rest.once) } in whole in
     ⊎_elim if_again if_new (cases_Bool (list_any (eqb from) (node ∷ rest.nodes)))
 
-module _ (board : Board) where
+module _ (chips : ℕ) (links : List Link) (ends : All (λ link. (link.from ≤ chips) × (link.to ≤ chips)) links) where
   -- a node that a link reaches is a node of the board
-  reached : (from to : ℕ) → has_link board.links from to ≡ true → to ≤ board.chips
+  reached : (from to : ℕ) → has_link links from to ≡ true → to ≤ chips
   reached from to has =
-      let found : Found board.links from to = found_link board.links from to has in
-      let ends = board.linked.ends found.place found.link found.within in
-      subst (λ (node : ℕ). node ≤ board.chips) (ap (λ (link : Link). link.to) found.is ∙ found.reaches) ends.1
+      let found : Found links from to = found_link links from to has in
+      subst (λ (node : ℕ). node ≤ chips) (ap (λ (link : Link). link.to) found.is ∙ found.reaches) (ends found.place found.link found.within).1
 
   -- a walk goes through nodes of the board
-  on_board : (from : ℕ) (nodes : List ℕ) (to : ℕ) → from ≤ board.chips → IsWalk board.links from nodes to → (node : ℕ) → list_any (eqb node) (from ∷ nodes) ≡ true → node ≤ board.chips
+  on_board : (from : ℕ) (nodes : List ℕ) (to : ℕ) → from ≤ chips → IsWalk links from nodes to → (node : ℕ) → list_any (eqb node) (from ∷ nodes) ≡ true → node ≤ chips
   on_board from [] to within walk node among =
-      let if_here = λ (here : eqb node from ≡ true). let same : node ≡ from = eqb-true node from here in let whole : node ≤ board.chips = omega arith in whole in
-      let if_later = λ (later : false ≡ true). let whole : node ≤ board.chips = absurd (true≢false (sym later)) in whole in
+      let if_here = λ (here : eqb node from ≡ true). let same : node ≡ from = eqb-true node from here in let whole : node ≤ chips = omega arith in whole in
+      let if_later = λ (later : false ≡ true). let whole : node ≤ chips = absurd (true≢false (sym later)) in whole in
       ⊎_elim if_here if_later (or_cases (eqb node from) false among)
   on_board from (next ∷ nodes) to within walk node among =
       let later = on_board next nodes to (reached from next walk.0) walk.1 node in
-      let if_here = λ (here : eqb node from ≡ true). let same : node ≡ from = eqb-true node from here in let whole : node ≤ board.chips = omega arith in whole in
+      let if_here = λ (here : eqb node from ≡ true). let same : node ≡ from = eqb-true node from here in let whole : node ≤ chips = omega arith in whole in
       ⊎_elim if_here later (or_cases (eqb node from) (list_any (eqb node) (next ∷ nodes)) among)
 
   -- a walk that goes through no node twice has at most as many links as there are chips
-  few_links : (from to : ℕ) → from ≤ board.chips → (simple : Simple board.links from to) → length simple.nodes ≤ board.chips
+  few_links : (from to : ℕ) → from ≤ chips → (simple : Simple links from to) → length simple.nodes ≤ chips
   few_links from to within simple =
-      let few : length (from ∷ simple.nodes) ≤ board.chips + 1 = length-le_from_distinct_below (from ∷ simple.nodes) (board.chips + 1) simple.once (λ node among. let on : node ≤ board.chips = on_board from simple.nodes to within simple.walk node among in omega arith) in
+      let few : length (from ∷ simple.nodes) ≤ chips + 1 = length-le_from_distinct_below (from ∷ simple.nodes) (chips + 1) simple.once (λ node among. let on : node ≤ chips = on_board from simple.nodes to within simple.walk node among in omega arith) in
       omega arith
 
-  -- the distance is at most the number of links of a walk, and it passes the test for a walk
-  distance_of_walk : (from : ℕ) (nodes : List ℕ) (to : ℕ) → from ≤ board.chips → IsWalk board.links from nodes to → IsLeast (λ count. has_walk board.links count from to) board.chips (length nodes)
-  distance_of_walk from nodes to within walk =
-      let simple : Simple board.links from to = shortened board.links from nodes to walk in
-      let few : length simple.nodes ≤ board.chips = few_links from to within simple in
-      let test = λ (count : ℕ). has_walk board.links count from to in
-      let short : IsLeast test board.chips (length simple.nodes) = least_passes test board.chips (length simple.nodes) few (has_walk-IsWalk board.links from simple.nodes to simple.walk) in
-      let if_long = λ (long : board.chips < length nodes). let whole : IsLeast test board.chips (length nodes) = record { below = omega (arith, short.below); passes = short.passes } in whole in
-      let if_short = λ (fits : length nodes ≤ board.chips). least_passes test board.chips (length nodes) fits (has_walk-IsWalk board.links from nodes to walk) in
-      ⊎_elim if_long if_short (cases_lt board.chips (length nodes))
+  -- where there is a walk, a number of links that is at most that of chips passes the test for one
+  pub record IsShort (from to : ℕ) : Type 0 where
+    pub count : ℕ
+    pub few : count ≤ chips
+    pub passes : has_walk links count from to ≡ true
+
+  pub short_walk : (from : ℕ) (nodes : List ℕ) (to : ℕ) → from ≤ chips → IsWalk links from nodes to → IsShort from to
+  short_walk from nodes to within walk =
+      let simple : Simple links from to = shortened links from nodes to walk in
+      record { count = length simple.nodes; few = few_links from to within simple; passes = has_walk-IsWalk links from simple.nodes to simple.walk }
+
+  -- the least number of links that passes the test is at most that of a walk
+  pub least_of_walk : (from : ℕ) (nodes : List ℕ) (to : ℕ) → from ≤ chips → IsWalk links from nodes to → IsLeast (λ count. has_walk links count from to) chips (length nodes)
+  least_of_walk from nodes to within walk =
+      let test = λ (count : ℕ). has_walk links count from to in
+      let short : IsShort from to = short_walk from nodes to within walk in
+      let found : IsLeast test chips short.count = least_passes test chips short.count short.few short.passes in
+      let if_long = λ (long : chips < length nodes). let whole : IsLeast test chips (length nodes) = record { below = omega (arith, found.below, short.few); passes = found.passes } in whole in
+      let if_short = λ (fits : length nodes ≤ chips). least_passes test chips (length nodes) fits (has_walk-IsWalk links from nodes to walk) in
+      ⊎_elim if_long if_short (cases_lt chips (length nodes))
+
+module _ (board : Board) where
+  -- a walk of as many links as the distance says passes the test
+  pub distance_passes : (from to : ℕ) → from ≤ board.chips → to ≤ board.chips → has_walk board.links (distance board from to) from to ≡ true
+  unfolding distance
+  distance_passes from to from_node to_node = ∥∥₁_elim (board.linked.joined from to from_node to_node) (Bool-set _ _) (λ walk. (least_of_walk board.chips board.links board.linked.ends from walk.0 to from_node walk.1).passes)
 
   pub distance_is_least : (from to : ℕ) → from ≤ board.chips → to ≤ board.chips → IsDistance board.links from to (distance board from to)
   unfolding distance
   distance_is_least from to from_node to_node =
-      let has : has_walk board.links (distance board from to) from to ≡ true = ∥∥₁_elim (board.linked.joined from to from_node to_node) (Bool-set _ _) (λ walk. (distance_of_walk from walk.0 to from_node walk.1).passes) in
-      let walked : Walked board.links (distance board from to) from to = walk-has_walk board.links (distance board from to) from to has in
-      record { nodes = walked.nodes; walk = walked.walk; count = walked.links_; least = λ others other_walk. (distance_of_walk from others to from_node other_walk).below }
+      let walked : Walked board.links (distance board from to) from to = walk-has_walk board.links (distance board from to) from to (distance_passes from to from_node to_node) in
+      record { nodes = walked.nodes; walk = walked.walk; count = walked.long; least = λ others other_walk. (least_of_walk board.chips board.links board.linked.ends from others to from_node other_walk).below }

@@ -41,11 +41,11 @@ has_walk-IsWalk links from (node ∷ nodes) to walk =
 pub record Walked (links : List Link) (count from to : ℕ) : Type 0 where
   pub nodes : List ℕ
   pub walk : IsWalk links from nodes to
-  pub links_ : length nodes ≡ count
+  pub long : length nodes ≡ count
 
 -- and where a number of links passes the test, there is one
 pub walk-has_walk : (links : List Link) (count from to : ℕ) → has_walk links count from to ≡ true → Walked links count from to
-walk-has_walk links zero from to has = record { nodes = []; walk = eqb-true from to has; links_ = refl }
+walk-has_walk links zero from to has = record { nodes = []; walk = eqb-true from to has; long = refl }
 walk-has_walk links (suc count) from to has =
     let test = λ (link : Link). eqb link.from from && has_walk links count link.to to in
     let any : Any (λ link. test link ≡ true) links = Any-from_list_any test links has in
@@ -54,7 +54,7 @@ walk-has_walk links (suc count) from to has =
     let rest : Walked links count link.to to = walk-has_walk links count link.to to parts.1 in
     let ends = λ (other : Link). eqb other.from from && eqb other.to link.to in
     let here : has_link links from link.to ≡ true = passing links ends any.0 link any.2 any.3 (and_from (eqb link.from from) (eqb link.to link.to) parts.0 (eq-eqb link.to link.to refl)) in
-    record { nodes = link.to ∷ rest.nodes; walk = (here, rest.walk); links_ = ap suc rest.links_ }
+    record { nodes = link.to ∷ rest.nodes; walk = (here, rest.walk); long = ap suc rest.long }
 
 -- of the numbers that pass a test, none below the limit is less than the least, and the least passes
 pub record IsLeast (test : ℕ → Bool) (limit number : ℕ) : Type 0 where
