@@ -1,2 +1,4 @@
 mod LinkReads
 mod Counted
+mod Noted
+mod Near

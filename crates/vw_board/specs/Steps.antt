@@ -1,4 +1,6 @@
 -- What the private functions of this crate compute. No public clause cites it.
+pub mod Apart
+pub mod Nearer
 pub mod Tables
 pub mod Heads
 pub mod Separate

@@ -12,7 +12,7 @@ use vw_plan::Link;
 use vw_text::Line;
 
 /// Whether a link leads from one node to another.
-fn has_link(links: &[Link], from: u32, to: u32) -> bool
+pub fn has_link(links: &[Link], from: u32, to: u32) -> bool
     ensures { result ≡ has_link links.now from to }
 {
     links

@@ -1,14 +1,14 @@
 -- The shortest walks go through no node twice, so they have no more links than there are chips.
-use Rattle.std.proofs.Common.{◌≡◌, ◌<◌, ◌≤◌, ◌+◌, ℕ, true, false, List, [], ◌∷◌, length, eqb, ap, sym, subst, ◌∙◌, ⊎_elim, true≢false, eqb-true, All, arith}
+use Rattle.std.proofs.Common.{◌≡◌, ◌<◌, ◌≤◌, ◌+◌, ℕ, zero, suc, Bool, true, false, List, [], ◌∷◌, length, eqb, ap, sym, subst, ◌∙◌, ⊎_elim, true≢false, eqb-true, All, arith}
 use Rattle.std.specs.List.{list_any, IsDistinct, AllByRecursion}
 use Rattle.std.proofs.Math.Logic.{∥∥₁_elim}
 use Rattle.std.proofs.Math.Bool.{Bool-set}
-use Rattle.std.proofs.lemmas.Bool.{cases_Bool, cases_lt, or_cases, or_parts}
+use Rattle.std.proofs.lemmas.Bool.{cases_Bool, cases_lt, cond_both, or_cases, or_parts}
 use Rattle.std.proofs.lemmas.Map.Steps.{length-le_from_distinct_below}
 use Rattle.vw_plan.specs.declared.link.Link.{Link}
 use Rattle.vw_plan.specs.declared.board.Board.{Board}
 use Rattle.vw_plan.specs.Walks.{has_link, IsWalk}
-use Rattle.vw_plan.specs.Distance.{IsDistance, distance, has_walk}
+use Rattle.vw_plan.specs.Distance.{IsDistance, distance, has_walk, least}
 use Rattle.vw_plan.proofs.Walking.{Found, found_link, has_walk-IsWalk, Walked, walk-has_walk, IsLeast, least_passes}
 
 -- a walk that goes through no node twice
@@ -48,7 +48,7 @@ shortened links from (node ∷ nodes) to walk =
 
 module _ (chips : ℕ) (links : List Link) (ends : All (λ link. (link.from ≤ chips) × (link.to ≤ chips)) links) where
   -- a node that a link reaches is a node of the board
-  reached : (from to : ℕ) → has_link links from to ≡ true → to ≤ chips
+  pub reached : (from to : ℕ) → has_link links from to ≡ true → to ≤ chips
   reached from to has =
       let found : Found links from to = found_link links from to has in
       subst (λ (node : ℕ). node ≤ chips) (ap (λ (link : Link). link.to) found.is ∙ found.reaches) (ends found.place found.link found.within).1
@@ -102,3 +102,38 @@ module _ (board : Board) where
   distance_is_least from to from_node to_node =
       let walked : Walked board.links (distance board from to) from to = walk-has_walk board.links (distance board from to) from to (distance_passes from to from_node to_node) in
       record { nodes = walked.nodes; walk = walked.walk; count = walked.long; least = λ others other_walk. (least_of_walk board.chips board.links board.linked.ends from others to from_node other_walk).below }
+
+-- the least number that passes is at most the limit
+least-le : (test : ℕ → Bool) (limit : ℕ) → least test limit ≤ limit
+least-le test zero = omega arith
+least-le test (suc limit) =
+    let rest : least (λ number. test (suc number)) limit ≤ limit = least-le (λ number. test (suc number)) limit in
+    cond_both (test 0) 0 (suc (least (λ number. test (suc number)) limit)) (λ (number : ℕ). number ≤ suc limit) (λ first. omega arith) (λ later. omega arith)
+
+module _ (board : Board) where
+  -- no two nodes are further from each other than there are chips
+  pub distance-le : (from to : ℕ) → distance board from to ≤ board.chips
+  unfolding distance
+  distance-le from to = least-le (λ count. has_walk board.links count from to) board.chips
+
+  -- a link from a node, and the distance of the node that it leads to
+  pub record IsNext (from to : ℕ) : Type 0 where
+    pub node : ℕ
+    pub on_board : node ≤ board.chips
+    pub linked : has_link board.links from node ≡ true
+    pub nearer : distance board node to + 1 ≡ distance board from to
+
+  -- from a node there is a link to one that is one link nearer to another node
+  pub next_is_nearer : (from to : ℕ) → from ≤ board.chips → to ≤ board.chips → (from ≡ to → ⊥) → IsNext from to
+  next_is_nearer from to from_node to_node apart = by_walk (distance_is_least board from to from_node to_node) where
+    by_nodes : (nodes : List ℕ) → IsWalk board.links from nodes to → length nodes ≡ distance board from to → IsNext from to
+    by_nodes [] walk count = absurd (apart walk)
+    by_nodes (node ∷ nodes) walk count =
+        let node_on : node ≤ board.chips = reached board.chips board.links board.linked.ends from node walk.0 in
+        let far : IsDistance board.links from to (distance board from to) = distance_is_least board from to from_node to_node in
+        let near : IsDistance board.links node to (distance board node to) = distance_is_least board node to node_on to_node in
+        let above : distance board node to ≤ length nodes = near.least nodes walk.1 in
+        let below : distance board from to ≤ length (node ∷ near.nodes) = far.least (node ∷ near.nodes) (walk.0, near.walk) in
+        record { node = node; on_board = node_on; linked = walk.0; nearer = let same : length near.nodes ≡ distance board node to = near.count in omega arith }
+    by_walk : IsDistance board.links from to (distance board from to) → IsNext from to
+    by_walk found = by_nodes found.nodes found.walk found.count

@@ -1,5 +1,5 @@
 -- Tables of walks and distances.
-use Rattle.std.specs.Prelude.{◌≡◌, ◌≤◌, ◌<◌, ◌+◌, ℕ, zero, suc, Bool, false, ◌&&◌, ◌==◌, List, [], length, slice_index, slice_index_or, Option, Some, None, if◌then◌else◌}
+use Rattle.std.specs.Prelude.{◌≡◌, ◌≢◌, ◌≤◌, ◌<◌, ◌+◌, ℕ, zero, suc, Bool, false, ◌&&◌, ◌==◌, List, [], length, slice_index, slice_index_or, Option, Some, None, if◌then◌else◌}
 use Rattle.std.specs.List.{All, list_any}
 use Rattle.std.specs.Option.{option_or}
 use Rattle.vw_plan.specs.declared.link.Link.{Link}
@@ -57,14 +57,31 @@ pub record AreDistances (board : Board) (to : ℕ) (distances : List ℕ) : Type
   pub each : length distances ≡ board.chips + 1
   pub number : (from : ℕ) → from ≤ board.chips → slice_index distances from ≡ distance board from to
 
+-- the distances of the nodes before one
+pub record DistancesSoFar (board : Board) (to place : ℕ) (distances : List ℕ) : Type 0 where
+  pub each : length distances ≡ place
+  pub number : (from : ℕ) → from < place → slice_index distances from ≡ distance board from to
+
 -- for each node but this one, the first step to it
 pub record AreFirstSteps (board : Board) (to : ℕ) (steps : List ℕ) : Type 0 where
   pub each : length steps ≡ board.chips + 1
-  pub step : (from : ℕ) → from ≤ board.chips → (from ≡ to → ⊥) → IsFirstStep board from to (slice_index steps from)
+  pub step : (from : ℕ) → from ≤ board.chips → from ≢ to → IsFirstStep board from to (slice_index steps from)
+
+-- the steps of the nodes before one
+pub record StepsSoFar (board : Board) (to place : ℕ) (steps : List ℕ) : Type 0 where
+  pub each : length steps ≡ place
+  pub step : (from : ℕ) → from < place → from ≢ to → IsFirstStep board from to (slice_index steps from)
 
 -- one list for each node that is led to
 pub record IsTable (board : Board) (distances steps : List (List ℕ)) : Type 0 where
   pub distance_lists : length distances ≡ board.chips + 1
   pub step_lists : length steps ≡ board.chips + 1
-  pub distances_ : (to : ℕ) → to ≤ board.chips → AreDistances board to (slice_index_or distances to [])
-  pub steps_ : (to : ℕ) → to ≤ board.chips → AreFirstSteps board to (slice_index_or steps to [])
+  pub are_distances : (to : ℕ) → to ≤ board.chips → AreDistances board to (slice_index_or distances to [])
+  pub are_steps : (to : ℕ) → to ≤ board.chips → AreFirstSteps board to (slice_index_or steps to [])
+
+-- the lists of the nodes before one
+pub record TableSoFar (board : Board) (place : ℕ) (distances steps : List (List ℕ)) : Type 0 where
+  pub distance_lists : length distances ≡ place
+  pub step_lists : length steps ≡ place
+  pub are_distances : (to : ℕ) → to < place → AreDistances board to (slice_index_or distances to [])
+  pub are_steps : (to : ℕ) → to < place → AreFirstSteps board to (slice_index_or steps to [])
