@@ -1,5 +1,5 @@
 -- Walks counted link by link.
-use Rattle.std.proofs.Common.{◌≡◌, ◌<◌, ◌≤◌, ◌+◌, ◌&&◌, ◌||◌, ◌==◌, ℕ, zero, suc, Bool, true, false, List, [], ◌∷◌, ◌++◌, length, take, drop, get_or, slice_index_or, Option, Some, None, if◌then◌else◌, ap, ap₂, refl, sym, subst, ◌∙◌, add-one, All, arith}
+use Rattle.std.proofs.Common.{◌≡◌, ◌<◌, ◌+◌, ◌&&◌, ◌||◌, ◌==◌, ℕ, suc, Bool, false, List, [], ◌∷◌, ◌++◌, length, take, drop, get_or, slice_index_or, Option, Some, None, if◌then◌else◌, ap, ap₂, refl, sym, subst, ◌∙◌, add-one, All}
 use Rattle.std.specs.Option.{option_or}
 use Rattle.std.specs.List.{list_any}
 use Rattle.std.proofs.Math.Seq.{take-append_seam}
@@ -21,6 +21,7 @@ pub walks_more : (links : List Link) (nodes count to : ℕ) (walks more : List B
 walks_more links nodes count to walks more within have one_more = record { each = one_more.each ∙ have.each; walk = walk } where
   agree : (from : ℕ) → All (λ link. (link.from == from && slice_index_or walks link.to false) ≡ (link.from == from && has_walk links count link.to to)) links
   agree from place default inside = ap (λ (leads : Bool). (get_or links place default).from == from && leads) (have.walk (get_or links place default).to (within place default inside).1)
+
   walk : (from : ℕ) → from < nodes → slice_index_or more from false ≡ has_walk links (count + 1) from to
   walk from from_node =
       let all : list_any (λ link. link.from == from && slice_index_or walks link.to false) links ≡ has_walk links (suc count) from to = list_any_agree (λ link. link.from == from && slice_index_or walks link.to false) (λ link. link.from == from && has_walk links count link.to to) links (agree from) in

@@ -2,3 +2,6 @@ mod LinkReads
 mod Counted
 mod Noted
 mod Near
+mod LineNumbers
+mod Joins
+mod Spelled

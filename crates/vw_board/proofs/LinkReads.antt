@@ -1,10 +1,9 @@
 -- Lines of links that are read one after the other.
-use Rattle.std.proofs.Common.{◌≡◌, ◌≢◌, ◌<◌, ◌≤◌, ◌+◌, ◌&&◌, ◌||◌, ◌==◌, not, ℕ, zero, suc, Bool, true, false, List, [], ◌∷◌, ◌++◌, length, map, take, drop, get_or, slice_get, Option, Some, None, if◌then◌else◌, eqb, leb, ap, refl, sym, subst, ◌∙◌, ne_eqb, eq-eqb, add-one, All, arith}
-use Rattle.std.specs.Prelude.{codes, unwrap_or, is_none}
+use Rattle.std.proofs.Common.{◌≡◌, ◌≢◌, ◌<◌, ◌≤◌, ◌+◌, ◌&&◌, ℕ, suc, Bool, true, false, List, [], ◌∷◌, ◌++◌, length, map, take, drop, get_or, Option, Some, None, if◌then◌else◌, eqb, leb, ap, refl, sym, ◌∙◌, ne_eqb, eq-eqb, add-one, arith}
+use Rattle.std.specs.Prelude.{codes, unwrap_or}
 use Rattle.std.specs.Option.{option_or}
-use Rattle.std.specs.List.{AllPairs, list_any}
 use Rattle.std.proofs.Math.Seq.{drop-cons, take-suc}
-use Rattle.std.proofs.lemmas.Bool.{cases_Bool, and_parts, and_from, both_ways, true≢false, leb-true}
+use Rattle.std.proofs.lemmas.Bool.{and_parts, and_from, both_ways, leb-true}
 use Rattle.std.proofs.lemmas.List.{map_push}
 use Rattle.std.proofs.lemmas.List.Elements.{All-push}
 use Rattle.std.proofs.lemmas.List.Folds.{list_any_at}
@@ -15,10 +14,10 @@ use Rattle.vw_plan.specs.declared.link.Link.{Link}
 use Rattle.vw_plan.specs.Links.{HaveSameEnds}
 use Rattle.vw_plan.specs.Walks.{has_link}
 use Rattle.vw_board.specs.declared.fault.BoardFault.{BoardFault}
-use Rattle.vw_board.specs.Words.{word_at, within, number_within, number_at, has_form}
-use Rattle.vw_board.specs.LinkLines.{link_of, link_fault, first_link_fault, has_bad_number}
+use Rattle.vw_board.specs.Words.{word_at, within, number_within, has_form}
+use Rattle.vw_board.specs.LinkLines.{link_of, link_fault, first_link_fault}
 use Rattle.vw_board.specs.Steps.Separate.{AreSeparate}
-use Rattle.vw_board.specs.Steps.Links.{ReadsLink, ReadsLinks, ReadsSoFar}
+use Rattle.vw_board.specs.Steps.Links.{ReadsLink, ReadsSoFar}
 
 -- a number that was found in a range
 record IsWithin (least greatest value : ℕ) (found : Option ℕ) : Type 0 where

@@ -1,17 +1,15 @@
 -- The first step of a shortest walk.
-use Rattle.std.proofs.Common.{◌≡◌, ◌≢◌, ◌<◌, ◌≤◌, ◌+◌, ℕ, Bool, true, false, List, length, slice_index, Option, Some, None, get_or, ap, refl, sym, subst, ◌∙◌, ⊎_elim, All, arith}
+use Rattle.std.proofs.Common.{◌≡◌, ◌≢◌, ◌<◌, ◌≤◌, ◌+◌, ℕ, true, List, length, slice_index, Option, Some, None, get_or, refl, ⊎_elim, All, arith}
 use Rattle.std.specs.Prelude.{IfNone, IsSome}
 use Rattle.std.proofs.lemmas.Bool.{cases_lt}
 use Rattle.std.proofs.lemmas.List.{get_or_default}
-use Rattle.vw_plan.specs.declared.link.Link.{Link}
 use Rattle.vw_plan.specs.declared.board.Board.{Board}
 use Rattle.vw_plan.specs.Walks.{has_link}
 use Rattle.vw_plan.specs.Distance.{distance}
-use Rattle.vw_plan.proofs.Walking.{Found, found_link}
 use Rattle.vw_plan.proofs.Shortest.{IsNext, next_is_nearer, distance-le, reached}
 use Rattle.vw_board.specs.FirstStep.{IsFirstStep}
 use Rattle.vw_board.specs.Steps.Tables.{AreDistances}
-use Rattle.vw_board.specs.Steps.Nearer.{IsNearer, HasNoneNearer, IsFirstNearer}
+use Rattle.vw_board.specs.Steps.Nearer.{HasNoneNearer, IsFirstNearer}
 
 module _ (board : Board) (to : ℕ) (distances : List ℕ) (are : AreDistances board to distances) where
   -- a node that is one link nearer by the list is so by the distances
@@ -37,6 +35,7 @@ module _ (board : Board) (to : ℕ) (distances : List ℕ) (are : AreDistances b
         let there : slice_index distances from ≡ distance board from to = are.number from from_node in
         let one_less : slice_index distances node + 1 ≡ slice_index distances from = first.nearer.1 in
         omega arith
+
     least : (other : ℕ) → has_link board.links from other ≡ true → distance board other to + 1 ≡ distance board from to → node ≤ other
     least other linked one_less =
         let on_board : other ≤ board.chips = reached board.chips board.links board.linked.ends from other linked in

@@ -1,10 +1,9 @@
 -- What is noted for a node and another: the least number of links of a walk.
-use Rattle.std.proofs.Common.{◌≡◌, ◌≢◌, ◌<◌, ◌≤◌, ◌+◌, ℕ, zero, suc, Bool, true, false, List, [], ◌∷◌, ◌++◌, length, get_or, slice_index, Option, Some, None, if◌then◌else◌, ap, refl, sym, subst, ◌∙◌, ⊎_elim, true≢false, length-append, add-one, arith}
+use Rattle.std.proofs.Common.{◌≡◌, ◌<◌, ◌≤◌, ◌+◌, ℕ, zero, suc, Bool, true, false, List, [], ◌∷◌, ◌++◌, length, get_or, Option, Some, None, if◌then◌else◌, ap, refl, sym, subst, ◌∙◌, ⊎_elim, length-append, arith}
 use Rattle.std.specs.Option.{option_or}
-use Rattle.std.proofs.lemmas.Bool.{cases_Bool, cases_lt, both_ways}
+use Rattle.std.proofs.lemmas.Bool.{cases_lt, both_ways}
 use Rattle.std.proofs.Math.ListN.{get_or-append}
 use Rattle.std.proofs.Math.Seq.{get_or-append_seam}
-use Rattle.vw_plan.specs.declared.link.Link.{Link}
 use Rattle.vw_plan.specs.declared.board.Board.{Board}
 use Rattle.vw_plan.specs.Distance.{IsDistance, distance, has_walk}
 use Rattle.vw_plan.proofs.Walking.{Walked, walk-has_walk}
@@ -48,6 +47,7 @@ pub each_pushed : {A : Type 0} (P : ℕ → A → Type 0) (xs : List A) (x defau
 each_pushed P xs x default place size each last at below = ⊎_elim if_before if_last (cases_lt at place) where
   if_before : at < place → P at (get_or (xs ++ x ∷ []) at default)
   if_before before = subst (P at) (sym (get_or-append xs (x ∷ []) default at (omega arith))) (each at before)
+
   if_last : place ≤ at → P at (get_or (xs ++ x ∷ []) at default)
   if_last past =
       let here : at ≡ length xs = omega arith in

@@ -16,29 +16,6 @@ use Rattle.vw_board.specs.Pins.{AreEnoughPins, IsFirstOver}
 abbrev pub line_fault : List Line → Option BoardFault
 line_fault lines = option_or (headers_fault lines) (first_link_fault (chips_of lines) [] (drop 5 lines))
 
--- a text within the limit, and no line at fault
-pub record HasFineLines (text : List ℕ) : Type 0 where
-  pub small : length text ≤ 1048576
-  pub lines : line_fault (word_lines text) ≡ None
-
--- a text within the limit, with this fault on its first line at fault
-pub record HasLineFault (text : List ℕ) (fault : BoardFault) : Type 0 where
-  pub small : length text ≤ 1048576
-  pub first : line_fault (word_lines text) ≡ Some fault
-
--- the chips of a text have enough pins
-abbrev pub HasPins : List Line → Type 0
-HasPins lines = AreEnoughPins (chips_of lines) (pins_of lines) (links_of lines)
-
--- a text is accepted, and spells this board
-pub record Accepts (text : List ℕ) (board : Board) : Type 0 where
-  pub fine : HasFineLines text
-  pub pins : HasPins (word_lines text)
-  pub chips : board.chips ≡ chips_of (word_lines text)
-  pub cells : board.cells ≡ cells_of (word_lines text)
-  pub settle : board.settle ≡ settle_of (word_lines text)
-  pub links : board.links ≡ links_of (word_lines text)
-
 -- a pair of nodes comes before another: by the first, then by the second
 abbrev pub ComesBefore : ℕ → ℕ → ℕ → ℕ → Type 0
 ComesBefore from to other_from other_to = (from < other_from) ⊎ ((from ≡ other_from) × (to < other_to))
@@ -50,16 +27,45 @@ pub record IsFirstApart (chips : ℕ) (links : List Link) (from to : ℕ) : Type
   pub apart : (nodes : List ℕ) → ¬ (IsWalk links from nodes to)
   pub first : (a b : ℕ) → a ≤ chips → b ≤ chips → ComesBefore a b from to → IsJoined links a b
 
--- a text is refused for a reason; want of memory says nothing of the text
+-- why links that aren't at fault make no board: pins are tried first, then walks
+abbrev pub RefusesLinks : ℕ → ℕ → List Link → BoardFault → Type 0
+RefusesLinks chips pins links TooLarge = ⊥
+RefusesLinks chips pins links (BadLine line) = ⊥
+RefusesLinks chips pins links (BadNumber line) = ⊥
+RefusesLinks chips pins links (SelfLink a) = ⊥
+RefusesLinks chips pins links (DuplicateLink a b) = ⊥
+RefusesLinks chips pins links (PinsExceeded chip used limit) = IsFirstOver chips pins links chip used limit
+RefusesLinks chips pins links (Unreachable a b) = AreEnoughPins chips pins links × IsFirstApart chips links a b
+RefusesLinks chips pins links NoMemory = ⊤
+
+-- why lines spell no board; want of memory says nothing of them
+abbrev pub RefusesLines : List Line → BoardFault → Type 0
+RefusesLines lines TooLarge = ⊥
+RefusesLines lines (BadLine line) = line_fault lines ≡ Some (BadLine line)
+RefusesLines lines (BadNumber line) = line_fault lines ≡ Some (BadNumber line)
+RefusesLines lines (SelfLink a) = line_fault lines ≡ Some (SelfLink a)
+RefusesLines lines (DuplicateLink a b) = line_fault lines ≡ Some (DuplicateLink a b)
+RefusesLines lines (PinsExceeded chip used limit) =
+    (line_fault lines ≡ None) × RefusesLinks (chips_of lines) (pins_of lines) (links_of lines) (PinsExceeded chip used limit)
+RefusesLines lines (Unreachable a b) =
+    (line_fault lines ≡ None) × RefusesLinks (chips_of lines) (pins_of lines) (links_of lines) (Unreachable a b)
+RefusesLines lines NoMemory = ⊤
+
+-- lines spell a board: no line is at fault, and the chips have enough pins
+pub record SpellsBoard (lines : List Line) (board : Board) : Type 0 where
+  pub fine : line_fault lines ≡ None
+  pub enough : AreEnoughPins (chips_of lines) (pins_of lines) (links_of lines)
+  pub chips : board.chips ≡ chips_of lines
+  pub cells : board.cells ≡ cells_of lines
+  pub settle : board.settle ≡ settle_of lines
+  pub links : board.links ≡ links_of lines
+
+-- a text is accepted as this board
+pub record Accepts (text : List ℕ) (board : Board) : Type 0 where
+  pub small : length text ≤ 1048576
+  pub spells : SpellsBoard (word_lines text) board
+
+-- a text is refused for this reason: it is too large, or its lines are
 abbrev pub Refuses : List ℕ → BoardFault → Type 0
-Refuses text TooLarge = 1048576 < length text
-Refuses text (BadLine line) = HasLineFault text (BadLine line)
-Refuses text (BadNumber line) = HasLineFault text (BadNumber line)
-Refuses text (SelfLink a) = HasLineFault text (SelfLink a)
-Refuses text (DuplicateLink a b) = HasLineFault text (DuplicateLink a b)
-Refuses text (PinsExceeded chip used limit) =
-    HasFineLines text
-    × IsFirstOver (chips_of (word_lines text)) (pins_of (word_lines text)) (links_of (word_lines text)) chip used limit
-Refuses text (Unreachable a b) =
-    HasFineLines text × HasPins (word_lines text) × IsFirstApart (chips_of (word_lines text)) (links_of (word_lines text)) a b
-Refuses text NoMemory = ⊤
+Refuses text fault =
+    ((fault ≡ TooLarge) × (1048576 < length text)) ⊎ ((length text ≤ 1048576) × RefusesLines (word_lines text) fault)

@@ -2,6 +2,7 @@
 pub mod Apart
 pub mod Nearer
 pub mod Tables
+pub mod Faults
 pub mod Heads
 pub mod Separate
 pub mod Links

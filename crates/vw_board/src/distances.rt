@@ -67,7 +67,12 @@ fn step_to(board: &Board, distances: &[u32], from: u32, to: u32) -> u32
 }
 
 /// The first step from each node to a node.
-fn steps_to(alloc: Global, board: &Board, distances: &[u32], to: u32) -> Result<Vec<u32>, AllocError>
+fn steps_to(
+    alloc: Global,
+    board: &Board,
+    distances: &[u32],
+    to: u32,
+) -> Result<Vec<u32>, AllocError>
     requires to { to ≤ board.now.chips }
     requires distances { AreDistances board.now to distances.now }
     ensures { IfOk result (λ steps. AreFirstSteps board.now to steps.items) }
@@ -80,7 +85,12 @@ fn steps_to(alloc: Global, board: &Board, distances: &[u32], to: u32) -> Result<
 }
 
 /// The distance of each node to a node: on a board each node has a walk to each other.
-fn distances_to(alloc: Global, board: &Board, least: &[Option<u32>], to: u32) -> Result<Vec<u32>, AllocError>
+fn distances_to(
+    alloc: Global,
+    board: &Board,
+    least: &[Option<u32>],
+    to: u32,
+) -> Result<Vec<u32>, AllocError>
     requires to { to ≤ board.now.chips }
     requires least { HaveLeast board.now.links (board.now.chips + 1) (board.now.chips + 1) to least.now }
     ensures { IfOk result (λ distances. AreDistances board.now to distances.items) }

@@ -77,9 +77,7 @@ impl BoardFault {
                 Ok(line.into_bytes())
             }
             BoardFault::PinsExceeded(chip, used, limit) => {
-                let line = format!(in alloc;
-                    "board 6: chip {chip} uses {used} pins of {limit}\n"
-                )?;
+                let line = format!(in alloc; "board 6: chip {chip} uses {used} pins of {limit}\n")?;
                 Ok(line.into_bytes())
             }
             BoardFault::Unreachable(a, b) => {

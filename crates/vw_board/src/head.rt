@@ -1,8 +1,9 @@
 //! The first five lines of a board text.
-ghost use Rattle.std.specs.Prelude.{◌≡◌, ◌<◌, ◌≤◌, ◌^◌, length, slice_get, Some, None, IfOk, IfErr};
+ghost use Rattle.std.specs.Prelude.{◌≡◌, ◌<◌, ◌≤◌, ◌^◌, length, slice_get, Some, None, IsTrue, IfOk, IfErr};
 ghost use Rattle.std.specs.List.{All};
 ghost use Rattle.vw_board.specs.Words.{has_form, number_within};
 ghost use Rattle.vw_board.specs.Headers.{next_number, fault_at, headers_fault, header_number};
+ghost use Rattle.vw_board.specs.Steps.Faults.{is_line_fault};
 ghost use Rattle.vw_board.specs.Steps.Heads.{IsHead};
 
 use crate::fault::BoardFault;
@@ -66,6 +67,7 @@ fn header(
     ensures fault { IfErr result (λ fault. fault_at lines.now
         (record { word = word.now; least = least; greatest = greatest })
         (slice_get lines.now place) ≡ Some fault) }
+    ensures of_line { IfErr result (λ fault. IsTrue (is_line_fault fault)) }
 {
     let Some(line) = lines.get(place) else {
         return Err(BoardFault::BadLine(next_number(lines)));
@@ -84,6 +86,7 @@ pub fn read_head(lines: &[Line]) -> Result<Head, BoardFault>
     requires { All (λ line. line.number < 2 ^ 63) lines.now }
     ensures fine { IfOk result (IsHead lines.now) }
     ensures fault { IfErr result (λ fault. headers_fault lines.now ≡ Some fault) }
+    ensures of_line { IfErr result (λ fault. IsTrue (is_line_fault fault)) }
 {
     header(lines, 0, b"board", 1, 1)?;
     let chips = header(lines, 1, b"chips", 1, 32)?;

@@ -2,6 +2,7 @@
 #![tactic(auto)]
 
 mod apart;
+mod board_text;
 mod distances;
 mod fault;
 mod head;
@@ -9,5 +10,9 @@ mod link_lines;
 mod pins;
 mod walks;
 
+pub use board_text::read;
 pub use distances::Distances;
 pub use fault::BoardFault;
+
+#[cfg(test)]
+mod tests;

@@ -1,8 +1,9 @@
 //! The lines of a board text behind the first five.
-ghost use Rattle.std.specs.Prelude.{◌≡◌, ◌⊎◌, [], Some, IfOk, IfErr};
+ghost use Rattle.std.specs.Prelude.{◌≡◌, ◌⊎◌, [], Some, IsTrue, IfOk, IfErr};
 ghost use Rattle.vw_plan.specs.Walks.{has_link};
 ghost use Rattle.vw_board.specs.declared.fault.BoardFault.{BoardFault};
 ghost use Rattle.vw_board.specs.LinkLines.{link_fault, first_link_fault};
+ghost use Rattle.vw_board.specs.Steps.Faults.{is_line_fault};
 ghost use Rattle.vw_board.specs.Steps.Links.{ReadsLink, ReadsLinks};
 
 use crate::fault::BoardFault;
@@ -24,6 +25,7 @@ pub fn has_link(links: &[Link], from: u32, to: u32) -> bool
 fn read_link(chips: u32, links: &[Link], line: &Line) -> Result<Link, BoardFault>
     ensures fine { IfOk result (ReadsLink chips links.now line.now) }
     ensures fault { IfErr result (λ fault. link_fault chips links.now line.now ≡ Some fault) }
+    ensures of_line { IfErr result (λ fault. IsTrue (is_line_fault fault)) }
 {
     if !has_form(line, b"link", 4) {
         return Err(BoardFault::BadLine(line.number()));
@@ -52,7 +54,7 @@ fn read_link(chips: u32, links: &[Link], line: &Line) -> Result<Link, BoardFault
 pub fn read_links(alloc: Global, chips: u32, lines: &[Line]) -> Result<Vec<Link>, BoardFault>
     ensures fine { IfOk result (λ links. ReadsLinks chips lines.now links.items) }
     ensures fault { IfErr result (λ fault. (fault ≡ BoardFault.NoMemory)
-        ⊎ (first_link_fault chips [] lines.now ≡ Some fault)) }
+        ⊎ ((first_link_fault chips [] lines.now ≡ Some fault) × IsTrue (is_line_fault fault))) }
 {
     let mut links = Vec::new(alloc);
     for line in lines {

@@ -1,5 +1,5 @@
 -- Pairs of nodes, and what is noted for them.
-use Rattle.std.specs.Prelude.{◌≡◌, ◌<◌, ℕ, List, [], length, slice_index_or, Option, Some, None, IsSome}
+use Rattle.std.specs.Prelude.{◌≡◌, ◌<◌, ℕ, List, [], length, slice_index_or, Option, None, IsSome}
 
 -- what is noted for a node and another, in the list of the other
 abbrev pub noted : List (List (Option ℕ)) → ℕ → ℕ → Option ℕ

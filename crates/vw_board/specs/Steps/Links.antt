@@ -1,9 +1,8 @@
 -- Links that are read line by line.
-use Rattle.std.specs.Prelude.{◌≡◌, ◌≢◌, ◌≤◌, ℕ, Bool, false, List, [], map, take, drop, Option, None}
+use Rattle.std.specs.Prelude.{◌≡◌, ◌≢◌, ◌≤◌, ℕ, false, List, [], map, take, drop, None}
 use Rattle.vw_text.specs.declared.line.Line.{Line}
 use Rattle.vw_plan.specs.declared.link.Link.{Link}
 use Rattle.vw_plan.specs.Walks.{has_link}
-use Rattle.vw_board.specs.declared.fault.BoardFault.{BoardFault}
 use Rattle.vw_board.specs.LinkLines.{link_of, link_fault, first_link_fault}
 use Rattle.vw_board.specs.Steps.Separate.{AreSeparate}
 

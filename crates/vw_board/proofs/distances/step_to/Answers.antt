@@ -1,4 +1,3 @@
-use Rattle.std.proofs.Common.{sym}
 use Rattle.vw_board.proofs.Near.{all_near, some_nearer}
 use Rattle.vw_board.proofs.distances.step_to.Goals as goal
 

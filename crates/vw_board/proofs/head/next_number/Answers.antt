@@ -1,10 +1,9 @@
-use Rattle.std.proofs.Common.{◌≡◌, ◌<◌, ◌+◌, ◌-◌, ℕ, zero, suc, List, [], ◌∷◌, length, slice_get, Option, Some, None, ap, sym, ◌∙◌, arith}
+use Rattle.std.proofs.Common.{◌≡◌, ◌<◌, ◌+◌, ◌-◌, ℕ, zero, suc, List, [], ◌∷◌, length, slice_get, Some, ap, sym, ◌∙◌, arith}
 use Rattle.std.specs.Option.{option_map_or}
 use Rattle.std.proofs.lemmas.Option.{slice_get_within}
 use Rattle.vw_text.specs.declared.line.Line.{Line}
 use Rattle.vw_board.specs.Headers.{next_number}
 use Rattle.vw_board.proofs.head.next_number.Goals as goal
-
 
 -- the number after the last line
 after_last : (lines : List Line) (line : Line) (place : ℕ) → place + 1 ≡ length lines → slice_get lines place ≡ Some line → next_number lines ≡ line.number + 1

@@ -1,4 +1,4 @@
-use Rattle.std.proofs.Common.{sym, ◌∙◌}
+use Rattle.std.proofs.Common.{sym}
 use Rattle.vw_board.proofs.LinkReads.{reads_more}
 use Rattle.vw_board.proofs.link_lines.read_links.Goals as goal
 

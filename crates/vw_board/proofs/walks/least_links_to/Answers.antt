@@ -1,4 +1,4 @@
-use Rattle.std.proofs.Common.{◌≡◌, length, ap, sym, ◌∙◌}
+use Rattle.std.proofs.Common.{length, ap, sym, ◌∙◌}
 use Rattle.vw_board.proofs.Counted.{walks_more, least_more, written_back}
 use Rattle.vw_board.proofs.walks.least_links_to.Goals as goal
 
