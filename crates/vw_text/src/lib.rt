@@ -11,7 +11,7 @@ mod words;
 
 pub use laws::{lines_join, plain_lines_read};
 pub use line::Line;
-pub use numbers::number;
+pub use numbers::{number, number_in};
 pub use physical::first_line;
 pub use reader::lines;
 

@@ -8,7 +8,13 @@ use vw_outside::Name;
 pub fn number(word: &Name) -> Option<u64>
     ensures { result ≡ number_of word.now }
 {
-    let digits = word.as_slice();
+    number_in(word.as_slice())
+}
+
+/// The same for a word that lies in a text.
+pub fn number_in(digits: &[u8]) -> Option<u64>
+    ensures { result ≡ number_of digits.now }
+{
     if digits.is_empty() || (digits.len() > 1 && digits[0] == b'0') {
         return None;
     }

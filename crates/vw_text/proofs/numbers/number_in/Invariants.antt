@@ -2,7 +2,7 @@
 use Rattle.std.proofs.Common.{◌≡◌, ◌<◌, ◌^◌, take, drop, true}
 use Rattle.std.specs.List.{list_all}
 use Rattle.vw_text.specs.Number.{is_digit, value_from}
-use Rattle.vw_text.proofs.numbers.number.Given as goal
+use Rattle.vw_text.proofs.numbers.number_in.Given as goal
 
 abbrev pub invariant-loop-digit : goal.invariant-loop-digit
 invariant-loop-digit l = record {

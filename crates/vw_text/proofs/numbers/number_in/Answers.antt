@@ -3,28 +3,26 @@ use Rattle.std.proofs.Common.{◌≡◌, ◌≢◌, ◌<◌, ◌≤◌, length, 
 use Rattle.std.specs.List.{list_all}
 use Rattle.std.proofs.lemmas.Bool.{both_ways, eq-eqb, eqb-false}
 use Rattle.std.proofs.lemmas.List.{take_all, at_drop_all}
-use Rattle.vw_text.specs.Number.{number_of, is_digit, value_from}
+use Rattle.vw_text.specs.Number.{is_digit, value_from}
 use Rattle.vw_text.proofs.NumberWords.{digit_too_large, number_spelled}
-use Rattle.vw_text.proofs.numbers.number.Goals as goal
-use Rattle.vw_text.proofs.numbers.number.Goals.{then-digits-gt1, else-digits-gt1}
+use Rattle.vw_text.proofs.numbers.number_in.Goals as goal
+use Rattle.vw_text.proofs.numbers.number_in.Goals.{then-digits-gt1, else-digits-gt1}
 
 pub returns-in_err-checked_mul : goal.returns-in_err-checked_mul
 returns-in_err-checked_mul c =
-    let digits = c.as_slice-digits.result.now in
+    let digits = c.args.digits.now in
     c.from_residual.ensures
     ∙ sym (digit_too_large digits c.loop-digit.digit-index c.loop-digit.value c.loop-digit-test.true c.loop-digit.invariant.whole (omega (arith, c.in_err-checked_mul.ensures)))
-    ∙ ap number_of c.as_slice-digits.ensures
 
 pub returns-in_err-value : goal.returns-in_err-value
 returns-in_err-value c =
-    let digits = c.as_slice-digits.result.now in
+    let digits = c.args.digits.now in
     c.from_residual-in_err-value.ensures
     ∙ sym (digit_too_large digits c.loop-digit.digit-index c.loop-digit.value c.loop-digit-test.true c.loop-digit.invariant.whole (omega (arith, c.in_err-value.ensures, c.in_ok-checked_mul.ensures)))
-    ∙ ap number_of c.as_slice-digits.ensures
 
 pub returns : goal.returns
 returns c =
-    let digits = c.as_slice-digits.result.now in
+    let digits = c.args.digits.now in
     let i = c.loop-digit.digit-index in
     let past : length digits ≤ i = omega arith in
     let first : 1 < length digits → slice_index digits 0 ≢ 48 =
@@ -34,4 +32,4 @@ returns c =
     let none = eqb-false _ _ (sym c.is_empty.ensures ∙ c.if-is_empty.false) in
     let some : 0 < length digits = omega arith in
     let spelled = number_spelled digits some first (sym all_digits ∙ c.loop-digit.invariant.digits) (omega arith) in
-    sym (sym (ap number_of c.as_slice-digits.ensures) ∙ spelled ∙ ap (λ n. Some n) value)
+    sym (spelled ∙ ap (λ n. Some n) value)
