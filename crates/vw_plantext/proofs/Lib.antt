@@ -1,0 +1,5 @@
+pub mod Decimals
+pub mod NumberLines
+pub mod Ends
+pub mod Lines
+pub mod Spellings

@@ -1,0 +1,8 @@
+//! Writes plans as texts, and reads them: each plan has one spelling.
+#![tactic(auto)]
+
+mod fault;
+mod laws;
+
+pub use fault::PlanTextFault;
+pub use laws::spellings_differ;
