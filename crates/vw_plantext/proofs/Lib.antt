@@ -3,3 +3,4 @@ pub mod NumberLines
 pub mod Ends
 pub mod Lines
 pub mod Spellings
+pub mod Printed

@@ -3,6 +3,8 @@
 
 mod fault;
 mod laws;
+mod writer;
 
 pub use fault::PlanTextFault;
 pub use laws::spellings_differ;
+pub use writer::print;
