@@ -2,11 +2,8 @@
 use Rattle.std.proofs.Common.{◌≡◌, ◌==◌, ℕ, true, false, List, [], ◌∷◌, ◌++◌, ap₂, refl, sym, subst, ◌∙◌, append_assoc}
 use Rattle.std.specs.List.{list_any, AllByRecursion}
 use Rattle.std.proofs.lemmas.Bool.{or_parts, both_ways}
+use Rattle.vw_plantext.specs.Steps.Cuts.{IsOneLine}
 use Rattle.vw_text.specs.Physical.{lines_text}
-
--- a line has no byte 10
-abbrev pub IsOneLine : List ℕ → Type 0
-IsOneLine line = list_any (λ b. b == 10) line ≡ false
 
 abbrev pub AreLines : List (List ℕ) → Type 0
 AreLines lines = AllByRecursion IsOneLine lines

@@ -4,3 +4,8 @@ pub mod Ends
 pub mod Lines
 pub mod Spellings
 pub mod Printed
+pub mod CutAt
+pub mod LineReads
+pub mod Taken
+pub mod Faults
+pub mod Reached

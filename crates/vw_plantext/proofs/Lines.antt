@@ -14,10 +14,11 @@ use Rattle.vw_plantext.specs.Content.{Content, hop_count, IsHopInRange, IsWireIn
 use Rattle.vw_plantext.specs.Grammar.{numbers_text, number_line, hop_line, wire_line, wire_lines, body_lines, plan_lines}
 use Rattle.vw_plantext.proofs.Decimals.{decimal_above}
 use Rattle.vw_plantext.proofs.NumberLines.{AreSmall}
-use Rattle.vw_plantext.proofs.Ends.{IsOneLine, AreLines}
+use Rattle.vw_plantext.specs.Steps.Cuts.{IsOneLine}
+use Rattle.vw_plantext.proofs.Ends.{AreLines}
 
 -- at most 64 bits
-abbrev IsSmall : ℕ → Type 0
+abbrev pub IsSmall : ℕ → Type 0
 IsSmall number = number < 2 ^ 64
 
 no_end : (number : ℕ) → number < 2 ^ 64 → IsOneLine (decimal number)

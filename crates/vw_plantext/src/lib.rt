@@ -1,8 +1,11 @@
 //! Writes plans as texts, and reads them: each plan has one spelling.
 #![tactic(auto)]
 
+mod body;
 mod fault;
 mod laws;
+mod line;
+mod start;
 mod writer;
 
 pub use fault::PlanTextFault;

@@ -8,6 +8,11 @@ use Rattle.vw_text.specs.Number.{number_of}
 abbrev pub words_of : List ℕ → List (List ℕ)
 words_of line = slice_split (λ b. b == 32) line
 
+-- the words behind the first, where something stands behind it
+abbrev pub words_behind : Option (List ℕ) → List (List ℕ)
+words_behind None = []
+words_behind (Some rest) = words_of rest
+
 -- a number before others, where all are there
 abbrev pub with_first : Option ℕ → Option (List ℕ) → Option (List ℕ)
 with_first None numbers = None
