@@ -1,22 +1,15 @@
 -- The first line that can't stand there.
-use Rattle.std.proofs.Common.{◌≡◌, ◌≢◌, ◌<◌, ◌≤◌, ◌+◌, ◌-◌, ◌^◌, ◌==◌, ℕ, zero, suc, Bool, true, false, List, [], ◌∷◌, ◌++◌, length, map, replicate, Option, Some, None, ap, ap₂, refl, sym, subst, ◌∙◌, length-append, All, arith}
-use Rattle.std.specs.Prelude.{codes}
-use Rattle.std.specs.List.{flat_map, list_any, AllByRecursion}
+use Rattle.std.proofs.Common.{◌≡◌, ◌≢◌, ◌+◌, ◌==◌, ℕ, true, List, [], ◌∷◌, ◌++◌, length, refl, sym, subst, ◌∙◌}
+use Rattle.std.specs.List.{list_any}
 use Rattle.std.proofs.lemmas.Bool.{both_ways, or_parts}
 use Rattle.std.proofs.lemmas.List.{append_assoc, append-nil}
-use Rattle.std.proofs.lemmas.List.Elements.{All-append, All-cons, All-nil, All-replicate}
 use Rattle.vw_text.specs.Physical.{lines_text}
-use Rattle.vw_plan.specs.declared.wire.Hop.{Hop}
-use Rattle.vw_plan.specs.declared.wire.Wire.{Wire}
-use Rattle.vw_plantext.specs.Content.{Content, hop_count, IsHopInRange, IsWireInRange, IsInRange}
-use Rattle.vw_plantext.specs.Grammar.{number_line, hop_line, wire_line, body_lines, plan_lines, spelling}
+use Rattle.vw_plantext.specs.Content.{Content, IsInRange}
+use Rattle.vw_plantext.specs.Grammar.{plan_lines, spelling}
 use Rattle.vw_plantext.specs.CanStand.{CanStand, IsFirstBadLine}
 use Rattle.vw_plantext.specs.Steps.Cuts.{IsOneLine, IsCut}
-use Rattle.vw_plantext.specs.Steps.Bodies.{Part, State, FollowsWires, FollowsHops, Follows, IsLeft, part_hops, part_count, IsPartInRange, FitsPart, Fits, HasRead, Takes, RefusesLine, Closes}
-use Rattle.vw_plantext.specs.Steps.Starts.{IsReadTo}
 use Rattle.vw_plantext.proofs.Ends.{AreLines, IsMore, lines_within, SameCut, cut_once}
 use Rattle.vw_plantext.proofs.Lines.{plan_lines_are}
-use Rattle.vw_plantext.proofs.Taken.{hop_count-append}
 
 -- lines and more lines
 lines_front : (lines more : List (List ℕ)) → AreLines (lines ++ more) → AreLines lines
@@ -49,6 +42,7 @@ module _ (text : List ℕ) (lines : List (List ℕ)) (rest : List ℕ) (number :
     by_more content fits (next ∷ more) is behind =
         let one_line : IsOneLine next = (lines_behind lines (next ∷ more) (subst AreLines is (plan_lines_are content fits))).0 in
         no_next next (lines_text more) (sym behind ∙ append_assoc next (10 ∷ []) (lines_text more)) one_line (record { content = content; in_range = fits; rest = more; begins = append_assoc lines (next ∷ []) more ∙ sym is })
+
     refused : (content : Content) → IsInRange content → spelling content ≢ text
     refused content fits same =
         let within : IsMore lines (plan_lines content) rest = lines_within lines (plan_lines content) rest (can_stand_lines lines can) (plan_lines_are content fits) (sym whole ∙ sym same) in
@@ -64,6 +58,7 @@ module _ (text : List ℕ) (lines : List (List ℕ)) (rest : List ℕ) (number :
     not_empty : (front behind : List ℕ) → front ++ 10 ∷ behind ≡ [] → ⊥
     not_empty [] behind empty = cc
     not_empty (b ∷ bs) behind empty = cc
+
     no_next : (next behind : List ℕ) → rest ≡ next ++ 10 ∷ behind → IsOneLine next → ¬ (CanStand (lines ++ next ∷ []))
     no_next next behind is next_line stands =
         let same : SameCut next line behind after = cut_once next line behind after next_line cut.one_line (sym is ∙ cut.whole) in

@@ -9,3 +9,4 @@ pub mod LineReads
 pub mod Taken
 pub mod Faults
 pub mod Reached
+pub mod Ended

@@ -1,5 +1,5 @@
 -- Hops and wires that are read of lines.
-use Rattle.std.proofs.Common.{◌≡◌, ◌≢◌, ◌<◌, ◌≤◌, ◌^◌, ℕ, Bool, true, false, List, [], ◌∷◌, length, Vec, Global, Result, Ok, Err, Option, Some, None, if◌then◌else◌, ap, refl, sym, subst, ◌∙◌, All, arith}
+use Rattle.std.proofs.Common.{◌≡◌, ◌<◌, ◌≤◌, ◌^◌, ℕ, Bool, List, [], ◌∷◌, length, Vec, Global, Result, Ok, Err, Option, Some, None, if◌then◌else◌, ap, refl, sym, subst, ◌∙◌, All, arith}
 use Rattle.std.specs.Prelude.{codes, MatchOption, unwrap_or, IfOk}
 use Rattle.std.proofs.lemmas.List.Elements.{All-nil, All-cons}
 use Rattle.vw_plan.specs.declared.wire.Hop.{Hop}
@@ -10,7 +10,7 @@ use Rattle.vw_plantext.specs.Steps.Words.{line_numbers}
 use Rattle.vw_plantext.specs.Steps.Hops.{hop_numbers, IsHop, IsNoHop, IsHopLine, IsNoHopLine, IsWireHead, IsNoWireHead, IsWireHeadLine, IsNoWireHeadLine}
 use Rattle.vw_plantext.specs.declared.start.Head.{Head}
 use Rattle.vw_plantext.specs.Steps.Starts.{head_numbers, IsHead, IsNoHead, IsHeadLine, IsNoHeadLine, AreChips, AreNoChips, IsChipsLine, IsNoChipsLine}
-use Rattle.vw_plantext.proofs.NumberLines.{HasNoSpace, AreSmall, IsNumberLine, line_numbers-Some, line_numbers-number_line}
+use Rattle.vw_plantext.proofs.NumberLines.{AreSmall, IsNumberLine, line_numbers-Some, line_numbers-number_line}
 use Rattle.vw_plantext.proofs.Lines.{IsSmall, small_hop, small_head, small_chips}
 use Rattle.vw_plantext.proofs.Spellings.{plain_hop, plain_wire, plain_plan, plain_chips}
 

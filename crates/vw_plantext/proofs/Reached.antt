@@ -1,5 +1,5 @@
 -- How far a text is read, and what can follow.
-use Rattle.std.proofs.Common.{◌≡◌, ◌≢◌, ◌<◌, ◌≤◌, ◌+◌, ◌-◌, ◌^◌, ◌==◌, ℕ, zero, suc, Bool, true, false, List, [], ◌∷◌, ◌++◌, length, map, slice_index, Option, Some, None, ap, ap₂, refl, sym, subst, ◌∙◌, length-append, All, arith}
+use Rattle.std.proofs.Common.{◌≡◌, ◌≢◌, ◌<◌, ◌≤◌, ◌+◌, ◌-◌, ◌^◌, ℕ, zero, suc, List, [], ◌∷◌, ◌++◌, length, map, slice_index, Option, Some, None, ap, ap₂, refl, sym, subst, ◌∙◌, length-append, All, arith}
 use Rattle.std.specs.Prelude.{codes, replicate}
 use Rattle.std.specs.List.{flat_map}
 use Rattle.std.proofs.lemmas.Grind.{flat_map-append}
@@ -9,17 +9,17 @@ use Rattle.vw_text.specs.Physical.{lines_text}
 use Rattle.vw_plan.specs.declared.wire.Hop.{Hop}
 use Rattle.vw_plan.specs.declared.wire.Wire.{Wire}
 use Rattle.vw_plantext.specs.Content.{Content, hop_count, IsHopInRange, IsWireInRange, IsInRange}
-use Rattle.vw_plantext.specs.Grammar.{number_line, head_line, chips_line, hop_line, wire_lines, body_lines, plan_lines, spelling}
+use Rattle.vw_plantext.specs.Grammar.{number_line, head_line, chips_line, hop_line, wire_lines, body_lines, plan_lines}
 use Rattle.vw_plantext.specs.CanStand.{CanStand, IsFirstBadLine}
 use Rattle.vw_plantext.specs.Steps.Cuts.{IsOneLine, IsCut}
-use Rattle.vw_plantext.specs.Steps.Bodies.{Part, State, FollowsWires, FollowsHops, Follows, IsLeft, part_hops, part_count, IsPartInRange, FitsPart, Fits, HasSomeLeft, HasRead, Takes, RefusesLine, Closes}
+use Rattle.vw_plantext.specs.Steps.Bodies.{Part, State, FollowsWires, FollowsHops, Follows, IsLeft, part_hops, part_count, IsPartInRange, FitsPart, Fits, HasRead, Takes, RefusesLine, Closes}
 use Rattle.vw_plantext.specs.Steps.Starts.{head_numbers, IsReadTo, IsHeadLine, IsNoHeadLine, IsChipsLine, IsNoChipsLine}
 use Rattle.vw_plantext.specs.declared.start.Head.{Head}
 use Rattle.vw_plantext.proofs.NumberLines.{number_line_injective}
 use Rattle.vw_plantext.proofs.Lines.{small_head, small_chips, hop_count-cons}
 use Rattle.vw_plantext.proofs.Spellings.{plain_plan, plain_chips}
 use Rattle.vw_plantext.proofs.Taken.{hop_count-append, moved}
-use Rattle.vw_plantext.proofs.Faults.{can_stand_front, first_bad, no_further_line, bad_line}
+use Rattle.vw_plantext.proofs.Faults.{can_stand_front, no_further_line, bad_line}
 
 -- a wire without hops, and a hop
 abbrev no_wire : Wire
@@ -124,6 +124,7 @@ module _ (lines : List (List ℕ)) (state : State) (read : HasRead lines state) 
   read_more line mid new takes closes = record { fits = closes.fits; some_left = closes.some_left; tells = tells; makes = makes } where
     tells : (content : Content) (more : List (List ℕ)) → IsInRange content → (lines ++ line ∷ []) ++ more ≡ plan_lines content → IsLeft new content more
     tells content more fits same = closes.tells content more (takes.tells content more fits (read.tells content (line ∷ more) fits (sym (append_assoc lines (line ∷ []) more) ∙ same)))
+
     makes : (content : Content) (more : List (List ℕ)) → IsLeft new content more → (lines ++ line ∷ []) ++ more ≡ plan_lines content
     makes content more left = append_assoc lines (line ∷ []) more ∙ read.makes content (line ∷ more) (takes.makes content more (closes.makes content more left))
 
@@ -148,6 +149,7 @@ module _ (cells wires period : ℕ) (few_cells : cells < 2 ^ 32) (few_wires : wi
     read_two = record { fits = begun_fits; some_left = tt; tells = tells; makes = makes } where
       begun_fits : Fits begun
       begun_fits = record { few_cells = omega arith; chips = chips_fit; short = short; wires = All-nil IsWireInRange; part = tt; few_wires = omega arith; hops = let none : hop_count [] ≡ 0 = refl in omega arith }
+
       tells : (content : Content) (more : List (List ℕ)) → IsInRange content → (first_line ∷ second_line ∷ []) ++ more ≡ plan_lines content → IsLeft begun content more
       tells content more fits same =
           let head : first_line ≡ head_line content = cc in
@@ -157,6 +159,7 @@ module _ (cells wires period : ℕ) (few_cells : cells < 2 ^ 32) (few_wires : wi
           let chip_of : chips ≡ content.chip_of = number_line_injective (codes "chips") chips content.chip_of plain_chips refl (small_chips chips chips_fit) (small_chips content.chip_of fits.chips) second in
           let size : wires ≡ length content.wires = ap (λ (list : List ℕ). slice_index list 2) numbers in
           record { chip_of = sym chip_of; period = sym (ap (λ (list : List ℕ). slice_index list 3) numbers); wires = record { rest = content.wires; count = sym size; are = refl; lines_are = body } }
+
       makes : (content : Content) (more : List (List ℕ)) → IsLeft begun content more → (first_line ∷ second_line ∷ []) ++ more ≡ plan_lines content
       makes content more is_left =
           let chip_count : cells ≡ length content.chip_of = sym each ∙ ap length (sym is_left.chip_of) in
@@ -203,7 +206,7 @@ first_can_not line none can =
 -- ---- the text behind the lines
 
 -- one line more
-whole_more : (text : List ℕ) (lines : List (List ℕ)) (rest line after : List ℕ) → text ≡ lines_text lines ++ rest → rest ≡ line ++ 10 ∷ after → text ≡ lines_text (lines ++ line ∷ []) ++ after
+pub whole_more : (text : List ℕ) (lines : List (List ℕ)) (rest line after : List ℕ) → text ≡ lines_text lines ++ rest → rest ≡ line ++ 10 ∷ after → text ≡ lines_text (lines ++ line ∷ []) ++ after
 whole_more text lines rest line after whole cut =
     let one : lines_text (line ∷ []) ++ after ≡ line ++ 10 ∷ after = ap (λ (front : List ℕ). front ++ after) (append-nil (line ++ 10 ∷ [])) ∙ append_assoc line (10 ∷ []) after in
     let all : lines_text (lines ++ line ∷ []) ++ after ≡ lines_text lines ++ (line ++ 10 ∷ after) = ap (λ (front : List ℕ). front ++ after) (flat_map-append (λ (one_line : List ℕ). one_line ++ 10 ∷ []) lines (line ∷ [])) ∙ append_assoc (lines_text lines) (lines_text (line ∷ [])) after ∙ ap (λ (behind : List ℕ). lines_text lines ++ behind) one in

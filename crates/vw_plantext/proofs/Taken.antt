@@ -1,7 +1,6 @@
 -- Lines of hops and wires that are taken or refused.
-use Rattle.std.proofs.Common.{◌≡◌, ◌≢◌, ◌<◌, ◌≤◌, ◌+◌, ◌-◌, ◌^◌, ℕ, zero, suc, Bool, true, false, List, [], ◌∷◌, ◌++◌, length, map, slice_index, Option, Some, None, ap, ap₂, refl, sym, subst, ◌∙◌, length-append, All, arith}
+use Rattle.std.proofs.Common.{◌≡◌, ◌<◌, ◌≤◌, ◌+◌, ◌-◌, ◌^◌, ℕ, List, [], ◌∷◌, ◌++◌, length, map, slice_index, Option, Some, None, ap, ap₂, refl, sym, subst, ◌∙◌, length-append, All, arith}
 use Rattle.std.specs.Prelude.{codes}
-use Rattle.std.specs.List.{flat_map}
 use Rattle.std.proofs.lemmas.List.{append_assoc, append-nil}
 use Rattle.std.proofs.lemmas.List.Elements.{All-head, All-tail, All-push, All-nil, All-cons}
 use Rattle.std.proofs.lemmas.List.Sums.{sum_by-append}
@@ -117,8 +116,8 @@ module _ (left : ℕ) (done all : List Wire) (line : List ℕ) (more : List (Lis
         let same : first.wire ≡ record { net = net; to = to; hops = first.wire.hops } = ap (λ (list : List ℕ). record { net = slice_index list 0; to = slice_index list 1; hops = first.wire.hops }) numbers in
         let size : length first.rest + 1 ≡ left = first.count in
         record { hops = first.wire.hops; hops_left = ap (λ (list : List ℕ). slice_index list 2) numbers; rest = first.rest; count = omega arith; are = first.are ∙ ap (λ (w : Wire). done ++ w ∷ first.rest) same; lines_are = first.behind } where
-      small_numbers : net < 2 ^ 32 → to < 2 ^ 32 → count < 2 ^ 30 → AreSmall (net ∷ to ∷ count ∷ [])
-      small_numbers net_small to_small count_small = All-cons IsSmall net (to ∷ count ∷ []) (omega arith) (All-cons IsSmall to (count ∷ []) (omega arith) (All-cons IsSmall count [] (omega arith) (All-nil IsSmall)))
+          small_numbers : net < 2 ^ 32 → to < 2 ^ 32 → count < 2 ^ 30 → AreSmall (net ∷ to ∷ count ∷ [])
+          small_numbers net_small to_small count_small = All-cons IsSmall net (to ∷ count ∷ []) (omega arith) (All-cons IsSmall to (count ∷ []) (omega arith) (All-cons IsSmall count [] (omega arith) (All-nil IsSmall)))
 
     follows_wire_back : FollowsHops part (left - 1) done all more → FollowsWires left done all (line ∷ more)
     follows_wire_back follows =
@@ -165,6 +164,7 @@ module _ (state : State) (fits : Fits state) (part : Part) (is : state.part ≡ 
   takes_hop line hop some is_hop = record { fits = new_fits; tells = tells; makes = makes } where
     old : state.part ≡ Some part
     old = is
+
     new_fits : Fits (with_part (part_with_hop part hop))
     new_fits = record {
       few_cells = fits.few_cells;
@@ -175,8 +175,10 @@ module _ (state : State) (fits : Fits state) (part : Part) (is : state.part ≡ 
       few_wires = let few : length state.wires + (1 + state.left) < 2 ^ 32 = subst (λ (p : Option Part). length state.wires + (part_count p + state.left) < 2 ^ 32) old fits.few_wires in few;
       hops = let hops : hop_count state.wires + ((length part.hops + part.left) + (state.room + 1)) ≡ 2 ^ 30 = subst (λ (p : Option Part). hop_count state.wires + (part_hops p + (state.room + 1)) ≡ 2 ^ 30) old fits.hops in omega (arith, length-append part.hops (hop ∷ []));
     }
+
     tells : (content : Content) (more : List (List ℕ)) → IsInRange content → IsLeft state content (line ∷ more) → IsLeft (with_part (part_with_hop part hop)) content more
     tells content more in_range is_left = record { chip_of = is_left.chip_of; period = is_left.period; wires = follows_hop part state.left state.wires content.wires line more hop is_hop some in_range.wires (moved state.part (Some part) old state.left state.wires content.wires (line ∷ more) is_left.wires) }
+
     makes : (content : Content) (more : List (List ℕ)) → IsLeft (with_part (part_with_hop part hop)) content more → IsLeft state content (line ∷ more)
     makes content more is_left = record { chip_of = is_left.chip_of; period = is_left.period; wires = moved (Some part) state.part (sym old) state.left state.wires content.wires (line ∷ more) (follows_hop_back part state.left state.wires content.wires line more hop is_hop some is_left.wires) }
 
@@ -188,8 +190,10 @@ module _ (state : State) (fits : Fits state) (part : Part) (is : state.part ≡ 
   closes_full full = record { fits = new_fits; some_left = tt; tells = tells; makes = makes } where
     wire : Wire
     wire = record { net = part.net; to = part.to; hops = part.hops }
+
     old : state.part ≡ Some part
     old = is
+
     new_fits : Fits done
     new_fits = record {
       few_cells = fits.few_cells;
@@ -200,8 +204,10 @@ module _ (state : State) (fits : Fits state) (part : Part) (is : state.part ≡ 
       few_wires = let few : length state.wires + (1 + state.left) < 2 ^ 32 = subst (λ (p : Option Part). length state.wires + (part_count p + state.left) < 2 ^ 32) old fits.few_wires in omega (arith, length-append state.wires (record { net = part.net; to = part.to; hops = part.hops } ∷ []));
       hops = let hops : hop_count state.wires + ((length part.hops + part.left) + (state.room + 1)) ≡ 2 ^ 30 = subst (λ (p : Option Part). hop_count state.wires + (part_hops p + (state.room + 1)) ≡ 2 ^ 30) old fits.hops in omega (arith, hop_count-append state.wires (record { net = part.net; to = part.to; hops = part.hops } ∷ []), hop_count-cons (record { net = part.net; to = part.to; hops = part.hops }) [], hop_count-nil);
     }
+
     tells : (content : Content) (more : List (List ℕ)) → IsLeft state content more → IsLeft done content more
     tells content more is_left = record { chip_of = is_left.chip_of; period = is_left.period; wires = closed_wires part full state.left state.wires content.wires more (moved state.part (Some part) old state.left state.wires content.wires more is_left.wires) }
+
     makes : (content : Content) (more : List (List ℕ)) → IsLeft done content more → IsLeft state content more
     makes content more is_left = record { chip_of = is_left.chip_of; period = is_left.period; wires = moved (Some part) state.part (sym old) state.left state.wires content.wires more (opened_wires part full state.left state.wires content.wires more is_left.wires) }
 
@@ -219,6 +225,7 @@ module _ (state : State) (fits : Fits state) (is : state.part ≡ None) where
   takes_wire line net to count some is_line net_fits to_fits few = record { fits = new_fits; tells = tells; makes = makes } where
     old : state.part ≡ None
     old = is
+
     new_fits : Fits (with_wire (record { net = net; to = to; hops = []; left = count }))
     new_fits = record {
       few_cells = fits.few_cells;
@@ -229,10 +236,13 @@ module _ (state : State) (fits : Fits state) (is : state.part ≡ None) where
       few_wires = let all_few : length state.wires + (0 + state.left) < 2 ^ 32 = subst (λ (p : Option Part). length state.wires + (part_count p + state.left) < 2 ^ 32) old fits.few_wires in omega arith;
       hops = let all : hop_count state.wires + (state.room + 1) ≡ 2 ^ 30 = all_hops in omega arith;
     }
+
     small : count < 2 ^ 30
     small = let all : hop_count state.wires + (state.room + 1) ≡ 2 ^ 30 = all_hops in omega arith
+
     tells : (content : Content) (more : List (List ℕ)) → IsInRange content → IsLeft state content (line ∷ more) → IsLeft (with_wire (record { net = net; to = to; hops = []; left = count })) content more
     tells content more in_range is_left = record { chip_of = is_left.chip_of; period = is_left.period; wires = follows_wire state.left state.wires content.wires line more net to count is_line some net_fits to_fits small in_range.wires in_range.few_hops (moved state.part None old state.left state.wires content.wires (line ∷ more) is_left.wires) }
+
     makes : (content : Content) (more : List (List ℕ)) → IsLeft (with_wire (record { net = net; to = to; hops = []; left = count })) content more → IsLeft state content (line ∷ more)
     makes content more is_left = record { chip_of = is_left.chip_of; period = is_left.period; wires = moved None state.part (sym old) state.left state.wires content.wires (line ∷ more) (follows_wire_back state.left state.wires content.wires line more net to count is_line some net_fits to_fits small is_left.wires) }
 

@@ -5,9 +5,11 @@ mod body;
 mod fault;
 mod laws;
 mod line;
+mod plan_text;
 mod start;
 mod writer;
 
 pub use fault::PlanTextFault;
 pub use laws::spellings_differ;
+pub use plan_text::read;
 pub use writer::print;

@@ -1,5 +1,5 @@
 -- Texts cut at the ends of lines.
-use Rattle.std.specs.Prelude.{◌≡◌, ◌==◌, ℕ, false, List, [], ◌∷◌, ◌++◌}
+use Rattle.std.specs.Prelude.{◌≡◌, ◌==◌, ℕ, false, List, ◌∷◌, ◌++◌}
 use Rattle.std.specs.List.{list_any}
 
 -- a line has no byte 10

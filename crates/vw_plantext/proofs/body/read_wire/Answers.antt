@@ -1,5 +1,4 @@
-use Rattle.std.proofs.Common.{◌≡◌, true, false, Some, None, rules, sym, ◌∙◌}
-use Rattle.std.specs.Prelude.{codes}
+use Rattle.std.proofs.Common.{true, false}
 use Rattle.vw_plantext.proofs.LineReads.{answer_is, wire_line_none, wire_line_read}
 use Rattle.vw_plantext.proofs.body.read_wire.Goals as goal
 

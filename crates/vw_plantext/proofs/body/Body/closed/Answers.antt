@@ -1,8 +1,7 @@
-use Rattle.std.proofs.Common.{◌≡◌, ◌++◌, ◌∷◌, [], ℕ, List, Some, Option, ap, ap₂, sym, ◌∙◌}
+use Rattle.std.proofs.Common.{◌≡◌, ◌++◌, ◌∷◌, [], Some, ap, ◌∙◌}
 use Rattle.std.specs.Prelude.{option_map}
-use Rattle.vw_plan.specs.declared.wire.Hop.{Hop}
 use Rattle.vw_plan.specs.declared.wire.Wire.{Wire}
-use Rattle.vw_plantext.specs.Steps.Bodies.{State, Part, part_of, state_of}
+use Rattle.vw_plantext.specs.Steps.Bodies.{part_of, state_of}
 use Rattle.vw_plantext.proofs.Taken.{closes_full, wire_of_parts}
 use Rattle.vw_plantext.proofs.body.Body.closed.Goals as goal
 

@@ -1,8 +1,8 @@
-use Rattle.std.proofs.Common.{◌≡◌, ◌≤◌, ◌-◌, ◌==◌, ℕ, List, [], ◌∷◌, Some, None, Option, false, ap, sym, subst, arith}
+use Rattle.std.proofs.Common.{◌≡◌, ◌≤◌, ◌-◌, ◌==◌, ℕ, List, Some, None, Option, false, ap, sym, subst, arith}
 use Rattle.std.specs.Prelude.{option_map}
 use Rattle.std.proofs.lemmas.Bool.{eqb-false}
 use Rattle.vw_plan.specs.declared.wire.Hop.{Hop}
-use Rattle.vw_plantext.specs.Steps.Bodies.{State, Part, part_of, part_with_hop, state_of, is_complete_but, HasSomeLeft, Takes}
+use Rattle.vw_plantext.specs.Steps.Bodies.{Part, part_of, state_of, is_complete_but, HasSomeLeft, Takes}
 use Rattle.vw_plantext.proofs.Taken.{refuses_hop, takes_hop, refuses_wire, takes_wire}
 use Rattle.vw_plantext.proofs.body.Body.take.Goals as goal
 
