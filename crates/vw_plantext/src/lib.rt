@@ -13,3 +13,6 @@ pub use fault::PlanTextFault;
 pub use laws::spellings_differ;
 pub use plan_text::read;
 pub use writer::print;
+
+#[cfg(test)]
+mod tests;
