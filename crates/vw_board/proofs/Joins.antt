@@ -1,0 +1,107 @@
+-- Links of which it is known how few of them walks need.
+use Rattle.std.proofs.Common.{◌≡◌, ◌<◌, ◌≤◌, ◌+◌, ◌*◌, ℕ, true, false, List, [], ◌∷◌, length, map, get_or, slice_index_or, Option, Some, None, eqb, eqb-true, ne_eqb, ap, sym, subst, ◌∙◌, ⊎_elim, true≢false, All, arith}
+use Rattle.std.specs.Prelude.{IsSome}
+use Rattle.std.specs.List.{list_any, IsDistinct}
+use Rattle.std.proofs.lemmas.Bool.{both_ways, or_cases}
+use Rattle.std.proofs.lemmas.List.{get_or_default, get_or-map, length-map}
+use Rattle.std.proofs.lemmas.List.Elements.{All-head, All-tail}
+use Rattle.std.proofs.lemmas.Map.Keys.{IsDistinct-from_apart}
+use Rattle.std.proofs.lemmas.Map.Steps.{length-le_from_distinct_below}
+use Rattle.vw_plan.specs.declared.link.Link.{Link}
+use Rattle.vw_plan.specs.Links.{AreLinks}
+use Rattle.vw_plan.specs.Walks.{IsWalk, IsJoined}
+use Rattle.vw_plan.specs.Distance.{has_walk}
+use Rattle.vw_plan.proofs.Walking.{Walked, walk-has_walk}
+use Rattle.vw_plan.proofs.Shortest.{IsShort, short_walk}
+use Rattle.vw_board.specs.BoardText.{IsFirstApart, ComesBefore}
+use Rattle.vw_board.specs.Steps.Separate.{AreSeparate}
+use Rattle.vw_board.specs.Steps.Tables.{AreLeast, first_below}
+use Rattle.vw_board.specs.Steps.Apart.{noted, AreAllThere, IsFirstPair}
+use Rattle.vw_board.proofs.Noted.{IsFirstPassing, first_passing}
+
+module _ (chips : ℕ) (few : chips ≤ 32) (links : List Link) (separate : AreSeparate chips links) where
+  -- a number for each pair of ends
+  abbrev ends_number : Link → ℕ
+  ends_number link = link.from * 33 + link.to
+
+  numbers_differ : IsDistinct eqb (map ends_number links)
+  numbers_differ = IsDistinct-from_apart eqb (map ends_number links) apart where
+    apart : (i j default : ℕ) → i < j → j < length (map ends_number links) → eqb (get_or (map ends_number links) i default) (get_or (map ends_number links) j default) ≡ false
+    apart i j default before within =
+        let none : Link = record { from = 0; to = 0; width = 0 } in
+        let size : length (map ends_number links) ≡ length links = length-map links ends_number in
+        let early : i < length links = omega arith in
+        let late : j < length links = omega arith in
+        let one = get_or links i none in
+        let other = get_or links j none in
+        let at_one : get_or (map ends_number links) i default ≡ ends_number one = get_or-map ends_number links i none default early in
+        let at_other : get_or (map ends_number links) j default ≡ ends_number other = get_or-map ends_number links j none default late in
+        let one_ends : (one.from ≤ chips) × (one.to ≤ chips) = separate.ends i none early in
+        let other_ends : (other.from ≤ chips) × (other.to ≤ chips) = separate.ends j none late in
+        let differ = λ (same : get_or (map ends_number links) i default ≡ get_or (map ends_number links) j default). let numbers : ends_number one ≡ ends_number other = sym at_one ∙ same ∙ at_other in let froms : one.from ≡ other.from = omega arith in let tos : one.to ≡ other.to = omega arith in separate.once i j none before late (froms, tos) in
+        ne_eqb (get_or (map ends_number links) i default) (get_or (map ends_number links) j default) differ
+
+  numbers_small : (all : List Link) → All (λ link. (link.from ≤ chips) × (link.to ≤ chips)) all → (number : ℕ) → list_any (eqb number) (map ends_number all) ≡ true → number < 1089
+  numbers_small [] ends number among = absurd (true≢false (sym among))
+  numbers_small (link ∷ rest) ends number among =
+      let here = All-head (λ (other : Link). (other.from ≤ chips) × (other.to ≤ chips)) link rest ends in
+      let if_here = λ (is : eqb number (ends_number link) ≡ true). let same : number ≡ ends_number link = eqb-true number (ends_number link) is in let whole : number < 1089 = omega arith in whole in
+      ⊎_elim if_here (numbers_small rest (All-tail (λ (other : Link). (other.from ≤ chips) × (other.to ≤ chips)) link rest ends) number) (or_cases (eqb number (ends_number link)) (list_any (eqb number) (map ends_number rest)) among)
+
+  -- there are no more links than pairs of nodes
+  pub few_links : length links ≤ 1089
+  few_links = omega (arith, length-map links ends_number, length-le_from_distinct_below (map ends_number links) 1089 numbers_differ (numbers_small links separate.ends))
+
+  module _ (lists : List (List (Option ℕ))) (least : AreLeast links (chips + 1) lists) where
+    -- the lists are as many as the nodes, and as long
+    pub long_lists : All (λ list. length list ≡ length lists) lists
+    long_lists place default within =
+        let size : length lists ≡ chips + 1 = least.each in
+        let have = least.least place (omega arith) in
+        let same : slice_index_or lists place default ≡ slice_index_or lists place [] = get_or_default lists place default [] within in
+        ap length same ∙ have.each ∙ sym size
+
+    -- what is noted for a pair
+    is_noted : (from to : ℕ) → from ≤ chips → to ≤ chips → noted lists from to ≡ first_below (λ count. has_walk links count from to) (chips + 1)
+    is_noted from to from_node to_node = (least.least to (omega arith)).number from (omega arith)
+
+    -- where something is noted there is a walk
+    walk_noted : (from to : ℕ) (found : Option ℕ) → IsFirstPassing (λ count. has_walk links count from to) (chips + 1) found → IsSome found → IsJoined links from to
+    walk_noted from to None first some = absurd (true≢false (sym some))
+    walk_noted from to (Some count) first some = let walked : Walked links count from to = walk-has_walk links count from to first.1 in ∣ (walked.nodes, walked.walk) ∣₁
+
+    pub joined_where_noted : (from to : ℕ) → from ≤ chips → to ≤ chips → IsSome (noted lists from to) → IsJoined links from to
+    joined_where_noted from to from_node to_node some = walk_noted from to (first_below (λ count. has_walk links count from to) (chips + 1)) (first_passing (λ count. has_walk links count from to) (chips + 1)) (subst IsSome (is_noted from to from_node to_node) some)
+
+    -- where nothing is noted there is none
+    none_noted : (from to : ℕ) → from ≤ chips → (found : Option ℕ) → IsFirstPassing (λ count. has_walk links count from to) (chips + 1) found → found ≡ None → (nodes : List ℕ) → ¬ (IsWalk links from nodes to)
+    none_noted from to from_node (Some count) first none nodes walk = cc
+    none_noted from to from_node None first none nodes walk =
+        let short : IsShort chips links separate.ends from to = short_walk chips links separate.ends from nodes to from_node walk in
+        both_ways (has_walk links short.count from to) (first short.count (omega (arith, short.few))) short.passes
+
+    -- where all is noted, these are the links of a board
+    pub links_of_board : AreAllThere lists (length lists) → AreLinks chips links
+    links_of_board all = record { ends = separate.ends; apart = separate.apart; once = separate.once; wide = separate.wide; joined = joined } where
+      joined : (from to : ℕ) → from ≤ chips → to ≤ chips → IsJoined links from to
+      joined from to from_node to_node = let size : length lists ≡ chips + 1 = least.each in joined_where_noted from to from_node to_node (all from (omega arith) to (omega arith))
+
+    -- the first pair for which nothing is noted
+    pub apart_where_none : (from to : ℕ) → IsFirstPair lists from to → IsFirstApart chips links from to
+    apart_where_none from to pair = record { from_node = from_node; to_node = to_node; apart = apart; first = first } where
+      from_node : from ≤ chips
+      from_node = omega (arith, pair.within, least.each)
+
+      to_node : to ≤ chips
+      to_node = omega (arith, pair.first.within, least.each)
+
+      apart : (nodes : List ℕ) → ¬ (IsWalk links from nodes to)
+      apart = none_noted from to from_node (first_below (λ count. has_walk links count from to) (chips + 1)) (first_passing (λ count. has_walk links count from to) (chips + 1)) (sym (is_noted from to from_node to_node) ∙ pair.first.missing)
+
+      first : (a b : ℕ) → a ≤ chips → b ≤ chips → ComesBefore a b from to → IsJoined links a b
+      first a b a_node b_node before = ⊎_elim if_row if_column before where
+        if_row : a < from → IsJoined links a b
+        if_row row = joined_where_noted a b a_node b_node (pair.before a row b (omega (arith, least.each)))
+
+        if_column : (a ≡ from) × (b < to) → IsJoined links a b
+        if_column column = joined_where_noted a b a_node b_node (subst (λ (n : ℕ). IsSome (noted lists n b)) (sym column.0) (pair.first.before b column.1))

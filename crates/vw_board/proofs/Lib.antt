@@ -1,0 +1,7 @@
+mod LinkReads
+mod Counted
+mod Noted
+mod Near
+mod LineNumbers
+mod Joins
+mod Spelled

@@ -1,0 +1,86 @@
+-- Lines of links that are read one after the other.
+use Rattle.std.proofs.Common.{◌≡◌, ◌≢◌, ◌<◌, ◌≤◌, ◌+◌, ◌&&◌, ℕ, suc, Bool, true, false, List, [], ◌∷◌, ◌++◌, length, map, take, drop, get_or, Option, Some, None, if◌then◌else◌, eqb, leb, ap, refl, sym, ◌∙◌, ne_eqb, eq-eqb, add-one, arith}
+use Rattle.std.specs.Prelude.{codes, unwrap_or}
+use Rattle.std.specs.Option.{option_or}
+use Rattle.std.proofs.Math.Seq.{drop-cons, take-suc}
+use Rattle.std.proofs.lemmas.Bool.{and_parts, and_from, both_ways, leb-true}
+use Rattle.std.proofs.lemmas.List.{map_push}
+use Rattle.std.proofs.lemmas.List.Elements.{All-push}
+use Rattle.std.proofs.lemmas.List.Folds.{list_any_at}
+use Rattle.std.proofs.lemmas.List.Quantifiers.{all_pairs_push}
+use Rattle.vw_text.specs.declared.line.Line.{Line}
+use Rattle.vw_text.specs.Number.{number_of}
+use Rattle.vw_plan.specs.declared.link.Link.{Link}
+use Rattle.vw_plan.specs.Links.{HaveSameEnds}
+use Rattle.vw_plan.specs.Walks.{has_link}
+use Rattle.vw_board.specs.declared.fault.BoardFault.{BoardFault}
+use Rattle.vw_board.specs.Words.{word_at, within, number_within, has_form}
+use Rattle.vw_board.specs.LinkLines.{link_of, link_fault, first_link_fault}
+use Rattle.vw_board.specs.Steps.Separate.{AreSeparate}
+use Rattle.vw_board.specs.Steps.Links.{ReadsLink, ReadsSoFar}
+
+-- a number that was found in a range
+record IsWithin (least greatest value : ℕ) (found : Option ℕ) : Type 0 where
+  is : unwrap_or found 0 ≡ value
+  above : least ≤ value
+  below : value ≤ greatest
+
+in_range : (least greatest value number : ℕ) → (in_it : Bool) → in_it ≡ (leb least number && leb number greatest) → (if in_it then Some number else None) ≡ Some value → IsWithin least greatest value (Some number)
+in_range least greatest value number true is found =
+    let parts : (leb least number ≡ true) × (leb number greatest ≡ true) = and_parts (leb least number) (leb number greatest) (sym is) in
+    let same : number ≡ value = ap (λ (o : Option ℕ). unwrap_or o 0) found in
+    record { is = same; above = let low : least ≤ number = leb-true least number parts.0 in omega arith; below = let high : number ≤ greatest = leb-true number greatest parts.1 in omega arith }
+in_range least greatest value number false is found = cc
+
+was_within : (least greatest value : ℕ) (found : Option ℕ) → within least greatest found ≡ Some value → IsWithin least greatest value found
+was_within least greatest value None found = cc
+was_within least greatest value (Some number) found = in_range least greatest value number (leb least number && leb number greatest) refl found
+
+-- a line with its form and with three numbers in their ranges is the line of a link that isn't at fault
+pub link_fine : (chips : ℕ) (links : List Link) (line : Line) (link : Link) → has_form (codes "link") 4 line ≡ true → number_within 0 chips 1 line ≡ Some link.from → number_within 0 chips 2 line ≡ Some link.to → number_within 1 64 3 line ≡ Some link.width → link.from ≢ link.to → has_link links link.from link.to ≡ false → ReadsLink chips links line link
+link_fine chips links line link form is_from is_to is_width apart new =
+    let at_from : IsWithin 0 chips link.from (number_of (word_at 1 line)) = was_within 0 chips link.from (number_of (word_at 1 line)) is_from in
+    let at_to : IsWithin 0 chips link.to (number_of (word_at 2 line)) = was_within 0 chips link.to (number_of (word_at 2 line)) is_to in
+    let at_width : IsWithin 1 64 link.width (number_of (word_at 3 line)) = was_within 1 64 link.width (number_of (word_at 3 line)) is_width in
+    let differ : eqb link.from link.to ≡ false = ne_eqb link.from link.to apart in
+    record {
+      fine = rw (form, is_from, is_to, is_width, at_from.is, at_to.is, differ, new) refl;
+      is = rw (at_from.is, at_to.is, at_width.is) refl;
+      from_node = at_from.below;
+      to_node = at_to.below;
+      apart = apart;
+      new = new;
+      some_pins = at_width.above;
+      few_pins = at_width.below;
+    }
+
+-- a link with ends that no other link has
+new_ends : (links : List Link) (link : Link) → has_link links link.from link.to ≡ false → (place : ℕ) (default : Link) → place < length links → ¬ (HaveSameEnds (get_or links place default) link)
+new_ends links link new place default within_ same =
+    let test = λ (other : Link). eqb other.from link.from && eqb other.to link.to in
+    let other : Link = get_or links place default in
+    both_ways (has_link links link.from link.to) new (list_any_at test links place default within_ (and_from (eqb other.from link.from) (eqb other.to link.to) (eq-eqb other.from link.from same.0) (eq-eqb other.to link.to same.1)))
+
+-- one more link
+separate_push : (chips : ℕ) (links : List Link) (line : Line) (link : Link) → AreSeparate chips links → ReadsLink chips links line link → AreSeparate chips (links ++ link ∷ [])
+separate_push chips links line link separate reads = record {
+  ends = All-push (λ other. (other.from ≤ chips) × (other.to ≤ chips)) links link separate.ends (reads.from_node, reads.to_node);
+  apart = All-push (λ other. other.from ≢ other.to) links link separate.apart reads.apart;
+  once = all_pairs_push (λ one other. ¬ (HaveSameEnds one other)) links link separate.once (new_ends links link reads.new);
+  wide = All-push (λ other. (1 ≤ other.width) × (other.width ≤ 64)) links link separate.wide (reads.some_pins, reads.few_pins);
+}
+
+pub reads_more : (chips : ℕ) (lines : List Line) (place : ℕ) (links : List Link) (line : Line) (link : Link) → place < length lines → get_or lines place line ≡ line → ReadsSoFar chips lines place links → ReadsLink chips links line link → ReadsSoFar chips lines (place + 1) (links ++ link ∷ [])
+reads_more chips lines place links line link within_ here so_far reads =
+    let next : drop place lines ≡ line ∷ drop (suc place) lines = drop-cons lines place line within_ ∙ ap (λ (first : Line). first ∷ drop (suc place) lines) here in
+    let front : take (suc place) lines ≡ take place lines ++ line ∷ [] = take-suc lines place line within_ ∙ ap (λ (last : Line). take place lines ++ last ∷ []) here in
+    let first : first_link_fault chips links (drop place lines) ≡ option_or (link_fault chips links line) (first_link_fault chips (links ++ link_of line ∷ []) (drop (suc place) lines)) = ap (first_link_fault chips links) next in
+    let rest : first_link_fault chips links (drop place lines) ≡ first_link_fault chips (links ++ link ∷ []) (drop (suc place) lines) = first ∙ ap (λ (fault : Option BoardFault). option_or fault (first_link_fault chips (links ++ link_of line ∷ []) (drop (suc place) lines))) reads.fine ∙ ap (λ (last : Link). first_link_fault chips (links ++ last ∷ []) (drop (suc place) lines)) (sym reads.is) in
+    let are : links ++ link ∷ [] ≡ map link_of (take (suc place) lines) = ap (λ (front_ : List Link). front_ ++ link ∷ []) so_far.are ∙ ap (λ (last : Link). map link_of (take place lines) ++ last ∷ []) reads.is ∙ sym (map_push link_of (take place lines) line) ∙ ap (map link_of) (sym front) in
+    record { rest = rw add-one (so_far.rest ∙ rest); are = rw add-one are; separate = separate_push chips links line link so_far.separate reads }
+
+-- a line at fault is the first
+pub first_at : (chips : ℕ) (lines : List Line) (place : ℕ) (links : List Link) (line : Line) (fault : BoardFault) → place < length lines → get_or lines place line ≡ line → ReadsSoFar chips lines place links → link_fault chips links line ≡ Some fault → first_link_fault chips [] lines ≡ Some fault
+first_at chips lines place links line fault within_ here so_far at_fault =
+    let next : drop place lines ≡ line ∷ drop (suc place) lines = drop-cons lines place line within_ ∙ ap (λ (first : Line). first ∷ drop (suc place) lines) here in
+    so_far.rest ∙ ap (first_link_fault chips links) next ∙ ap (λ (found : Option BoardFault). option_or found (first_link_fault chips (links ++ link_of line ∷ []) (drop (suc place) lines))) at_fault

@@ -1,0 +1,38 @@
+-- The lines of a board text behind the first five, one for each link. Source: this project.
+use Rattle.std.specs.Prelude.{◌==◌, ℕ, Bool, not, ◌||◌, List, [], ◌∷◌, ◌++◌, map, drop, Option, Some, None, is_none, codes, if◌then◌else◌}
+use Rattle.std.specs.Option.{option_or}
+use Rattle.vw_text.specs.declared.line.Line.{Line}
+use Rattle.vw_plan.specs.declared.link.Link.{Link}
+use Rattle.vw_plan.specs.Walks.{has_link}
+use Rattle.vw_board.specs.declared.fault.BoardFault.{BoardFault}
+use Rattle.vw_board.specs.declared.fault.BoardFault.TheVariants.{BadLine, BadNumber, SelfLink, DuplicateLink}
+use Rattle.vw_board.specs.Words.{has_form, number_within, number_at}
+
+-- the link of a line: the node that it leaves, the node that it reaches, and its width
+abbrev pub link_of : Line → Link
+link_of line = record { from = number_at 1 line; to = number_at 2 line; width = number_at 3 line }
+
+-- whether a number of the line is none, or out of its range: nodes are 0 to the number of chips, widths 1 to 64
+abbrev pub has_bad_number : ℕ → Line → Bool
+has_bad_number chips line =
+    is_none (number_within 0 chips 1 line)
+    || (is_none (number_within 0 chips 2 line) || is_none (number_within 1 64 3 line))
+
+-- the fault of a line behind these links; of several the one of the least number
+abbrev pub link_fault : ℕ → List Link → Line → Option BoardFault
+link_fault chips links line =
+    if not (has_form (codes "link") 4 line) then Some (BadLine line.number)
+    else if has_bad_number chips line then Some (BadNumber line.number)
+    else if number_at 1 line == number_at 2 line then Some (SelfLink (number_at 1 line))
+    else if has_link links (number_at 1 line) (number_at 2 line) then Some (DuplicateLink (number_at 1 line) (number_at 2 line))
+    else None
+
+-- the fault of the first line at fault, behind these links
+abbrev pub first_link_fault : ℕ → List Link → List Line → Option BoardFault
+first_link_fault chips links [] = None
+first_link_fault chips links (line ∷ lines) =
+    option_or (link_fault chips links line) (first_link_fault chips (links ++ link_of line ∷ []) lines)
+
+-- the links of a text, in the order of their lines
+abbrev pub links_of : List Line → List Link
+links_of lines = map link_of (drop 5 lines)

@@ -1,0 +1,8 @@
+-- What the private functions of this crate compute. No public clause cites it.
+pub mod Apart
+pub mod Nearer
+pub mod Tables
+pub mod Faults
+pub mod Heads
+pub mod Separate
+pub mod Links

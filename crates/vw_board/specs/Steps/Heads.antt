@@ -1,0 +1,23 @@
+-- The numbers of the first five lines of a board text.
+use Rattle.std.specs.Prelude.{◌≡◌, ◌≤◌, List, length, None}
+use Rattle.vw_text.specs.declared.line.Line.{Line}
+use Rattle.vw_board.specs.declared.head.Head.{Head}
+use Rattle.vw_board.specs.Headers.{headers_fault, chips_of, cells_of, settle_of, pins_of}
+
+-- numbers that a board can have
+pub record IsInRange (head : Head) : Type 0 where
+  pub some_chips : 1 ≤ head.chips
+  pub few_chips : head.chips ≤ 32
+  pub some_cells : 1 ≤ head.cells
+  pub few_cells : head.cells ≤ 65536
+  pub quick : head.settle ≤ 15
+
+-- none of the lines is at fault, and these are their numbers
+pub record IsHead (lines : List Line) (head : Head) : Type 0 where
+  pub fine : headers_fault lines ≡ None
+  pub chips : head.chips ≡ chips_of lines
+  pub cells : head.cells ≡ cells_of lines
+  pub settle : head.settle ≡ settle_of lines
+  pub pins : head.pins ≡ pins_of lines
+  pub in_range : IsInRange head
+  pub long : 5 ≤ length lines

@@ -1,0 +1,18 @@
+//! Reads board texts, and finds how far the nodes of a board are from each other.
+#![tactic(auto)]
+
+mod apart;
+mod board_text;
+mod distances;
+mod fault;
+mod head;
+mod link_lines;
+mod pins;
+mod walks;
+
+pub use board_text::read;
+pub use distances::Distances;
+pub use fault::BoardFault;
+
+#[cfg(test)]
+mod tests;

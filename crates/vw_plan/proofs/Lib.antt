@@ -1,0 +1,5 @@
+pub mod Leads
+pub mod Walking
+pub mod Shortest
+pub mod Pairs
+mod Toggle

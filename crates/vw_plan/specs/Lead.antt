@@ -1,0 +1,62 @@
+-- When a net has its value at a node. Source: the rules of a virtual wire (a wire may be sent only after the values that
+-- it depends on have arrived), as this project states them.
+use Rattle.std.specs.Prelude.{◌==◌, ◌+◌, ℕ, zero, suc, Bool, ◌&&◌, List, [], ◌∷◌, length, map, max, Option, Some, None, if◌then◌else◌}
+use Rattle.std.specs.List.{find}
+use Rattle.std.specs.Option.{option_map_or}
+use Rattle.vw_net.specs.declared.cell.Cell.{Cell}
+use Rattle.vw_net.specs.declared.cell.Cell.TheVariants.{Gate, Latch}
+use Rattle.vw_net.specs.Order.{is_gate}
+use Rattle.vw_plan.specs.declared.board.Board.{Board}
+use Rattle.vw_plan.specs.declared.wire.Hop.{Hop}
+use Rattle.vw_plan.specs.declared.wire.Wire.{Wire}
+use Rattle.vw_plan.specs.Nets.{driver}
+use Rattle.vw_plan.specs.Setting.{Setting, home}
+
+-- the microcycle in which the bit of a hop arrives: the one in which it is sent
+abbrev pub arrival : Board → Hop → ℕ
+arrival board hop = hop.at
+
+-- one past the arrival of the last of some hops; 0 where there is none
+abbrev pub after_last : Board → List Hop → ℕ
+after_last board [] = 0
+after_last board (hop ∷ []) = arrival board hop + 1
+after_last board (hop ∷ next ∷ hops) = after_last board (next ∷ hops)
+
+-- whether a wire brings a net to a node
+abbrev pub brings : ℕ → ℕ → Wire → Bool
+brings net node wire = wire.net == net && wire.to == node
+
+-- one past the arrival of a net at a node, by the first wire that brings it there; 0 where there is none
+abbrev pub brought_at : Setting → ℕ → ℕ → ℕ
+brought_at setting node net = option_map_or (λ wire. after_last setting.board wire.hops) (find (brings net node) setting.plan.wires) 0
+
+-- the greatest of some numbers, 0 where there is none
+abbrev pub greatest : List ℕ → ℕ
+greatest [] = 0
+greatest (number ∷ numbers) = max number (greatest numbers)
+
+-- the lead of what a node drives itself: 0 for an input or a latch, and for a gate the greatest lead of its inputs
+abbrev pub driven_lead : (ℕ → ℕ) → Option Cell → ℕ
+driven_lead lead_at None = 0
+driven_lead lead_at (Some (Gate ins cover)) = greatest (map lead_at ins)
+driven_lead lead_at (Some (Latch d init)) = 0
+
+-- the lead of a net at a node, where at most this many drivers are followed in a row
+abbrev pub level_lead : ℕ → Setting → ℕ → ℕ → ℕ
+level_lead zero setting node net = 0
+level_lead (suc level) setting node net =
+    if home setting net == node then driven_lead (level_lead level setting node) (driver setting.ordered.flat net)
+    else brought_at setting node net
+
+-- the lead of a net at a node: the microcycle from which on what the net rests on is there. One level more than there
+-- are cells is enough, since gates don't read in a circle
+unfoldable pub lead : Setting → ℕ → ℕ → ℕ
+lead setting node net = level_lead (length setting.ordered.flat.cells + 1) setting node net
+
+-- whether a net is a gate's, and the gate is on this node
+abbrev pub is_gate_at : Setting → ℕ → ℕ → Bool
+is_gate_at setting node net = is_gate (driver setting.ordered.flat net) && home setting net == node
+
+-- the microcycle from which on a node can use a net: a gate on the node needs time to settle
+abbrev pub usable : Setting → ℕ → ℕ → ℕ
+usable setting node net = lead setting node net + (if is_gate_at setting node net then setting.board.settle else 0)

@@ -1,0 +1,12 @@
+pub mod Decimals
+pub mod NumberLines
+pub mod Ends
+pub mod Lines
+pub mod Spellings
+pub mod Printed
+pub mod CutAt
+pub mod LineReads
+pub mod Taken
+pub mod Faults
+pub mod Reached
+pub mod Ended

@@ -1,0 +1,6 @@
+pub mod Content
+pub mod Grammar
+pub mod CanStand
+pub mod PlanText
+pub mod Messages
+pub mod Steps

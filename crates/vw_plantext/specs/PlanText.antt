@@ -1,0 +1,20 @@
+-- Plan texts: the plan that a text spells, or its fault. Source: this project.
+use Rattle.std.specs.Prelude.{◌≡◌, ◌<◌, ◌≤◌, ℕ, List, length, ⊤}
+use Rattle.vw_plan.specs.declared.plan.Plan.{Plan}
+use Rattle.vw_plantext.specs.declared.fault.PlanTextFault.{PlanTextFault}
+use Rattle.vw_plantext.specs.declared.fault.PlanTextFault.TheVariants.{TooLarge, BadLine, NoMemory}
+use Rattle.vw_plantext.specs.Content.{content_of, IsInRange}
+use Rattle.vw_plantext.specs.Grammar.{spelling}
+use Rattle.vw_plantext.specs.CanStand.{IsFirstBadLine}
+
+-- a text within the limit is the spelling of a plan
+pub record Spells (text : List ℕ) (plan : Plan) : Type 0 where
+  pub small : length text ≤ 67108864
+  pub in_range : IsInRange (content_of plan)
+  pub spelled : spelling (content_of plan) ≡ text
+
+-- a text is refused for this reason; want of memory says nothing of it
+abbrev pub Refuses : List ℕ → PlanTextFault → Type 0
+Refuses text TooLarge = 67108864 < length text
+Refuses text (BadLine line) = (length text ≤ 67108864) × IsFirstBadLine text line
+Refuses text NoMemory = ⊤

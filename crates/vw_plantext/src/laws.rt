@@ -1,0 +1,11 @@
+//! Laws of the definitions, as contracts of functions that do nothing.
+ghost use Rattle.std.specs.Prelude.{◌≡◌, ◌++◌, [], ℕ, List};
+ghost use Rattle.vw_plantext.specs.Content.{Content, IsInRange};
+ghost use Rattle.vw_plantext.specs.Grammar.{spelling};
+
+/// Two plans have two spellings, and no spelling begins with another one: where one is the front of another, both are of
+/// one plan, and nothing is left.
+pub fn spellings_differ()
+    ensures { (one other : Content) (rest : List ℕ) → IsInRange one → IsInRange other
+        → spelling one ++ rest ≡ spelling other → (one ≡ other) × (rest ≡ []) }
+{}

@@ -1,0 +1,18 @@
+//! Writes plans as texts, and reads them: each plan has one spelling.
+#![tactic(auto)]
+
+mod body;
+mod fault;
+mod laws;
+mod line;
+mod plan_text;
+mod start;
+mod writer;
+
+pub use fault::PlanTextFault;
+pub use laws::spellings_differ;
+pub use plan_text::read;
+pub use writer::print;
+
+#[cfg(test)]
+mod tests;
