@@ -92,7 +92,8 @@ fn distances_to(
     to: u32,
 ) -> Result<Vec<u32>, AllocError>
     requires to { to ≤ board.now.chips }
-    requires least { HaveLeast board.now.links (board.now.chips + 1) (board.now.chips + 1) to least.now }
+    requires least { HaveLeast board.now.links (board.now.chips + 1) (board.now.chips + 1) to
+        least.now }
     ensures { IfOk result (λ distances. AreDistances board.now to distances.items) }
 {
     let _chips = board.chips();

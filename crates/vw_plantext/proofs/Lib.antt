@@ -10,3 +10,4 @@ pub mod Taken
 pub mod Faults
 pub mod Reached
 pub mod Ended
+pub mod OneLine

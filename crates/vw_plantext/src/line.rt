@@ -18,7 +18,8 @@ pub fn next_line(text: &[u8]) -> Option<(&[u8], &[u8])>
 
 /// The first word of a line, up to a space, and what stands behind the space, where there is one.
 fn first_word(line: &[u8]) -> (&[u8], Option<&[u8]>)
-    ensures { words_of line.now ≡ result.0.now ∷ words_behind (option_map (λ rest. rest.now) result.1) }
+    ensures { words_of line.now
+        ≡ result.0.now ∷ words_behind (option_map (λ rest. rest.now) result.1) }
 {
     match line.find_byte(b' ') {
         Some(end) => (&line[..end], Some(&line[end + 1..])),
