@@ -135,5 +135,6 @@ module _ (board : Board) where
         let above : distance board node to ≤ length nodes = near.least nodes walk.1 in
         let below : distance board from to ≤ length (node ∷ near.nodes) = far.least (node ∷ near.nodes) (walk.0, near.walk) in
         record { node = node; on_board = node_on; linked = walk.0; nearer = let same : length near.nodes ≡ distance board node to = near.count in omega arith }
+
     by_walk : IsDistance board.links from to (distance board from to) → IsNext from to
     by_walk found = by_nodes found.nodes found.walk found.count
