@@ -1,5 +1,6 @@
 -- Numbers in a circle, and the names of their models.
-use Rattle.std.specs.Prelude.{◌≡◌, ◌≢◌, ◌<◌, ◌≤◌, ◌++◌, ℕ, List, [], ◌∷◌, length, map, Option, Some, None, slice_get, slice_index}
+use Rattle.std.specs.Prelude.{◌<◌, ◌≤◌, ◌==◌, ℕ, List, [], length, drop, map, Option, Some, None, slice_get, slice_index}
+use Rattle.std.specs.List.{position_or_len}
 use Rattle.vw_design.specs.declared.model.Model.{Model}
 use Rattle.vw_design.specs.declared.design.Design.{Design}
 use Rattle.vw_design.specs.Paths.{Word}
@@ -17,6 +18,6 @@ name_of (Some model) = model.name
 abbrev pub names_of : Design → List ℕ → List Word
 names_of design numbers = map (λ number. name_of (slice_get design.models number)) numbers
 
--- numbers from one of them on
-abbrev pub IsFrom : ℕ → List ℕ → List ℕ → Type 0
-IsFrom number numbers rest = (before : List ℕ) × (further : List ℕ) × (numbers ≡ before ++ rest) × (rest ≡ number ∷ further)
+-- numbers from the first place of one of them on
+abbrev pub round_from : ℕ → List ℕ → List ℕ
+round_from number numbers = drop (position_or_len (λ other. other == number) numbers) numbers

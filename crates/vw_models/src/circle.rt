@@ -1,8 +1,7 @@
 //! Names of models in a circle.
 ghost use Rattle.std.specs.Prelude.{
-    ◌≡◌, ◌<◌, ◌++◌, ℕ, length, take, drop, IfOk, IsTrue,
+    ◌≡◌, ◌<◌, ◌++◌, ℕ, length, take, drop, slice_index, EachIndex, IfOk, OnOk,
 };
-ghost use Rattle.vw_net.specs.Order.{is_among};
 ghost use Rattle.vw_models.specs.Circles.{IsLeast, names_of};
 
 use std::alloc::{AllocError, Global};
@@ -31,16 +30,30 @@ pub fn circle_names(
     circle: &[u32],
 ) -> Result<Sequence<Name>, AllocError>
     requires some { 0 < length circle.now }
-    requires within { (number : ℕ)
-        → IsTrue (is_among circle.now number) → number < length design.now.models }
+    requires within { EachIndex circle.now (λ i. slice_index circle.now i < length design.now.models) }
     ensures { IfOk result (λ names. (start : ℕ) × IsLeast circle.now start
         × (names ≡ names_of design.now (drop start circle.now ++ take start circle.now))) }
 {
     let start = least_place(circle);
     let mut names = Vec::with_capacity(alloc, circle.len())?;
-    for number in circle[start..].iter().chain(circle[..start].iter()) {
+    add_names(alloc, design, &circle[start..], &mut names)?;
+    add_names(alloc, design, &circle[..start], &mut names)?;
+    Ok(Sequence::of(names))
+}
+
+/// Adds the names of models.
+fn add_names(
+    alloc: Global,
+    design: &Design,
+    numbers: &[u32],
+    names: &mut Vec<Name>,
+) -> Result<(), AllocError>
+    requires { EachIndex numbers.now (λ i. slice_index numbers.now i < length design.now.models) }
+    ensures { OnOk result (names.new.items ≡ names.old.items ++ names_of design.now numbers.now) }
+{
+    for number in numbers {
         let name = design.models()[*number as usize].name();
         names.push(Name::of(name.as_slice().to_vec(alloc)?))?;
     }
-    Ok(Sequence::of(names))
+    Ok(())
 }

@@ -1,11 +1,12 @@
 //! A search in depth over numbered models.
 ghost use Rattle.std.specs.Prelude.{
-    ◌≡◌, ◌<◌, ◌++◌, ℕ, [], ◌∷◌, Some, replicate, slice_get, slice_set, slice_index, IfOk, OnOk,
+    ◌≡◌, ◌<◌, ◌≤◌, ◌==◌, ◌++◌, ℕ, [], ◌∷◌, Some, length, replicate, slice_get, slice_set, slice_index, IfOk, OnOk,
 };
+ghost use Rattle.std.specs.List.{position_or_len};
 ghost use Rattle.std.specs.Vec.{vec_len};
 ghost use Rattle.vw_models.specs.Reach.{AreWithin};
 ghost use Rattle.vw_models.specs.Ahead.{IsAhead};
-ghost use Rattle.vw_models.specs.Circles.{IsFrom};
+ghost use Rattle.vw_models.specs.Circles.{round_from};
 ghost use Rattle.vw_models.specs.Search.{IsSearched};
 
 use crate::mark::{Ahead, Mark};
@@ -64,9 +65,12 @@ impl Depth {
             targets.now result }
     {
         for place in self.cursors[number as usize]..targets.len() {
-            if let Some(number) = targets[place] {
-                if self.marks[number as usize] != Mark::Done {
-                    return Some(Ahead { place, number });
+            if let Some(placed) = targets[place] {
+                if self.marks[placed as usize] != Mark::Done {
+                    return Some(Ahead {
+                        place,
+                        number: placed,
+                    });
                 }
             }
         }
@@ -108,16 +112,25 @@ impl Depth {
     }
 }
 
-/// The stack from a number on, with one more at the end.
-fn round(alloc: Global, stack: &[u32], last: u32, number: u32) -> Result<Vec<u32>, AllocError>
-    ensures { IfOk result (λ circle. IsFrom number (stack.now ++ last ∷ []) circle.items) }
+/// The first place of a number; the length where it isn't there.
+fn place_of(numbers: &[u32], number: u32) -> usize
+    ensures within { result ≤ length numbers.now }
+    ensures first { result ≡ position_or_len (λ other. other == number) numbers.now }
 {
-    let mut circle = Vec::new(alloc);
-    for other in stack {
-        if *other == number || !circle.is_empty() {
-            circle.push(*other)?;
+    for (place, other) in numbers.iter().enumerate() {
+        if *other == number {
+            return place;
         }
     }
+    numbers.len()
+}
+
+/// The stack from a number on, with one more at the end.
+fn round(alloc: Global, stack: &[u32], last: u32, number: u32) -> Result<Vec<u32>, AllocError>
+    ensures { IfOk result (λ circle. circle.items ≡ round_from number stack.now ++ last ∷ []) }
+{
+    let start = place_of(stack, number);
+    let mut circle = stack[start..].to_vec(alloc)?;
     circle.push(last)?;
     Ok(circle)
 }

@@ -1,6 +1,5 @@
 //! Numbers that are reached from number 0.
-ghost use Rattle.std.specs.Prelude.{◌≡◌, ◌<◌, ℕ, Some, List, [], length, IfOk, OnOk};
-ghost use Rattle.std.specs.List.{list_all};
+ghost use Rattle.std.specs.Prelude.{◌≡◌, ◌<◌, ℕ, Some, [], slice_get, IfOk, OnOk};
 ghost use Rattle.std.specs.Vec.{vec_len};
 ghost use Rattle.vw_models.specs.Reach.{
     AreMarked, AreReachMarks, AreWithin, with_number, with_targets,

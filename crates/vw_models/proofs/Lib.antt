@@ -1,0 +1,6 @@
+pub mod Among
+pub mod Places
+pub mod Reaches
+pub mod Rounds
+pub mod Searches
+pub mod Unknowns
