@@ -4,3 +4,4 @@ pub mod Reaches
 pub mod Rounds
 pub mod Searches
 pub mod Unknowns
+pub mod Models

@@ -1,7 +1,7 @@
 -- What stands at a place of a list, and at the same place of a list that goes along with it.
 use Rattle.std.proofs.Common.{◌≡◌, ◌<◌, ◌≤◌, ◌+◌, ℕ, zero, suc, Bool, true, false, List, [], ◌∷◌, length, drop, slice_get, slice_index_or, map, Option, Some, None, inl, inr, refl, sym, ◌∙◌, ap, subst, ⊎_elim, arith}
 use Rattle.std.specs.List.{AllZip, list_all}
-use Rattle.std.proofs.lemmas.Bool.{cases_lt, and_both}
+use Rattle.std.proofs.lemmas.Bool.{cases_lt, and_from}
 use Rattle.std.proofs.lemmas.List.{drop_more, drop_all, get_or_past}
 use Rattle.std.proofs.lemmas.Option.{none-some, same_Some, slice_get_within, slice_get-get_or}
 use Rattle.vw_design.proofs.Has.{Has}
@@ -15,11 +15,11 @@ module _ {A : Type 0} where
   -- every element passes
   pub all_pass : (test : A → Bool) (xs : List A) → ((x : A) → Has x xs → test x ≡ true) → list_all test xs ≡ true
   all_pass test [] passes = refl
-  all_pass test (x ∷ xs) passes = and_both (passes x (inl refl)) (all_pass test xs (λ y has. passes y (inr has)))
+  all_pass test (x ∷ xs) passes = and_from (test x) (list_all test xs) (passes x (inl refl)) (all_pass test xs (λ y has. passes y (inr has)))
 
 -- the list at a place of lists, where it has an element
 pub list_at : {A : Type 0} → (lists : List (List A)) (k place : ℕ) (x : A) → slice_get (slice_index_or lists k []) place ≡ Some x → slice_get lists k ≡ Some (slice_index_or lists k [])
-list_at lists k place x at = ⊎_elim
+list_at {A = A} lists k place x at = ⊎_elim
     (λ within. slice_get-get_or lists k [] within)
     (λ past. absurd (none-some x (sym (ap (λ (l : List A). slice_get l place) (get_or_past lists k [] past)) ∙ at)))
     (cases_lt k (length lists))

@@ -19,18 +19,18 @@ use Rattle.vw_models.proofs.Among.{among_Has, Has_among, among_left, among_right
 use Rattle.vw_models.proofs.Rounds.{Leads-push, Leads-front, Leads-back, Leads-round, round_begins}
 
 -- what a mark says
-done_mark : (done open : Bool) → cond done Done (cond open Open Fresh) ≡ Done → done ≡ true
-done_mark true open is = refl
+done_mark : (done on : Bool) → cond done Done (cond on Open Fresh) ≡ Done → done ≡ true
+done_mark true on is = refl
 done_mark false true is = cc
 done_mark false false is = cc
 
-open_mark : (done open : Bool) → cond done Done (cond open Open Fresh) ≡ Open → open ≡ true
-open_mark true open is = cc
+open_mark : (done on : Bool) → cond done Done (cond on Open Fresh) ≡ Open → on ≡ true
+open_mark true on is = cc
 open_mark false true is = refl
 open_mark false false is = cc
 
-fresh_mark : (done open : Bool) → cond done Done (cond open Open Fresh) ≢ Done → cond done Done (cond open Open Fresh) ≢ Open → (done ≡ false) × (open ≡ false)
-fresh_mark true open not_done not_open = absurd (not_done refl)
+fresh_mark : (done on : Bool) → cond done Done (cond on Open Fresh) ≢ Done → cond done Done (cond on Open Fresh) ≢ Open → (done ≡ false) × (on ≡ false)
+fresh_mark true on not_done not_open = absurd (not_done refl)
 fresh_mark false true not_done not_open = absurd (not_open refl)
 fresh_mark false false not_done not_open = (refl, refl)
 
@@ -99,7 +99,7 @@ module _ (targets : Targets) (within : AreWithin targets) where
       moved other among =
           ⊎_elim
           (λ done. among_left (order ++ number ∷ []) stack other (among_left order (number ∷ []) other done))
-          (λ open. ⊎_elim (λ on. among_right (order ++ number ∷ []) stack other on) (λ top. among_left (order ++ number ∷ []) stack other (among_right order (number ∷ []) other top)) (among_either stack (number ∷ []) other open))
+          (λ opened. ⊎_elim (λ on. among_right (order ++ number ∷ []) stack other on) (λ top. among_left (order ++ number ∷ []) stack other (among_right order (number ∷ []) other top)) (among_either stack (number ∷ []) other opened))
           (among_either order (stack ++ number ∷ []) other among)
       back : (other : ℕ) → is_among ((order ++ number ∷ []) ++ stack) other ≡ true → is_among (order ++ (stack ++ number ∷ [])) other ≡ true
       back other among =
@@ -113,9 +113,9 @@ module _ (targets : Targets) (within : AreWithin targets) where
       next_within = within.within number next.place next.number ahead.1
 
       -- a fresh one is opened
-      pub opened : get_or marks next.number Fresh ≢ Open
+      pub opened_on : get_or marks next.number Fresh ≢ Open
           → IsSearch targets (slice_set marks next.number Open) (slice_set cursors number next.place) order (stack ++ number ∷ next.number ∷ [])
-      opened closed_now = subst (λ (s : List ℕ). IsSearch targets (slice_set marks next.number Open) (slice_set cursors number next.place) order s) (append_assoc stack (number ∷ []) (next.number ∷ [])) (record {
+      opened_on closed_now = subst (λ (s : List ℕ). IsSearch targets (slice_set marks next.number Open) (slice_set cursors number next.place) order s) (append_assoc stack (number ∷ []) (next.number ∷ [])) (record {
         marks_each = length-set marks next.number Open ∙ far.marks_each;
         cursors_each = length-set cursors number next.place ∙ far.cursors_each;
         marked = λ other. ⊎_elim (same other) (apart other) (cases_eq next.number other);
@@ -124,7 +124,7 @@ module _ (targets : Targets) (within : AreWithin targets) where
         once = subst (λ (s : List ℕ). IsDistinct eqb s) (append_assoc order (stack ++ number ∷ []) (next.number ∷ [])) (once_push (order ++ (stack ++ number ∷ [])) next.number far.once new);
         leads = Leads-push targets stack number next.number far.leads (next.place, ahead.1);
         root = ⊎_elim (λ done. among_left order ((stack ++ number ∷ []) ++ next.number ∷ []) 0 done)
-            (λ open. among_right order ((stack ++ number ∷ []) ++ next.number ∷ []) 0 (among_left (stack ++ number ∷ []) (next.number ∷ []) 0 open)) (among_either order (stack ++ number ∷ []) 0 far.root);
+            (λ opened. among_right order ((stack ++ number ∷ []) ++ next.number ∷ []) 0 (among_left (stack ++ number ∷ []) (next.number ∷ []) 0 opened)) (among_either order (stack ++ number ∷ []) 0 far.root);
         reached = λ test closed other among. reach test closed other among
       }) where
         fresh : (is_among order next.number ≡ false) × (is_among (stack ++ number ∷ []) next.number ≡ false)
@@ -153,10 +153,10 @@ module _ (targets : Targets) (within : AreWithin targets) where
         reach test closed other among =
             ⊎_elim
             (λ done. far.reached test closed other (among_left order (stack ++ number ∷ []) other done))
-            (λ open. ⊎_elim
+            (λ opened. ⊎_elim
               (λ on. far.reached test closed other (among_right order (stack ++ number ∷ []) other on))
               (λ top. ap test (sym (among_one next.number other top)) ∙ closed.placed number next.place next.number (far.reached test closed number (among_right order (stack ++ number ∷ []) number (among_last stack number))) ahead.1)
-              (among_either (stack ++ number ∷ []) (next.number ∷ []) other open))
+              (among_either (stack ++ number ∷ []) (next.number ∷ []) other opened))
             (among_either order ((stack ++ number ∷ []) ++ next.number ∷ []) other among)
 
       -- one that is open closes a circle
@@ -174,6 +174,15 @@ module _ (targets : Targets) (within : AreWithin targets) where
                 (subst (λ (s : List ℕ). is_among s other ≡ true) (sym whole) (among_right (order ++ cut.0) (round_from next.number stack ++ number ∷ []) other among))
           }
 
+  -- the same lists
+  pub same_search : (marks others : List Mark) (cursors cursors' order order' stack stack' : List ℕ) → IsSearch targets marks cursors order stack → others ≡ marks → cursors' ≡ cursors → order' ≡ order → stack' ≡ stack
+      → IsSearch targets others cursors' order' stack'
+  same_search marks others cursors cursors' order order' stack stack' far m c o s =
+      subst (λ (l : List ℕ). IsSearch targets others cursors' order' l) (sym s)
+      (subst (λ (l : List ℕ). IsSearch targets others cursors' l stack) (sym o)
+      (subst (λ (l : List ℕ). IsSearch targets others l order stack) (sym c)
+      (subst (λ (l : List Mark). IsSearch targets l cursors order stack) (sym m) far)))
+
   -- nothing is open
   pub ended : (marks : List Mark) (cursors order : List ℕ) → IsSearch targets marks cursors order [] → IsNumberOrder targets order
   ended marks cursors order far = record {
@@ -187,7 +196,7 @@ module _ (targets : Targets) (within : AreWithin targets) where
   pub begun : (count : ℕ) → count ≡ length targets → IsSearch targets (slice_set (replicate count Fresh) 0 Open) (replicate count 0) [] (0 ∷ [])
   begun count is = record {
     marks_each = length-set (replicate count Fresh) 0 Open ∙ length-replicate count Fresh ∙ is;
-    cursors_each = length-replicate count 0 ∙ is;
+    cursors_each = length-replicate {A = ℕ} count 0 ∙ is;
     marked = λ other. ⊎_elim (same other) (apart other) (cases_eq 0 other);
     done = λ other place placed before places. absurd (omega (arith, zeros other, before));
     behind = λ i place placed before. absurd (omega arith);
@@ -196,15 +205,15 @@ module _ (targets : Targets) (within : AreWithin targets) where
     root = Has_among (0 ∷ []) 0 (inl refl);
     reached = λ test closed other among. ap test (sym (among_one 0 other among)) ∙ closed.root
   } where
-    zeros : (other : ℕ) → get_or (replicate count 0) other 0 ≡ 0
-    zeros other = ⊎_elim (λ inside. get_or-replicate count other 0 0 inside) (λ past. get_or_past (replicate count 0) other 0 (omega (arith, length-replicate count 0))) (cases_lt other count)
+    zeros : (other : ℕ) → ◌≡◌ {A = ℕ} (get_or (replicate {A = ℕ} count 0) other 0) 0
+    zeros other = ⊎_elim (λ inside. get_or-replicate {A = ℕ} count other 0 0 inside) (λ past. get_or_past (replicate {A = ℕ} count 0) other 0 (omega (arith, length-replicate {A = ℕ} count 0))) (cases_lt other count)
     fresh : (other : ℕ) → get_or (replicate count Fresh) other Fresh ≡ Fresh
     fresh other = ⊎_elim (λ inside. get_or-replicate count other Fresh Fresh inside) (λ past. get_or_past (replicate count Fresh) other Fresh (omega (arith, length-replicate count Fresh))) (cases_lt other count)
-    same : (other : ℕ) → 0 ≡ other → get_or (slice_set (replicate count Fresh) 0 Open) other Fresh ≡ mark_of [] (0 ∷ []) other
+    same : (other : ℕ) → ◌≡◌ {A = ℕ} 0 other → get_or (slice_set (replicate count Fresh) 0 Open) other Fresh ≡ mark_of [] (0 ∷ []) other
     same other zero_is =
         ap (λ (n : ℕ). get_or (slice_set (replicate count Fresh) 0 Open) n Fresh) (sym zero_is) ∙ get_or-set_same (replicate count Fresh) 0 Open Fresh (omega (arith, length-replicate count Fresh, within.some))
         ∙ ap (λ (b : Bool). cond b Open Fresh) (sym (ap (is_among (0 ∷ [])) (sym zero_is) ∙ Has_among (0 ∷ []) 0 (inl refl)))
-    apart : (other : ℕ) → 0 ≢ other → get_or (slice_set (replicate count Fresh) 0 Open) other Fresh ≡ mark_of [] (0 ∷ []) other
+    apart : (other : ℕ) → (◌≡◌ {A = ℕ} 0 other → ⊥) → get_or (slice_set (replicate count Fresh) 0 Open) other Fresh ≡ mark_of [] (0 ∷ []) other
     apart other differ =
         get_or-set_other (replicate count Fresh) 0 other Open Fresh (λ e. differ (sym e)) ∙ fresh other
         ∙ ap (λ (b : Bool). cond b Open Fresh) (sym (ap (λ (b : Bool). b || false) (ne_eqb 0 other differ)))

@@ -1,8 +1,13 @@
--- The first number that isn't done among those that a number places, from a place on.
-use Rattle.std.specs.Prelude.{◌≡◌, ◌≢◌, ◌<◌, ◌≤◌, ℕ, List, Option, Some, None, slice_get, slice_index_or}
+-- Marks of numbers, and the first number that isn't done among those that a number places, from a place on.
+use Rattle.std.specs.Prelude.{◌≡◌, ◌≢◌, ◌<◌, ◌≤◌, ℕ, Bool, true, false, List, Option, Some, None, slice_get, slice_index_or}
 use Rattle.vw_models.specs.declared.mark.Mark.{Mark}
-use Rattle.vw_models.specs.declared.mark.Mark.TheVariants.{Fresh, Done}
+use Rattle.vw_models.specs.declared.mark.Mark.TheVariants.{Fresh, Open, Done}
 use Rattle.vw_models.specs.declared.mark.Ahead.{Ahead}
+
+abbrev pub is_open_mark : Mark → Bool
+is_open_mark Fresh = false
+is_open_mark Open = true
+is_open_mark Done = false
 
 -- between two places all that is placed is done
 abbrev pub AreDone : List Mark → List (Option ℕ) → ℕ → ℕ → Type 0

@@ -1,11 +1,12 @@
 //! A search in depth over numbered models.
 ghost use Rattle.std.specs.Prelude.{
-    ◌≡◌, ◌<◌, ◌≤◌, ◌==◌, ◌++◌, ℕ, [], ◌∷◌, Some, length, replicate, slice_get, slice_set, slice_index, IfOk, OnOk,
+    ◌≡◌, ◌<◌, ◌≤◌, ◌==◌, ◌++◌, ℕ, [], ◌∷◌, Some, length, replicate, slice_get, slice_set, slice_index, slice_index_or,
+    IfOk, OnOk,
 };
 ghost use Rattle.std.specs.List.{position_or_len};
 ghost use Rattle.std.specs.Vec.{vec_len};
 ghost use Rattle.vw_models.specs.Reach.{AreWithin};
-ghost use Rattle.vw_models.specs.Ahead.{IsAhead};
+ghost use Rattle.vw_models.specs.Ahead.{is_open_mark, IsAhead};
 ghost use Rattle.vw_models.specs.Circles.{round_from};
 ghost use Rattle.vw_models.specs.Search.{IsSearched};
 
@@ -75,6 +76,14 @@ impl Depth {
             }
         }
         None
+    }
+
+    /// Whether a number is open.
+    pub fn is_open(&self, number: u32) -> bool
+        requires { number < vec_len self.now.marks }
+        ensures { result ≡ is_open_mark (slice_index_or self.now.marks.items number Mark.Fresh) }
+    {
+        matches!(self.marks[number as usize], Mark::Open)
     }
 
     /// Puts a number back, and opens another one that it places.
@@ -148,7 +157,7 @@ pub fn search(
         match depth.ahead(number, targets[number as usize].as_slice()) {
             None => depth.finish(number)?,
             Some(ahead) => {
-                if depth.marks[ahead.number as usize] == Mark::Open {
+                if depth.is_open(ahead.number) {
                     let circle = round(alloc, depth.stack.as_slice(), number, ahead.number)?;
                     return Ok(NumberOrder::Circle(circle));
                 }
