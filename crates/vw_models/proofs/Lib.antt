@@ -5,3 +5,5 @@ pub mod Rounds
 pub mod Searches
 pub mod Unknowns
 pub mod Models
+pub mod Named
+pub mod ReachMarks

@@ -45,7 +45,7 @@ among_other numbers number other apart =
 
 module _ (targets : Targets) (within : AreWithin targets) where
   -- what is reached is a model's number
-  reached_within : (numbers : List ℕ) → AreReached targets numbers → (number : ℕ) → is_among numbers number ≡ true → number < length targets
+  pub reached_within : (numbers : List ℕ) → AreReached targets numbers → (number : ℕ) → is_among numbers number ≡ true → number < length targets
   reached_within numbers reached number among = ltb-true number (length targets) (reached (λ (n : ℕ). nat_lt n (length targets)) below number among) where
     below : IsClosed targets (λ (n : ℕ). nat_lt n (length targets))
     below = record {

@@ -23,6 +23,13 @@ fn least_place(numbers: &[u32]) -> usize
     least
 }
 
+/// A name of its own with the same bytes.
+fn copy(alloc: Global, name: &Name) -> Result<Name, AllocError>
+    ensures { IfOk result (λ copy. copy ≡ name.now) }
+{
+    Ok(Name::of(name.as_slice().to_vec(alloc)?))
+}
+
 /// The names of models, from a place on to the end and then from the start.
 pub fn circle_names(
     alloc: Global,
@@ -53,7 +60,7 @@ fn add_names(
 {
     for number in numbers {
         let name = design.models()[*number as usize].name();
-        names.push(Name::of(name.as_slice().to_vec(alloc)?))?;
+        names.push(copy(alloc, name)?)?;
     }
     Ok(())
 }

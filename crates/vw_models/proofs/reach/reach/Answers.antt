@@ -29,7 +29,11 @@ bounds-targets-number c =
 pub add_all-requires-clause-within : goal.add_all-requires-clause-within
 add_all-requires-clause-within c = λ place placed at.
     let number = c.index-number.result.now in
-    let within : number < length c.args.targets.now = bounds-targets-number c in
+    let found = c.loop-at.reached.found.items in
+    let far = c.loop-at.invariant.far in
+    let here : c.loop-at.at < length found = omega (arith, c.if-at-len.false, c.len.ensures) in
+    let is = number_is found c.loop-at.at number here c.index-number.ensures in
+    let within : number < length c.args.targets.now = far.good.within number (ap (is_among found) is ∙ at_among found c.loop-at.at here) in
     let list : c.as_slice.result.now ≡ get_or c.args.targets.now number [] = c.as_slice.ensures ∙ c.index-targets-number.is ∙ get_or_default c.args.targets.now number c.index-targets-number.result [] within in
     let below : placed < length c.args.targets.now = c.requires.within number place placed (ap (λ (l : List (Option ℕ)). slice_get l place) (sym list) ∙ at) in
     omega (arith, below, c.loop-at.invariant.marks)
@@ -54,10 +58,11 @@ returns c =
     let targets = c.args.targets.now in
     let reached = c.loop-at.reached in
     let far = c.loop-at.invariant.far in
+    let each : length reached.marks.items ≡ length targets = omega (arith, c.loop-at.invariant.marks) in
     let few = short targets c.loop-at.at reached.found.items far in
     elim c.loop-at-test.branch [
       else-loop-at-test w ↦
-      all_reached targets c.loop-at.at reached.found.items reached.marks.items far (let past = w.loop-at-test.false in omega (arith, few, past)) c.loop-at.invariant.marked c.loop-at.invariant.marks
+      all_reached targets c.loop-at.at reached.found.items reached.marks.items far (let past = w.loop-at-test.false in omega (arith, few, past)) c.loop-at.invariant.marked each
       | then-loop-at-test+then-at-len w ↦
-      all_reached targets c.loop-at.at reached.found.items reached.marks.items far (omega (arith, w.if-at-len.true, w.len.ensures)) c.loop-at.invariant.marked c.loop-at.invariant.marks
+      all_reached targets c.loop-at.at reached.found.items reached.marks.items far (omega (arith, w.if-at-len.true, w.len.ensures)) c.loop-at.invariant.marked each
     ]
