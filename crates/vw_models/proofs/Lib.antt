@@ -7,3 +7,4 @@ pub mod Unknowns
 pub mod Models
 pub mod Named
 pub mod ReachMarks
+pub mod FirstUnknown

@@ -15,5 +15,5 @@ loop-number-preserved c = λ name.
     let put = hash_map_updates_str c.as_slice.result.now c.loop-number.names c.insert.new.self _ c.in_ok-insert.ensures.updates name in
     let listed = slice_get_read c.models-model-items.result.now (length c.models-model-items.result.now) number model refl c.loop-number-test.true c.model-item.is in
     let at : slice_get models number ≡ Some model = ap (λ (l : List Model). slice_get l number) (sym c.models-model-items.ensures) ∙ listed in
-    named_step models number model c.as_slice.result.now name (number_in c.loop-number.names name) (number_in c.insert.new.self name) at (c.as_slice.ensures ∙ c.name.ensures) put (c.loop-number.invariant name)
+    named_step models number model c.as_slice.result.now name at (c.as_slice.ensures ∙ c.name.ensures) (number_in c.loop-number.names name) (number_in c.insert.new.self name) put (c.loop-number.invariant name)
 
