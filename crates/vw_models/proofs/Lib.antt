@@ -8,3 +8,4 @@ pub mod Models
 pub mod Named
 pub mod ReachMarks
 pub mod FirstUnknown
+pub mod Orders

@@ -1,7 +1,8 @@
 -- Numbers of which each places the next one, and circles of them.
-use Rattle.std.proofs.Common.{◌≡◌, ◌<◌, ◌≤◌, ◌+◌, ◌==◌, not, ℕ, zero, suc, Bool, true, false, cond, List, [], ◌∷◌, ◌++◌, length, take, drop, ◌⊎◌, inl, inr, ⊎_elim, refl, sym, ◌∙◌, ap, subst, true≢false, append_assoc, append-nil, arith}
+use Rattle.std.proofs.Common.{◌≡◌, ◌<◌, ◌≤◌, ◌+◌, ◌==◌, not, ℕ, zero, suc, Bool, true, false, cond, List, [], ◌∷◌, ◌++◌, length, length-append, take, drop, ◌⊎◌, inl, inr, ⊎_elim, refl, sym, ◌∙◌, ap, ap₂, subst, true≢false, append_assoc, append-nil, arith}
 use Rattle.std.specs.List.{AllZip, position_or_len, prefix_len}
 use Rattle.std.proofs.lemmas.Bool.{eqb-true, or_cases}
+use Rattle.std.proofs.lemmas.List.{drop-append-le, take-append-le}
 use Rattle.std.proofs.lemmas.List.Elements.{AllZip-push}
 use Rattle.vw_net.specs.Order.{is_among}
 use Rattle.vw_design.specs.Lists.{turned}
@@ -62,3 +63,17 @@ round_begins number last [] among = ([], refl, ([], ap (λ (n : ℕ). n ∷ []) 
 round_begins number last (first ∷ stack) among =
     begins_by number last first stack (first == number) refl
     (⊎_elim (λ here. inl here) (λ there. inr (round_begins number last stack there)) (or_cases (first == number) (is_among (stack ++ last ∷ []) number) among))
+
+-- a circle from another one of its elements on
+turn_once : {A : Type 0} → (R : A → A → Type 0) (x : A) (xs : List A) → AllZip R (x ∷ xs) (xs ++ x ∷ []) → AllZip R (xs ++ x ∷ []) (turned (xs ++ x ∷ []))
+turn_once R x [] along = along
+turn_once R x (y ∷ ys) along = AllZip-push R (y ∷ ys) (ys ++ x ∷ []) x y along.1 along.0
+
+pub turns : {A : Type 0} → (R : A → A → Type 0) (start : ℕ) (circle : List A) → start ≤ length circle → AllZip R circle (turned circle) → AllZip R (drop start circle ++ take start circle) (turned (drop start circle ++ take start circle))
+turns {A = A} R zero circle within along = subst (λ (l : List A). AllZip R l (turned l)) (sym (append-nil circle)) along
+turns {A = A} R (suc start) [] within along = absurd (omega arith)
+turns {A = A} R (suc start) (x ∷ xs) within along =
+    let rest = turns R start (xs ++ x ∷ []) (omega (arith, within, length-append xs (x ∷ []))) (turn_once R x xs along) in
+    let same : drop start (xs ++ x ∷ []) ++ take start (xs ++ x ∷ []) ≡ drop start xs ++ (x ∷ take start xs) =
+    ap₂ (λ (a b : List A). a ++ b) (drop-append-le start xs (x ∷ []) (omega arith)) (take-append-le start xs (x ∷ []) (omega arith)) ∙ append_assoc (drop start xs) (x ∷ []) (take start xs) in
+    subst (λ (l : List A). AllZip R l (turned l)) same rest
