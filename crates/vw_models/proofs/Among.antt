@@ -47,7 +47,7 @@ pub at_among : (numbers : List ℕ) (i : ℕ) → i < length numbers → is_amon
 at_among numbers i within = Has_among numbers (get_or numbers i 0) (Has-at (get_or numbers i 0) numbers i (slice_get-get_or numbers i 0 within))
 
 -- whichever side of the test it stands on
-eqb_comm : (a b : ℕ) → eqb a b ≡ eqb b a
+pub eqb_comm : (a b : ℕ) → eqb a b ≡ eqb b a
 eqb_comm a b = grind (arith, common_steps)
 
 pub among-flip : (number : ℕ) (numbers : List ℕ) → list_any (eqb number) numbers ≡ is_among numbers number

@@ -9,3 +9,4 @@ pub mod Named
 pub mod ReachMarks
 pub mod FirstUnknown
 pub mod Orders
+pub mod CircleNames

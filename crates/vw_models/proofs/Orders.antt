@@ -39,10 +39,10 @@ front_position : {A : Type 0} → (test : A → Bool) (xs : List A) (end : ℕ) 
 front_position test [] zero any = absurd (true≢false (sym any))
 front_position test [] (suc end) any = absurd (true≢false (sym any))
 front_position test (x ∷ xs) zero any = absurd (true≢false (sym any))
-front_position test (x ∷ xs) (suc end) any = by (test x) refl (or_cases (test x) (list_any test (take end xs)) any) where
-  by : (b : Bool) → test x ≡ b → (test x ≡ true) ⊎ (list_any test (take end xs) ≡ true) → cond (not b) (1 + position_or_len test xs) 0 < suc end
+front_position test (x ∷ xs) (suc end) any = by (test x) refl (⊎_elim (λ here. inl here) (λ there. inr (front_position test xs end there)) (or_cases (test x) (list_any test (take end xs)) any)) where
+  by : (b : Bool) → test x ≡ b → (test x ≡ true) ⊎ (position_or_len test xs < end) → cond (not b) (1 + position_or_len test xs) 0 < suc end
   by true is which = omega arith
-  by false is which = ⊎_elim (λ here. absurd (true≢false (sym here ∙ is))) (λ there. let further = front_position test xs end there in omega (arith, further)) which
+  by false is which = ⊎_elim (λ here. absurd (true≢false (sym here ∙ is))) (λ further. omega (arith, further)) which
 
 module _ (design : Design) where
   -- the model of a number has the name
