@@ -1,5 +1,5 @@
 -- A circle of models by their names, from a circle of their numbers.
-use Rattle.std.proofs.Common.{◌≡◌, ◌<◌, ◌≤◌, ◌+◌, not, ◌&&◌, ℕ, zero, suc, Bool, true, false, List, [], ◌∷◌, ◌++◌, length, length-append, length-drop, take, drop, map, get_or, slice_get, Option, Some, None, ◌⊎◌, inl, inr, ⊎_elim, refl, sym, ◌∙◌, ap, subst, eqb, true≢false, arith}
+use Rattle.std.proofs.Common.{◌≡◌, ◌<◌, ◌≤◌, ◌+◌, not, ℕ, suc, Bool, true, false, List, [], ◌∷◌, ◌++◌, length, length-append, length-drop, take, drop, map, get_or, slice_get, Option, Some, None, inl, ⊎_elim, refl, sym, ◌∙◌, ap, subst, eqb, true≢false, arith}
 use Rattle.std.specs.List.{AllZip, IsDistinct}
 use Rattle.std.proofs.lemmas.Bool.{and_from}
 use Rattle.std.proofs.lemmas.List.{take-append-drop, map-append, length-map, length-take, get_or-map, get_or-drop, get_or_append_left}
@@ -115,7 +115,7 @@ module _ (design : Design) where
             let here : i < length circle = omega (arith, names_long, inside) in
             ap (is_reached design) (name_at i name here)
             ∙ reached_called (get_or (drop start circle ++ take start circle) i 0)
-              (is_circle.reached (λ (n : ℕ). is_reached_model design (slice_get design.models n)) (reached_closed_numbers design targets are) (get_or (drop start circle ++ take start circle) i 0) (number_at i here));
+            (is_circle.reached (λ (n : ℕ). is_reached_model design (slice_get design.models n)) (reached_closed_numbers design targets are) (get_or (drop start circle ++ take start circle) i 0) (number_at i here));
         distinct = names_apart (drop start circle ++ take start circle)
             (IsDistinct-IsPermutation eqb eqb_comm (take start circle ++ drop start circle) (drop start circle ++ take start circle) (IsPermutation-append_comm (take start circle) (drop start circle))
             (subst (λ (l : List ℕ). IsDistinct eqb l) (sym (take-append-drop start circle)) is_circle.once))
@@ -133,5 +133,5 @@ module _ (design : Design) where
             let other : place_in_file design (get_or (names_of design (drop start circle ++ take start circle)) i name) ≡ number = ap (place_in_file design) (name_at i name here) ∙ place_of_called number (circle_within number (number_at i here)) in
             let most = least.1 at.0 at.1 in
             subst (λ (n : ℕ). n ≤ place_in_file design (get_or (names_of design (drop start circle ++ take start circle)) i name)) (sym one)
-            (subst (λ (n : ℕ). get_or circle start 0 ≤ n) (at.2 ∙ sym other) most)
+            (subst (λ (n : ℕ). get_or circle start 0 ≤ n) (at.2 ∙ sym other) most);
       }

@@ -1,5 +1,5 @@
 -- Models by their numbers: what the numbers say of names, and which numbers are reached.
-use Rattle.std.proofs.Common.{◌≡◌, ◌<◌, ◌≤◌, ◌+◌, not, ℕ, zero, suc, Bool, true, false, cond, List, [], ◌∷◌, length, map, find, get_or, slice_get, Option, Some, None, is_some, ◌⊎◌, inl, inr, ⊎_elim, refl, sym, ◌∙◌, ap, subst, true≢false, arith}
+use Rattle.std.proofs.Common.{◌≡◌, ◌+◌, not, ℕ, zero, suc, Bool, true, false, cond, List, [], ◌∷◌, length, map, get_or, slice_get, Option, Some, None, is_some, inl, inr, refl, sym, ◌∙◌, ap, subst, true≢false, arith}
 use Rattle.std.specs.List.{AllZip, list_any, position_or_len}
 use Rattle.std.specs.Str.{bytes_eq}
 use Rattle.std.proofs.lemmas.Bool.{and_parts, not-true}
@@ -15,7 +15,7 @@ use Rattle.vw_design.specs.Paths.{Word, Placing, placing_of, placings, model_nam
 use Rattle.vw_design.specs.ModelFaults.{is_reached, names_model, model_places, place_in_file}
 use Rattle.vw_design.specs.ModelNumbers.{IsNumberOfModel, AreTargets, is_reached_model}
 use Rattle.vw_design.proofs.Has.{Has, Has-at, at-Has, any-Has, from-any, from-find, from-filter_map, Has-filter_map}
-use Rattle.vw_design.proofs.Names.{same_name, name_same, equal_names, has_name-Has}
+use Rattle.vw_design.proofs.Names.{same_name, equal_names, has_name-Has}
 use Rattle.vw_design.proofs.Lists.{AllZip-at, AllZip-length}
 use Rattle.vw_design.proofs.Closed.{reached_at, reached_closed, reached_least}
 use Rattle.vw_models.specs.Reach.{Targets, PlacesAt, AreWithin, IsClosed}
@@ -95,7 +95,7 @@ module _ (design : Design) where
           next = next.0;
           at = model.1;
           next_at = next.1;
-          places = ap (λ (w : Word). list_any (names_model w) model.0.items) named ∙ any-Has (names_model placing.0.model) item.0 model.0.items item.1 (item_names placing.0 item.0 item.2)
+          places = ap (λ (w : Word). list_any (names_model w) model.0.items) named ∙ any-Has (names_model placing.0.model) item.0 model.0.items item.1 (item_names placing.0 item.0 item.2);
         }
 
     -- and each model that is placed has its number there
@@ -112,7 +112,7 @@ module _ (design : Design) where
     pub within : AreWithin targets
     within = record {
       some = omega (arith, each_model, design.some);
-      within = λ number place kid places. omega (arith, each_model, slice_get_within design.models kid (placed number place kid places).next (placed number place kid places).next_at)
+      within = λ number place kid places. omega (arith, each_model, slice_get_within design.models kid (placed number place kid places).next (placed number place kid places).next_at);
     }
 
     -- the numbers of reached models are closed
@@ -126,7 +126,7 @@ module _ (design : Design) where
           let is = placed number place kid places in
           let here : is_reached design is.model.name ≡ true = sym (ap (is_reached_model design) is.at) ∙ there in
           ap (is_reached_model design) is.next_at
-          ∙ reached_closed design is.model.name is.next.name here (ap (λ (m : Option Model). model_places m is.next.name) (named_at number is.model is.at) ∙ is.places) (ap (λ (m : Option Model). is_some m) (named_at kid is.next is.next_at))
+          ∙ reached_closed design is.model.name is.next.name here (ap (λ (m : Option Model). model_places m is.next.name) (named_at number is.model is.at) ∙ is.places) (ap (λ (m : Option Model). is_some m) (named_at kid is.next is.next_at));
     }
 
     -- and the least that are
@@ -141,11 +141,13 @@ module _ (design : Design) where
             let named : model.0.name ≡ next = name_of_named next model.0 (sym is.1 ∙ model.1) in
             let same : place_in_file design next ≡ kid = ap (place_in_file design) (sym named) ∙ place_of_model kid model.0 model.1 in
             ap test same ∙ closed.placed (place_in_file design name) place kid there at
+
         named : (found : Option Model) → model_named design.models name ≡ found → model_places found next ≡ true → test (place_in_file design next) ≡ true
         named None is places = absurd (true≢false (sym places))
         named (Some model) is places =
             let here = number_placed (place_in_file design name) model next (sym (model_of_place name) ∙ is) places in
             number_known here.1 here.0 here.2 here.3
+
       by : (found : Option Model) → slice_get design.models number ≡ found → is_reached_model design found ≡ true → test number ≡ true
       by None is reached = absurd (true≢false (sym reached))
       by (Some model) is reached =

@@ -1,5 +1,5 @@
 -- Numbers by names, model by model, and the numbers of all that is placed.
-use Rattle.std.proofs.Common.{◌≡◌, ◌<◌, ◌≤◌, ◌+◌, ℕ, Bool, true, false, cond, List, [], ◌∷◌, length, map, slice_get, Option, Some, None, ⊎_elim, refl, sym, ◌∙◌, ap, subst, true≢false, arith}
+use Rattle.std.proofs.Common.{◌≡◌, ◌+◌, ℕ, Bool, true, false, cond, List, length, map, slice_get, Option, Some, None, ⊎_elim, refl, sym, ◌∙◌, ap, subst, true≢false, arith}
 use Rattle.std.specs.List.{AllZip}
 use Rattle.std.specs.Str.{bytes_eq}
 use Rattle.std.proofs.lemmas.Bool.{cases_lt}
@@ -21,9 +21,9 @@ module _ (models : List Model) (count : ℕ) (model : Model) (key name : Word) (
       ⊎_elim
       (λ earlier. before number other earlier there)
       (λ later.
-        let last : number ≡ count = omega arith in
-        let is : model ≡ other = same_Some model other (sym at ∙ ap (slice_get models) (sym last) ∙ there) in
-        ap (λ (m : Model). bytes_eq m.name name) (sym is) ∙ ap (λ (w : Word). bytes_eq w name) (sym is_key) ∙ same)
+      let last : number ≡ count = omega arith in
+      let is : model ≡ other = same_Some model other (sym at ∙ ap (slice_get models) (sym last) ∙ there) in
+      ap (λ (m : Model). bytes_eq m.name name) (sym is) ∙ ap (λ (w : Word). bytes_eq w name) (sym is_key) ∙ same)
       (cases_lt number count)
   named_by false same (Some number) before = (omega (arith, before.0), before.1)
 

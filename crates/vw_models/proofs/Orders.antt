@@ -1,10 +1,9 @@
 -- Orders of models, from orders of their numbers; and no circle where there is one.
-use Rattle.std.proofs.Common.{◌≡◌, ◌<◌, ◌≤◌, ◌+◌, not, ◌&&◌, ℕ, zero, suc, Bool, true, false, cond, List, [], ◌∷◌, length, take, drop, filter, get_or, slice_get, nat_lt, Option, Some, None, is_some, ◌⊎◌, inl, inr, ⊎_elim, refl, sym, ◌∙◌, ap, subst, true≢false, arith}
-use Rattle.std.specs.List.{AllZip, list_any, list_all, position_or_len}
+use Rattle.std.proofs.Common.{◌≡◌, ◌<◌, ◌+◌, not, ℕ, zero, suc, Bool, true, false, cond, List, [], ◌∷◌, length, take, drop, filter, get_or, slice_get, nat_lt, Option, Some, None, is_some, ◌⊎◌, inl, inr, ⊎_elim, refl, sym, ◌∙◌, ap, subst, true≢false, arith}
+use Rattle.std.specs.List.{list_any, list_all, position_or_len}
 use Rattle.std.specs.Option.{is_none}
-use Rattle.std.specs.Str.{bytes_eq}
 use Rattle.std.proofs.lemmas.Bool.{and_from, lt-ltb, or_cases}
-use Rattle.std.proofs.lemmas.List.{take_all, get_or_default, take-append-drop}
+use Rattle.std.proofs.lemmas.List.{take_all, take-append-drop}
 use Rattle.std.proofs.lemmas.List.Sums.{passes_at_first}
 use Rattle.std.proofs.lemmas.Option.{none-some, same_Some}
 use Rattle.vw_net.specs.Order.{is_among}
@@ -19,14 +18,14 @@ use Rattle.vw_design.specs.ModelFaults.{has_model_name, is_reached, names_model,
 use Rattle.vw_design.specs.Counts.{is_below, IsRanking}
 use Rattle.vw_design.specs.ModelNumbers.{IsNumberOfModel, AreTargets, is_reached_model, has_number_among, IsModelOrder}
 use Rattle.vw_design.proofs.Circles.{no_circle}
-use Rattle.vw_design.proofs.Has.{Has, Has-at, Has-left, any-Has, from-any, all-Has, Has-filter, Has-filter_map, from-filter_map, none-found}
+use Rattle.vw_design.proofs.Has.{Has, Has-at, any-Has, from-any, all-Has, Has-filter, Has-filter_map, from-filter_map, none-found}
 use Rattle.vw_design.proofs.Names.{same_name, equal_names}
 use Rattle.vw_models.specs.Reach.{Targets, IsClosed, PlacesAt}
 use Rattle.vw_models.specs.Search.{IsNumberOrder}
 use Rattle.vw_models.specs.Unknown.{unknown_of}
 use Rattle.vw_models.proofs.Among.{among_Has, Has_among, among_left, among_at, at_among, once_apart}
 use Rattle.vw_models.proofs.FirstUnknown.{unknown_is}
-use Rattle.vw_models.proofs.Models.{model_of_place, named_at, same_number, name_of_named, number_placed, reached_closed_numbers, reached_least_numbers}
+use Rattle.vw_models.proofs.Models.{model_of_place, same_number, name_of_named, number_placed, reached_closed_numbers, reached_least_numbers}
 use Rattle.vw_models.proofs.Places.{at_within, all_pass}
 use Rattle.vw_models.proofs.ReachMarks.{both_ways}
 
@@ -80,7 +79,7 @@ module _ (design : Design) where
       root = is_order.root;
       placed = λ number place kid among places.
           let at = among_at order number among in
-          front_among order at.0 kid (is_order.behind at.0 place kid at.1 (subst (λ (n : ℕ). PlacesAt targets n place kid) (sym at.2) places))
+          front_among order at.0 kid (is_order.behind at.0 place kid at.1 (subst (λ (n : ℕ). PlacesAt targets n place kid) (sym at.2) places));
     }
 
     -- each placing of a model has a number before it
@@ -104,7 +103,7 @@ module _ (design : Design) where
     model_order = record {
       each = λ number. both_ways (is_among order number) (is_reached_model design (slice_get design.models number)) (in_order number) (λ reached. reached_least_numbers design targets are (is_among order) closed number reached);
       once = once_apart order is_order.once;
-      behind = λ i within. all_before i within (slice_get design.models (get_or order i 0)) refl
+      behind = λ i within. all_before i within (slice_get design.models (get_or order i 0)) refl;
     } where
       all_before : (i : ℕ) → i < length order → (found : Option Model) → slice_get design.models (get_or order i 0) ≡ found → list_all (λ placing. has_number_among design (take i order) placing.model) (placings (items_of found)) ≡ true
       all_before i within None at = refl

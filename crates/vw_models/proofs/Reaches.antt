@@ -1,5 +1,5 @@
 -- Numbers that are reached one after the other, until all are.
-use Rattle.std.proofs.Common.{◌≡◌, ◌<◌, ◌≤◌, ◌+◌, ℕ, zero, suc, Bool, true, false, cond, List, [], ◌∷◌, ◌++◌, length, length-append, get_or, slice_get, Option, Some, None, ◌⊎◌, inl, inr, ⊎_elim, refl, sym, ◌∙◌, ap, subst, eqb, true≢false, arith}
+use Rattle.std.proofs.Common.{◌≡◌, ◌<◌, ◌≤◌, ◌+◌, ℕ, zero, suc, Bool, true, false, cond, List, [], ◌∷◌, ◌++◌, length, length-append, get_or, slice_get, Option, Some, None, ⊎_elim, refl, sym, ◌∙◌, ap, subst, eqb, true≢false, arith}
 use Rattle.std.specs.List.{IsDistinct}
 use Rattle.std.proofs.lemmas.Bool.{cases_lt}
 use Rattle.std.proofs.lemmas.List.{get_or_append_left}
@@ -18,7 +18,7 @@ grows_on : (old middle new : List ℕ) → Grows old middle → Grows middle new
 grows_on old middle new first then = record {
   longer = omega (arith, first.longer, then.longer);
   same = λ i within. then.same i (omega (arith, first.longer)) ∙ first.same i within;
-  keeps = λ number among. then.keeps number (first.keeps number among)
+  keeps = λ number among. then.keeps number (first.keeps number among);
 }
 
 grows_not : (old : List ℕ) → Grows old old
@@ -28,7 +28,7 @@ grows_by : (old : List ℕ) (number : ℕ) → Grows old (old ++ number ∷ [])
 grows_by old number = record {
   longer = omega (arith, length-append old (number ∷ []));
   same = λ i within. get_or_append_left old (number ∷ []) 0 i within;
-  keeps = λ other among. among_left old (number ∷ []) other among
+  keeps = λ other among. among_left old (number ∷ []) other among;
 }
 
 module _ (targets : Targets) where
@@ -55,10 +55,10 @@ module _ (targets : Targets) where
       once = once_push found number good.once is;
       within = λ other among. ⊎_elim (λ old. good.within other old) (λ new. subst (λ (n : ℕ). n < length targets) (among_one number other new) fit.within) (among_either found (number ∷ []) other among);
       reached = λ test closed other among.
-          ⊎_elim (λ old. good.reached test closed other old) (λ new. ap test (sym (among_one number other new)) ∙ fit.reached test closed) (among_either found (number ∷ []) other among)
+          ⊎_elim (λ old. good.reached test closed other old) (λ new. ap test (sym (among_one number other new)) ∙ fit.reached test closed) (among_either found (number ∷ []) other among);
     };
     grows = grows_by found number;
-    has = among_last found number
+    has = among_last found number;
   }
 
   pub add : (found : List ℕ) (number : ℕ) → AreGood found → IsFit number → IsAdded found number (with_number found number)
@@ -75,19 +75,19 @@ module _ (targets : Targets) where
   add_all found (None ∷ placed) good fit =
       let rest = add_all found placed good (λ place number at. fit (suc place) number at) in
       record { good = rest.good; grows = rest.grows; has = has rest } where
-    has : AreAdded found placed (with_targets found placed) → (place number : ℕ) → slice_get (None ∷ placed) place ≡ Some (Some number) → is_among (with_targets found placed) number ≡ true
-    has rest zero number at = absurd (none-some number (same_Some None (Some number) at))
-    has rest (suc place) number at = rest.has place number at
+        has : AreAdded found placed (with_targets found placed) → (place number : ℕ) → slice_get (None ∷ placed) place ≡ Some (Some number) → is_among (with_targets found placed) number ≡ true
+        has rest zero number at = absurd (none-some number (same_Some None (Some number) at))
+        has rest (suc place) number at = rest.has place number at
   add_all found (Some first ∷ placed) good fit =
       let one = add found first good (fit 0 first refl) in
       let rest = add_all (with_number found first) placed one.good (λ place number at. fit (suc place) number at) in
       record { good = rest.good; grows = grows_on found (with_number found first) (with_targets (with_number found first) placed) one.grows rest.grows; has = has one rest } where
-    has : IsAdded found first (with_number found first) → AreAdded (with_number found first) placed (with_targets (with_number found first) placed)
-        → (place number : ℕ) → slice_get (Some first ∷ placed) place ≡ Some (Some number) → is_among (with_targets (with_number found first) placed) number ≡ true
-    has one rest zero number at =
-        let same : first ≡ number = same_Some first number (same_Some (Some first) (Some number) at) in
-        ap (is_among (with_targets (with_number found first) placed)) (sym same) ∙ rest.grows.keeps first one.has
-    has one rest (suc place) number at = rest.has place number at
+        has : IsAdded found first (with_number found first) → AreAdded (with_number found first) placed (with_targets (with_number found first) placed)
+            → (place number : ℕ) → slice_get (Some first ∷ placed) place ≡ Some (Some number) → is_among (with_targets (with_number found first) placed) number ≡ true
+        has one rest zero number at =
+            let same : first ≡ number = same_Some first number (same_Some (Some first) (Some number) at) in
+            ap (is_among (with_targets (with_number found first) placed)) (sym same) ∙ rest.grows.keeps first one.has
+        has one rest (suc place) number at = rest.has place number at
 
   -- how far it has come: what the first ones place is there
   pub record IsReaching (at : ℕ) (found : List ℕ) : Type 0 where
@@ -100,7 +100,7 @@ module _ (targets : Targets) where
   fit : AreWithin targets → (found : List ℕ) → AreGood found → (number : ℕ) → is_among found number ≡ true → (place placed : ℕ) → PlacesAt targets number place placed → IsFit placed
   fit within found good number among place placed places = record {
     within = within.within number place placed places;
-    reached = λ test closed. closed.placed number place placed (good.reached test closed number among) places
+    reached = λ test closed. closed.placed number place placed (good.reached test closed number among) places;
   }
 
   pub start : AreWithin targets → IsReaching 0 (with_number [] 0)
@@ -125,7 +125,7 @@ module _ (targets : Targets) where
             (λ earlier. added.grows.keeps placed (far.closed i place placed earlier old))
             (λ later. let is : i ≡ at = omega arith in
             added.has place placed (subst (λ (j : ℕ). PlacesAt targets (get_or found j 0) place placed) is old))
-            (cases_lt i at)
+            (cases_lt i at);
       }
 
   pub short : (at : ℕ) (found : List ℕ) → IsReaching at found → length found ≤ length targets
@@ -138,7 +138,7 @@ module _ (targets : Targets) where
       root = marked 0 ∙ far.root;
       placed = λ number place placed there places.
           let index = among_at found number (sym (marked number) ∙ there) in
-          marked placed ∙ far.closed index.0 place placed (omega (arith, index.1)) (subst (λ (n : ℕ). PlacesAt targets n place placed) (sym index.2) places)
+          marked placed ∙ far.closed index.0 place placed (omega (arith, index.1)) (subst (λ (n : ℕ). PlacesAt targets n place placed) (sym index.2) places);
     };
-    reached = λ test closed number there. far.good.reached test closed number (sym (marked number) ∙ there)
+    reached = λ test closed number there. far.good.reached test closed number (sym (marked number) ∙ there);
   }

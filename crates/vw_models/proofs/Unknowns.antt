@@ -1,5 +1,5 @@
 -- Items that name no model, item by item.
-use Rattle.std.proofs.Common.{◌≡◌, ◌<◌, ◌≤◌, ◌+◌, not, ℕ, Bool, true, false, cond, List, [], ◌∷◌, length, drop, get_or, slice_get, Option, Some, None, is_some, ⊎_elim, refl, sym, ◌∙◌, ap, subst, true≢false, arith}
+use Rattle.std.proofs.Common.{◌≡◌, ◌<◌, ◌+◌, ℕ, Bool, true, false, cond, List, [], ◌∷◌, length, drop, get_or, Option, Some, None, is_some, ⊎_elim, refl, sym, ◌∙◌, ap, subst, true≢false}
 use Rattle.std.specs.List.{AllZip}
 use Rattle.std.specs.Option.{is_none, option_or}
 use Rattle.std.proofs.lemmas.Bool.{cases_lt}
@@ -10,7 +10,7 @@ use Rattle.vw_design.specs.declared.item.Item.TheVariants.{Names, Latch, Sub}
 use Rattle.vw_design.specs.declared.model.Model.{Model}
 use Rattle.vw_design.specs.declared.design.Design.{Design}
 use Rattle.vw_design.specs.Lists.{first_found}
-use Rattle.vw_design.specs.Paths.{Word, Placing, placings, model_named}
+use Rattle.vw_design.specs.Paths.{Word, placings, model_named}
 use Rattle.vw_design.specs.ModelNumbers.{IsNumberOfModel}
 use Rattle.vw_models.specs.Unknown.{unknown_of}
 use Rattle.vw_models.proofs.Places.{at_within}
@@ -43,9 +43,9 @@ sub_step design items numbers i place item line name binds within at is along so
     let there = subst (λ (l : List Item). AreAlong design l (drop place numbers)) here along in
     ⊎_elim
     (λ inside.
-      let cut = drop_more numbers place None inside in
-      let step = step_by design line name binds (drop (i + 1) items) (get_or numbers place None) (drop (place + 1) numbers) some (subst (λ (l : List (Option ℕ)). AreAlong design (Sub line name binds ∷ drop (i + 1) items) l) cut there) in
-      (step.0, ap (first_found (unknown_of design)) here ∙ step.1))
+    let cut = drop_more numbers place None inside in
+    let step = step_by design line name binds (drop (i + 1) items) (get_or numbers place None) (drop (place + 1) numbers) some (subst (λ (l : List (Option ℕ)). AreAlong design (Sub line name binds ∷ drop (i + 1) items) l) cut there) in
+    (step.0, ap (first_found (unknown_of design)) here ∙ step.1))
     (λ past. absurd (none_along design line name binds (drop (i + 1) items) (subst (λ (l : List (Option ℕ)). AreAlong design (Sub line name binds ∷ drop (i + 1) items) l) (drop_all place numbers past) there)))
     (cases_lt place (length numbers))
 
@@ -56,8 +56,8 @@ other_step design items i item within at other =
     let here : drop i items ≡ item ∷ drop (i + 1) items = drop_more items i item within ∙ ap (λ (x : Item). x ∷ drop (i + 1) items) (sym at) in
     let step = by item other in
     (ap placings here ∙ step.0, ap (first_found (unknown_of design)) here ∙ step.1) where
-  by : (item : Item) → ((line : ℕ) (name : Word) (binds : List Bind) → item ≡ Sub line name binds → ⊥)
-      → (placings (item ∷ drop (i + 1) items) ≡ placings (drop (i + 1) items)) × (first_found (unknown_of design) (item ∷ drop (i + 1) items) ≡ first_found (unknown_of design) (drop (i + 1) items))
-  by (Names line ins out cover) other = (refl, refl)
-  by (Latch line d q edge control init) other = (refl, refl)
-  by (Sub line model binds) other = absurd (other line model binds refl)
+      by : (item : Item) → ((line : ℕ) (name : Word) (binds : List Bind) → item ≡ Sub line name binds → ⊥)
+          → (placings (item ∷ drop (i + 1) items) ≡ placings (drop (i + 1) items)) × (first_found (unknown_of design) (item ∷ drop (i + 1) items) ≡ first_found (unknown_of design) (drop (i + 1) items))
+      by (Names line ins out cover) other = (refl, refl)
+      by (Latch line d q edge control init) other = (refl, refl)
+      by (Sub line model binds) other = absurd (other line model binds refl)

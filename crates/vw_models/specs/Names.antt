@@ -1,5 +1,5 @@
 -- A map from names to numbers of models.
-use Rattle.std.specs.Prelude.{◌≡◌, ◌<◌, ℕ, true, false, List, length, Option, Some, None, slice_get}
+use Rattle.std.specs.Prelude.{◌≡◌, ◌<◌, ℕ, true, false, List, Option, Some, None, slice_get}
 use Rattle.std.specs.Str.{bytes_eq}
 use Rattle.std.specs.HashMap as hash
 use Rattle.std.specs.Borrow.{Bor}

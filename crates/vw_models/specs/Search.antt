@@ -1,6 +1,6 @@
 -- A search in depth over numbered models: those that are done, and the stack of those that are open. Source: the
 -- textbook form of depth-first search.
-use Rattle.std.specs.Prelude.{◌≡◌, ◌<◌, ◌==◌, ℕ, Bool, List, [], ◌∷◌, ◌++◌, length, take, slice_index, slice_index_or, if◌then◌else◌, IsTrue}
+use Rattle.std.specs.Prelude.{◌≡◌, ◌<◌, ◌==◌, ℕ, List, [], ◌∷◌, ◌++◌, length, take, slice_index, slice_index_or, if◌then◌else◌, IsTrue}
 use Rattle.std.specs.List.{IsDistinct, AllZip}
 use Rattle.vw_net.specs.Order.{is_among}
 use Rattle.vw_design.specs.Lists.{turned}

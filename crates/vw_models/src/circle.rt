@@ -1,6 +1,16 @@
 //! Names of models in a circle.
 ghost use Rattle.std.specs.Prelude.{
-    ◌≡◌, ◌<◌, ◌++◌, ℕ, length, take, drop, slice_index, EachIndex, IfOk, OnOk,
+  ◌≡◌,
+  ◌<◌,
+  ◌++◌,
+  ℕ,
+  length,
+  take,
+  drop,
+  slice_index,
+  EachIndex,
+  IfOk,
+  OnOk,
 };
 ghost use Rattle.vw_models.specs.Circles.{IsLeast, names_of};
 

@@ -1,7 +1,22 @@
 //! A search in depth over numbered models.
 ghost use Rattle.std.specs.Prelude.{
-    ◌≡◌, ◌<◌, ◌≤◌, ◌==◌, ◌++◌, ℕ, [], ◌∷◌, Some, length, replicate, slice_get, slice_set, slice_index, slice_index_or,
-    IfOk, OnOk,
+  ◌≡◌,
+  ◌<◌,
+  ◌≤◌,
+  ◌==◌,
+  ◌++◌,
+  ℕ,
+  [],
+  ◌∷◌,
+  Some,
+  length,
+  replicate,
+  slice_get,
+  slice_set,
+  slice_index,
+  slice_index_or,
+  IfOk,
+  OnOk,
 };
 ghost use Rattle.std.specs.List.{position_or_len};
 ghost use Rattle.std.specs.Vec.{vec_len};
@@ -145,10 +160,7 @@ fn round(alloc: Global, stack: &[u32], last: u32, number: u32) -> Result<Vec<u32
 }
 
 /// An order of the numbers that are reached from number 0, or a circle of them.
-pub fn search(
-    alloc: Global,
-    targets: &[Sequence<Option<u32>>],
-) -> Result<NumberOrder, AllocError>
+pub fn search(alloc: Global, targets: &[Sequence<Option<u32>>]) -> Result<NumberOrder, AllocError>
     requires { AreWithin targets.now }
     ensures { IfOk result (IsSearched targets.now) }
 {

@@ -17,6 +17,5 @@ pub fn marks_of(
     requires { AreTargets design.now targets.now }
     ensures { IfOk result (λ marks. AreMarks design.now marks.items) }
 {
-    let _models = design.models();
     reach(alloc, targets)
 }

@@ -19,7 +19,7 @@ pub struct Numbers<'a> {
 impl<'a> Numbers<'a> {
     /// The numbers of the models of a design.
     pub fn of(alloc: Global, design: &'a Design) -> Result<Self, AllocError>
-        ensures { IfOk result (λ numbers. 
+        ensures { IfOk result (λ numbers.
             AreNumbers design.now.models (length design.now.models) numbers.names) }
     {
         let mut names = HashMap::with_hasher(alloc, BuildHasherDefault::new());
@@ -37,7 +37,11 @@ impl<'a> Numbers<'a> {
     }
 
     /// The numbers of the models that items place, in order.
-    pub fn targets(&self, alloc: Global, items: &[Item]) -> Result<Sequence<Option<u32>>, AllocError>
+    pub fn targets(
+        &self,
+        alloc: Global,
+        items: &[Item],
+    ) -> Result<Sequence<Option<u32>>, AllocError>
         ensures { IfOk result (λ targets.
             targets ≡ map (λ placing. number_in self.now.names placing.model) (placings items.now)) }
     {

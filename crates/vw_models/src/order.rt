@@ -33,8 +33,6 @@ pub fn order_of(
     requires known { unknown_model design.now ≡ None }
     ensures { IfOk result (IsFound design.now) }
 {
-    let _models = design.models();
-    let _marks = marks;
     match search(alloc, targets)? {
         NumberOrder::Order(order) => Ok(ModelOrder::Order(Sequence::of(order))),
         NumberOrder::Circle(circle) => Ok(ModelOrder::Circle(circle_names(

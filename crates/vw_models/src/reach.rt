@@ -2,7 +2,11 @@
 ghost use Rattle.std.specs.Prelude.{◌≡◌, ◌<◌, ℕ, Some, [], slice_get, IfOk, OnOk};
 ghost use Rattle.std.specs.Vec.{vec_len};
 ghost use Rattle.vw_models.specs.Reach.{
-    AreMarked, AreReachMarks, AreWithin, with_number, with_targets,
+  AreMarked,
+  AreReachMarks,
+  AreWithin,
+  with_number,
+  with_targets,
 };
 
 use std::alloc::{AllocError, Global};

@@ -9,10 +9,7 @@ use vw_net::Sequence;
 
 /// For each model of a design, the numbers of the models that its `.subckt` items name, in order; None where the file
 /// has no model of that name. A model's number is its place in the file, from 0.
-pub fn targets_of(
-    alloc: Global,
-    design: &Design,
-) -> Result<Vec<Sequence<Option<u32>>>, AllocError>
+pub fn targets_of(alloc: Global, design: &Design) -> Result<Vec<Sequence<Option<u32>>>, AllocError>
     ensures { IfOk result (λ targets. AreTargets design.now targets.items) }
 {
     let numbers = Numbers::of(alloc, design)?;

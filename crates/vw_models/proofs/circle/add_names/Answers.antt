@@ -1,4 +1,4 @@
-use Rattle.std.proofs.Common.{◌≡◌, ◌+◌, ◌++◌, ◌∷◌, [], ℕ, Some, List, drop, length, slice_get, sym, refl, ◌∙◌, ap, subst, append_assoc, arith, ◌<◌, get_or}
+use Rattle.std.proofs.Common.{◌≡◌, ◌+◌, ◌++◌, ◌∷◌, [], ℕ, Some, List, drop, length, slice_get, sym, refl, ◌∙◌, ap, subst, append_assoc, ◌<◌, get_or}
 use Rattle.std.proofs.lemmas.List.{drop_more}
 use Rattle.std.proofs.lemmas.Option.{slice_get_read}
 use Rattle.vw_design.specs.declared.model.Model.{Model}

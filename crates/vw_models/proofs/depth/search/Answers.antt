@@ -1,4 +1,4 @@
-use Rattle.std.proofs.Common.{◌≡◌, ◌<◌, ◌≤◌, ◌+◌, ◌-◌, ◌*◌, ◌++◌, ℕ, List, [], ◌∷◌, Option, Some, None, length, length-append, get_or, slice_get, take, arith, sym, ◌∙◌, ap, subst, refl, Bool, true, false, true≢false, ◌≢◌, append-nil}
+use Rattle.std.proofs.Common.{◌≡◌, ◌<◌, ◌≤◌, ◌+◌, ◌-◌, ◌*◌, ◌++◌, ℕ, List, [], ◌∷◌, Option, Some, None, length, length-append, get_or, slice_get, take, arith, sym, ◌∙◌, ap, subst, refl, true, false, true≢false, ◌≢◌, append-nil}
 use Rattle.std.specs.Vec.{vec_len}
 use Rattle.std.specs.Option.{option_to_list, MatchOption}
 use Rattle.std.proofs.lemmas.List.{get_or_default}

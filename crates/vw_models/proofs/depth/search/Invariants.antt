@@ -1,6 +1,5 @@
 -- each turn opens a number or has done with one, so there are at most two for each
 use Rattle.std.proofs.Common.{◌+◌, ◌-◌, ◌*◌, length}
-use Rattle.std.specs.Vec.{vec_len}
 use Rattle.vw_models.specs.Search.{IsSearch}
 use Rattle.vw_models.proofs.depth.search.Given as goal
 

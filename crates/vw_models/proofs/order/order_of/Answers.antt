@@ -1,10 +1,8 @@
-use Rattle.std.proofs.Common.{◌≡◌, ◌<◌, ◌++◌, ℕ, List, drop, take, get_or, length, sym, ◌∙◌, ap, subst, arith}
-use Rattle.vw_net.specs.Order.{is_among}
+use Rattle.std.proofs.Common.{ℕ, List, get_or, sym, subst}
 use Rattle.vw_design.specs.Paths.{Word}
 use Rattle.vw_design.specs.ModelFaults.{IsCircle}
 use Rattle.vw_design.specs.ModelNumbers.{IsModelOrder}
 use Rattle.vw_models.specs.declared.depth.NumberOrder.{NumberOrder}
-use Rattle.vw_models.specs.Circles.{IsLeast, names_of}
 use Rattle.vw_models.specs.Search.{IsNumberOrder, IsNumberCircle, IsSearched}
 use Rattle.vw_models.proofs.Among.{at_among}
 use Rattle.vw_models.proofs.Models.{within}

@@ -1,4 +1,4 @@
-use Rattle.std.proofs.Common.{◌≡◌, ◌<◌, ◌≤◌, ◌+◌, ℕ, List, [], Option, length, get_or, slice_get, arith, sym, ◌∙◌, ap, subst, refl}
+use Rattle.std.proofs.Common.{◌≡◌, ◌<◌, ◌+◌, ℕ, List, [], Option, length, get_or, slice_get, arith, sym, ◌∙◌, ap, subst}
 use Rattle.std.proofs.lemmas.List.{get_or_default}
 use Rattle.vw_net.specs.Order.{is_among}
 use Rattle.vw_models.specs.Reach.{with_number, with_targets}
@@ -11,7 +11,7 @@ pub loop-at-init : goal.loop-at-init
 loop-at-init c = record {
   far = subst (λ (found : List ℕ). IsReaching c.args.targets.now 0 found) (sym (c.in_ok-add.ensures.found ∙ ap (λ (l : List ℕ). with_number l 0) c.in_ok-reached.ensures.found)) (start c.args.targets.now c.requires);
   marks = c.in_ok-add.ensures.marks ∙ c.in_ok-reached.ensures.marks;
-  marked = c.in_ok-add.ensures.marked
+  marked = c.in_ok-add.ensures.marked;
 }
 
 -- the number at a place
@@ -50,7 +50,7 @@ loop-at-preserved c =
     record {
       far = subst (λ (l : List ℕ). IsReaching c.args.targets.now (c.loop-at.at + 1) l) (sym (c.in_ok-add_all.ensures.found ∙ ap (λ (l : List (Option ℕ)). with_targets found l) list)) (go_on c.args.targets.now c.requires c.loop-at.at found c.loop-at.invariant.far within);
       marks = c.in_ok-add_all.ensures.marks ∙ c.loop-at.invariant.marks;
-      marked = c.in_ok-add_all.ensures.marked
+      marked = c.in_ok-add_all.ensures.marked;
     }
 
 pub returns : goal.returns
@@ -61,8 +61,8 @@ returns c =
     let each : length reached.marks.items ≡ length targets = omega (arith, c.loop-at.invariant.marks) in
     let few = short targets c.loop-at.at reached.found.items far in
     elim c.loop-at-test.branch [
-      else-loop-at-test w ↦
-      all_reached targets c.loop-at.at reached.found.items reached.marks.items far (let past = w.loop-at-test.false in omega (arith, few, past)) c.loop-at.invariant.marked each
+      | else-loop-at-test w ↦
+          all_reached targets c.loop-at.at reached.found.items reached.marks.items far (let past = w.loop-at-test.false in omega (arith, few, past)) c.loop-at.invariant.marked each
       | then-loop-at-test+then-at-len w ↦
-      all_reached targets c.loop-at.at reached.found.items reached.marks.items far (omega (arith, w.if-at-len.true, w.len.ensures)) c.loop-at.invariant.marked each
+          all_reached targets c.loop-at.at reached.found.items reached.marks.items far (omega (arith, w.if-at-len.true, w.len.ensures)) c.loop-at.invariant.marked each
     ]

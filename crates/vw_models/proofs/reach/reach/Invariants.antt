@@ -9,5 +9,5 @@ abbrev pub invariant-loop-at : goal.invariant-loop-at
 invariant-loop-at l = record {
   far : IsReaching l.targets l.at l.reached.found.items;
   marks : vec_len l.reached.marks ≡ length l.targets;
-  marked : AreMarked l.reached.found.items l.reached.marks.items
+  marked : AreMarked l.reached.found.items l.reached.marks.items;
 }

@@ -10,5 +10,5 @@ use Rattle.vw_models.proofs.unknown.unknown_item.Given as goal
 abbrev pub invariant-loop-item : goal.invariant-loop-item
 invariant-loop-item l = record {
   left : AllZip (λ placing number. IsNumberOfModel l.design placing.model number) (placings (drop l.item-index l.items)) (drop l.place l.targets);
-  found : first_found (unknown_of l.design) (drop l.item-index l.items) ≡ first_found (unknown_of l.design) l.items
+  found : first_found (unknown_of l.design) (drop l.item-index l.items) ≡ first_found (unknown_of l.design) l.items;
 }

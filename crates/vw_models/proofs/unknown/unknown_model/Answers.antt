@@ -1,7 +1,7 @@
 use Rattle.std.proofs.Common.{◌≡◌, ◌<◌, ◌≤◌, ◌+◌, ℕ, Bool, drop, filter, true, false, List, [], Option, Some, length, get_or, slice_get, is_some, sym, refl, ◌∙◌, ap, subst, arith}
 use Rattle.std.specs.List.{AllZip}
 use Rattle.std.proofs.lemmas.List.{get_or_default}
-use Rattle.std.proofs.lemmas.Option.{slice_get_read, get_or_from_slice_get, same_Some}
+use Rattle.std.proofs.lemmas.Option.{slice_get_read, get_or_from_slice_get}
 use Rattle.vw_design.specs.declared.item.Item.{Item}
 use Rattle.vw_design.specs.declared.model.Model.{Model}
 use Rattle.vw_design.specs.declared.design.Design.{Design}
@@ -98,20 +98,20 @@ pub returns-then-is_some : goal.returns-then-is_some
 returns-then-is_some c =
     let design = c.args.design.now in
     sym (found_now design c.args.marks.now c.models-model-items.result.now c.loop-number.number c.model-item.result c.requires.marks c.models-model-items.ensures c.loop-number-test.true c.model-item.is
-      c.items.result.now c.unknown_item-line.result c.items.ensures c.unknown_item-line.ensures c.if-marks-number.true (sym c.is_some.ensures ∙ c.if-is_some.true))
+    c.items.result.now c.unknown_item-line.result c.items.ensures c.unknown_item-line.ensures c.if-marks-number.true (sym c.is_some.ensures ∙ c.if-is_some.true))
     ∙ c.loop-number.invariant ∙ unknown_is design
 
 pub loop-number-preserved : goal.loop-number-preserved
 loop-number-preserved c =
     let design = c.args.design.now in
     elim c.if-marks-number.branch [
-      then-marks-number+else-is_some w ↦
-      sym (nothing_now design c.args.marks.now c.models-model-items.result.now c.loop-number.number c.model-item.result c.requires.marks c.models-model-items.ensures c.loop-number-test.true c.model-item.is
-        w.items.result.now w.unknown_item-line.result w.items.ensures w.unknown_item-line.ensures w.if-marks-number.true (sym w.is_some.ensures ∙ w.if-is_some.false))
-      ∙ c.loop-number.invariant
+      | then-marks-number+else-is_some w ↦
+          sym (nothing_now design c.args.marks.now c.models-model-items.result.now c.loop-number.number c.model-item.result c.requires.marks c.models-model-items.ensures c.loop-number-test.true c.model-item.is
+          w.items.result.now w.unknown_item-line.result w.items.ensures w.unknown_item-line.ensures w.if-marks-number.true (sym w.is_some.ensures ∙ w.if-is_some.false))
+          ∙ c.loop-number.invariant
       | else-marks-number w ↦
-      sym (not_reached design c.args.marks.now c.models-model-items.result.now c.loop-number.number c.model-item.result c.requires.marks c.models-model-items.ensures c.loop-number-test.true c.model-item.is w.if-marks-number.false)
-      ∙ c.loop-number.invariant
+          sym (not_reached design c.args.marks.now c.models-model-items.result.now c.loop-number.number c.model-item.result c.requires.marks c.models-model-items.ensures c.loop-number-test.true c.model-item.is w.if-marks-number.false)
+          ∙ c.loop-number.invariant
     ]
 
 pub returns : goal.returns

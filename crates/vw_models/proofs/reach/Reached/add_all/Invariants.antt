@@ -8,5 +8,5 @@ abbrev pub invariant-loop-target : goal.invariant-loop-target
 invariant-loop-target l = record {
   found : with_targets l.self.found.items (drop l.target-index l.targets) ≡ with_targets l.fn.self.found.items l.targets;
   marks : vec_len l.self.marks ≡ vec_len l.fn.self.marks;
-  marked : AreMarked l.self.found.items l.self.marks.items
+  marked : AreMarked l.self.found.items l.self.marks.items;
 }
