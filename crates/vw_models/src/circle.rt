@@ -47,7 +47,8 @@ pub fn circle_names(
     circle: &[u32],
 ) -> Result<Sequence<Name>, AllocError>
     requires some { 0 < length circle.now }
-    requires within { EachIndex circle.now (λ i. slice_index circle.now i < length design.now.models) }
+    requires within { EachIndex circle.now (λ i.
+        slice_index circle.now i < length design.now.models) }
     ensures { IfOk result (λ names. (start : ℕ) × IsLeast circle.now start
         × (names ≡ names_of design.now (drop start circle.now ++ take start circle.now))) }
 {

@@ -43,7 +43,8 @@ impl<'a> Numbers<'a> {
         items: &[Item],
     ) -> Result<Sequence<Option<u32>>, AllocError>
         ensures { IfOk result (λ targets.
-            targets ≡ map (λ placing. number_in self.now.names placing.model) (placings items.now)) }
+            targets ≡ map (λ placing. number_in self.now.names placing.model)
+                (placings items.now)) }
     {
         let mut targets = Vec::new(alloc);
         for item in items {

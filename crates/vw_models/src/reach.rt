@@ -38,7 +38,8 @@ impl Reached {
     pub fn add(&mut self, number: u32) -> Result<(), AllocError>
         requires within { number < vec_len self.old.marks }
         requires marked { AreMarked self.old.found.items self.old.marks.items }
-        ensures found { OnOk result (self.new.found.items ≡ with_number self.old.found.items number) }
+        ensures found { OnOk result (
+            self.new.found.items ≡ with_number self.old.found.items number) }
         ensures marks { vec_len self.new.marks ≡ vec_len self.old.marks }
         ensures marked { OnOk result (AreMarked self.new.found.items self.new.marks.items) }
     {
