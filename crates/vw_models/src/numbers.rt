@@ -44,7 +44,7 @@ impl<'a> Numbers<'a> {
     ) -> Result<Sequence<Option<u32>>, AllocError>
         ensures { IfOk result (λ targets.
             targets ≡ map (λ placing. number_in self.now.names placing.model)
-                (placings items.now)) }
+            (placings items.now)) }
     {
         let mut targets = Vec::new(alloc);
         for item in items {

@@ -43,25 +43,24 @@ fn design(
     Ok(Design::make(Sequence::of(models)))
 }
 
-/// The line of an unknown model, or what the models that are reached have.
+/// The line of an unknown model, or an order or a circle of the models that are reached.
 #[derive(Drop)]
 enum Found {
     Unknown(u64),
-    Models(ModelOrder),
+    Order(Sequence<u32>),
+    Circle(Sequence<Name>),
 }
 
 /// What is found of a design.
-fn found(alloc: Global, design: &Design) -> Result<Found, AllocError> {
+fn look_at(alloc: Global, design: &Design) -> Result<Found, AllocError> {
     let targets = targets_of(alloc, design)?;
     let marks = marks_of(alloc, design, targets.as_slice())?;
-    match unknown_model(design, targets.as_slice(), marks.as_slice()) {
-        Some(line) => Ok(Found::Unknown(line)),
-        None => Ok(Found::Models(order_of(
-            alloc,
-            design,
-            targets.as_slice(),
-            marks.as_slice(),
-        )?)),
+    if let Some(line) = unknown_model(design, targets.as_slice(), marks.as_slice()) {
+        return Ok(Found::Unknown(line));
+    }
+    match order_of(alloc, design, targets.as_slice(), marks.as_slice())? {
+        ModelOrder::Order(order) => Ok(Found::Order(order)),
+        ModelOrder::Circle(names) => Ok(Found::Circle(names)),
     }
 }
 
@@ -70,9 +69,10 @@ fn a_model_stands_behind_those_that_it_places(rt: HostRuntime) -> Result<(), Fai
     let alloc = rt.alloc();
     let first = [b"b".as_slice(), b"c".as_slice()];
     let design = design(alloc, &first, &[b"c".as_slice()], &[])?;
-    let order = match found(alloc, &design)? {
-        Found::Models(ModelOrder::Order(order)) => Some(order),
-        _ => None,
+    let order = match look_at(alloc, &design)? {
+        Found::Order(order) => Some(order),
+        Found::Unknown(_line) => None,
+        Found::Circle(_names) => None,
     };
     let order = order.ok_or("no order")?;
     assert_eq!(rt; order.as_slice(), [2, 1, 0].as_slice());
@@ -82,10 +82,16 @@ fn a_model_stands_behind_those_that_it_places(rt: HostRuntime) -> Result<(), Fai
 #[test]
 fn a_circle_begins_with_the_first_of_the_file(rt: HostRuntime) -> Result<(), Fail> {
     let alloc = rt.alloc();
-    let design = design(alloc, &[b"c".as_slice()], &[b"c".as_slice()], &[b"b".as_slice()])?;
-    let circle = match found(alloc, &design)? {
-        Found::Models(ModelOrder::Circle(names)) => Some(names),
-        _ => None,
+    let design = design(
+        alloc,
+        &[b"c".as_slice()],
+        &[b"c".as_slice()],
+        &[b"b".as_slice()],
+    )?;
+    let circle = match look_at(alloc, &design)? {
+        Found::Circle(names) => Some(names),
+        Found::Unknown(_line) => None,
+        Found::Order(_order) => None,
     };
     let circle = circle.ok_or("no circle")?;
     assert_eq!(rt; circle.len(), 2);
@@ -98,16 +104,23 @@ fn a_circle_begins_with_the_first_of_the_file(rt: HostRuntime) -> Result<(), Fai
 fn only_reached_models_have_faults(rt: HostRuntime) -> Result<(), Fail> {
     let alloc = rt.alloc();
     let unreached = design(alloc, &[], &[b"x".as_slice()], &[b"c".as_slice()])?;
-    let order = match found(alloc, &unreached)? {
-        Found::Models(ModelOrder::Order(order)) => Some(order),
-        _ => None,
+    let order = match look_at(alloc, &unreached)? {
+        Found::Order(order) => Some(order),
+        Found::Unknown(_line) => None,
+        Found::Circle(_names) => None,
     };
     let order = order.ok_or("no order")?;
     assert_eq!(rt; order.as_slice(), [0].as_slice());
-    let reached = design(alloc, &[b"b".as_slice()], &[b"x".as_slice()], &[b"c".as_slice()])?;
-    let line = match found(alloc, &reached)? {
+    let reached = design(
+        alloc,
+        &[b"b".as_slice()],
+        &[b"x".as_slice()],
+        &[b"c".as_slice()],
+    )?;
+    let line = match look_at(alloc, &reached)? {
         Found::Unknown(line) => Some(line),
-        Found::Models(_) => None,
+        Found::Order(_order) => None,
+        Found::Circle(_names) => None,
     };
     assert_eq!(rt; line, Some(7));
     Ok(())
