@@ -44,24 +44,28 @@ clocks() {
 
 # ---- one run
 
+# watch PID: keeps the peak of memory of a process (kB) in the file peak, until it ends
+watch() {
+  while [ -r "/proc/$1/status" ]; do
+    while read -r key value _; do [ "$key" = VmHWM: ] && echo "$value" >peak; done <"/proc/$1/status" 2>/dev/null
+    sleep 0.02
+  done
+}
 # measured WORD..: runs the program; sets status, seconds and peak (MB)
 measured() {
   local start end
+  echo 0 >peak
   start=$(date +%s%N)
   "$program" "$@" >out 2>err &
   local pid=$!
-  peak=0
-  while [ -r /proc/$pid/status ]; do
-    local now
-    now=$(awk '/VmHWM/ {print $2}' /proc/$pid/status 2>/dev/null)
-    [ -n "$now" ] && peak=$now
-    sleep 0.01
-    kill -0 $pid 2>/dev/null || break
-  done
-  wait $pid; status=$?
+  watch $pid &
+  local watcher=$!
+  wait $pid
+  status=$?
   end=$(date +%s%N)
+  wait $watcher
   seconds=$(awk -v a="$start" -v b="$end" 'BEGIN { printf "%.2f", (b - a) / 1e9 }')
-  peak=$((peak / 1024))
+  peak=$(($(cat peak) / 1024))
 }
 # row NAME EVALUATIONS WORD..: one line of the table
 row() {

@@ -1,0 +1,12 @@
+pub mod Among
+pub mod Places
+pub mod Reaches
+pub mod Rounds
+pub mod Searches
+pub mod Unknowns
+pub mod Models
+pub mod Named
+pub mod ReachMarks
+pub mod FirstUnknown
+pub mod Orders
+pub mod CircleNames

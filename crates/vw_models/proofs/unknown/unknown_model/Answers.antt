@@ -1,0 +1,120 @@
+use Rattle.std.proofs.Common.{◌≡◌, ◌<◌, ◌≤◌, ◌+◌, ℕ, Bool, drop, filter, true, false, List, [], Option, Some, length, get_or, slice_get, is_some, sym, refl, ◌∙◌, ap, subst, arith}
+use Rattle.std.specs.List.{AllZip}
+use Rattle.std.proofs.lemmas.List.{get_or_default}
+use Rattle.std.proofs.lemmas.Option.{slice_get_read, get_or_from_slice_get}
+use Rattle.vw_design.specs.declared.item.Item.{Item}
+use Rattle.vw_design.specs.declared.model.Model.{Model}
+use Rattle.vw_design.specs.declared.design.Design.{Design}
+use Rattle.vw_design.specs.Lists.{first_found}
+use Rattle.vw_design.specs.Paths.{placings}
+use Rattle.vw_design.specs.ModelFaults.{is_reached}
+use Rattle.vw_design.specs.ModelNumbers.{IsNumberOfModel, AreTargets, AreMarks}
+use Rattle.vw_design.proofs.Lists.{AllZip-at, AllZip-length}
+use Rattle.vw_models.specs.Reach.{Targets}
+use Rattle.vw_models.specs.Unknown.{unknown_of}
+use Rattle.vw_models.proofs.Unknowns.{AreAlong}
+use Rattle.vw_models.proofs.FirstUnknown.{passed_over, nothing_here, found_here, unknown_is, nothing_left}
+use Rattle.vw_models.proofs.unknown.unknown_model.Goals as goal
+use Rattle.vw_models.proofs.unknown.unknown_model.Goals.{then-marks-number+else-is_some, else-marks-number}
+
+-- there are as many marks and targets as models
+marks_each : (design : Design) (marks : List Bool) → AreMarks design marks → length design.models ≡ length marks
+marks_each design marks are = AllZip-length (λ (model : Model) (mark : Bool). mark ≡ is_reached design model.name) design.models marks are
+
+targets_each : (design : Design) (targets : Targets) → AreTargets design targets → length design.models ≡ length targets
+targets_each design targets are = AllZip-length (λ model numbers. AllZip (λ placing number. IsNumberOfModel design placing.model number) (placings model.items) numbers) design.models targets are
+
+-- a model at a place, its mark and its targets
+model_at_place : (models others : List Model) (i : ℕ) (model : Model) → others ≡ models → i < length others → model ≡ get_or others i model → slice_get models i ≡ Some model
+model_at_place models others i model are within at = ap (λ (l : List Model). slice_get l i) (sym are) ∙ slice_get_read others (length others) i model refl within at
+
+mark_at : (design : Design) (marks : List Bool) (i : ℕ) (model : Model) → AreMarks design marks → slice_get design.models i ≡ Some model → get_or marks i false ≡ is_reached design model.name
+mark_at design marks i model are at =
+    let mark = AllZip-at (λ (model : Model) (mark : Bool). mark ≡ is_reached design model.name) design.models marks i model are at in
+    get_or_from_slice_get marks i mark.0 false mark.1 ∙ mark.2
+
+along_at : (design : Design) (targets : Targets) (i : ℕ) (model : Model) → AreTargets design targets → slice_get design.models i ≡ Some model → AreAlong design model.items (get_or targets i [])
+along_at design targets i model are at =
+    let row = AllZip-at (λ model numbers. AllZip (λ placing number. IsNumberOfModel design placing.model number) (placings model.items) numbers) design.models targets i model are at in
+    subst (λ (l : List (Option ℕ)). AreAlong design model.items l) (sym (get_or_from_slice_get targets i row.0 [] row.1)) row.2
+
+within_models : (models others : List Model) (i : ℕ) → others ≡ models → i < length others → i < length models
+within_models models others i are within = subst (λ (l : List Model). i < length l) are within
+
+pub bounds-marks-number : goal.bounds-marks-number
+bounds-marks-number c =
+    let inside = within_models c.args.design.now.models c.models-model-items.result.now c.loop-number.number c.models-model-items.ensures c.loop-number-test.true in
+    omega (arith, inside, marks_each c.args.design.now c.args.marks.now c.requires.marks)
+
+pub bounds-targets-number : goal.bounds-targets-number
+bounds-targets-number c =
+    let inside = within_models c.args.design.now.models c.models-model-items.result.now c.loop-number.number c.models-model-items.ensures c.loop-number-test.true in
+    omega (arith, inside, targets_each c.args.design.now c.args.targets.now c.requires.targets)
+
+pub unknown_item-line-requires : goal.unknown_item-line-requires
+unknown_item-line-requires c =
+    let design = c.args.design.now in
+    let targets = c.args.targets.now in
+    let number = c.loop-number.number in
+    let model = c.model-item.result in
+    let at = model_at_place design.models c.models-model-items.result.now number model c.models-model-items.ensures c.loop-number-test.true c.model-item.is in
+    let inside = within_models design.models c.models-model-items.result.now number c.models-model-items.ensures c.loop-number-test.true in
+    let within : number < length targets = omega (arith, inside, targets_each design targets c.requires.targets) in
+    let list : c.as_slice.result.now ≡ get_or targets number [] = c.as_slice.ensures ∙ c.index-targets-number.is ∙ get_or_default targets number c.index-targets-number.result [] within in
+    subst (λ (items : List Item). AreAlong design items c.as_slice.result.now) (sym c.items.ensures)
+    (subst (λ (l : List (Option ℕ)). AreAlong design model.items l) (sym list) (along_at design targets number model c.requires.targets at))
+
+-- the facts of a turn
+module _ (design : Design) (marks : List Bool) (others : List Model) (i : ℕ) (model : Model) (are_marks : AreMarks design marks) (are : others ≡ design.models) (within : i < length others) (at : model ≡ get_or others i model) where
+  listed : model ≡ get_or design.models i model
+  listed = subst (λ (l : List Model). model ≡ get_or l i model) are at
+
+  inside : i < length design.models
+  inside = within_models design.models others i are within
+
+  reached_is : (mark : Bool) → get_or marks i false ≡ mark → is_reached design model.name ≡ mark
+  reached_is mark is = sym (mark_at design marks i model are_marks (model_at_place design.models others i model are within at)) ∙ is
+
+  pub found_now : (items : List Item) (line : Option ℕ) → items ≡ model.items → line ≡ first_found (unknown_of design) items → get_or marks i false ≡ true → is_some line ≡ true
+      → first_found (λ m. first_found (unknown_of design) m.items) (filter (λ m. is_reached design m.name) (drop i design.models)) ≡ line
+  found_now items line are_items is mark some =
+      let line_is : line ≡ first_found (unknown_of design) model.items = is ∙ ap (first_found (unknown_of design)) are_items in
+      found_here (λ m. is_reached design m.name) (λ m. first_found (unknown_of design) m.items) design.models i model inside listed (reached_is true mark) (ap (λ (o : Option ℕ). is_some o) (sym line_is) ∙ some)
+      ∙ sym line_is
+
+  pub nothing_now : (items : List Item) (line : Option ℕ) → items ≡ model.items → line ≡ first_found (unknown_of design) items → get_or marks i false ≡ true → is_some line ≡ false
+      → first_found (λ m. first_found (unknown_of design) m.items) (filter (λ m. is_reached design m.name) (drop i design.models))
+      ≡ first_found (λ m. first_found (unknown_of design) m.items) (filter (λ m. is_reached design m.name) (drop (i + 1) design.models))
+  nothing_now items line are_items is mark none =
+      let line_is : line ≡ first_found (unknown_of design) model.items = is ∙ ap (first_found (unknown_of design)) are_items in
+      nothing_here (λ m. is_reached design m.name) (λ m. first_found (unknown_of design) m.items) design.models i model inside listed (reached_is true mark) (ap (λ (o : Option ℕ). is_some o) (sym line_is) ∙ none)
+
+  pub not_reached : get_or marks i false ≡ false
+      → first_found (λ m. first_found (unknown_of design) m.items) (filter (λ m. is_reached design m.name) (drop i design.models))
+      ≡ first_found (λ m. first_found (unknown_of design) m.items) (filter (λ m. is_reached design m.name) (drop (i + 1) design.models))
+  not_reached mark = passed_over (λ m. is_reached design m.name) (λ m. first_found (unknown_of design) m.items) design.models i model inside listed (reached_is false mark)
+
+pub returns-then-is_some : goal.returns-then-is_some
+returns-then-is_some c =
+    let design = c.args.design.now in
+    sym (found_now design c.args.marks.now c.models-model-items.result.now c.loop-number.number c.model-item.result c.requires.marks c.models-model-items.ensures c.loop-number-test.true c.model-item.is
+    c.items.result.now c.unknown_item-line.result c.items.ensures c.unknown_item-line.ensures c.if-marks-number.true (sym c.is_some.ensures ∙ c.if-is_some.true))
+    ∙ c.loop-number.invariant ∙ unknown_is design
+
+pub loop-number-preserved : goal.loop-number-preserved
+loop-number-preserved c =
+    let design = c.args.design.now in
+    elim c.if-marks-number.branch [
+      | then-marks-number+else-is_some w ↦
+          sym (nothing_now design c.args.marks.now c.models-model-items.result.now c.loop-number.number c.model-item.result c.requires.marks c.models-model-items.ensures c.loop-number-test.true c.model-item.is
+          w.items.result.now w.unknown_item-line.result w.items.ensures w.unknown_item-line.ensures w.if-marks-number.true (sym w.is_some.ensures ∙ w.if-is_some.false))
+          ∙ c.loop-number.invariant
+      | else-marks-number w ↦
+          sym (not_reached design c.args.marks.now c.models-model-items.result.now c.loop-number.number c.model-item.result c.requires.marks c.models-model-items.ensures c.loop-number-test.true c.model-item.is w.if-marks-number.false)
+          ∙ c.loop-number.invariant
+    ]
+
+pub returns : goal.returns
+returns c =
+    let all : length c.args.design.now.models ≤ c.loop-number.number = subst (λ (l : List Model). length l ≤ c.loop-number.number) c.models-model-items.ensures c.loop-number-test.false in
+    sym (nothing_left c.args.design.now c.loop-number.number all) ∙ c.loop-number.invariant ∙ unknown_is c.args.design.now

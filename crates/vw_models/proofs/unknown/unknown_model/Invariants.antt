@@ -1,0 +1,11 @@
+-- nothing is found yet, and the lists go along
+use Rattle.std.proofs.Common.{◌≡◌, drop, filter}
+use Rattle.vw_design.specs.Lists.{first_found}
+use Rattle.vw_design.specs.ModelFaults.{is_reached}
+use Rattle.vw_models.specs.Unknown.{unknown_of}
+use Rattle.vw_models.proofs.unknown.unknown_model.Given as goal
+
+abbrev pub invariant-loop-number : goal.invariant-loop-number
+invariant-loop-number l =
+    first_found (λ model. first_found (unknown_of l.design) model.items) (filter (λ model. is_reached l.design model.name) (drop l.number l.design.models))
+    ≡ first_found (λ model. first_found (unknown_of l.design) model.items) (filter (λ model. is_reached l.design model.name) l.design.models)

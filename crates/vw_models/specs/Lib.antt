@@ -1,0 +1,7 @@
+pub mod Names
+pub mod Reach
+pub mod Unknown
+pub mod Ahead
+pub mod Search
+pub mod Circles
+pub mod Found

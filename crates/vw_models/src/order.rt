@@ -1,0 +1,42 @@
+//! An order of the models that are reached, or a circle of them.
+ghost use Rattle.std.specs.Prelude.{◌≡◌, None, IfOk};
+ghost use Rattle.vw_design.specs.ModelFaults.{unknown_model};
+ghost use Rattle.vw_design.specs.ModelNumbers.{AreTargets};
+ghost use Rattle.vw_models.specs.Found.{IsFound};
+
+use crate::circle::circle_names;
+use crate::depth::{NumberOrder, search};
+use std::alloc::{AllocError, Global};
+use vw_design::Design;
+use vw_net::Sequence;
+use vw_outside::Name;
+
+/// What the models that are reached have: an order, or a circle.
+#[derive(Drop)]
+pub enum ModelOrder {
+    /// The numbers of the models, each behind those that it places.
+    Order(Sequence<u32>),
+    /// The names of models of which each places the next one and the last one the first. The first is the one that
+    /// stands first in the file.
+    Circle(Sequence<Name>),
+}
+
+/// An order of the models that are reached, or a circle of them.
+pub fn order_of(
+    alloc: Global,
+    design: &Design,
+    targets: &[Sequence<Option<u32>>],
+) -> Result<ModelOrder, AllocError>
+    requires targets { AreTargets design.now targets.now }
+    requires known { unknown_model design.now ≡ None }
+    ensures { IfOk result (IsFound design.now) }
+{
+    match search(alloc, targets)? {
+        NumberOrder::Order(order) => Ok(ModelOrder::Order(Sequence::of(order))),
+        NumberOrder::Circle(circle) => Ok(ModelOrder::Circle(circle_names(
+            alloc,
+            design,
+            circle.as_slice(),
+        )?)),
+    }
+}

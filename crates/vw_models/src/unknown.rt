@@ -1,0 +1,51 @@
+//! Items that name no model of the file.
+ghost use Rattle.std.specs.Prelude.{◌≡◌, List, Some, None, is_none, if◌then◌else◌};
+ghost use Rattle.std.specs.List.{AllZip};
+ghost use Rattle.vw_design.specs.Lists.{first_found};
+ghost use Rattle.vw_design.specs.Paths.{placings, model_named};
+ghost use Rattle.vw_design.specs.ModelFaults.{by_placing, unknown_model};
+ghost use Rattle.vw_design.specs.ModelNumbers.{AreTargets, AreMarks, IsNumberOfModel};
+ghost use Rattle.vw_models.specs.Unknown.{unknown_of};
+
+use vw_design::{Design, Item};
+use vw_net::Sequence;
+
+/// The line of the first item that names no model of the file, among those of the models that are reached, in the order
+/// of the file. It takes no memory.
+pub fn unknown_model(
+    design: &Design,
+    targets: &[Sequence<Option<u32>>],
+    marks: &[bool],
+) -> Option<u64>
+    requires targets { AreTargets design.now targets.now }
+    requires marks { AreMarks design.now marks.now }
+    ensures { result ≡ unknown_model design.now }
+{
+    for (number, model) in design.models().iter().enumerate() {
+        if marks[number] {
+            let line = unknown_item(design, model.items(), targets[number].as_slice());
+            if line.is_some() {
+                return line;
+            }
+        }
+    }
+    None
+}
+
+/// The line of the first of a model's items that names no model of the file.
+fn unknown_item(design: &Design, items: &[Item], targets: &[Option<u32>]) -> Option<u64>
+    requires { AllZip (λ placing number. IsNumberOfModel design.now placing.model number)
+        (placings items.now) targets.now }
+    ensures { result ≡ first_found (unknown_of design.now) items.now }
+{
+    let mut place = 0;
+    for item in items {
+        if let Item::Sub { line, .. } = item {
+            if targets[place].is_none() {
+                return Some(*line);
+            }
+            place += 1;
+        }
+    }
+    None
+}
