@@ -3,10 +3,10 @@
 
 mod frame;
 mod next;
+mod preorder;
 mod state;
 mod step;
 mod tables;
-mod walk;
 
 pub use tables::{CellSite, Placed, Walk};
-pub use walk::walk;
+pub use preorder::walk;

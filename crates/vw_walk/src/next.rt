@@ -26,7 +26,7 @@ pub fn target_of(targets: &[Sequence<Option<u32>>], model: u32, before: u32) -> 
 }
 
 /// What comes next in the instance of a frame.
-pub fn next(design: &Design, targets: &[Sequence<Option<u32>>], frame: Frame) -> Next
+pub fn coming(design: &Design, targets: &[Sequence<Option<u32>>], frame: Frame) -> Next
     ensures { result ≡ next_of design.now targets.now frame.model frame.item frame.before }
 {
     let Some(model) = design.models().get(frame.model as usize) else {

@@ -95,16 +95,17 @@ impl State {
             ∷ record { instance = length self.old.instances.items; model = model;
             item = 0; before = 0 } ∷ [])) }
     {
+        let entry = Placed {
+            model,
+            parent: frame.instance,
+            place: frame.before + 1,
+            cells: self.cells.len() as u32,
+        };
         self.frames.push(Frame {
             item: frame.item + 1,
             before: frame.before + 1,
             ..frame
         })?;
-        self.open(Placed {
-            model,
-            parent: frame.instance,
-            place: frame.before + 1,
-            cells: self.cells.len() as u32,
-        })
+        self.open(entry)
     }
 }

@@ -6,7 +6,7 @@ ghost use Rattle.vw_design.specs.Limits.{IsSmall};
 ghost use Rattle.vw_walk.specs.Steps.Frames.{IsWalk, steps_left};
 
 use crate::frame::Frame;
-use crate::next::{next, Next};
+use crate::next::{coming, Next};
 use crate::state::State;
 use std::alloc::AllocError;
 use vw_design::Design;
@@ -31,7 +31,7 @@ pub fn step(
         < steps_left design.now state.old.instances.items state.old.cells.items
         (state.old.frames.items ++ (frame ∷ []))) }
 {
-    match next(design, targets, frame) {
+    match coming(design, targets, frame) {
         Next::End => Ok(()),
         Next::Cell => state.list_cell(frame),
         Next::Place(model) => state.place(frame, model),
