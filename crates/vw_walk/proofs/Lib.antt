@@ -1,2 +1,6 @@
 pub mod Lists
 pub mod Nexts
+pub mod Counted
+pub mod Levels
+pub mod Steps
+pub mod StepCases
