@@ -4,3 +4,4 @@ pub mod Counted
 pub mod Levels
 pub mod Steps
 pub mod StepCases
+pub mod Ends

@@ -8,5 +8,5 @@ mod state;
 mod step;
 mod tables;
 
-pub use tables::{CellSite, Placed, Walk};
 pub use preorder::walk;
+pub use tables::{CellSite, Placed, Walk};
