@@ -1,11 +1,10 @@
 -- How many sites, cells and paths there are, and how many a walk has listed.
-use Rattle.std.proofs.Common.{◌≡◌, ◌<◌, ◌≤◌, ◌+◌, ◌^◌, ℕ, suc, List, [], ◌∷◌, ◌++◌, length, length-append, filter, flat_map, reverse, refl, sym, ◌∙◌, ap, subst, arith}
+use Rattle.std.proofs.Common.{◌≡◌, ◌<◌, ◌≤◌, ◌+◌, ◌^◌, suc, List, [], ◌∷◌, ◌++◌, length, length-append, filter, flat_map, reverse, refl, sym, ◌∙◌, ap, subst, arith}
 use Rattle.std.specs.List.{AllZip}
-use Rattle.std.proofs.lemmas.List.Concat.{flat_map-append}
 use Rattle.vw_design.specs.declared.item.Item.{Item}
 use Rattle.vw_design.specs.declared.item.Item.TheVariants.{Names, Latch, Sub}
 use Rattle.vw_design.specs.declared.design.Design.{Design}
-use Rattle.vw_design.specs.Paths.{Path, placings}
+use Rattle.vw_design.specs.Paths.{placings}
 use Rattle.vw_design.specs.Preorder.{Site, sites, instances_at, paths_of, is_cell}
 use Rattle.vw_design.specs.Limits.{IsSmall, instance_count, cell_count}
 use Rattle.vw_design.proofs.Lists.{AllZip-length}

@@ -3,7 +3,7 @@ use Rattle.std.proofs.Common.{◌≡◌, ◌<◌, ◌+◌, ◌-◌, ℕ, List, [
 use Rattle.std.specs.List.{AllZip}
 use Rattle.vw_design.specs.declared.model.Model.{Model}
 use Rattle.vw_design.specs.declared.design.Design.{Design}
-use Rattle.vw_design.specs.Paths.{Path, model_at}
+use Rattle.vw_design.specs.Paths.{model_at}
 use Rattle.vw_design.specs.Preorder.{Site, sites_below, sites}
 use Rattle.vw_walk.specs.declared.tables.Placed.{Placed}
 use Rattle.vw_walk.specs.declared.tables.CellSite.{CellSite}

@@ -1,5 +1,5 @@
 -- The sites that are left in an instance, when one of its items is listed.
-use Rattle.std.proofs.Common.{◌≡◌, ◌<◌, ◌≤◌, ◌+◌, ◌-◌, ℕ, suc, Bool, cond, List, [], ◌∷◌, ◌++◌, length, length-append, append-nil, append_assoc, Some, Option, filter, flat_map, refl, sym, ◌∙◌, ap, ap₂, arith}
+use Rattle.std.proofs.Common.{◌≡◌, ◌≤◌, ◌+◌, ◌-◌, ℕ, suc, cond, List, [], ◌∷◌, ◌++◌, length, length-append, append-nil, Some, Option, flat_map, sym, ◌∙◌, ap, ap₂, arith}
 use Rattle.std.proofs.lemmas.List.Concat.{flat_map-append}
 use Rattle.std.proofs.lemmas.List.Elements.{filter-append, filter_map-append}
 use Rattle.vw_design.specs.declared.item.Item.{Item}
@@ -8,7 +8,7 @@ use Rattle.vw_design.specs.declared.model.Model.{Model}
 use Rattle.vw_design.specs.declared.design.Design.{Design}
 use Rattle.vw_design.specs.Paths.{Path, placing_of, placings, model_at, items_of}
 use Rattle.vw_design.specs.Claims.{and_behind, numbered}
-use Rattle.vw_design.specs.Preorder.{Site, inside, with_inside, sites_below, sites, instances_at, paths_of, is_cell}
+use Rattle.vw_design.specs.Preorder.{Site, inside, with_inside, sites_below, instances_at, paths_of, is_cell}
 use Rattle.vw_walk.specs.Steps.Frames.{Level, sites_left, listed_with, cells_among}
 
 abbrev pub level_of : Path → List Item → List Item → Level

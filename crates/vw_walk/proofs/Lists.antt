@@ -1,5 +1,5 @@
 -- Lists that grow at their ends.
-use Rattle.std.proofs.Common.{◌≡◌, ◌⊎◌, ℕ, zero, suc, List, [], ◌∷◌, ◌++◌, length, length-append, Option, Some, None, slice_get, reverse, inl, inr, ⊎_elim, refl, sym, ◌∙◌, ap, subst, arith}
+use Rattle.std.proofs.Common.{◌≡◌, ◌⊎◌, ℕ, zero, suc, List, [], ◌∷◌, ◌++◌, length, length-append, Some, slice_get, reverse, inl, inr, ⊎_elim, refl, sym, ◌∙◌, ap, subst, arith}
 use Rattle.std.specs.List.{AllZip}
 use Rattle.std.proofs.lemmas.List.{reverse-append}
 use Rattle.std.proofs.lemmas.Option.{same_Some, none-some}
@@ -55,6 +55,8 @@ module _ {A B : Type 0} where
     old number z found = (found.0, in_front ys (y ∷ []) number found.0 found.1, gives number z found.0 found.2)
 
     new : (number : ℕ) (z : A) → number ≡ length xs → x ≡ z → (w : B) × (slice_get (ys ++ (y ∷ [])) number ≡ Some w) × S number z w
-    new number z is same =
-        (y, ap (slice_get (ys ++ (y ∷ []))) (is ∙ are.same_length) ∙ behind ys (y ∷ []),
-        subst (λ (v : A). S number v y) same (subst (λ (n : ℕ). S n x y) (sym is) here))
+    new number z is same = (
+      y,
+      ap (slice_get (ys ++ (y ∷ []))) (is ∙ are.same_length) ∙ behind ys (y ∷ []),
+      subst (λ (v : A). S number v y) same (subst (λ (n : ℕ). S n x y) (sym is) here),
+    )

@@ -1,18 +1,16 @@
 -- A walk after one more item.
-use Rattle.std.proofs.Common.{◌≡◌, ◌<◌, ◌≤◌, ◌+◌, ◌-◌, ℕ, suc, Bool, true, false, cond, List, [], ◌∷◌, ◌++◌, length, length-append, append-nil, append_assoc, Some, None, Option, slice_get, reverse, flat_map, ⊎_elim, refl, sym, ◌∙◌, ap, subst, arith}
+use Rattle.std.proofs.Common.{◌≡◌, ◌<◌, ◌+◌, ◌-◌, ℕ, suc, Bool, true, false, cond, List, [], ◌∷◌, ◌++◌, length, length-append, append-nil, append_assoc, Some, Option, slice_get, reverse, flat_map, ⊎_elim, refl, sym, ◌∙◌, ap, subst, arith}
 use Rattle.std.specs.List.{AllZip}
 use Rattle.std.proofs.lemmas.Bool.{cases_lt}
 use Rattle.std.proofs.lemmas.Option.{none-some, slice_get_within}
 use Rattle.vw_design.specs.declared.item.Bind.{Bind}
 use Rattle.vw_design.specs.declared.item.Item.{Item}
-use Rattle.vw_design.specs.declared.item.Item.TheVariants.{Names, Latch, Sub}
-use Rattle.vw_design.specs.declared.model.Model.{Model}
+use Rattle.vw_design.specs.declared.item.Item.TheVariants.{Sub}
 use Rattle.vw_design.specs.declared.design.Design.{Design}
-use Rattle.vw_design.specs.Paths.{Word, Path, placings, model_at}
+use Rattle.vw_design.specs.Paths.{Word, Path, placings}
 use Rattle.vw_design.specs.Claims.{and_behind}
-use Rattle.vw_design.specs.Preorder.{Site, inside, sites_below, sites, instances_at, paths_of, is_cell}
-use Rattle.vw_design.specs.Limits.{IsSmall, weight_of}
-use Rattle.vw_design.specs.Counts.{placed_one, cell_one}
+use Rattle.vw_design.specs.Preorder.{Site, inside, sites_below, sites, instances_at, is_cell}
+use Rattle.vw_design.specs.Limits.{IsSmall}
 use Rattle.vw_design.proofs.Lists.{AllZip-length}
 use Rattle.vw_design.proofs.Reached.{shallow}
 use Rattle.vw_design.proofs.Weights.{instances_weigh, cells_weigh}

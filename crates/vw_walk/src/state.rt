@@ -1,6 +1,15 @@
 //! What a walk over a design has listed so far.
 ghost use Rattle.std.specs.Prelude.{
-    ◌≡◌, ◌<◌, ◌+◌, ◌^◌, ◌++◌, [], ◌∷◌, length, OnOk, IfOk,
+  ◌≡◌,
+  ◌<◌,
+  ◌+◌,
+  ◌^◌,
+  ◌++◌,
+  [],
+  ◌∷◌,
+  length,
+  OnOk,
+  IfOk,
 };
 
 use crate::frame::Frame;
@@ -45,8 +54,12 @@ impl State {
             self.new.instances.items ≡ self.old.instances.items ++ (entry ∷ [])) }
         ensures cells { self.new.cells.items ≡ self.old.cells.items }
         ensures frames { OnOk result (self.new.frames.items ≡ self.old.frames.items
-            ++ (record { instance = length self.old.instances.items; model = entry.model;
-            item = 0; before = 0 } ∷ [])) }
+            ++ (record {
+              instance = length self.old.instances.items;
+              model = entry.model;
+              item = 0;
+              before = 0;
+            } ∷ [])) }
     {
         let frame = Frame {
             instance: self.instances.len() as u32,
@@ -87,13 +100,21 @@ impl State {
         requires cells { length self.old.cells.items < 2 ^ 32 }
         ensures instances { OnOk result (
             self.new.instances.items ≡ self.old.instances.items
-            ++ (record { model = model; parent = frame.instance; place = frame.before + 1;
-            cells = length self.old.cells.items } ∷ [])) }
+            ++ (record {
+              model = model;
+              parent = frame.instance;
+              place = frame.before + 1;
+              cells = length self.old.cells.items;
+            } ∷ [])) }
         ensures cells { self.new.cells.items ≡ self.old.cells.items }
         ensures frames { OnOk result (self.new.frames.items ≡ self.old.frames.items
             ++ (record frame { item = frame.item + 1; before = frame.before + 1 }
-            ∷ record { instance = length self.old.instances.items; model = model;
-            item = 0; before = 0 } ∷ [])) }
+            ∷ record {
+              instance = length self.old.instances.items;
+              model = model;
+              item = 0;
+              before = 0;
+            } ∷ [])) }
     {
         let entry = Placed {
             model,

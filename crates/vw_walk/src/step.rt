@@ -6,7 +6,7 @@ ghost use Rattle.vw_design.specs.Limits.{IsSmall};
 ghost use Rattle.vw_walk.specs.Steps.Frames.{IsWalk, steps_left};
 
 use crate::frame::Frame;
-use crate::next::{coming, Next};
+use crate::next::{Next, coming};
 use crate::state::State;
 use std::alloc::AllocError;
 use vw_design::Design;

@@ -1,4 +1,4 @@
-use Rattle.std.proofs.Common.{◌∙◌, sym, arith}
+use Rattle.std.proofs.Common.{◌∙◌, sym}
 use Rattle.vw_walk.proofs.Counted.{are_small}
 use Rattle.vw_walk.proofs.StepCases.{ends, cell_step, cell_falls, instance_step, instance_falls}
 use Rattle.vw_walk.proofs.step.step.Goals as goal
