@@ -33,6 +33,7 @@ module _ (design : Design) where
         before = [];
         after = [];
         split = all ∙ sym (append-nil (sites_below design (65 + length design.models - 0) []));
+        just_behind = refl;
         cells_before = refl;
         number_is = refl;
       } in

@@ -5,3 +5,4 @@ pub mod Levels
 pub mod Steps
 pub mod StepCases
 pub mod Ends
+pub mod Entries

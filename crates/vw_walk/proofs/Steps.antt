@@ -167,6 +167,7 @@ module _ (design : Design) (table : List Placed) (made : List CellSite) (frames 
           before = more_done;
           after = others;
           split = sym whole;
+          just_behind = (walk.done, site, refl, is.placed);
           cells_before =
               sym (AllZip-length (IsCellSite (listed_with walk.done)) (cells_among walk.done) made walk.cells) ∙ ap (λ (list : List Site). length list) (sym kept) ∙ cells_weigh more_done;
           number_is = omega (arith, count, instances_weigh more_done);

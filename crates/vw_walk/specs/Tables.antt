@@ -4,7 +4,7 @@ use Rattle.std.specs.List.{AllZip}
 use Rattle.vw_design.specs.declared.design.Design.{Design}
 use Rattle.vw_design.specs.declared.model.Model.{Model}
 use Rattle.vw_design.specs.Paths.{Path, model_at}
-use Rattle.vw_design.specs.Preorder.{Site, sites_below, sites, instances, cells}
+use Rattle.vw_design.specs.Preorder.{Site, sites_below, sites, instances_at, instances, cells}
 use Rattle.vw_design.specs.Limits.{weight_of}
 use Rattle.vw_design.specs.Counts.{placed_one, cell_one}
 use Rattle.vw_walk.specs.declared.tables.Placed.{Placed}
@@ -22,12 +22,19 @@ IsPlacedBy listed number [] entry = (entry.parent ≡ 0) × (entry.place ≡ 0)
 IsPlacedBy listed number (place ∷ path) entry =
     (entry.place ≡ place) × (slice_get listed entry.parent ≡ Some path) × (entry.parent < number)
 
+-- what stands before the items of an instance: nothing at the root, else the site that places it comes last
+abbrev pub IsJustBehind : Path → List Site → Type 0
+IsJustBehind [] before = before ≡ []
+IsJustBehind (place ∷ path) before =
+    (front : List Site) × (site : Site) × (before ≡ front ++ site ∷ []) × (instances_at site.path site.before site.item ≡ (place ∷ path) ∷ [])
+
 -- where the items of an instance stand among all sites: so many cells stand before them, and so many instances are
 -- placed before them, its own placing counted
 pub record StandsAt (design : Design) (path : Path) (cells number : ℕ) : Type 0 where
   pub before : List Site
   pub after : List Site
   pub split : sites design ≡ before ++ (sites_below design (65 + length design.models - length path) path ++ after)
+  pub just_behind : IsJustBehind path before
   pub cells_before : cells ≡ weight_of cell_one before
   pub number_is : number ≡ weight_of placed_one before
 

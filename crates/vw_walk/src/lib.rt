@@ -2,11 +2,13 @@
 #![tactic(auto)]
 
 mod frame;
+mod laws;
 mod next;
 mod preorder;
 mod state;
 mod step;
 mod tables;
 
+pub use laws::entries_give_numbers;
 pub use preorder::walk;
 pub use tables::{CellSite, Placed, Walk};
