@@ -6,3 +6,4 @@ pub mod Steps
 pub mod StepCases
 pub mod Ends
 pub mod Entries
+pub mod Unique

@@ -22,10 +22,11 @@ ghost use Rattle.vw_design.specs.declared.design.Design.{Design};
 ghost use Rattle.vw_design.specs.declared.item.Bind.{Bind};
 ghost use Rattle.vw_design.specs.declared.item.Item.{Item};
 ghost use Rattle.vw_design.specs.declared.item.Item.TheVariants.{Sub};
-ghost use Rattle.vw_walk.specs.Tables.{ArePlaced};
+ghost use Rattle.vw_walk.specs.Tables.{ArePlaced, AreCellSites};
+ghost use Rattle.vw_walk.specs.declared.tables.CellSite.{CellSite};
 ghost use Rattle.vw_walk.specs.declared.tables.Placed.{Placed};
 
-use vw_design::numbers_are_counts;
+use vw_design::{items_are_once, numbers_are_counts};
 
 /// The number of a cell of an instance is that of the cells before the instance, with what the items before the cell
 /// weigh; and an instance that it places comes behind it by what the items before the placing one weigh.
@@ -48,4 +49,14 @@ pub fn entries_give_numbers()
         ≡ Some (suc (length (placings (take place (items_of (model_at design path))))) ∷ path) }
 {
     numbers_are_counts()
+}
+
+/// A design has one table of instances and one of cells.
+pub fn tables_are_one()
+    ensures instances { (design : Design) (one other : List Placed)
+        → ArePlaced design one → ArePlaced design other → one ≡ other }
+    ensures cells { (design : Design) (one other : List CellSite)
+        → AreCellSites design one → AreCellSites design other → one ≡ other }
+{
+    items_are_once()
 }

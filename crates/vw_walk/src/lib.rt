@@ -9,6 +9,6 @@ mod state;
 mod step;
 mod tables;
 
-pub use laws::entries_give_numbers;
+pub use laws::{entries_give_numbers, tables_are_one};
 pub use preorder::walk;
 pub use tables::{CellSite, Placed, Walk};
