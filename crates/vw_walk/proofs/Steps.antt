@@ -18,7 +18,7 @@ use Rattle.vw_walk.specs.declared.tables.Placed.{Placed}
 use Rattle.vw_walk.specs.declared.tables.CellSite.{CellSite}
 use Rattle.vw_walk.specs.declared.frame.Frame.{Frame}
 use Rattle.vw_walk.specs.Tables.{AreNumbered, IsPlacedBy, StandsAt, IsPlaced, IsCellSite}
-use Rattle.vw_walk.specs.Steps.Frames.{Level, sites_left, listed_with, cells_among, IsFrame, IsWalk}
+use Rattle.vw_walk.specs.Steps.Frames.{Level, sites_left, listed_with, cells_among, IsFrame, entered, behind_item, cell_of, placed_by, IsWalk}
 use Rattle.vw_walk.proofs.Lists.{in_front, behind, last_first, two_last_first, wider, one_more, more_numbered}
 use Rattle.vw_walk.proofs.Nexts.{IsPlacedNext}
 use Rattle.vw_walk.proofs.Levels.{level_of, site_of, placings_behind, listed_more, cells_more, below_of, sites_cut, sites_start, levels_same}
@@ -87,7 +87,7 @@ module _ (design : Design) (table : List Placed) (made : List CellSite) (frames 
     still_below = wider (IsFrame design (listed_with walk.done) (length walk.done)) (IsFrame design (listed_with more_done) (length more_done)) still_frame levels (reverse frames) below
 
     next_frame : (before : ℕ) → before ≡ and_behind item (length (placings front))
-        → IsFrame design (listed_with more_done) (length more_done) (level_of path (front ++ (item ∷ [])) rest) (record { instance = frame.instance; model = frame.model; item = frame.item + 1; before = before })
+        → IsFrame design (listed_with more_done) (length more_done) (level_of path (front ++ (item ∷ [])) rest) (behind_item frame before)
     next_frame before is = record {
       model = top.model;
       stands = top.stands;
@@ -111,10 +111,10 @@ module _ (design : Design) (table : List Placed) (made : List CellSite) (frames 
 
     -- a gate or a latch is listed, and the items behind it are left
     pub cell_listed : IsCellItem item
-        → IsWalk design table (made ++ (record { instance = frame.instance; item = frame.item } ∷ [])) (frames ++ (record { instance = frame.instance; model = frame.model; item = frame.item + 1; before = frame.before } ∷ []))
+        → IsWalk design table (made ++ (cell_of frame ∷ [])) (frames ++ (behind_item frame frame.before ∷ []))
     cell_listed is =
-        let entry : CellSite = record { instance = frame.instance; item = frame.item } in
-        let next : Frame = record { instance = frame.instance; model = frame.model; item = frame.item + 1; before = frame.before } in
+        let entry : CellSite = cell_of frame in
+        let next : Frame = behind_item frame frame.before in
         let level = level_of path (front ++ (item ∷ [])) rest in
         let same : listed_with more_done ≡ listed_with walk.done =
         listed_more walk.done site ∙ ap (λ (list : List Path). listed_with walk.done ++ list) (is.nowhere path (length (placings front))) ∙ append-nil (listed_with walk.done) in
@@ -141,13 +141,13 @@ module _ (design : Design) (table : List Placed) (made : List CellSite) (frames 
 
     -- the instance is listed, and all of its items are left, and then the items behind the one that places it
     instance_listed : (targets : List (List (Option ℕ))) → IsSmall design → (next : IsPlacedNext design targets path (length (placings front)) frame) → IsPlacingItem
-        → IsWalk design (table ++ (record { model = next.number; parent = frame.instance; place = frame.before + 1; cells = length made } ∷ [])) made
-        (frames ++ (record { instance = frame.instance; model = frame.model; item = frame.item + 1; before = frame.before + 1 } ∷ record { instance = length table; model = next.number; item = 0; before = 0 } ∷ []))
+        → IsWalk design (table ++ (placed_by frame next.number (length made) ∷ [])) made
+        (frames ++ (behind_item frame (frame.before + 1) ∷ entered (length table) next.number ∷ []))
     instance_listed targets small next is =
         let here = suc (length (placings front)) ∷ path in
-        let entry : Placed = record { model = next.number; parent = frame.instance; place = frame.before + 1; cells = length made } in
-        let one : Frame = record { instance = frame.instance; model = frame.model; item = frame.item + 1; before = frame.before + 1 } in
-        let other : Frame = record { instance = length table; model = next.number; item = 0; before = 0 } in
+        let entry : Placed = placed_by frame next.number (length made) in
+        let one : Frame = behind_item frame (frame.before + 1) in
+        let other : Frame = entered (length table) next.number in
         let level = level_of path (front ++ (item ∷ [])) rest in
         let inner = level_of here [] next.model.items in
         let listed : listed_with more_done ≡ listed_with walk.done ++ (here ∷ []) =
@@ -207,7 +207,7 @@ module _ (design : Design) (table : List Placed) (made : List CellSite) (frames 
       → walk.done ++ flat_map (sites_left design) (level_of path front (Sub line name binds ∷ rest) ∷ levels) ≡ sites design
       → IsFrame design (listed_with walk.done) (length walk.done) (level_of path front (Sub line name binds ∷ rest)) frame
       → (targets : List (List (Option ℕ))) → IsSmall design → (next : IsPlacedNext design targets path (length (placings front)) frame)
-      → IsWalk design (table ++ (record { model = next.number; parent = frame.instance; place = frame.before + 1; cells = length made } ∷ [])) made
-      (frames ++ (record { instance = frame.instance; model = frame.model; item = frame.item + 1; before = frame.before + 1 } ∷ record { instance = length table; model = next.number; item = 0; before = 0 } ∷ []))
+      → IsWalk design (table ++ (placed_by frame next.number (length made) ∷ [])) made
+      (frames ++ (behind_item frame (frame.before + 1) ∷ entered (length table) next.number ∷ []))
   placed_listed line name binds rest all top targets small next =
       instance_listed (Sub line name binds) rest all top targets small next (record { cell = refl; placed = refl; within = refl; counts = refl })

@@ -1,18 +1,5 @@
 //! Laws of the tables.
-ghost use Rattle.std.specs.Prelude.{
-  ◌≡◌,
-  ◌+◌,
-  ◌-◌,
-  ℕ,
-  suc,
-  true,
-  List,
-  ◌∷◌,
-  Some,
-  length,
-  slice_get,
-  take,
-};
+ghost use Rattle.std.specs.Prelude.{◌≡◌, ◌+◌, ◌-◌, ℕ, suc, true, List, ◌∷◌, Some, length, slice_get, take};
 ghost use Rattle.vw_design.specs.Counts.{placed_one, cell_one, items_weight, model_weight};
 ghost use Rattle.vw_design.specs.Limits.{IsSmall};
 ghost use Rattle.vw_design.specs.PathValue.{item_at, place_of_site};

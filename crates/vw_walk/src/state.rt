@@ -1,16 +1,6 @@
 //! What a walk over a design has listed so far.
-ghost use Rattle.std.specs.Prelude.{
-  ◌≡◌,
-  ◌<◌,
-  ◌+◌,
-  ◌^◌,
-  ◌++◌,
-  [],
-  ◌∷◌,
-  length,
-  OnOk,
-  IfOk,
-};
+ghost use Rattle.std.specs.Prelude.{◌≡◌, ◌<◌, ◌+◌, ◌^◌, ◌++◌, [], ◌∷◌, length, OnOk, IfOk};
+ghost use Rattle.vw_walk.specs.Steps.Frames.{entered, behind_item, cell_of, placed_by};
 
 use crate::frame::Frame;
 use crate::tables::{CellSite, Placed};
@@ -31,7 +21,7 @@ impl State {
             ≡ record { model = 0; parent = 0; place = 0; cells = 0 } ∷ []) }
         ensures cells { IfOk result (λ state. state.cells.items ≡ []) }
         ensures frames { IfOk result (λ state. state.frames.items
-            ≡ record { instance = 0; model = 0; item = 0; before = 0 } ∷ []) }
+            ≡ entered 0 0 ∷ []) }
     {
         let mut state = State {
             instances: Vec::with_capacity(alloc, instances as usize)?,
@@ -54,12 +44,7 @@ impl State {
             self.new.instances.items ≡ self.old.instances.items ++ (entry ∷ [])) }
         ensures cells { self.new.cells.items ≡ self.old.cells.items }
         ensures frames { OnOk result (self.new.frames.items ≡ self.old.frames.items
-            ++ (record {
-              instance = length self.old.instances.items;
-              model = entry.model;
-              item = 0;
-              before = 0;
-            } ∷ [])) }
+            ++ (entered (length self.old.instances.items) entry.model ∷ [])) }
     {
         let frame = Frame {
             instance: self.instances.len() as u32,
@@ -77,9 +62,9 @@ impl State {
         requires { frame.item + 1 < 2 ^ 32 }
         ensures instances { self.new.instances.items ≡ self.old.instances.items }
         ensures cells { OnOk result (self.new.cells.items ≡ self.old.cells.items
-            ++ (record { instance = frame.instance; item = frame.item } ∷ [])) }
+            ++ (cell_of frame ∷ [])) }
         ensures frames { OnOk result (self.new.frames.items ≡ self.old.frames.items
-            ++ (record frame { item = frame.item + 1 } ∷ [])) }
+            ++ (behind_item frame frame.before ∷ [])) }
     {
         self.cells.push(CellSite {
             instance: frame.instance,
@@ -100,21 +85,11 @@ impl State {
         requires cells { length self.old.cells.items < 2 ^ 32 }
         ensures instances { OnOk result (
             self.new.instances.items ≡ self.old.instances.items
-            ++ (record {
-              model = model;
-              parent = frame.instance;
-              place = frame.before + 1;
-              cells = length self.old.cells.items;
-            } ∷ [])) }
+            ++ (placed_by frame model (length self.old.cells.items) ∷ [])) }
         ensures cells { self.new.cells.items ≡ self.old.cells.items }
         ensures frames { OnOk result (self.new.frames.items ≡ self.old.frames.items
-            ++ (record frame { item = frame.item + 1; before = frame.before + 1 }
-            ∷ record {
-              instance = length self.old.instances.items;
-              model = model;
-              item = 0;
-              before = 0;
-            } ∷ [])) }
+            ++ (behind_item frame (frame.before + 1)
+            ∷ entered (length self.old.instances.items) model ∷ [])) }
     {
         let entry = Placed {
             model,

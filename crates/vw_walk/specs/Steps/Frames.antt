@@ -43,6 +43,21 @@ pub record IsFrame (design : Design) (listed : List Path) (done : ℕ) (level : 
   pub before_is : frame.before ≡ length (placings level.front)
   pub short : length level.front ≤ done
 
+-- the frame of an instance of which no item is listed, and a frame behind one more item, with so many `.subckt` items
+-- before that
+abbrev pub entered : ℕ → ℕ → Frame
+entered instance model = record { instance = instance; model = model; item = 0; before = 0 }
+
+abbrev pub behind_item : Frame → ℕ → Frame
+behind_item frame before = record { instance = frame.instance; model = frame.model; item = frame.item + 1; before = before }
+
+-- the entry of the next item of a frame: of a gate or a latch, and of an instance of a model, behind so many cells
+abbrev pub cell_of : Frame → CellSite
+cell_of frame = record { instance = frame.instance; item = frame.item }
+
+abbrev pub placed_by : Frame → ℕ → ℕ → Placed
+placed_by frame model cells = record { model = model; parent = frame.instance; place = frame.before + 1; cells = cells }
+
 -- the tables have the sites that are done, and the frames, of which the last one comes first, have the others
 pub record IsWalk (design : Design) (table : List Placed) (made : List CellSite) (frames : List Frame) : Type 0 where
   pub done : List Site
