@@ -1,5 +1,5 @@
 -- Claimed names with the first claims on them, in the order in which they are first claimed.
-use Rattle.std.specs.Prelude.{ℕ, Bool, List, [], ◌∷◌, ◌++◌, find, Option, option_map, if◌then◌else◌}
+use Rattle.std.specs.Prelude.{ℕ, Bool, List, [], ◌∷◌, ◌++◌, slice_get, Option, option_map, option_and_then, if◌then◌else◌}
 use Rattle.std.specs.List.{list_any}
 use Rattle.std.specs.Str.{bytes_eq}
 use Rattle.vw_design.specs.Lists.{first_place}
@@ -12,15 +12,18 @@ pub record First : Type 0 where
   pub name : Word
   pub claim : Claim
 
--- whether a name is claimed, the number of its claim, and its claim
+-- whether a name is claimed; the number of its claim, from 0; and the claim with this number
 abbrev pub has_claim : List First → Word → Bool
 has_claim firsts name = list_any (λ first. bytes_eq first.name name) firsts
 
 abbrev pub number_named : List First → Word → Option ℕ
 number_named firsts name = first_place (λ first. bytes_eq first.name name) firsts
 
+abbrev pub claim_at : List First → ℕ → Option Claim
+claim_at firsts number = option_map (λ first. first.claim) (slice_get firsts number)
+
 abbrev pub claim_named : List First → Word → Option Claim
-claim_named firsts name = option_map (λ first. first.claim) (find (λ first. bytes_eq first.name name) firsts)
+claim_named firsts name = option_and_then (claim_at firsts) (number_named firsts name)
 
 -- a further claim is kept where it is the first on its name
 abbrev pub with_first : List First → Word → Claim → List First

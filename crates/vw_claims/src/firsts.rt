@@ -1,6 +1,6 @@
 //! The first claims on the names of a model.
-ghost use Rattle.std.specs.Prelude.{◌≡◌, ◌<◌, not, map, length, slice_get, option_map, Some, IfOk, OnOk, []};
-ghost use Rattle.vw_claims.specs.Firsts.{has_claim, number_named, with_first, with_firsts, port_first};
+ghost use Rattle.std.specs.Prelude.{◌≡◌, ◌<◌, not, map, length, Some, IfOk, OnOk, []};
+ghost use Rattle.vw_claims.specs.Firsts.{has_claim, claim_at, number_named, with_first, with_firsts, port_first};
 
 use crate::claim::Claim;
 use indexmap::IndexMap;
@@ -66,13 +66,14 @@ impl Firsts {
     pub fn number(&self, name: &[u8]) -> Option<u32>
         ensures { result ≡ number_named self.now name.now }
     {
-        self.claims.get_index_of(name).map(|number| number as u32)
+        let number = self.claims.get_index_of(name)?;
+        Some(number as u32)
     }
 
     /// The claim with a number.
     pub fn claim(&self, number: u32) -> Claim
         requires { number < length self.now }
-        ensures { Some result ≡ option_map (λ first. first.claim) (slice_get self.now number) }
+        ensures { Some result ≡ claim_at self.now number }
     {
         self.claims[number as usize]
     }

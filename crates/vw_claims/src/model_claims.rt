@@ -1,6 +1,6 @@
 //! What a model's claims are.
-ghost use Rattle.std.specs.Prelude.{◌≡◌, ◌<◌, length, slice_get, option_map, Some};
-ghost use Rattle.vw_claims.specs.Firsts.{number_named};
+ghost use Rattle.std.specs.Prelude.{◌≡◌, ◌<◌, length, option_map, Some};
+ghost use Rattle.vw_claims.specs.Firsts.{claim_at, number_named};
 
 use crate::claim::{Again, Claim};
 use crate::firsts::Firsts;
@@ -24,7 +24,7 @@ impl ModelClaims {
     /// The claim with a number.
     pub fn claim(&self, number: u32) -> Claim
         requires { number < length self.now.firsts }
-        ensures { Some result ≡ option_map (λ first. first.claim) (slice_get self.now.firsts number) }
+        ensures { Some result ≡ claim_at self.now.firsts number }
     {
         self.firsts.claim(number)
     }
