@@ -1,1 +1,4 @@
 pub mod Keys
+pub mod Looks
+pub mod FirstClaims
+pub mod Agains

@@ -5,8 +5,8 @@ use Rattle.vw_claims.proofs.firsts.Firsts.number.Goals as goal
 
 pub returns-in_err-number : goal.returns-in_err-number
 returns-in_err-number c =
-    let e = c.from_residual.ensures in
-    let f = c.in_err-number.ensures.index in ?
+    c.from_residual.ensures ∙ c.in_err-number.ensures.index ∙ number_first c.self.inside.claims.entries (λ key. key.items) c.args.name.now
+    ∙ ap (λ (firsts : List First). number_named firsts c.args.name.now) c.self.view_is
 
 pub returns : goal.returns
 returns c =
