@@ -17,7 +17,7 @@ use Rattle.vw_design.specs.NetFaults.{bound_actual, claimed_by, first_again}
 use Rattle.vw_claims.specs.declared.claim.Again.{Again}
 use Rattle.vw_claims.specs.declared.claim.Claim.TheVariants.{Bound}
 use Rattle.vw_claims.specs.declared.model_claims.ModelClaims.{ModelClaims}
-use Rattle.vw_claims.specs.Firsts.{First, has_claim, with_first, with_firsts, port_first}
+use Rattle.vw_claims.specs.Firsts.{First, has_claim, port_first}
 use Rattle.vw_claims.specs.Claimed.{IsAgain}
 use Rattle.vw_claims.specs.Steps.{binds_made, item_made, with_claim, with_all, with_items, ports_only}
 use Rattle.vw_claims.proofs.FirstClaims.{all_firsts}
@@ -145,7 +145,16 @@ ports_names (name ∷ names) = ap (λ (list : List Word). name ∷ list) (ports_
 
 from_first : (design : Design) (model : Model) (again : Option Again) → IsFrom design 0 (model.inputs ++ model.clocks) model.items again → IsAgain design (Some model) again
 from_first design model None is = is
-from_first design model (Some again) is = ?
+from_first design model (Some again) is =
+    let ports = model.inputs ++ model.clocks in
+    let same : is.0 ≡ again.item = omega (arith, is.1) in (
+      (
+        is.2.0,
+        subst (λ (n : ℕ). slice_get model.items n ≡ Some is.2.0) same is.2.1,
+        subst (λ (n : ℕ). again_behind design ports model.items n is.2.0 ≡ Some again.name) same is.2.2,
+      ),
+      λ number item below at. is.3 number item (omega (arith, same, below)) at,
+    )
 
 pub gathered_again : (design : Design) (model : Model) → IsAgain design (Some model) (with_items design 0 0 model.items (ports_only model)).again
 gathered_again design model =

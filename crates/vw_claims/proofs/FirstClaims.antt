@@ -1,5 +1,5 @@
 -- The claims of a model that are gathered first are those of the design.
-use Rattle.std.proofs.Common.{◌≡◌, ◌&&◌, ◌+◌, ℕ, zero, suc, Bool, true, false, List, [], ◌∷◌, ◌++◌, map, Option, Some, None, option_map, option_and_then, slice_get, cond, if◌then◌else◌, flat_map, filter_map, inl, inr, refl, sym, ◌∙◌, ap, ap₂, arith, append-nil}
+use Rattle.std.proofs.Common.{◌≡◌, ◌&&◌, ◌||◌, ◌+◌, ℕ, suc, Bool, true, false, List, [], ◌∷◌, ◌++◌, map, Option, Some, None, option_map, option_and_then, slice_get, if◌then◌else◌, flat_map, filter_map, inl, inr, refl, sym, ◌∙◌, ap, ap₂, arith}
 use Rattle.std.specs.List.{cons_option}
 use Rattle.std.specs.Option.{option_or}
 use Rattle.std.specs.Str.{bytes_eq}
@@ -12,7 +12,7 @@ use Rattle.vw_design.specs.declared.design.Design.{Design}
 use Rattle.vw_design.specs.Distinct.{has_name}
 use Rattle.vw_design.specs.Paths.{Word, Placing, placings, model_named, outputs_of, is_port}
 use Rattle.vw_design.specs.Claims.{Numbered, and_behind, numbered, Claim as NamedClaim, port, driven, bound, bind_claim, item_claims, claims, first_claim}
-use Rattle.vw_design.proofs.Has.{Has, at-Has}
+use Rattle.vw_design.proofs.Has.{Has}
 use Rattle.vw_design.proofs.Entries.{IsEntry, entry_of}
 use Rattle.vw_claims.specs.declared.claim.Claim.{Claim}
 use Rattle.vw_claims.specs.declared.claim.Claim.TheVariants.{Port, Driven, Bound}
@@ -36,7 +36,7 @@ look_ports : (names : List Word) (name : Word) → look (map port_first names) n
 look_ports [] name = refl
 look_ports (first ∷ names) name = by (bytes_eq first name) (look_ports names name) where
   by : (b : Bool) → look (map port_first names) name ≡ (if has_name names name then Some Port else None)
-      → (if b then Some Port else look (map port_first names) name) ≡ (if (cond b true (has_name names name)) then Some Port else None)
+      → (if b then Some Port else look (map port_first names) name) ≡ (if b || has_name names name then Some Port else None)
   by true rest = refl
   by false rest = rest
 

@@ -60,13 +60,7 @@ impl ModelClaims {
     }
 
     /// Adds a claim of an item on a name.
-    fn add(
-        &mut self,
-        alloc: Global,
-        item: u32,
-        name: &Name,
-        claim: Claim,
-    ) -> Result<(), AllocError>
+    fn add(&mut self, alloc: Global, item: u32, name: &Name, claim: Claim) -> Result<(), AllocError>
         ensures { OnOk result (self.new ≡ with_claim item name.now claim self.old) }
     {
         let is_new = self.firsts.add(alloc, name.as_slice(), claim)?;

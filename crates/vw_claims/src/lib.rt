@@ -11,5 +11,4 @@ pub use claim::{Again, Claim};
 pub use firsts::Firsts;
 pub use gather::claims_of;
 pub use model_claims::ModelClaims;
-pub use outputs::{outputs_of, Outputs};
-
+pub use outputs::{Outputs, outputs_of};

@@ -1,4 +1,4 @@
-use Rattle.std.proofs.Common.{◌≡◌, ◌++◌, ◌∷◌, [], true, false, not, List, is_some, if◌then◌else◌, rules, sym, ◌∙◌, ap, subst}
+use Rattle.std.proofs.Common.{◌≡◌, ◌++◌, ◌∷◌, [], false, not, List, if◌then◌else◌, rules, sym, ◌∙◌, ap}
 use Rattle.vw_design.specs.Paths.{Word}
 use Rattle.vw_claims.specs.Firsts.{First, has_claim}
 use Rattle.vw_claims.proofs.Keys.{firsts_of, has_first, new_first}

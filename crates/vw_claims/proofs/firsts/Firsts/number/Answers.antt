@@ -1,4 +1,4 @@
-use Rattle.std.proofs.Common.{List, Some, ◌≡◌, sym, ◌∙◌, ap}
+use Rattle.std.proofs.Common.{List, ◌∙◌, ap}
 use Rattle.vw_claims.specs.Firsts.{First, number_named}
 use Rattle.vw_claims.proofs.Keys.{number_first}
 use Rattle.vw_claims.proofs.firsts.Firsts.number.Goals as goal

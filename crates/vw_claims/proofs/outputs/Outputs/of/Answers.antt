@@ -1,4 +1,4 @@
-use Rattle.std.proofs.Common.{◌≡◌, Bor, List, ℕ, Some, cond, sym, ◌∙◌, ap}
+use Rattle.std.proofs.Common.{Bor, List, ℕ, Some, cond, sym, ◌∙◌, ap}
 use Rattle.std.specs.HashMap.{get_by}
 use Rattle.std.specs.Str.{bytes_eq}
 use Rattle.std.proofs.lemmas.List.{take_all}
