@@ -1,5 +1,5 @@
 //! The first claims on the names of a model.
-ghost use Rattle.std.specs.Prelude.{◌≡◌, ◌<◌, not, map, length, Some, IfOk, OnOk, []};
+ghost use Rattle.std.specs.Prelude.{◌≡◌, ◌<◌, not, map, length, Some, IfOk, IfSome, OnOk, []};
 ghost use Rattle.vw_claims.specs.Firsts.{has_claim, claim_at, number_named, with_first, with_firsts, port_first};
 
 use crate::claim::Claim;
@@ -29,7 +29,7 @@ impl Model for Firsts {
 
 impl Firsts {
     /// No claim. It takes no memory.
-    pub fn new(alloc: Global) -> Self
+    pub(crate) fn new(alloc: Global) -> Self
         ensures { result ≡ [] }
     {
         Firsts {
@@ -38,7 +38,7 @@ impl Firsts {
     }
 
     /// Adds the claim on a name that has none, and says whether it had none. More than 2 ^ 32 names have no room.
-    pub fn add(&mut self, alloc: Global, name: &[u8], claim: Claim) -> Result<bool, AllocError>
+    pub(crate) fn add(&mut self, alloc: Global, name: &[u8], claim: Claim) -> Result<bool, AllocError>
         ensures is_new { IfOk result (λ is_new. is_new ≡ not (has_claim self.old name.now)) }
         ensures firsts { OnOk result (self.new ≡ with_first self.old name.now claim) }
     {
@@ -53,7 +53,7 @@ impl Firsts {
     }
 
     /// Adds ports.
-    pub fn add_ports(&mut self, alloc: Global, names: &[Name]) -> Result<(), AllocError>
+    pub(crate) fn add_ports(&mut self, alloc: Global, names: &[Name]) -> Result<(), AllocError>
         ensures { OnOk result (self.new ≡ with_firsts self.old (map port_first names.now)) }
     {
         for name in names {
@@ -64,7 +64,8 @@ impl Firsts {
 
     /// The number of the claim on a name, from 0, where something claims it.
     pub fn number(&self, name: &[u8]) -> Option<u32>
-        ensures { result ≡ number_named self.now name.now }
+        ensures number { result ≡ number_named self.now name.now }
+        ensures within { IfSome result (λ number. number < length self.now) }
     {
         let number = self.claims.get_index_of(name)?;
         Some(number as u32)

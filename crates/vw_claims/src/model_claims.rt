@@ -1,5 +1,5 @@
 //! What a model's claims are.
-ghost use Rattle.std.specs.Prelude.{◌≡◌, ◌<◌, length, option_map, Some};
+ghost use Rattle.std.specs.Prelude.{◌≡◌, ◌<◌, length, option_map, Some, IfSome};
 ghost use Rattle.vw_claims.specs.Firsts.{claim_at, number_named};
 
 use crate::claim::{Again, Claim};
@@ -16,7 +16,8 @@ impl ModelClaims {
     /// The number of the first claim on a name, from 0 in the order in which names are first claimed; nothing where
     /// nothing claims the name.
     pub fn first(&self, name: &[u8]) -> Option<u32>
-        ensures { result ≡ number_named self.now.firsts name.now }
+        ensures number { result ≡ number_named self.now.firsts name.now }
+        ensures within { IfSome result (λ number. number < length self.now.firsts) }
     {
         self.firsts.number(name)
     }
