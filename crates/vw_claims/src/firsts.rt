@@ -38,7 +38,12 @@ impl Firsts {
     }
 
     /// Adds the claim on a name that has none, and says whether it had none. More than 2 ^ 32 names have no room.
-    pub(crate) fn add(&mut self, alloc: Global, name: &[u8], claim: Claim) -> Result<bool, AllocError>
+    pub(crate) fn add(
+        &mut self,
+        alloc: Global,
+        name: &[u8],
+        claim: Claim,
+    ) -> Result<bool, AllocError>
         ensures is_new { IfOk result (λ is_new. is_new ≡ not (has_claim self.old name.now)) }
         ensures firsts { OnOk result (self.new ≡ with_first self.old name.now claim) }
     {

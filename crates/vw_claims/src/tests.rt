@@ -1,8 +1,6 @@
 use super::*;
 use std::alloc::{AllocError, Global};
 use std::test::Fail;
-use vw_design::{Design, Edge, Item, Model};
-use vw_net::{Init, Sequence};
 use vw_outside::Name;
 
 /// A name with these bytes.
@@ -48,29 +46,4 @@ fn the_first_claims_keep_their_order(rt: HostRuntime) -> Result<(), Fail> {
         assert_eq!(rt; again.name().as_slice(), b"a".as_slice());
     }
     Ok(())
-}
-
-/// The model `.inputs a`, `.latch a a`, alone in a design.
-fn latch_on_a_port(alloc: Global) -> Result<Design, AllocError> {
-    let mut inputs = Vec::new(alloc);
-    inputs.push(name(alloc, b"a")?)?;
-    let mut items = Vec::new(alloc);
-    items.push(Item::Latch {
-        line: 3,
-        d: name(alloc, b"a")?,
-        q: name(alloc, b"a")?,
-        edge: Edge::Unsaid,
-        control: None,
-        init: Init::Free,
-    })?;
-    let model = Model::make(
-        name(alloc, b"top")?,
-        Sequence::of(inputs),
-        Sequence::of(Vec::new(alloc)),
-        Sequence::of(Vec::new(alloc)),
-        Sequence::of(items),
-    );
-    let mut models = Vec::new(alloc);
-    models.push(model)?;
-    Ok(Design::make(Sequence::of(models)))
 }
