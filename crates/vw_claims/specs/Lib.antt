@@ -1,0 +1,4 @@
+pub mod Outputs
+pub mod Firsts
+pub mod Claimed
+pub mod Steps

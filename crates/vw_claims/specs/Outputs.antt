@@ -1,0 +1,17 @@
+-- Sets of the outputs of models.
+use Rattle.std.specs.Prelude.{◌≡◌, ℕ, List, [], Option, Some, None, slice_get}
+use Rattle.std.specs.Option.{unwrap_or}
+use Rattle.std.specs.List.{AllZip}
+use Rattle.vw_design.specs.declared.design.Design.{Design}
+use Rattle.vw_design.specs.Distinct.{has_name}
+use Rattle.vw_design.specs.Paths.{Word}
+
+-- for each model, names that are its outputs, in whatever order
+abbrev pub AreOutputs : Design → List (List Word) → Type 0
+AreOutputs design outputs =
+    AllZip (λ model names. (name : Word) → has_name names name ≡ has_name model.outputs name) design.models outputs
+
+-- the outputs of the model with a number; none where there is no number
+abbrev pub outputs_at : List (List Word) → Option ℕ → List Word
+outputs_at outputs None = []
+outputs_at outputs (Some number) = unwrap_or (slice_get outputs number) []
