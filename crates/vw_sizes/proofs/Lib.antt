@@ -1,0 +1,4 @@
+pub mod Sets
+pub mod Numbered
+pub mod Adding
+pub mod Searched

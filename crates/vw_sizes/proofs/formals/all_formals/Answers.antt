@@ -1,0 +1,14 @@
+use Rattle.std.proofs.Common.{◌≡◌, ◌++◌, ◌∷◌, [], List, sym, ◌∙◌, subst}
+use Rattle.std.specs.List.{AllZip}
+use Rattle.std.proofs.lemmas.List.{take_more}
+use Rattle.vw_design.specs.declared.model.Model.{Model}
+use Rattle.vw_sizes.specs.declared.words.Words.{Words}
+use Rattle.vw_sizes.specs.Formals.{AreFormals}
+use Rattle.vw_sizes.proofs.Adding.{one_more}
+use Rattle.vw_sizes.proofs.formals.all_formals.Goals as goal
+
+-- one more model
+pub loop-model-preserved : goal.loop-model-preserved
+loop-model-preserved c =
+    one_more AreFormals c.models-model-items.result.now c.loop-model.model-index c.model-item.result c.loop-model-test.true c.model-item.is
+    c.loop-model.formals.items c.loop-model.invariant c.in_ok-formals_of.field-0 c.in_ok-formals_of.ensures c.push.new.self.items c.in_ok-push.ensures.items
