@@ -30,3 +30,6 @@ pub along_at : (design : Design) (targets : Targets) (i : ℕ) (model : Model) �
 along_at design targets i model are at =
     let row = AllZip-at (λ model numbers. AllZip (λ placing number. IsNumberOfModel design placing.model number) (placings model.items) numbers) design.models targets i model are at in
     subst (λ (l : List (Option ℕ)). AreAlong design model.items l) (sym (get_or_from_slice_get targets i row.0 [] row.1)) row.2
+
+pub within_models : (models others : List Model) (i : ℕ) → others ≡ models → i < length others → i < length models
+within_models models others i are within = subst (λ (l : List Model). i < length l) are within

@@ -1,5 +1,5 @@
 -- What a search finds first at the placed models.
-use Rattle.std.proofs.Common.{◌≡◌, ◌<◌, ◌+◌, ℕ, List, [], ◌∷◌, ◌++◌, drop, length, get_or, Option, Some, None, slice_get, find, flat_map, filter_map, option_map, option_and_then, not, Bool, cond, refl, sym, ◌∙◌, ap, ap₂}
+use Rattle.std.proofs.Common.{◌≡◌, ◌<◌, ◌+◌, ℕ, List, [], ◌∷◌, ◌++◌, drop, length, get_or, Option, Some, None, slice_get, find, flat_map, filter_map, option_map, option_and_then, Bool, cond, refl, sym, ◌∙◌, ap, ap₂}
 use Rattle.std.specs.List.{AllZip, cons_option}
 use Rattle.std.specs.Option.{option_or}
 use Rattle.std.proofs.lemmas.List.{drop_more}
@@ -18,10 +18,10 @@ use Rattle.vw_sizes.specs.declared.placement.Placement.{Placement}
 use Rattle.vw_sizes.specs.Placed.{Placed, placed_by, placed_models, IsPlacement, at_placement}
 use Rattle.vw_sizes.specs.Found.{unknown_formal_at, unbound_input_at, both_ways_at}
 
-abbrev the_name : ℕ → Word → NameAt
+abbrev pub the_name : ℕ → Word → NameAt
 the_name line formal = record { line = line; name = formal }
 
-abbrev the_output : Word → Word → NameOf
+abbrev pub the_output : Word → Word → NameOf
 the_output model output = record { model = model; name = output }
 
 -- tests that agree find the same
@@ -102,30 +102,30 @@ module _ (design : Design) where
         (λ line name binds. option_map (λ formal. record { line = line; name = formal }) (at_model design (λ model. unknown_formal_in model binds) name))
         (λ line name binds. by line binds (model_named design.models name))
         placements are
-     where
-      by : (line : ℕ) (binds : List Bind) (found : Option Model)
-          → option_map (λ (formal : Word). the_name line formal) (option_and_then (λ model. unknown_formal_in model binds) found) ≡ option_and_then (λ model. unknown_formal_at line model binds) found
-      by line binds None = refl
-      by line binds (Some model) = refl
+      where
+        by : (line : ℕ) (binds : List Bind) (found : Option Model)
+            → option_map (λ (formal : Word). the_name line formal) (option_and_then (λ model. unknown_formal_in model binds) found) ≡ option_and_then (λ model. unknown_formal_at line model binds) found
+        by line binds None = refl
+        by line binds (Some model) = refl
 
     pub unbound_is : first_found (at_placement design unbound_input_at) placements ≡ unbound_input design
     unbound_is = searched unbound_input_at
         (λ line name binds. option_map (λ formal. record { line = line; name = formal }) (at_model design (λ model. unbound_input_in model binds) name))
         (λ line name binds. by line binds (model_named design.models name))
         placements are
-     where
-      by : (line : ℕ) (binds : List Bind) (found : Option Model)
-          → option_map (λ (formal : Word). the_name line formal) (option_and_then (λ model. unbound_input_in model binds) found) ≡ option_and_then (λ model. unbound_input_at line model binds) found
-      by line binds None = refl
-      by line binds (Some model) = refl
+      where
+        by : (line : ℕ) (binds : List Bind) (found : Option Model)
+            → option_map (λ (formal : Word). the_name line formal) (option_and_then (λ model. unbound_input_in model binds) found) ≡ option_and_then (λ model. unbound_input_at line model binds) found
+        by line binds None = refl
+        by line binds (Some model) = refl
 
     pub both_is : first_found (at_placement design both_ways_at) placements ≡ both_ways design
     both_is = searched both_ways_at
         (λ line name binds. option_map (λ output. record { model = name; name = output }) (at_model design (λ model. find (is_port model) model.outputs) name))
         (λ line name binds. by line name binds (model_named design.models name) refl)
         placements are
-     where
-      by : (line : ℕ) (name : Word) (binds : List Bind) (found : Option Model) → model_named design.models name ≡ found
-          → option_map (λ (output : Word). the_output name output) (option_and_then (λ model. find (is_port model) model.outputs) found) ≡ option_and_then (λ model. both_ways_at line model binds) found
-      by line name binds None is = refl
-      by line name binds (Some model) is = ap (λ (w : Word). option_map (λ (output : Word). the_output w output) (find (is_port model) model.outputs)) (sym (name_of_named design name model is))
+      where
+        by : (line : ℕ) (name : Word) (binds : List Bind) (found : Option Model) → model_named design.models name ≡ found
+            → option_map (λ (output : Word). the_output name output) (option_and_then (λ model. find (is_port model) model.outputs) found) ≡ option_and_then (λ model. both_ways_at line model binds) found
+        by line name binds None is = refl
+        by line name binds (Some model) is = ap (λ (w : Word). option_map (λ (output : Word). the_output w output) (find (is_port model) model.outputs)) (sym (name_of_named design name model is))

@@ -35,7 +35,12 @@ pub fn placed_models<'a>(
     let mut placed = Vec::new(alloc);
     for (number, model) in design.models().iter().enumerate() {
         if marks[number] {
-            add_placed(design, model.items(), targets[number].as_slice(), &mut placed)?;
+            add_placed(
+                design,
+                model.items(),
+                targets[number].as_slice(),
+                &mut placed,
+            )?;
         }
     }
     Ok(placed)

@@ -1,8 +1,3 @@
-use Rattle.std.proofs.Common.{◌≡◌, ◌++◌, ◌∷◌, [], List, sym, ◌∙◌, subst}
-use Rattle.std.specs.List.{AllZip}
-use Rattle.std.proofs.lemmas.List.{take_more}
-use Rattle.vw_design.specs.declared.model.Model.{Model}
-use Rattle.vw_sizes.specs.declared.words.Words.{Words}
 use Rattle.vw_sizes.specs.Formals.{AreFormals}
 use Rattle.vw_sizes.proofs.Adding.{one_more}
 use Rattle.vw_sizes.proofs.formals.all_formals.Goals as goal

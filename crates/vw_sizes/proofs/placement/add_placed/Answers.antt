@@ -1,7 +1,6 @@
-use Rattle.std.proofs.Common.{◌≡◌, ◌+◌, ◌++◌, ◌∷◌, [], List, ℕ, Option, Some, None, ◌∙◌, ap, sym, subst, drop, filter_map, get_or, refl}
+use Rattle.std.proofs.Common.{◌≡◌, ◌+◌, List, ℕ, Option, Some, None, sym, subst, drop, filter_map, get_or, refl}
 use Rattle.std.specs.List.{AllZip}
-use Rattle.vw_design.specs.Paths.{Word, Placing}
-use Rattle.vw_design.specs.declared.design.Design.{Design}
+use Rattle.vw_design.specs.Paths.{Placing}
 use Rattle.vw_design.specs.ModelNumbers.{IsNumberOfModel}
 use Rattle.vw_models.proofs.Unknowns.{AreAlong}
 use Rattle.vw_sizes.specs.declared.placement.Placement.{Placement}

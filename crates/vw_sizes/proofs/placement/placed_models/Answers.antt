@@ -1,22 +1,17 @@
-use Rattle.std.proofs.Common.{◌≡◌, ◌<◌, ◌≤◌, ◌+◌, ◌++◌, ◌∷◌, ℕ, Bool, true, false, cond, List, [], drop, filter, filter_map, flat_map, Option, length, get_or, refl, sym, ◌∙◌, ap, subst, arith}
+use Rattle.std.proofs.Common.{◌≡◌, ◌<◌, ◌≤◌, ◌+◌, ◌∷◌, ℕ, Bool, true, false, cond, List, [], drop, filter, filter_map, flat_map, Option, length, get_or, refl, sym, ◌∙◌, ap, subst, arith}
 use Rattle.std.specs.List.{AllZip}
 use Rattle.std.proofs.lemmas.List.{get_or_default, drop_more, drop_all}
 use Rattle.vw_design.specs.declared.item.Item.{Item}
 use Rattle.vw_design.specs.declared.model.Model.{Model}
 use Rattle.vw_design.specs.declared.design.Design.{Design}
-use Rattle.vw_design.specs.Paths.{placings}
 use Rattle.vw_design.specs.ModelFaults.{is_reached, reached}
-use Rattle.vw_design.specs.ModelNumbers.{IsNumberOfModel, AreTargets, AreMarks}
 use Rattle.vw_models.proofs.Unknowns.{AreAlong}
 use Rattle.vw_sizes.specs.declared.placement.Placement.{Placement}
 use Rattle.vw_sizes.specs.Placed.{Placed, placed_by, placed_models, IsPlacement, AreAdded}
 use Rattle.vw_sizes.proofs.Adding.{IsAdding, more_added, ended}
-use Rattle.vw_sizes.proofs.Numbered.{marks_each, targets_each, model_at_place, mark_at, along_at}
+use Rattle.vw_sizes.proofs.Numbered.{within_models, marks_each, targets_each, model_at_place, mark_at, along_at}
 use Rattle.vw_sizes.proofs.placement.placed_models.Goals as goal
 use Rattle.vw_sizes.proofs.placement.placed_models.Goals.{then-marks-number+in_ok-add_placed, else-marks-number}
-
-within_models : (models others : List Model) (i : ℕ) → others ≡ models → i < length others → i < length models
-within_models models others i are within = subst (λ (l : List Model). i < length l) are within
 
 pub bounds-marks-number : goal.bounds-marks-number
 bounds-marks-number c =
