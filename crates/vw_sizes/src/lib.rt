@@ -1,4 +1,4 @@
-//! Faults of placed models and their bindings, and how large a design is, by its models alone.
+//! Faults of placed models and their bindings.
 #![tactic(auto)]
 
 mod both;

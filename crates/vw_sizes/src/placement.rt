@@ -16,6 +16,7 @@ pub struct Placement<'a> {
     pub line: u64,
     /// The number of the model.
     pub number: u32,
+    /// The bindings of the item.
     pub binds: &'a [Bind],
 }
 

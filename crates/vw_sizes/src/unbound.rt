@@ -16,8 +16,8 @@ use vw_design::{Bind, Design, Model};
 use vw_net::Sequence;
 use vw_outside::Name;
 
-/// The first input or clock of a placed model that isn't bound. At each item it looks at no more ports than it has
-/// bindings, and one.
+/// The first input or clock of a placed model that isn't bound, and the line of the item. Inputs come before clocks. At
+/// each item it looks at no more ports than twice the bindings, and one.
 pub fn unbound_input(
     alloc: Global,
     design: &Design,

@@ -18,8 +18,8 @@ use vw_design::{Bind, Design};
 use vw_net::Sequence;
 use vw_outside::Name;
 
-/// The first bound formal that is no input, clock or output of the placed model. A set of the formals is made once a
-/// model.
+/// The first bound formal that is no input, clock or output of the placed model, and the line of the item. A set of the
+/// formals is made once a model.
 pub fn unknown_formal(
     alloc: Global,
     design: &Design,

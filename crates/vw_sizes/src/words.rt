@@ -38,8 +38,8 @@ impl<'a> Words<'a> {
 
     /// Adds a word.
     fn add(&mut self, word: &'a [u8]) -> Result<(), AllocError>
-        ensures { OnOk result ((other : Word)
-            → has_word self.new.words other ≡ (bytes_eq word.now other || has_word self.old.words other)) }
+        ensures { OnOk result ((other : Word) → has_word self.new.words other
+            ≡ (bytes_eq word.now other || has_word self.old.words other)) }
     {
         self.words.insert(word, ())?;
         Ok(())
@@ -47,8 +47,8 @@ impl<'a> Words<'a> {
 
     /// Adds names.
     pub fn add_all(&mut self, names: &'a [Name]) -> Result<(), AllocError>
-        ensures { OnOk result ((other : Word)
-            → has_word self.new.words other ≡ (has_name names.now other || has_word self.old.words other)) }
+        ensures { OnOk result ((other : Word) → has_word self.new.words other
+            ≡ (has_name names.now other || has_word self.old.words other)) }
     {
         for name in names {
             self.add(name.as_slice())?;
@@ -59,7 +59,8 @@ impl<'a> Words<'a> {
     /// Adds the formals of bindings.
     pub fn add_formals(&mut self, binds: &'a [Bind]) -> Result<(), AllocError>
         ensures { OnOk result ((other : Word) → has_word self.new.words other
-            ≡ (has_name (map (λ bind. bind.formal) binds.now) other || has_word self.old.words other)) }
+            ≡ (has_name (map (λ bind. bind.formal) binds.now) other
+            || has_word self.old.words other)) }
     {
         for bind in binds {
             self.add(bind.formal().as_slice())?;
