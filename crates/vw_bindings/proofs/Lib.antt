@@ -1,0 +1,5 @@
+pub mod Sets
+pub mod Numbered
+pub mod Adding
+pub mod Searched
+pub mod Steps

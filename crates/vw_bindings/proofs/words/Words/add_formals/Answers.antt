@@ -1,0 +1,10 @@
+use Rattle.std.proofs.Common.{◌∙◌}
+use Rattle.vw_bindings.specs.Words.{has_word}
+use Rattle.vw_bindings.proofs.Sets.{formal_added}
+use Rattle.vw_bindings.proofs.words.Words.add_formals.Goals as goal
+
+pub loop-bind-preserved : goal.loop-bind-preserved
+loop-bind-preserved c = λ other.
+    formal_added c.args.binds.now c.loop-bind.bind-index c.bind-item.result other c.loop-bind-test.true c.bind-item.is c.as_slice.result.now (c.as_slice.ensures ∙ c.formal.ensures)
+    (has_word c.loop-bind.self.words other) (has_word c.add.new.self.words other) (c.in_ok-add.ensures other)
+    ∙ c.loop-bind.invariant other

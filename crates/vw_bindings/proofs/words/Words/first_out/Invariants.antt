@@ -1,0 +1,7 @@
+-- all so far are in it
+use Rattle.std.proofs.Common.{◌≡◌, drop, find, not}
+use Rattle.vw_bindings.specs.Words.{has_word}
+use Rattle.vw_bindings.proofs.words.Words.first_out.Given as goal
+
+abbrev pub invariant-loop-name : goal.invariant-loop-name
+invariant-loop-name l = find (λ name. not (has_word l.self.words name)) (drop l.name-index l.names) ≡ find (λ name. not (has_word l.self.words name)) l.names

@@ -1,0 +1,4 @@
+pub mod Words
+pub mod Placed
+pub mod Formals
+pub mod Found

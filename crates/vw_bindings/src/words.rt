@@ -1,0 +1,94 @@
+//! Sets of words.
+ghost use Rattle.std.specs.Prelude.{◌≡◌, ◌||◌, not, false, ℕ, List, OnOk, IfOk, find, map};
+ghost use Rattle.std.specs.Str.{bytes_eq};
+ghost use Rattle.vw_design.specs.Distinct.{has_name};
+ghost use Rattle.vw_design.specs.Paths.{Word};
+ghost use Rattle.vw_bindings.specs.Words.{has_word};
+ghost use Rattle.vw_bindings.specs.Formals.{lent};
+
+use std::alloc::{AllocError, Global};
+use std::collections::HashMap;
+use std::hash::{BuildHasherDefault, DefaultHasher};
+use vw_design::Bind;
+use vw_outside::Name;
+
+/// A set of words that lie elsewhere. Its hasher has a key: whoever writes a text chooses its words, and without a key
+/// any number of words can be chosen that collide.
+#[derive(Drop)]
+pub struct Words<'a> {
+    pub words: HashMap<&'a [u8], (), BuildHasherDefault<DefaultHasher>>,
+}
+
+impl<'a> Words<'a> {
+    /// No word. It takes no memory.
+    pub fn none(alloc: Global) -> Self
+        ensures { (word : Word) → has_word result.words word ≡ false }
+    {
+        Words {
+            words: HashMap::with_hasher(alloc, BuildHasherDefault::new()),
+        }
+    }
+
+    /// Whether a word is in the set.
+    pub fn has(&self, word: &[u8]) -> bool
+        ensures { result ≡ has_word self.now.words word.now }
+    {
+        self.words.get(word).is_some()
+    }
+
+    /// Adds a word.
+    fn add(&mut self, word: &'a [u8]) -> Result<(), AllocError>
+        ensures { OnOk result ((other : Word) → has_word self.new.words other
+            ≡ (bytes_eq word.now other || has_word self.old.words other)) }
+    {
+        self.words.insert(word, ())?;
+        Ok(())
+    }
+
+    /// Adds names.
+    pub fn add_all(&mut self, names: &'a [Name]) -> Result<(), AllocError>
+        ensures { OnOk result ((other : Word) → has_word self.new.words other
+            ≡ (has_name names.now other || has_word self.old.words other)) }
+    {
+        for name in names {
+            self.add(name.as_slice())?;
+        }
+        Ok(())
+    }
+
+    /// Adds the formals of bindings.
+    pub fn add_formals(&mut self, binds: &'a [Bind]) -> Result<(), AllocError>
+        ensures { OnOk result ((other : Word) → has_word self.new.words other
+            ≡ (has_name (map (λ bind. bind.formal) binds.now) other
+            || has_word self.old.words other)) }
+    {
+        for bind in binds {
+            self.add(bind.formal().as_slice())?;
+        }
+        Ok(())
+    }
+
+    /// The first of some names that is in the set.
+    pub fn first_in<'n>(&self, names: &'n [Name]) -> Option<&'n Name>
+        ensures { lent result ≡ find (has_word self.now.words) names.now }
+    {
+        for name in names {
+            if self.has(name.as_slice()) {
+                return Some(name);
+            }
+        }
+        None
+    }
+
+    /// The first of some names that isn't in the set.
+    pub fn first_out<'n>(&self, names: &'n [Name]) -> Option<&'n Name>
+        ensures { lent result ≡ find (λ name. not (has_word self.now.words name)) names.now }
+    {
+        for name in names {
+            if !self.has(name.as_slice()) {
+                return Some(name);
+            }
+        }
+        None
+    }
+}
