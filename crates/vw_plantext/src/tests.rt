@@ -72,7 +72,7 @@ fn each_front_of_a_plan_is_refused_at_its_next_line(rt: HostRuntime) -> Result<(
 
 #[test]
 fn the_first_line_that_cannot_stand_is_named(rt: HostRuntime) -> Result<(), Fail> {
-    let table: [(&[u8], usize); 34] = [
+    let table: [(&[u8], usize); 39] = [
         (b"", 1),
         (b"\n", 1),
         (b"end\n", 1),
@@ -116,6 +116,21 @@ fn the_first_line_that_cannot_stand_is_named(rt: HostRuntime) -> Result<(), Fail
             b"plan 1 0 1 0\nchips\nwire 0 0 1\nhop 0 0 0 4611686018427387905\nend\n",
             4,
         ),
+        (
+            b"plan 1 0 1 0\nchips\nwire 0 0 1\nhop 4294967296 0 0 0\nend\n",
+            4,
+        ),
+        (
+            b"plan 1 0 1 0\nchips\nwire 0 0 1\nhop 0 4294967296 0 0\nend\n",
+            4,
+        ),
+        (
+            b"plan 1 0 1 0\nchips\nwire 0 0 1\nhop 0 0 4294967296 0\nend\n",
+            4,
+        ),
+        // the greatest counts can stand on the first line
+        (b"plan 1 4294967295 0 0\nchips\nend\n", 2),
+        (b"plan 1 0 4294967295 0\nchips\nend\n", 3),
         (b"plan 1 0 0 0\nchips\nend", 3),
         (b"plan 1 0 0 0\nchips\nend\n\n", 4),
     ];
