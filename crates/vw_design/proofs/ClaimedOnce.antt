@@ -22,7 +22,7 @@ use Rattle.vw_design.specs.Accepted.{IsAccepted}
 use Rattle.vw_design.proofs.Has.{none-found, from-found, Has-Contains}
 use Rattle.vw_design.proofs.Sites.{site_item}
 use Rattle.vw_design.proofs.Names.{same_name, name_same}
-use Rattle.vw_design.proofs.Placed.{accepted_site}
+use Rattle.vw_design.proofs.Placed.{faultless_site}
 
 -- how often a name stands among names
 abbrev once : Bool → ℕ
@@ -183,7 +183,7 @@ none_at : (design : Design) → IsAccepted design → (path : Path) (model : Mod
     → first_again (claimed_before design (Some model) k) (claimed_by design item) ≡ None
 none_at design accepted path model stands k item at =
     let here : item_at design path k ≡ Some item = ap (λ (m : Option Model). slice_get (items_of m) k) stands ∙ at in
-    let site = accepted_site design accepted path k item here in
+    let site = faultless_site design accepted.models path k item here in
     let fine : claimed_again design site.0 ≡ None = none-found (claimed_again design) site.0 (sites design) accepted.one_driver (Has-Contains site.0 (sites design) site.1) in
     let again = nothing site.0.path (first_again (claimed_before design (model_at design site.0.path) site.0.number) (claimed_by design site.0.item)) fine in
     let where_ : claimed_before design (model_at design site.0.path) site.0.number ≡ claimed_before design (Some model) k =

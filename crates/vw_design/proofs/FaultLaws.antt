@@ -135,10 +135,10 @@ module _ (design : Design) where
       no_first (unknown_formal design) (unbound_input design) (both_ways design) (too_big design) (undriven design) (two_drivers design) (gated_clock design) (several_clocks design)
       (several_edges design) (clock_as_data design)
       (record {
-        a_none = accepted.formals_known;
-        b_none = accepted.inputs_bound;
-        c_none = accepted.one_way;
-        d_none = small_fits design accepted.small;
+        a_none = accepted.models.formals_known;
+        b_none = accepted.models.inputs_bound;
+        c_none = accepted.models.one_way;
+        d_none = small_fits design accepted.models.small;
         e_none = accepted.driven;
         f_none = accepted.one_driver;
         g_none = accepted.clocks_free;
@@ -186,8 +186,8 @@ module _ (design : Design) where
   pub accepted_fine : IsAccepted design → (fault : Fault) → IsFaultOf design fault → ⊥
   accepted_fine accepted fault is = by (view fault is) where
     by : View fault → ⊥
-    by (by_model line same found) = none-some line (sym accepted.models_known ∙ found)
-    by (by_circle names same known circle) = accepted.no_circle names circle
+    by (by_model line same found) = none-some line (sym accepted.models.models_known ∙ found)
+    by (by_circle names same known circle) = accepted.models.no_circle names circle
     by (by_further further) = none-some fault (sym (no_further accepted) ∙ further.first)
 
   -- and a design without a fault is accepted
@@ -197,12 +197,14 @@ module _ (design : Design) where
       let parts = none_first (unknown_formal design) (unbound_input design) (both_ways design) (too_big design) (undriven design) (two_drivers design) (gated_clock design) (several_clocks design)
       (several_edges design) (clock_as_data design) none in
       record {
-        models_known = known (unknown_model design) refl;
-        no_circle = no_circle;
-        formals_known = parts.a_none;
-        inputs_bound = parts.b_none;
-        one_way = parts.c_none;
-        small = small_of design parts.d_none;
+        models = record {
+          models_known = known (unknown_model design) refl;
+          no_circle = no_circle;
+          formals_known = parts.a_none;
+          inputs_bound = parts.b_none;
+          one_way = parts.c_none;
+          small = small_of design parts.d_none;
+        };
         driven = parts.e_none;
         one_driver = parts.f_none;
         clocks_free = parts.g_none;

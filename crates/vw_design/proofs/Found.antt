@@ -20,7 +20,7 @@ use Rattle.vw_design.specs.Flattened.{number_of_source, number_of}
 use Rattle.vw_design.proofs.Has.{Has, Has-left, Has-right, Has-append, Has-filter, Has-flat_map, from-flat_map, Has-map, from-map, some-place, none-find, Has-Contains}
 use Rattle.vw_design.proofs.Names.{equal_names, has_name-Has, Has-has_name, name_same}
 use Rattle.vw_design.proofs.Ways.{claim_at}
-use Rattle.vw_design.proofs.Placed.{accepted_site}
+use Rattle.vw_design.proofs.Placed.{faultless_site}
 use Rattle.vw_design.proofs.FlatValues.{place_within, site_of_place}
 
 -- what a driver can be
@@ -60,7 +60,7 @@ module _ (design : Design) (accepted : IsAccepted design) where
   -- a gate or latch of an instance is among the cells
   pub cell_place : (path : Path) (number : ℕ) (item : Item) → item_at design path number ≡ Some item → is_cell item ≡ true → (place : ℕ) × (place_of_site (cells design) path number ≡ Some place)
   cell_place path number item at cell =
-      let site = accepted_site design accepted path number item at in
+      let site = faultless_site design accepted.models path number item at in
       let listed = Has-filter (λ (s : Site). is_cell s.item) site.0 (sites design) (Has-Contains site.0 (sites design) site.1) (ap is_cell site.4 ∙ cell) in
       some-place (is_site_of path number) site.0 (cells design) listed
       (and_from (bytes_eq site.0.path path) (eqb site.0.number number) (equal_names site.0.path path site.2) (eq-eqb site.0.number number site.3))

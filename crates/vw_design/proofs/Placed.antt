@@ -12,13 +12,13 @@ use Rattle.vw_design.specs.Claims.{Numbered, numbered}
 use Rattle.vw_design.specs.Preorder.{Site, site_at, inside, with_inside, sites_below, sites, instances_at, paths_of, instances}
 use Rattle.vw_design.specs.ModelFaults.{unknown_model}
 use Rattle.vw_design.specs.PathValue.{item_at}
-use Rattle.vw_design.specs.Accepted.{IsAccepted}
+use Rattle.vw_design.specs.Accepted.{HasNoModelFault}
 use Rattle.vw_design.proofs.Has.{Has, Has-at, from-flat_map, Contains-Has, Has-Contains}
 use Rattle.vw_design.proofs.Entries.{entry_of, item_entry}
 use Rattle.vw_design.proofs.Instances.{instance_listed, item_listed}
 use Rattle.vw_design.proofs.Sites.{site_is}
 use Rattle.vw_design.proofs.Ways.{IsShallow}
-use Rattle.vw_design.proofs.Reached.{nothing_placed, accepted_shallow}
+use Rattle.vw_design.proofs.Reached.{nothing_placed, faultless_shallow}
 
 record HasModel (design : Design) (path : Path) : Type 0 where
   model : Model
@@ -94,27 +94,27 @@ root_model design = by design.models refl design.some where
   by [] is some = absurd (omega arith)
   by (model ∷ models) is some = record { model = model; stands = ap (λ (ms : List Model). slice_get ms 0) is }
 
--- in an accepted design a path is an instance exactly where it is listed
-pub accepted_listed : (design : Design) → IsAccepted design → (path : Path) (model : Model) → model_at design path ≡ Some model → Contains (instances design) path
-accepted_listed design accepted path model stands =
-    let is_shallow = accepted_shallow design accepted in
+-- without a fault of models a path is an instance exactly where it is listed
+pub faultless_listed : (design : Design) → HasNoModelFault design → (path : Path) (model : Model) → model_at design path ≡ Some model → Contains (instances design) path
+faultless_listed design faultless path model stands =
+    let is_shallow = faultless_shallow design faultless in
     let short : length path < 64 = ⊎_elim (λ short. short) (λ deep. absurd (none-some model (sym (is_shallow.shallow path deep) ∙ stands))) (cases_lt (length path) 64) in
     Contains-Has path (instances design) (instance_listed design path model stands (omega arith))
 
-pub accepted_placed : (design : Design) → IsAccepted design → (path : Path) → Contains (instances design) path → (model : Model) × (model_at design path ≡ Some model)
-accepted_placed design accepted path listed =
-    let found = path_placed design (accepted_shallow design accepted) accepted.models_known path (Has-Contains path (instances design) listed) (root_model design) in
+pub faultless_placed : (design : Design) → HasNoModelFault design → (path : Path) → Contains (instances design) path → (model : Model) × (model_at design path ≡ Some model)
+faultless_placed design faultless path listed =
+    let found = path_placed design (faultless_shallow design faultless) faultless.models_known path (Has-Contains path (instances design) listed) (root_model design) in
     (found.model, found.stands)
 
--- in an accepted design each item of an instance is a site
-pub accepted_site : (design : Design) → IsAccepted design → (path : Path) (number : ℕ) (item : Item) → item_at design path number ≡ Some item
+-- without a fault of models each item of an instance is a site
+pub faultless_site : (design : Design) → HasNoModelFault design → (path : Path) (number : ℕ) (item : Item) → item_at design path number ≡ Some item
     → (site : Site) × Contains (sites design) site × (site.path ≡ path) × (site.number ≡ number) × (site.item ≡ item)
-accepted_site design accepted path number item at = by (model_at design path) refl where
+faultless_site design faultless path number item at = by (model_at design path) refl where
   by : (found : Option Model) → model_at design path ≡ found
       → (site : Site) × Contains (sites design) site × (site.path ≡ path) × (site.number ≡ number) × (site.item ≡ item)
   by None is = absurd (none-some item (sym (ap (λ (m : Option Model). slice_get (items_of m) number) is) ∙ at))
   by (Some model) is =
-      let is_shallow = accepted_shallow design accepted in
+      let is_shallow = faultless_shallow design faultless in
       let short : length path < 64 = ⊎_elim (λ short. short) (λ deep. absurd (none-some model (sym (is_shallow.shallow path deep) ∙ is))) (cases_lt (length path) 64) in
       let entry = item_entry (items_of (model_at design path)) number item at in
       let listed = item_listed design path (instance_listed design path model is (omega arith)) (omega arith) entry.entry entry.has in

@@ -1,4 +1,4 @@
--- In a design that is accepted no instance is too deep, and an output of a placed model is no port of it.
+-- In a design without a fault of models no instance is too deep, and an output of a placed model is no port of it.
 use Rattle.std.proofs.Common.{◌≡◌, ◌<◌, ◌≤◌, ℕ, true, false, List, [], ◌∷◌, length, map, Option, Some, None, option_and_then, option_map, find, ⊎_elim, refl, sym, ◌∙◌, ap, subst, arith}
 use Rattle.std.specs.Str.{bytes_eq}
 use Rattle.std.proofs.lemmas.Bool.{cases_lt}
@@ -14,7 +14,7 @@ use Rattle.vw_design.specs.Paths.{Word, Path, model_placed, model_at, is_port}
 use Rattle.vw_design.specs.Preorder.{instances}
 use Rattle.vw_design.specs.ModelFaults.{NameOf, has_model_name, is_reached, reached, by_placing, first_placing, at_model, both_ways}
 use Rattle.vw_design.specs.Limits.{depth_at, greatest_depth}
-use Rattle.vw_design.specs.Accepted.{IsAccepted}
+use Rattle.vw_design.specs.Accepted.{HasNoModelFault}
 use Rattle.vw_design.proofs.Has.{Has, Has-map, Has-at, Has-filter, any-Has, from-find, none-find, none-found}
 use Rattle.vw_design.proofs.Names.{name_same, Has-has_name}
 use Rattle.vw_design.proofs.Entries.{placing_entry, entry_of}
@@ -96,9 +96,9 @@ module _ (design : Design) where
         sym (ap (λ (m : Option Model). option_map (of_model placing.1.model) (option_and_then (λ (m : Model). find (is_port m) m.outputs) m)) placing.4) ∙ found in
         no_output_is_port model placing.1.model name has here
 
-  -- so it is where the design is accepted
-  pub accepted_shallow : IsAccepted design → IsShallow design 64
-  accepted_shallow accepted = shallow accepted.small.depth
+  -- so it is where there is no fault of models
+  pub faultless_shallow : HasNoModelFault design → IsShallow design 64
+  faultless_shallow faultless = shallow faultless.small.depth
 
-  pub accepted_one_way : IsAccepted design → IsOneWay design
-  accepted_one_way accepted = one_way (accepted_shallow accepted) accepted.one_way
+  pub faultless_one_way : HasNoModelFault design → IsOneWay design
+  faultless_one_way faultless = one_way (faultless_shallow faultless) faultless.one_way

@@ -5,9 +5,9 @@ use Rattle.vw_design.specs.Paths.{Word, Path, model_at}
 use Rattle.vw_design.specs.Claims.{Claim, port, driven, bound, first_claim}
 use Rattle.vw_design.specs.Drivers.{Source, actual_of, turn_up, turn_by, follow_turn, driver}
 use Rattle.vw_design.specs.Slots.{claim_slot, by_slots, actual_slot, AreSlots}
-use Rattle.vw_design.specs.Accepted.{IsAccepted}
+use Rattle.vw_design.specs.Accepted.{HasNoModelFault}
 use Rattle.vw_design.proofs.Ways.{only_driver}
-use Rattle.vw_design.proofs.Reached.{accepted_shallow, accepted_one_way}
+use Rattle.vw_design.proofs.Reached.{faultless_shallow, faultless_one_way}
 
 module _ (design : Design) (slot : Path → Word → Option Source) (are : AreSlots design slot) where
   actual_turn : (path : Path) (actual : Option Word) → actual_slot design slot path actual ≡ follow_turn (by_slots design slot) (turn_up path actual)
@@ -22,7 +22,7 @@ module _ (design : Design) (slot : Path → Word → Option Source) (are : AreSl
   by_claim path name (Some (driven item)) is = refl
   by_claim path name (Some (bound place formal)) is = are.outputs place path name formal is
 
-  pub slots_drive : IsAccepted design → (path : Path) (name : Word) → by_slots design slot path name ≡ driver design path name
-  slots_drive accepted =
-      only_driver design (accepted_shallow design accepted) (accepted_one_way design accepted) (by_slots design slot)
+  pub slots_drive : HasNoModelFault design → (path : Path) (name : Word) → by_slots design slot path name ≡ driver design path name
+  slots_drive faultless =
+      only_driver design (faultless_shallow design faultless) (faultless_one_way design faultless) (by_slots design slot)
       (λ path name. by_claim path name (first_claim design (model_at design path) name) refl)

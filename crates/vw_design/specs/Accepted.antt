@@ -8,14 +8,18 @@ use Rattle.vw_design.specs.ModelFaults.{NameAt, NameOf, unknown_model, IsCircle,
 use Rattle.vw_design.specs.Limits.{IsSmall, Counted, too_big}
 use Rattle.vw_design.specs.NetFaults.{Unlike, Edged, undriven, two_drivers, gated_clock, several_clocks, several_edges, clock_as_data}
 
--- none of the faults is there
-pub record IsAccepted (design : Design) : Type 0 where
+-- none of the faults of models is there, so that the design has its instances and its drivers
+pub record HasNoModelFault (design : Design) : Type 0 where
   pub models_known : unknown_model design ≡ None
   pub no_circle : (names : List Word) → IsCircle design names → ⊥
   pub formals_known : unknown_formal design ≡ None
   pub inputs_bound : unbound_input design ≡ None
   pub one_way : both_ways design ≡ None
   pub small : IsSmall design
+
+-- none of the faults is there
+pub record IsAccepted (design : Design) : Type 0 where
+  pub models : HasNoModelFault design
   pub driven : undriven design ≡ None
   pub one_driver : two_drivers design ≡ None
   pub clocks_free : gated_clock design ≡ None

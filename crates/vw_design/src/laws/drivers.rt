@@ -11,17 +11,17 @@ ghost use Rattle.vw_design.specs.Claims.{claims};
 ghost use Rattle.vw_design.specs.Slots.{by_slots, AreSlots};
 ghost use Rattle.vw_design.specs.NetFaults.{two_drivers};
 ghost use Rattle.vw_design.specs.Flattened.{number_of};
-ghost use Rattle.vw_design.specs.Accepted.{IsAccepted};
+ghost use Rattle.vw_design.specs.Accepted.{HasNoModelFault, IsAccepted};
 
-/// In an accepted design the driver of a net is that of the net to which one turn leads, where the turn doesn't end.
+/// Without a fault of models the driver of a net is that of the net to which one turn leads, where the turn doesn't end.
 pub fn drivers_turn()
-    ensures { (design : Design) → IsAccepted design → (path : Path) (name : Word)
+    ensures { (design : Design) → HasNoModelFault design → (path : Path) (name : Word)
         → driver design path name ≡ follow_turn (driver design) (turn design path name) }
 {}
 
-/// In an accepted design whatever goes along the turns like this gives each net its driver.
+/// Without a fault of models whatever goes along the turns like this gives each net its driver.
 pub fn drivers_are_one()
-    ensures { (design : Design) → IsAccepted design → (found : Path → Word → Option Source)
+    ensures { (design : Design) → HasNoModelFault design → (found : Path → Word → Option Source)
         → ((path : Path) (name : Word)
         → found path name ≡ follow_turn found (turn design path name))
         → (path : Path) (name : Word) → found path name ≡ driver design path name }
@@ -34,10 +34,10 @@ pub fn reads_are_numbered()
         × (number < length (columns design) + length (cells design)) }
 {}
 
-/// In an accepted design a right table of the formals that are bound gives each net its driver.
+/// Without a fault of models a right table of the formals that are bound gives each net its driver.
 pub fn slots_give_drivers()
     ensures { (design : Design) (slot : Path → Word → Option Source) → AreSlots design slot
-        → IsAccepted design → (path : Path) (name : Word)
+        → HasNoModelFault design → (path : Path) (name : Word)
         → by_slots design slot path name ≡ driver design path name }
 {}
 

@@ -6,13 +6,13 @@ ghost use Rattle.vw_design.specs.declared.model.Model.{Model};
 ghost use Rattle.vw_design.specs.Paths.{Path, model_at};
 ghost use Rattle.vw_design.specs.Preorder.{Site, is_latch, instances, sites, cells, latches};
 ghost use Rattle.vw_design.specs.PathValue.{item_at, place_of_path, place_of_site};
-ghost use Rattle.vw_design.specs.Accepted.{IsAccepted};
+ghost use Rattle.vw_design.specs.Accepted.{HasNoModelFault};
 
-/// In an accepted design a path is an instance exactly where it is listed among the instances.
+/// Without a fault of models a path is an instance exactly where it is listed among the instances.
 pub fn instances_are_listed()
-    ensures listed { (design : Design) → IsAccepted design → (path : Path) (model : Model)
+    ensures listed { (design : Design) → HasNoModelFault design → (path : Path) (model : Model)
         → model_at design path ≡ Some model → Contains (instances design) path }
-    ensures placed { (design : Design) → IsAccepted design → (path : Path)
+    ensures placed { (design : Design) → HasNoModelFault design → (path : Path)
         → Contains (instances design) path
         → (model : Model) × (model_at design path ≡ Some model) }
 {}
@@ -25,9 +25,9 @@ pub fn sites_are_items()
         → filter (λ site. is_latch site.item) (cells design) ≡ latches design }
 {}
 
-/// In an accepted design each item of an instance is a site.
+/// Without a fault of models each item of an instance is a site.
 pub fn items_are_sites()
-    ensures { (design : Design) → IsAccepted design → (path : Path) (number : ℕ) (item : Item)
+    ensures { (design : Design) → HasNoModelFault design → (path : Path) (number : ℕ) (item : Item)
         → item_at design path number ≡ Some item
         → (site : Site) × Contains (sites design) site × (site.path ≡ path)
         × (site.number ≡ number) × (site.item ≡ item) }

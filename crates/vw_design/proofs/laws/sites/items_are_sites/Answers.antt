@@ -1,6 +1,6 @@
-use Rattle.vw_design.proofs.Placed.{accepted_site}
+use Rattle.vw_design.proofs.Placed.{faultless_site}
 use Rattle.vw_design.proofs.laws.sites.items_are_sites.Goals as goal
 
 -- its instance is listed, and so are all items of it
 pub returns : goal.returns
-returns c = accepted_site
+returns c = faultless_site
