@@ -15,7 +15,7 @@ use Rattle.vw_design.specs.PathValue.{item_at, place_of_site}
 use Rattle.vw_design.proofs.Has.{Has, Has-left}
 use Rattle.vw_design.proofs.Entries.{item_entry}
 use Rattle.vw_design.proofs.Weights.{items_weigh, placed_weighs, instances_weigh, cells_weigh}
-use Rattle.vw_design.proofs.Once.{cell_once}
+use Rattle.vw_design.proofs.Once.{site_once, cell_once}
 
 -- numbered items cut at one of them
 record IsCutAt (number before : ℕ) (items : List Item) (entry : Numbered) : Type 0 where
@@ -119,6 +119,37 @@ module _ (design : Design) where
       let sum : place ≡ weight_of cell_one before + items_weight cell_one (model_weight design cell_one depth) (take number (items_of (model_at design path))) =
       omega (arith, counted, cells_weigh before, cells_weigh cut.front, weighs, named) in
       ap (place_of_site (cells design) path) (sym entry.number_is) ∙ cell_once design place (site_at path entry.entry) stands ∙ ap (λ (n : ℕ). Some n) sum
+
+  -- each site is a cell or places an instance
+  all_weigh : (list : List Site) → length list ≡ weight_of cell_one list + weight_of placed_one list
+  all_weigh [] = refl
+  all_weigh (site ∷ list) = omega (arith, all_weigh list, one_each site.item) where
+    one_each : (item : Item) → cell_one item + placed_one item ≡ 1
+    one_each (Names line ins out cover) = refl
+    one_each (Latch line d q edge control init) = refl
+    one_each (Sub line name binds) = refl
+
+  -- a site's number: the sites before the instance, and the cells and instances that the items before it count
+  pub site_number : (before after : List Site) (depth : ℕ) (path : Path) → sites design ≡ before ++ (sites_below design (suc depth) path ++ after)
+      → (number : ℕ) (item : Item) → item_at design path number ≡ Some item
+      → place_of_site (sites design) path number
+      ≡ Some ((weight_of cell_one before + weight_of placed_one before)
+      + (items_weight cell_one (model_weight design cell_one depth) (take number (items_of (model_at design path)))
+      + items_weight placed_one (model_weight design placed_one depth) (take number (items_of (model_at design path)))))
+  site_number before after depth path all number item at =
+      let items = items_of (model_at design path) in
+      let entry = item_entry items number item at in
+      let cut = cut_site depth path entry.entry entry.has in
+      let whole = cut_design before after depth path all entry.entry cut in
+      let stands : slice_get (sites design) (length (before ++ cut.front)) ≡ Some (site_at path entry.entry) =
+      ap (λ (list : List Site). slice_get list (length (before ++ cut.front))) whole ∙ behind_front (before ++ cut.front) (cut.rest ++ after) (site_at path entry.entry) in
+      let cells_named = ap (λ (n : ℕ). items_weight cell_one (model_weight design cell_one depth) (take n items)) entry.number_is in
+      let placed_named = ap (λ (n : ℕ). items_weight placed_one (model_weight design placed_one depth) (take n items)) entry.number_is in
+      let sum : length (before ++ cut.front)
+          ≡ (weight_of cell_one before + weight_of placed_one before)
+          + (items_weight cell_one (model_weight design cell_one depth) (take number items) + items_weight placed_one (model_weight design placed_one depth) (take number items)) =
+      omega (arith, length-append before cut.front, all_weigh before, all_weigh cut.front, cut.weighs cell_one, cut.weighs placed_one, cells_named, placed_named) in
+      ap (place_of_site (sites design) path) (sym entry.number_is) ∙ site_once design (length (before ++ cut.front)) (site_at path entry.entry) stands ∙ ap (λ (n : ℕ). Some n) sum
 
   -- the number of an instance that an item places: the root, the instances before its parent's items, and what the items
   -- before it weigh

@@ -50,7 +50,8 @@ pub fn heights_are_counted()
 {}
 
 /// Where the sites of an instance stand behind some sites of the design, the number of a cell of it is that of the cells
-/// before, with what the items before it weigh; and so it is with the instances that it places, the root being the first.
+/// before, with what the items before it weigh; and so it is with the instances that it places, the root being the first,
+/// and with all its sites, of which each is a cell or places an instance.
 pub fn numbers_are_counts()
     ensures cells { (design : Design) (before after : List Site) (depth : ℕ) (path : Path)
         → sites design ≡ before ++ (sites_below design (suc depth) path ++ after)
@@ -66,4 +67,13 @@ pub fn numbers_are_counts()
         + items_weight placed_one (model_weight design placed_one depth)
         (take number (items_of (model_at design path)))))
         ≡ Some (suc (length (placings (take number (items_of (model_at design path))))) ∷ path) }
+    ensures sites { (design : Design) (before after : List Site) (depth : ℕ) (path : Path)
+        → sites design ≡ before ++ (sites_below design (suc depth) path ++ after)
+        → (number : ℕ) (item : Item) → item_at design path number ≡ Some item
+        → place_of_site (sites design) path number
+        ≡ Some ((weight_of cell_one before + weight_of placed_one before)
+        + (items_weight cell_one (model_weight design cell_one depth)
+        (take number (items_of (model_at design path)))
+        + items_weight placed_one (model_weight design placed_one depth)
+        (take number (items_of (model_at design path))))) }
 {}
