@@ -1,0 +1,32 @@
+-- Tables of a design by numbers.
+use Rattle.std.specs.Prelude.{◌≡◌, ℕ, List, [], slice_get, Option, Some, None, option_map, option_and_then}
+use Rattle.std.specs.Option.{unwrap_or}
+use Rattle.vw_design.specs.declared.model.Model.{Model}
+use Rattle.vw_design.specs.declared.design.Design.{Design}
+use Rattle.vw_claims.specs.declared.model_claims.ModelClaims.{ModelClaims}
+use Rattle.vw_claims.specs.Firsts.{First}
+use Rattle.vw_claims.specs.Claimed.{AreClaims}
+use Rattle.vw_sizes.specs.Sizes.{AreBefore}
+use Rattle.vw_names.specs.Names.{firsts_of, AreNames}
+use Rattle.vw_walk.specs.Tables.{ArePlaced}
+use Rattle.vw_drivers.specs.declared.tables.Tables.{Tables}
+
+-- the claims of each model
+abbrev pub AreModelClaims : Design → List ModelClaims → Type 0
+AreModelClaims design claims =
+    (number : ℕ) (model : Model) → slice_get design.models number ≡ Some model
+    → (found : ModelClaims) × (slice_get claims number ≡ Some found) × AreClaims design (Some model) found
+
+-- the tables are those of the design
+pub record AreTables (design : Design) (tables : Tables) : Type 0 where
+  pub placed : ArePlaced design tables.instances
+  pub before : AreBefore design tables.before
+  pub claims : AreModelClaims design tables.claims
+  pub names : AreNames design tables.claims tables.names
+
+-- the claimed names of the root, and of the model of an instance
+abbrev pub root_firsts : Tables → List First
+root_firsts tables = firsts_of tables.claims (Some 0)
+
+abbrev pub instance_firsts : Tables → ℕ → List First
+instance_firsts tables instance = firsts_of tables.claims (option_map (λ entry. entry.model) (slice_get tables.instances instance))

