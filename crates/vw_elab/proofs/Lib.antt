@@ -1,0 +1,3 @@
+pub mod FurtherFaults
+pub mod PortColumns
+pub mod ReadTables

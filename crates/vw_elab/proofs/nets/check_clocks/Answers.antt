@@ -1,0 +1,44 @@
+use Rattle.std.proofs.Common.{refl, sym, ◌∙◌}
+use Rattle.vw_design.specs.Paths.{Word, printed}
+use Rattle.vw_nets.specs.declared.nets.Pair.{Pair}
+use Rattle.vw_design.specs.NetFaults.{Unlike, Edged, gated_clock, several_clocks, several_edges, clock_as_data}
+use Rattle.vw_design.specs.Accepted.{clock_gated, edges_differ, clock_read}
+use Rattle.vw_elab.proofs.FurtherFaults.{nothing_found, printed_is, latches_are, by_parts, of_nets}
+use Rattle.vw_elab.proofs.nets.check_clocks.Goals as goal
+
+abbrev pair_of : Unlike Word → Pair
+pair_of two = record { first = two.first; other = two.other }
+
+abbrev latches_of : Unlike Edged → Pair
+latches_of two = record { first = printed two.first.net; other = printed two.other.net }
+
+-- no earlier fault is there
+pub returns-in-Some : goal.returns-in-Some
+returns-in-Some c =
+    let design = c.args.nets.now.design.now in
+    let drivers = c.requires.drivers in
+    let found = printed_is (gated_clock design) c.in-Some.net (sym c.in-Some.is ∙ c.in_ok-net.ensures) in
+    (found.0, of_nets design drivers.models (clock_gated found.0) (by_parts drivers.driven drivers.one_driver found.1 refl refl refl), found.2)
+
+pub returns-in-Some-3 : goal.returns-in-Some-3
+returns-in-Some-3 c =
+    let design = c.args.nets.now.design.now in
+    let drivers = c.requires.drivers in
+    let free = nothing_found printed (gated_clock design) c.in_ok-net.field-0 c.in_ok-net.ensures c.in_default.is in
+    let one = nothing_found pair_of (several_clocks design) c.in_ok-ports.field-0 c.in_ok-ports.ensures c.in_default-2.is in
+    let found = latches_are (several_edges design) c.in-Some-3.latches (sym c.in-Some-3.is ∙ c.in_ok-latches.ensures) in (
+      found.latches,
+      of_nets design drivers.models (edges_differ found.latches) (by_parts drivers.driven drivers.one_driver free one found.are refl),
+      found.first,
+      found.other,
+    )
+
+pub returns-in-Some-4 : goal.returns-in-Some-4
+returns-in-Some-4 c =
+    let design = c.args.nets.now.design.now in
+    let drivers = c.requires.drivers in
+    let free = nothing_found printed (gated_clock design) c.in_ok-net.field-0 c.in_ok-net.ensures c.in_default.is in
+    let one = nothing_found pair_of (several_clocks design) c.in_ok-ports.field-0 c.in_ok-ports.ensures c.in_default-2.is in
+    let edge = nothing_found latches_of (several_edges design) c.in_ok-latches.field-0 c.in_ok-latches.ensures c.in_default-3.is in
+    let found = printed_is (clock_as_data design) c.in-Some-4.net (sym c.in-Some-4.is ∙ c.in_ok-net-2.ensures) in
+    (found.0, of_nets design drivers.models (clock_read found.0) (by_parts drivers.driven drivers.one_driver free one edge found.1), found.2)

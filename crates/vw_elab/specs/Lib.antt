@@ -1,0 +1,7 @@
+pub mod Refusals
+pub mod Messages
+pub mod MessageLines
+pub mod Steps
+pub mod Tables
+pub mod Numbers
+pub mod ByColumns

@@ -1,0 +1,40 @@
+-- Why a design is refused: its fault, by what a message tells of it. Of circles any one may be told.
+use Rattle.std.specs.Prelude.{◌≡◌, ℕ, Result, Ok, Err}
+use Rattle.vw_design.specs.declared.design.Design.{Design}
+use Rattle.vw_design.specs.Paths.{Word, Net, printed}
+use Rattle.vw_design.specs.NetFaults.{Unlike, Edged}
+use Rattle.vw_design.specs.Limits.{limit_of}
+use Rattle.vw_design.specs.Accepted.{Fault, model_unknown, recursive, formal_unknown, input_unbound, output_both_ways, over_limit, net_undriven, driven_twice, clock_gated, clocks_differ, edges_differ, clock_read, IsFaultOf}
+use Rattle.vw_sizes.specs.Quantities.{counted_of}
+use Rattle.vw_elab.specs.declared.fault.DesignFault.{DesignFault}
+use Rattle.vw_elab.specs.declared.fault.DesignFault.TheVariants.{UnknownModel, RecursiveModel, UnknownFormal, UnboundInput, BothWays, TooBig, Undriven, TwoDrivers, GatedClock, SeveralClocks, SeveralEdges, ClockAsData, NoMemory}
+
+-- the fault of a design with such a net, as it is printed
+abbrev pub HasNet : Design → (Net → Fault) → Word → Type 0
+HasNet design fault text = (net : Net) × IsFaultOf design (fault net) × (text ≡ printed net)
+
+-- the fault of a design with two such latches, by the nets that they drive
+abbrev pub HasLatches : Design → Word → Word → Type 0
+HasLatches design first other =
+    (latches : Unlike Edged) × IsFaultOf design (edges_differ latches) × (first ≡ printed latches.first.net) × (other ≡ printed latches.other.net)
+
+-- what is told is the fault of the design; want of memory tells nothing of it
+abbrev pub IsRefusal : Design → DesignFault → Type 0
+IsRefusal design (UnknownModel line) = IsFaultOf design (model_unknown line)
+IsRefusal design (RecursiveModel names) = IsFaultOf design (recursive names)
+IsRefusal design (UnknownFormal line formal) = IsFaultOf design (formal_unknown (record { line = line; name = formal }))
+IsRefusal design (UnboundInput line formal) = IsFaultOf design (input_unbound (record { line = line; name = formal }))
+IsRefusal design (BothWays model name) = IsFaultOf design (output_both_ways (record { model = model; name = name }))
+IsRefusal design (TooBig quantity limit) = IsFaultOf design (over_limit (counted_of quantity)) × (limit ≡ limit_of (counted_of quantity))
+IsRefusal design (Undriven net) = HasNet design (λ n. net_undriven n) net
+IsRefusal design (TwoDrivers net) = HasNet design (λ n. driven_twice n) net
+IsRefusal design (GatedClock net) = HasNet design (λ n. clock_gated n) net
+IsRefusal design (SeveralClocks first other) = IsFaultOf design (clocks_differ (record { first = first; other = other }))
+IsRefusal design (SeveralEdges first other) = HasLatches design first other
+IsRefusal design (ClockAsData net) = HasNet design (λ n. clock_read n) net
+IsRefusal design NoMemory = Unit {0}
+
+-- something is made of a design, or the design is refused
+abbrev pub Judges : {A : Type 0} → Design → (A → Type 0) → Result A DesignFault → Type 0
+Judges design Good (Ok x) = Good x
+Judges design Good (Err fault) = IsRefusal design fault

@@ -1,0 +1,22 @@
+-- The tables of a design.
+use Rattle.std.specs.Prelude.{List}
+use Rattle.vw_design.specs.declared.design.Design.{Design}
+use Rattle.vw_design.specs.Accepted.{IsAccepted}
+use Rattle.vw_walk.specs.Tables.{AreCellSites}
+use Rattle.vw_drivers.specs.Tables.{AreTables, root_firsts}
+use Rattle.vw_drivers.specs.Drivers.{AreDrivers}
+use Rattle.vw_nets.specs.declared.columns.Columns.{Columns}
+use Rattle.vw_nets.specs.Columns.{AreColumns}
+use Rattle.vw_elab.specs.declared.parts.Parts.{Parts}
+
+-- instances, cells and drivers by numbers
+pub record AreParts (design : Design) (parts : Parts) : Type 0 where
+  pub tables : AreTables design parts.tables
+  pub cells : AreCellSites design parts.cells
+  pub drivers : AreDrivers design parts.tables parts.drivers
+
+-- and the columns, of a design without a fault
+pub record IsElaborated (design : Design) (made : Parts) (numbers : Columns) : Type 0 where
+  pub accepted : IsAccepted design
+  pub parts : AreParts design made
+  pub columns : AreColumns design (root_firsts made.tables) numbers

@@ -1,0 +1,199 @@
+//! Elaborated designs, and what can be read of them.
+ghost use Rattle.std.specs.Prelude.{◌≡◌, ◌<◌, ℕ, Some, length, slice_get};
+ghost use Rattle.vw_design.specs.Accepted.{IsAccepted};
+ghost use Rattle.vw_design.specs.Clocks.{columns};
+ghost use Rattle.vw_design.specs.Drivers.{driver};
+ghost use Rattle.vw_design.specs.Limits.{instance_count, cell_count};
+ghost use Rattle.vw_design.specs.Paths.{Word, Path};
+ghost use Rattle.vw_design.specs.Preorder.{instances, cells, Site};
+ghost use Rattle.vw_names.specs.Names.{reads_of};
+ghost use Rattle.vw_walk.specs.Tables.{IsCellSite};
+ghost use Rattle.vw_claims.specs.Firsts.{number_named};
+ghost use Rattle.vw_drivers.specs.Tables.{instance_firsts};
+ghost use Rattle.vw_elab.specs.ByColumns.{driver_by, reading_of};
+ghost use Rattle.vw_elab.specs.Numbers.{IsInstance, driver_of};
+ghost use Rattle.vw_elab.specs.Tables.{IsElaborated};
+
+use crate::driver::Driver;
+use crate::parts::Parts;
+use std::marker::Model;
+use vw_design::Design;
+use vw_drivers::{Source, Tables};
+use vw_nets::Columns;
+use vw_outside::Name;
+use vw_walk::CellSite;
+
+/// An instance by numbers.
+#[derive(Clone, Copy, Debug, PartialEq, Eq)]
+pub struct Instance {
+    /// The number of its model in the design.
+    pub model: u32,
+    /// The number of the instance that places it; 0 for the root.
+    pub parent: u32,
+    /// Its place there: the number, from 1, of the `.subckt` item among those of the model; 0 for the root.
+    pub place: u32,
+}
+
+/// A design without a fault, with its instances, cells, drivers and columns by numbers. Contracts see it as the design.
+#[derive(Drop)]
+pub struct Elaborated {
+    design: Design,
+    parts: Parts,
+    columns: Columns,
+}
+
+impl Model for Elaborated {
+    ghost use Rattle.vw_design.specs.declared.design.Design.{Design as TheDesign};
+    ghost use Rattle.vw_elab.specs.Tables.{IsElaborated};
+
+    ghost Value = { TheDesign };
+
+    ghost view = { λ elaborated. elaborated.design };
+
+    ghost invariant = { λ elaborated. IsElaborated elaborated.design elaborated.parts elaborated.columns };
+}
+
+/// What drives a net, by the columns of ports.
+fn driver_by(columns: &Columns, source: Option<Source>) -> Option<Driver>
+    ensures { result ≡ driver_by columns.now.ports source }
+{
+    match source? {
+        Source::Cell(cell) => Some(Driver::Cell(cell)),
+        Source::Port(number) => match columns.ports.as_slice().get(number as usize)? {
+            Some(column) => Some(Driver::Column(*column)),
+            None => Some(Driver::Clock),
+        },
+    }
+}
+
+/// The number of the first claim on a name of an instance.
+fn number_of(tables: &Tables, instance: u32, name: &Name) -> Option<u32>
+    ensures { result ≡ number_named (instance_firsts tables.now instance) name.now }
+{
+    let entry = tables.instances().get(instance as usize)?;
+    let claims = tables.claims().get(entry.model as usize)?;
+    claims.first(name.as_slice())
+}
+
+/// What a cell reads: the instance of the net, and the number of the first claim on its name there.
+#[derive(Clone, Copy, Debug, PartialEq, Eq)]
+pub struct Reading {
+    pub instance: u32,
+    pub claim: Option<u32>,
+}
+
+/// What a cell reads, where it has an input with this number.
+fn reading_of(parts: &Parts, cell: u32, input: u32) -> Option<Reading>
+    ensures { result ≡ reading_of parts.now cell input }
+{
+    let site = parts.cells.as_slice().get(cell as usize)?;
+    let entry = parts.tables.instances().get(site.instance as usize)?;
+    let names = parts.tables.names().get(entry.model as usize)?;
+    let reads = names.reads().get(site.item as usize)?;
+    let claim = reads.as_slice().get(input as usize)?;
+    Some(Reading {
+        instance: site.instance,
+        claim: *claim,
+    })
+}
+
+impl Elaborated {
+    /// The elaborated design of these parts.
+    pub(crate) fn of(design: Design, parts: Parts, columns: Columns) -> Self
+        requires { IsElaborated design parts columns }
+        ensures { result ≡ design }
+    {
+        Elaborated {
+            design,
+            parts,
+            columns,
+        }
+    }
+
+    /// The design, which is accepted. It takes no memory.
+    pub fn design(&self) -> &Design
+        ensures is { result.now ≡ self.now }
+        ensures accepted { IsAccepted self.now }
+    {
+        &self.design
+    }
+
+    /// How many columns a stimulus has. It takes no memory.
+    pub fn columns(&self) -> u32
+        ensures { result ≡ length (columns self.now) }
+    {
+        self.columns.inputs.len() as u32
+    }
+
+    /// The name of a column, an input of the root. It takes no memory.
+    pub fn column(&self, k: u32) -> &Name
+        requires { k < length (columns self.now) }
+        ensures { slice_get (columns self.now) k ≡ Some result.now }
+    {
+        let place = self.columns.inputs.as_slice()[k as usize];
+        &self.design.models()[0].inputs()[place as usize]
+    }
+
+    /// How many instances there are. It takes no memory.
+    pub fn instances(&self) -> u32
+        ensures { result ≡ instance_count self.now }
+    {
+        self.parts.tables.instances().len() as u32
+    }
+
+    /// The instance with a number. Instances are numbered in preorder, and the root has number 0. It takes no memory.
+    pub fn instance(&self, k: u32) -> Instance
+        requires { k < instance_count self.now }
+        ensures { IsInstance self.now k result }
+    {
+        let entry = &self.parts.tables.instances()[k as usize];
+        Instance {
+            model: entry.model,
+            parent: entry.parent,
+            place: entry.place,
+        }
+    }
+
+    /// How many cells there are: gates and latches. It takes no memory.
+    pub fn cells(&self) -> u32
+        ensures { result ≡ cell_count self.now }
+    {
+        self.parts.cells.len() as u32
+    }
+
+    /// The instance and the item of a cell. Cells are numbered in preorder. It takes no memory.
+    pub fn site(&self, cell: u32) -> CellSite
+        requires { cell < cell_count self.now }
+        ensures { (site : Site) → slice_get (cells self.now) cell ≡ Some site
+            → IsCellSite (instances self.now) site result }
+    {
+        self.parts.cells.as_slice()[cell as usize]
+    }
+
+    /// The driver of a net: of a name of an instance. Nothing where the net has none, or there is no such instance. It
+    /// takes no memory.
+    pub fn driver(&self, instance: u32, name: &Name) -> Option<Driver>
+        ensures { (path : Path) → slice_get (instances self.now) instance ≡ Some path
+            → result ≡ driver_of self.now (driver self.now path name.now) }
+    {
+        let tables = &self.parts.tables;
+        let claim = number_of(tables, instance, name);
+        let source = self.parts.drivers.source(tables, instance, claim);
+        driver_by(&self.columns, source)
+    }
+
+    /// The driver of what a cell reads: of an input of a gate, by its number from 0; of the data input of a latch, which is
+    /// number 0, and of its control, which is number 1. It takes no memory and looks up no name.
+    pub fn read(&self, cell: u32, input: u32) -> Option<Driver>
+        ensures { (site : Site) (name : Word) → slice_get (cells self.now) cell ≡ Some site
+            → slice_get (reads_of site.item) input ≡ Some name
+            → result ≡ driver_of self.now (driver self.now site.path name) }
+    {
+        let reading = reading_of(&self.parts, cell, input)?;
+        let source = self
+            .parts
+            .drivers
+            .source(&self.parts.tables, reading.instance, reading.claim);
+        driver_by(&self.columns, source)
+    }
+}

@@ -1,0 +1,17 @@
+//! Elaborated designs: designs without a fault, with their instances, cells, drivers and columns by numbers.
+#![tactic(auto)]
+
+mod driver;
+mod elaborated;
+mod elaboration;
+mod fault;
+mod models;
+mod nets;
+mod parts;
+
+pub use driver::Driver;
+pub use elaborated::{Elaborated, Instance};
+pub use elaboration::elaborate;
+pub use fault::DesignFault;
+pub use vw_sizes::Quantity;
+pub use vw_walk::CellSite as Site;

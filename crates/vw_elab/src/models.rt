@@ -1,0 +1,94 @@
+//! Faults of models, and the models by numbers.
+ghost use Rattle.std.specs.Prelude.{◌≡◌, None};
+ghost use Rattle.vw_design.specs.ModelFaults.{unknown_model};
+ghost use Rattle.vw_design.specs.ModelNumbers.{AreTargets, AreMarks, IsModelOrder};
+ghost use Rattle.vw_sizes.specs.Sizes.{AreSizes};
+ghost use Rattle.vw_elab.specs.Refusals.{Judges};
+ghost use Rattle.vw_elab.specs.Steps.{HasModels, HasBindings, AreModels};
+
+use crate::fault::DesignFault;
+use std::alloc::Global;
+use vw_bindings::{both_ways, unbound_input, unknown_formal};
+use vw_design::Design;
+use vw_models::{ModelOrder, marks_of, order_of, ordered_is_no_circle, targets_of, unknown_model};
+use vw_net::Sequence;
+use vw_sizes::{Measured, Sizes, sizes_of};
+
+/// The models of a design by numbers.
+#[derive(Drop)]
+pub struct Models {
+    /// For each model, the numbers of the models that its `.subckt` items name.
+    pub targets: Vec<Sequence<Option<u32>>>,
+    /// The numbers of the models that are reached, each behind those that it places.
+    pub order: Sequence<u32>,
+}
+
+/// An order of the models that are reached.
+fn order_of_models(
+    alloc: Global,
+    design: &Design,
+    targets: &[Sequence<Option<u32>>],
+    marks: &[bool],
+) -> Result<Sequence<u32>, DesignFault>
+    requires targets { AreTargets design.now targets.now }
+    requires marks { AreMarks design.now marks.now }
+    ensures order { Judges design.now (λ order. IsModelOrder design.now order × HasModels design.now) result }
+{
+    if let Some(line) = unknown_model(design, targets, marks) {
+        return Err(DesignFault::UnknownModel(line));
+    }
+    match order_of(alloc, design, targets)? {
+        ModelOrder::Circle(names) => Err(DesignFault::RecursiveModel(names)),
+        ModelOrder::Order(order) => {
+            ordered_is_no_circle();
+            Ok(order)
+        }
+    }
+}
+
+/// Looks for faults of bindings.
+fn check_bindings(
+    alloc: Global,
+    design: &Design,
+    targets: &[Sequence<Option<u32>>],
+    marks: &[bool],
+) -> Result<(), DesignFault>
+    requires targets { AreTargets design.now targets.now }
+    requires marks { AreMarks design.now marks.now }
+    requires models { HasModels design.now }
+    ensures { Judges design.now (λ _. HasBindings design.now) result }
+{
+    if let Some(at) = unknown_formal(alloc, design, targets, marks)? {
+        return Err(DesignFault::UnknownFormal(at.line, at.formal));
+    }
+    if let Some(at) = unbound_input(alloc, design, targets, marks)? {
+        return Err(DesignFault::UnboundInput(at.line, at.formal));
+    }
+    if let Some(of) = both_ways(alloc, design, targets, marks)? {
+        return Err(DesignFault::BothWays(of.model, of.output));
+    }
+    Ok(())
+}
+
+/// The models of a design without a fault of its models' names and bindings.
+pub fn models_of(alloc: Global, design: &Design) -> Result<Models, DesignFault>
+    ensures { Judges design.now (AreModels design.now) result }
+{
+    let targets = targets_of(alloc, design)?;
+    let marks = marks_of(alloc, design, &targets)?;
+    let order = order_of_models(alloc, design, &targets, &marks)?;
+    check_bindings(alloc, design, &targets, &marks)?;
+    Ok(Models { targets, order })
+}
+
+/// The sizes of a design, each within its limit.
+pub fn check_sizes(alloc: Global, design: &Design, models: &Models) -> Result<Sizes, DesignFault>
+    requires { AreModels design.now models.now }
+    ensures { Judges design.now (AreSizes design.now) result }
+{
+    let targets = models.targets.as_slice();
+    match sizes_of(alloc, design, targets, models.order.as_slice())? {
+        Measured::Fits(sizes) => Ok(sizes),
+        Measured::TooBig(quantity) => Err(DesignFault::TooBig(quantity, quantity.limit())),
+    }
+}

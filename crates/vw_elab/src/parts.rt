@@ -1,0 +1,65 @@
+//! The tables of a design by numbers.
+ghost use Rattle.std.specs.Prelude.{◌≡◌, IfOk};
+ghost use Rattle.vw_design.specs.Accepted.{HasNoModelFault};
+ghost use Rattle.vw_nets.specs.Nets.{AreNets};
+ghost use Rattle.vw_sizes.specs.Sizes.{AreSizes};
+ghost use Rattle.vw_elab.specs.Steps.{AreModels};
+ghost use Rattle.vw_elab.specs.Tables.{AreParts};
+
+use crate::models::Models;
+use std::alloc::{AllocError, Global};
+use vw_design::Design;
+use vw_drivers::{Drivers, Tables};
+use vw_net::Sequence;
+use vw_nets::Nets;
+use vw_sizes::Sizes;
+use vw_walk::{CellSite, walk};
+
+/// The instances, the cells and the drivers of a design by numbers.
+#[derive(Drop)]
+pub struct Parts {
+    pub tables: Tables,
+    pub cells: Sequence<CellSite>,
+    pub drivers: Drivers,
+}
+
+impl Parts {
+    /// Those of a design within the limits.
+    pub fn of(
+        alloc: Global,
+        design: &Design,
+        models: &Models,
+        sizes: Sizes,
+    ) -> Result<Self, AllocError>
+        requires models { AreModels design.now models.now }
+        requires sizes { AreSizes design.now sizes }
+        requires faultless { HasNoModelFault design.now }
+        ensures { IfOk result (AreParts design.now) }
+    {
+        let targets = models.targets.as_slice();
+        let walked = walk(alloc, design, targets, sizes.instances, sizes.cells)?;
+        let tables = Tables::of(alloc, design, targets, walked.instances, sizes.before)?;
+        let drivers = Drivers::of(alloc, design, &tables)?;
+        Ok(Parts {
+            tables,
+            cells: walked.cells,
+            drivers,
+        })
+    }
+
+    /// The tables by which the nets are looked at.
+    pub fn nets<'a>(&'a self, design: &'a Design) -> Nets<'a>
+        requires faultless { HasNoModelFault design.now }
+        requires parts { AreParts design.now self.now }
+        ensures nets { AreNets result }
+        ensures design { result.design.now ≡ design.now }
+        ensures tables { result.tables.now ≡ self.now.tables }
+    {
+        Nets {
+            design,
+            tables: &self.tables,
+            drivers: &self.drivers,
+            cells: self.cells.as_slice(),
+        }
+    }
+}
