@@ -52,18 +52,18 @@ module _ (design : Design) (counts : List ℕ) (each : length counts ≡ length 
   pub next : (items : List Item) (targets : List (Option ℕ)) (i place : ℕ) (item : Item) → i < length items → item ≡ get_or items i item → place ≤ length targets → AreAlong design (drop i items) (drop place targets) → IsNext items targets i place item
   next items targets i place item within at short along =
       by item (subst (λ (l : List Item). AreAlong design l (drop place targets)) (drop_more items i item within ∙ ap (λ (x : Item). x ∷ drop (i + 1) items) (sym at)) along) where
-    stays : (x : ℕ) → x ≡ place → AreAlong design (drop (i + 1) items) (drop place targets) → AreAlong design (drop (i + 1) items) (drop x targets)
-    stays x is there = subst (λ (n : ℕ). AreAlong design (drop (i + 1) items) (drop n targets)) (sym is) there
+        stays : (x : ℕ) → x ≡ place → AreAlong design (drop (i + 1) items) (drop place targets) → AreAlong design (drop (i + 1) items) (drop x targets)
+        stays x is there = subst (λ (n : ℕ). AreAlong design (drop (i + 1) items) (drop n targets)) (sym is) there
 
-    by : (x : Item) → AreAlong design (x ∷ drop (i + 1) items) (drop place targets) → IsNext items targets i place x
-    by (Names line ins out cover) there = record { inside = omega (arith, short); within = tt; below = refl; rest = stays (place + 0) (omega arith) there }
-    by (Latch line d q edge control init) there = record { inside = omega (arith, short); within = tt; below = refl; rest = stays (place + 0) (omega arith) there }
-    by (Sub line name binds) there = ⊎_elim
-        (λ inside.
-        let cut = subst (λ (l : List (Option ℕ)). AreAlong design (Sub line name binds ∷ drop (i + 1) items) l) (drop_more targets place None inside) there in
-        record { inside = omega (arith, inside); within = within_of name (get_or targets place None) cut.0; below = count_of name (get_or targets place None) cut.0; rest = cut.1 })
-        (λ past. absurd (none_along line name binds (drop (i + 1) items) (subst (λ (l : List (Option ℕ)). AreAlong design (Sub line name binds ∷ drop (i + 1) items) l) (drop_all place targets past) there)))
-        (cases_lt place (length targets))
+        by : (x : Item) → AreAlong design (x ∷ drop (i + 1) items) (drop place targets) → IsNext items targets i place x
+        by (Names line ins out cover) there = record { inside = omega (arith, short); within = tt; below = refl; rest = stays (place + 0) (omega arith) there }
+        by (Latch line d q edge control init) there = record { inside = omega (arith, short); within = tt; below = refl; rest = stays (place + 0) (omega arith) there }
+        by (Sub line name binds) there = ⊎_elim
+            (λ inside.
+            let cut = subst (λ (l : List (Option ℕ)). AreAlong design (Sub line name binds ∷ drop (i + 1) items) l) (drop_more targets place None inside) there in
+            record { inside = omega (arith, inside); within = within_of name (get_or targets place None) cut.0; below = count_of name (get_or targets place None) cut.0; rest = cut.1 })
+            (λ past. absurd (none_along line name binds (drop (i + 1) items) (subst (λ (l : List (Option ℕ)). AreAlong design (Sub line name binds ∷ drop (i + 1) items) l) (drop_all place targets past) there)))
+            (cases_lt place (length targets))
 
 -- the model at a place, and its targets
 pub model_at_place : (models others : List Model) (i : ℕ) (model : Model) → others ≡ models → i < length others → model ≡ get_or others i model → slice_get models i ≡ Some model

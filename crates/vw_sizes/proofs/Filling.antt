@@ -100,10 +100,12 @@ module _ (design : Design) (order : List ℕ) (is_order : IsModelOrder design or
       let model = named_by placing.model (slice_get design.models found.0) found.2 in
       let place = at-Has found.0 (take k order) found.1 in
       let short = slice_get_within (take k order) place.0 found.0 place.1 in
-      let early : place.0 < k = omega (arith, short, length-take k order, inside) in
-      (place.0, early,
-      sym (get_or-take k order place.0 0 early) ∙ get_or_from_slice_get (take k order) place.0 found.0 0 place.1
-      ∙ sym (place_of_model design found.0 model.0 model.1) ∙ ap (place_in_file design) model.2)
+      let early : place.0 < k = omega (arith, short, length-take k order, inside) in (
+        place.0,
+        early,
+        sym (get_or-take k order place.0 0 early) ∙ get_or_from_slice_get (take k order) place.0 found.0 0 place.1
+            ∙ sym (place_of_model design found.0 model.0 model.1) ∙ ap (place_in_file design) model.2,
+      )
 
   module _ (measure : Measure) (counts : List ℕ) where
     -- one more

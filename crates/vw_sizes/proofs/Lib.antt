@@ -6,3 +6,4 @@ pub mod Prefixes
 pub mod Bounds
 pub mod Reckoned
 pub mod Exact
+pub mod Chains

@@ -36,9 +36,10 @@ module _ (design : Design) (tables : Tables) (items : List Item) where
     each = λ k other at. ⊎_elim
         (λ there. far.each k other there)
         (λ last.
-        let place : i ≡ k = omega (arith, last.0, far.long) in
-        (ap (λ (b : Before). b.cells) (sym last.1) ∙ cells ∙ ap (λ (n : ℕ). min most (amount Cells (count_in design tables.cells.items) (take n items))) place,
-        ap (λ (b : Before). b.instances) (sym last.1) ∙ instances ∙ ap (λ (n : ℕ). min most (amount Instances (count_in design tables.instances.items) (take n items))) place))
+        let place : i ≡ k = omega (arith, last.0, far.long) in (
+          ap (λ (b : Before). b.cells) (sym last.1) ∙ cells ∙ ap (λ (n : ℕ). min most (amount Cells (count_in design tables.cells.items) (take n items))) place,
+          ap (λ (b : Before). b.instances) (sym last.1) ∙ instances ∙ ap (λ (n : ℕ). min most (amount Instances (count_in design tables.instances.items) (take n items))) place,
+        ))
         (last_or entries entry other k (ap (λ (l : List Before). slice_get l k) (sym is) ∙ at));
   }
 

@@ -15,3 +15,6 @@ mod words;
 pub use count::sizes_of;
 pub use quantity::Quantity;
 pub use sizes::{Before, Measured, Sizes};
+
+#[cfg(test)]
+mod tests;
