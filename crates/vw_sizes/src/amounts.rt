@@ -19,7 +19,8 @@ use std::alloc::{AllocError, Global};
 use vw_design::{Design, Item};
 use vw_net::Sequence;
 
-/// The number of the model that an item places, which stands at this place among the numbers of a model's.
+/// The number of the model that an item places: the one at this place among those that the item's model places. A gate or
+/// latch places none.
 pub fn target_of(item: &Item, targets: &[Option<u32>], place: usize) -> Option<u32>
     requires { place + placed_one item.now ≤ length targets.now }
     ensures { result ≡ target_in targets.now place item.now }
@@ -31,7 +32,7 @@ pub fn target_of(item: &Item, targets: &[Option<u32>], place: usize) -> Option<u
     }
 }
 
-/// The count of the model with a number; 0 without one.
+/// The count of the model with a number; 0 where there is none.
 pub fn count_of(counts: &[u32], target: Option<u32>) -> u32
     requires { IsWithin (length counts.now) target }
     ensures { result ≡ count_at counts.now target }
