@@ -1,10 +1,11 @@
 //! Elaborated designs, and what can be read of them.
-ghost use Rattle.std.specs.Prelude.{◌≡◌, ◌<◌, ℕ, Some, length, slice_get};
+ghost use Rattle.std.specs.Prelude.{◌≡◌, ◌<◌, ℕ, Some, length, slice_get, IfOk};
 ghost use Rattle.vw_design.specs.Accepted.{IsAccepted};
 ghost use Rattle.vw_design.specs.Clocks.{columns};
 ghost use Rattle.vw_design.specs.Drivers.{driver};
 ghost use Rattle.vw_design.specs.Limits.{instance_count, cell_count};
-ghost use Rattle.vw_design.specs.Paths.{Word, Path};
+ghost use Rattle.vw_design.specs.Paths.{Word, Path, printed};
+ghost use Rattle.vw_design.specs.Reads.{net_at};
 ghost use Rattle.vw_design.specs.Preorder.{instances, cells, Site};
 ghost use Rattle.vw_names.specs.Names.{reads_of};
 ghost use Rattle.vw_walk.specs.Tables.{IsCellSite};
@@ -16,10 +17,11 @@ ghost use Rattle.vw_elab.specs.Tables.{IsElaborated};
 
 use crate::driver::Driver;
 use crate::parts::Parts;
+use std::alloc::{AllocError, Global};
 use std::marker::Model;
 use vw_design::Design;
 use vw_drivers::{Source, Tables};
-use vw_nets::Columns;
+use vw_nets::{Columns, print_net};
 use vw_outside::Name;
 use vw_walk::CellSite;
 
@@ -195,5 +197,20 @@ impl Elaborated {
             .drivers
             .source(&self.parts.tables, reading.instance, reading.claim);
         driver_by(&self.columns, source)
+    }
+
+    /// A net of an instance as it is printed: each place followed by `/`, from the root on, and then the name.
+    pub fn printed(&self, alloc: Global, instance: u32, name: &Name) -> Result<Name, AllocError>
+        ensures { IfOk result (λ text. (path : Path)
+            → slice_get (instances self.now) instance ≡ Some path
+            → text ≡ printed (net_at path name.now)) }
+    {
+        print_net(
+            alloc,
+            &self.design,
+            self.parts.tables.instances(),
+            instance,
+            name,
+        )
     }
 }

@@ -34,7 +34,7 @@ front_among : (order : List ℕ) (i number : ℕ) → is_among (take i order) nu
 front_among order i number among = ap (λ (l : List ℕ). is_among l number) (sym (take-append-drop i order)) ∙ among_left (take i order) (drop i order) number among
 
 -- the first that passes stands before what is behind another one that passes
-front_position : {A : Type 0} → (test : A → Bool) (xs : List A) (end : ℕ) → list_any test (take end xs) ≡ true → position_or_len test xs < end
+pub front_position : {A : Type 0} → (test : A → Bool) (xs : List A) (end : ℕ) → list_any test (take end xs) ≡ true → position_or_len test xs < end
 front_position test [] zero any = absurd (true≢false (sym any))
 front_position test [] (suc end) any = absurd (true≢false (sym any))
 front_position test (x ∷ xs) zero any = absurd (true≢false (sym any))
@@ -111,7 +111,7 @@ module _ (design : Design) where
 
   module _ (order : List ℕ) (is_order : IsModelOrder design order) where
     -- the place of a name in the order
-    abbrev rank : Word → ℕ
+    abbrev pub rank : Word → ℕ
     rank name = position_or_len (λ number. has_model_name name (slice_get design.models number)) order
 
     -- what an item places stands before a place
@@ -126,7 +126,7 @@ module _ (design : Design) where
         let reached : is_reached design name ≡ true = ap (is_reached design) (sym model.2) ∙ sym (ap (is_reached_model design) model.1) ∙ sym (is_order.each found.0) ∙ among in
         and_from (is_reached design name) (nat_lt (rank name) p) reached (lt-ltb (rank name) p (front_position (λ (n : ℕ). has_model_name name (slice_get design.models n)) order p has))
 
-    ranking : IsRanking design (is_reached design) rank
+    pub ranking : IsRanking design (is_reached design) rank
     ranking = record { falls = λ name reached. by name reached (model_named design.models name) refl } where
       by : (name : Word) → is_reached design name ≡ true → (found : Option Model) → model_named design.models name ≡ found → list_all (is_below (is_reached design) rank (rank name)) (items_of found) ≡ true
       by name reached None is = refl

@@ -1,10 +1,20 @@
-//! Counts of a design over its models, and its limits.
+//! Counts of a design over its models, before any expansion, and its limits.
 #![tactic(auto)]
 
+mod amounts;
 mod count;
+mod entries;
+mod inputs;
+mod measure;
 mod quantity;
 mod sizes;
+mod tables;
+mod totals;
+mod words;
 
 pub use count::sizes_of;
 pub use quantity::Quantity;
 pub use sizes::{Before, Measured, Sizes};
+
+#[cfg(test)]
+mod tests;

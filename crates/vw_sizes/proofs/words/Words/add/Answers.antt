@@ -1,0 +1,10 @@
+use Rattle.std.proofs.Common.{◌∙◌, ap, is_some}
+use Rattle.std.specs.Str.{bytes_eq}
+use Rattle.std.proofs.lemmas.Map.Text.{hash_map_updates_str}
+use Rattle.vw_sizes.proofs.NameSets.{some_or}
+use Rattle.vw_sizes.proofs.words.Words.add.Goals as goal
+
+pub returns : goal.returns
+returns c = λ other.
+    let put = hash_map_updates_str c.args.word.now c.args.self.now.words c.insert.new.self _ c.in_ok-insert.ensures.updates in
+    ap is_some (put other) ∙ some_or (bytes_eq c.args.word.now other) _ _

@@ -1,0 +1,70 @@
+//! Sets of words.
+ghost use Rattle.std.specs.Prelude.{◌≡◌, ◌||◌, not, false, OnOk, filter, length};
+ghost use Rattle.std.specs.Str.{bytes_eq};
+ghost use Rattle.vw_design.specs.Distinct.{has_name};
+ghost use Rattle.vw_design.specs.Paths.{Word};
+ghost use Rattle.vw_sizes.specs.WordSets.{has_word};
+
+use std::alloc::{AllocError, Global};
+use std::collections::HashMap;
+use std::hash::{BuildHasherDefault, DefaultHasher};
+use vw_outside::Name;
+
+/// A set of words that lie elsewhere. Its hasher has a key: whoever writes a text chooses its words, and without a key
+/// any number of words can be chosen that collide.
+#[derive(Drop)]
+pub struct Words<'a> {
+    pub words: HashMap<&'a [u8], (), BuildHasherDefault<DefaultHasher>>,
+}
+
+impl<'a> Words<'a> {
+    /// No word. It takes no memory.
+    pub fn none(alloc: Global) -> Self
+        ensures { (word : Word) → has_word result.words word ≡ false }
+    {
+        Words {
+            words: HashMap::with_hasher(alloc, BuildHasherDefault::new()),
+        }
+    }
+
+    /// Whether a word is in the set.
+    pub fn has(&self, word: &[u8]) -> bool
+        ensures { result ≡ has_word self.now.words word.now }
+    {
+        self.words.get(word).is_some()
+    }
+
+    /// Adds a word.
+    fn add(&mut self, word: &'a [u8]) -> Result<(), AllocError>
+        ensures { OnOk result ((other : Word) → has_word self.new.words other
+            ≡ (bytes_eq word.now other || has_word self.old.words other)) }
+    {
+        self.words.insert(word, ())?;
+        Ok(())
+    }
+
+    /// Adds names.
+    pub fn add_all(&mut self, names: &'a [Name]) -> Result<(), AllocError>
+        ensures { OnOk result ((other : Word) → has_word self.new.words other
+            ≡ (has_name names.now other || has_word self.old.words other)) }
+    {
+        for name in names {
+            self.add(name.as_slice())?;
+        }
+        Ok(())
+    }
+
+    /// How many of some names aren't in the set.
+    pub fn count_out(&self, names: &[Name]) -> usize
+        ensures { result
+            ≡ length (filter (λ name. not (has_word self.now.words name)) names.now) }
+    {
+        let mut count = 0;
+        for name in names {
+            if !self.has(name.as_slice()) {
+                count += 1;
+            }
+        }
+        count
+    }
+}
