@@ -1,0 +1,20 @@
+use Rattle.std.proofs.Common.{◌≡◌, ◌<◌, ◌++◌, ◌∷◌, [], ℕ, Some, map, take, slice_get, sym, ◌∙◌, ap, ap₂}
+use Rattle.std.proofs.lemmas.List.{map-append}
+use Rattle.vw_design.specs.Preorder.{cells}
+use Rattle.vw_flat.specs.Numbers.{nets, numbers_at}
+use Rattle.vw_flat.proofs.Lists.{take_more, all_more}
+use Rattle.vw_flat.proofs.cell.numbers_read.Goals as goal
+
+-- one number more
+pub loop-input-preserved : goal.loop-input-preserved
+loop-input-preserved c =
+    let design = c.args.elaborated.now in
+    let numbers = numbers_at design (slice_get (cells design) c.args.cell) in
+    let old = c.loop-input.numbers.items in
+    let number = c.number_read.result in
+    record {
+      numbers =
+          ap (map (λ (n : ℕ). Some n)) c.in_ok-push.ensures.items ∙ map-append (λ (n : ℕ). Some n) old (number ∷ []) ∙ ap (λ ns. ns ++ Some number ∷ []) c.loop-input.invariant.numbers
+          ∙ sym (take_more numbers c.loop-input.input (Some number) c.number_read.ensures.number);
+      fit = all_more (λ (n : ℕ). n < nets design) old c.push.new.self.items number c.loop-input.invariant.fit c.number_read.ensures.fits c.in_ok-push.ensures.items;
+    }

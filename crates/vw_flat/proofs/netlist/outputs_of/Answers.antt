@@ -1,0 +1,31 @@
+use Rattle.std.proofs.Common.{◌≡◌, ◌<◌, ℕ, List, [], Option, Some, map, length, slice_get, get_or, option_map, refl, sym, ◌∙◌, ap}
+use Rattle.std.proofs.lemmas.Option.{slice_get-map, slice_get_read}
+use Rattle.vw_design.specs.declared.design.Design.{Design}
+use Rattle.vw_design.specs.declared.model.Model.{Model}
+use Rattle.vw_design.specs.Paths.{Word, Net, model_at, outputs_of}
+use Rattle.vw_design.specs.Reads.{net_at, root_outputs}
+use Rattle.vw_design.specs.Flattened.{number_of}
+use Rattle.vw_flat.specs.Numbers.{nets}
+use Rattle.vw_flat.proofs.Lists.{maps_more, all_more}
+use Rattle.vw_flat.proofs.netlist.outputs_of.Goals as goal
+
+-- one number more
+pub loop-place-preserved : goal.loop-place-preserved
+loop-place-preserved c =
+    let design = c.args.elaborated.now in
+    let name = c.index-names-place.result in
+    let place = c.loop-place.place in
+    let listed : slice_get c.outputs-names.result.now place ≡ Some name =
+    slice_get_read c.outputs-names.result.now (length c.outputs-names.result.now) place name refl c.loop-place-test.true c.index-names-place.is in
+    let root : slice_get design.models 0 ≡ Some c.index-models-0.result =
+    slice_get_read design.models (length design.models) 0 c.index-models-0.result refl design.some
+    (c.index-models-0.is ∙ ap (λ (models : List Model). get_or models 0 c.index-models-0.result) (c.models.ensures ∙ ap (λ (d : Design). d.models) c.design.ensures)) in
+    let names : c.outputs-names.result.now ≡ outputs_of (model_at design []) = c.outputs-names.ensures ∙ ap outputs_of (sym root) in
+    let at : slice_get (root_outputs design) place ≡ Some (net_at [] name) =
+    slice_get-map (net_at []) (outputs_of (model_at design [])) place ∙ ap (option_map (net_at [])) (ap (λ (list : List Word). slice_get list place) (sym names) ∙ listed) in
+    record {
+      are =
+          maps_more (λ (n : Net). number_of design n.path n.name) (λ (n : ℕ). Some n) (root_outputs design) c.loop-place.outputs.items c.push.new.self.items place (net_at [] name) c.number_output.result at
+          c.number_output.ensures.number c.loop-place.invariant.are c.in_ok-push.ensures.items;
+      fit = all_more (λ (n : ℕ). n < nets design) c.loop-place.outputs.items c.push.new.self.items c.number_output.result c.loop-place.invariant.fit c.number_output.ensures.fits c.in_ok-push.ensures.items;
+    }

@@ -1,0 +1,13 @@
+use Rattle.std.proofs.Common.{◌≡◌, ◌<◌, Some, map, take}
+use Rattle.std.specs.List.{All}
+use Rattle.vw_design.specs.Flattened.{number_of}
+use Rattle.vw_design.specs.Reads.{root_outputs}
+use Rattle.vw_flat.specs.Numbers.{nets}
+use Rattle.vw_flat.proofs.netlist.outputs_of.Given as goal
+
+-- so many numbers are there
+abbrev pub invariant-loop-place : goal.invariant-loop-place
+invariant-loop-place l = record {
+  are : map (λ net. number_of l.elaborated net.path net.name) (take l.place (root_outputs l.elaborated)) ≡ map (λ net. Some net) l.outputs.items;
+  fit : All (λ net. net < nets l.elaborated) l.outputs.items;
+}

@@ -1,0 +1,44 @@
+//! Numbers of nets.
+ghost use Rattle.std.specs.Prelude.{◌≡◌, ◌<◌, [], Some, length, slice_get};
+ghost use Rattle.vw_design.specs.Preorder.{cells};
+ghost use Rattle.vw_design.specs.Reads.{root_outputs};
+ghost use Rattle.vw_design.specs.Flattened.{number_of};
+ghost use Rattle.vw_flat.specs.Numbers.{number_by, HasNumber, nets, numbers_at};
+
+use vw_elab::{Driver, Elaborated};
+use vw_outside::Name;
+
+/// The number of the net of a driver that is no clock port: columns come first, and then cells.
+fn number(columns: u32, driver: Option<Driver>) -> u32
+    requires { HasNumber columns driver }
+    ensures { number_by columns driver ≡ Some result }
+{
+    match driver {
+        Some(Driver::Column(column)) => column,
+        Some(Driver::Cell(cell)) => columns + cell,
+        Some(Driver::Clock) | None => unreachable!(),
+    }
+}
+
+/// The number of a net that a cell reads as data: of an input of a gate, or of the data input of a latch, which is its
+/// only one.
+pub fn number_read(elaborated: &Elaborated, cell: u32, input: u32) -> u32
+    requires { input < length (numbers_at elaborated.now (slice_get (cells elaborated.now) cell)) }
+    ensures number { slice_get (numbers_at elaborated.now (slice_get (cells elaborated.now) cell)) input
+        ≡ Some (Some result) }
+    ensures fits { result < nets elaborated.now }
+{
+    elaborated.is_accepted();
+    number(elaborated.columns(), elaborated.read(cell, input))
+}
+
+/// The number of a net that is an output of the root.
+pub fn number_output(elaborated: &Elaborated, place: usize, name: &Name) -> u32
+    requires { slice_get (root_outputs elaborated.now) place
+        ≡ Some (record { path = []; name = name.now }) }
+    ensures number { number_of elaborated.now [] name.now ≡ Some result }
+    ensures fits { result < nets elaborated.now }
+{
+    elaborated.is_accepted();
+    number(elaborated.columns(), elaborated.driver(0, name))
+}
