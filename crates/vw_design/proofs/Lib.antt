@@ -4,6 +4,7 @@ pub mod WorkedRows
 pub mod WorkedFaults
 pub mod Has
 pub mod Names
+pub mod ModelNumbers
 pub mod Entries
 pub mod Claimed
 pub mod Ways
