@@ -13,6 +13,7 @@ pub mod Reached
 pub mod Placed
 pub mod Sites
 pub mod Lists
+pub mod ListPlaces
 pub mod FlatValues
 pub mod FlatHistories
 pub mod Found
