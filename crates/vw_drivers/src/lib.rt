@@ -1,7 +1,11 @@
 //! The drivers of the nets of a design, by numbers.
 #![tactic(auto)]
 
+mod claimed;
 mod drivers;
+mod led;
+mod outputs;
+mod ports;
 mod source;
 mod tables;
 

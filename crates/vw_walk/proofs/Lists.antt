@@ -3,6 +3,7 @@ use Rattle.std.proofs.Common.{◌≡◌, ◌⊎◌, ℕ, zero, suc, List, [], �
 use Rattle.std.specs.List.{AllZip}
 use Rattle.std.proofs.lemmas.List.{reverse-append}
 use Rattle.std.proofs.lemmas.Option.{same_Some, none-some}
+use Rattle.vw_design.proofs.ListPlaces.{in_front, behind}
 use Rattle.vw_walk.specs.Tables.{AreNumbered}
 
 module _ {A : Type 0} where
