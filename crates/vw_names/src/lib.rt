@@ -8,3 +8,6 @@ mod reads;
 
 pub use gather::names_of;
 pub use model_names::{ModelNames, PlacedNames, Way};
+
+#[cfg(test)]
+mod tests;
