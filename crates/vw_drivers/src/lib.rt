@@ -12,3 +12,6 @@ mod tables;
 pub use drivers::Drivers;
 pub use source::Source;
 pub use tables::Tables;
+
+#[cfg(test)]
+mod tests;
