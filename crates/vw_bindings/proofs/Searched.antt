@@ -12,7 +12,7 @@ use Rattle.vw_design.specs.declared.design.Design.{Design}
 use Rattle.vw_design.specs.Lists.{first_found}
 use Rattle.vw_design.specs.Paths.{Word, model_named, is_port}
 use Rattle.vw_design.specs.ModelFaults.{NameAt, NameOf, by_placing, first_placing, reached, unknown_formal_in, unknown_formal, unbound_input_in, unbound_input, both_ways, at_model}
-use Rattle.vw_models.proofs.Models.{name_of_named}
+use Rattle.vw_design.proofs.ModelNumbers.{name_of_named}
 use Rattle.vw_models.proofs.Places.{AllZip-back}
 use Rattle.vw_bindings.specs.declared.placement.Placement.{Placement}
 use Rattle.vw_bindings.specs.Placed.{Placed, placed_by, placed_models, IsPlacement, at_placement}

@@ -23,7 +23,7 @@ at_place [] k x within is = absurd (omega arith)
 at_place (y ∷ ys) zero x within is = ap (λ z. Some z) (sym is)
 at_place (y ∷ ys) (suc k) x within is = at_place ys k x (omega arith) is
 
-none_at_place : {A : Type 0} (xs : List A) (k : ℕ) → k < length xs → slice_get xs k ≡ None → ⊥
+pub none_at_place : {A : Type 0} (xs : List A) (k : ℕ) → k < length xs → slice_get xs k ≡ None → ⊥
 none_at_place [] k within is = omega arith
 none_at_place (y ∷ ys) zero within is = none-some y (sym is)
 none_at_place (y ∷ ys) (suc k) within is = none_at_place ys k (omega arith) is

@@ -1,5 +1,5 @@
 //! The first claims on the names of a model.
-ghost use Rattle.std.specs.Prelude.{◌≡◌, ◌<◌, not, map, length, Some, IfOk, IfSome, OnOk, []};
+ghost use Rattle.std.specs.Prelude.{◌≡◌, ◌<◌, not, map, length, IfOk, IfSome, OnOk, []};
 ghost use Rattle.vw_claims.specs.Firsts.{has_claim, claim_at, number_named, with_first, with_firsts, port_first};
 
 use crate::claim::Claim;
@@ -76,11 +76,11 @@ impl Firsts {
         Some(number as u32)
     }
 
-    /// The claim with a number.
-    pub fn claim(&self, number: u32) -> Claim
-        requires { number < length self.now }
-        ensures { Some result ≡ claim_at self.now number }
+    /// The claim with a number, if so many names are claimed.
+    pub fn claim(&self, number: u32) -> Option<Claim>
+        ensures { result ≡ claim_at self.now number }
     {
-        self.claims[number as usize]
+        let (_, claim) = self.claims.get_index(number as usize)?;
+        Some(*claim)
     }
 }

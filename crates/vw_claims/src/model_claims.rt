@@ -1,5 +1,5 @@
 //! What a model's claims are.
-ghost use Rattle.std.specs.Prelude.{◌≡◌, ◌<◌, length, option_map, Some, IfSome};
+ghost use Rattle.std.specs.Prelude.{◌≡◌, ◌<◌, length, option_map, IfSome};
 ghost use Rattle.vw_claims.specs.Firsts.{claim_at, number_named};
 
 use crate::claim::{Again, Claim};
@@ -22,10 +22,9 @@ impl ModelClaims {
         self.firsts.number(name)
     }
 
-    /// The claim with a number.
-    pub fn claim(&self, number: u32) -> Claim
-        requires { number < length self.now.firsts }
-        ensures { Some result ≡ claim_at self.now.firsts number }
+    /// The claim with a number, if so many names are claimed.
+    pub fn claim(&self, number: u32) -> Option<Claim>
+        ensures { result ≡ claim_at self.now.firsts number }
     {
         self.firsts.claim(number)
     }

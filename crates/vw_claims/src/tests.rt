@@ -39,7 +39,7 @@ fn the_first_claims_keep_their_order(rt: HostRuntime) -> Result<(), Fail> {
     assert_eq!(rt; claims.first(b"q"), Some(1));
     assert_eq!(rt; claims.first(b"c"), None);
     if let Some(number) = claims.first(b"q") {
-        assert_eq!(rt; claims.claim(number), Claim::Driven(3));
+        assert_eq!(rt; claims.claim(number), Some(Claim::Driven(3)));
     }
     if let Some(again) = claims.again() {
         assert_eq!(rt; again.item(), 4);

@@ -15,7 +15,7 @@ use Rattle.vw_design.specs.Reads.{nets_at, data_of, controls_of, root_outputs, r
 use Rattle.vw_design.specs.Clocks.{inputs_of, clocks_of, control_ports, clock_ports, columns}
 use Rattle.vw_design.specs.PathValue.{item_at, place_of_name, place_of_site, is_site_of}
 use Rattle.vw_design.specs.NetFaults.{is_clock_source}
-use Rattle.vw_design.specs.Accepted.{IsAccepted}
+use Rattle.vw_design.specs.Accepted.{HasNoModelFault, IsAccepted}
 use Rattle.vw_design.specs.Flattened.{number_of_source, number_of}
 use Rattle.vw_design.proofs.Has.{Has, Has-left, Has-right, Has-append, Has-filter, Has-flat_map, from-flat_map, Has-map, from-map, some-place, none-find, Has-Contains}
 use Rattle.vw_design.proofs.Names.{equal_names, has_name-Has, Has-has_name, name_same}
@@ -56,15 +56,16 @@ module _ (design : Design) where
   unfolding driver
   driver_is path name source found = followed 128 path name source found
 
-module _ (design : Design) (accepted : IsAccepted design) where
+module _ (design : Design) (faultless : HasNoModelFault design) where
   -- a gate or latch of an instance is among the cells
   pub cell_place : (path : Path) (number : ℕ) (item : Item) → item_at design path number ≡ Some item → is_cell item ≡ true → (place : ℕ) × (place_of_site (cells design) path number ≡ Some place)
   cell_place path number item at cell =
-      let site = faultless_site design accepted.models path number item at in
+      let site = faultless_site design faultless path number item at in
       let listed = Has-filter (λ (s : Site). is_cell s.item) site.0 (sites design) (Has-Contains site.0 (sites design) site.1) (ap is_cell site.4 ∙ cell) in
       some-place (is_site_of path number) site.0 (cells design) listed
       (and_from (bytes_eq site.0.path path) (eqb site.0.number number) (equal_names site.0.path path site.2) (eq-eqb site.0.number number site.3))
 
+module _ (design : Design) (accepted : IsAccepted design) where
   -- a port of the root that is no clock port is a column
   port_place : (name : Word) (root : Model) → model_at design [] ≡ Some root → is_port root name ≡ true → has_name (clock_ports design) name ≡ false
       → (place : ℕ) × (place_of_name (columns design) name ≡ Some place)
@@ -86,7 +87,7 @@ module _ (design : Design) (accepted : IsAccepted design) where
       let place = port_place name is.0 is.1 is.2 no_clock in
       (place.0, place.1, omega (arith, place_within (columns design) name place.0 place.1))
   numbered_source (at_cell path number) is no_clock =
-      let place = cell_place path number is.0 is.1 is.2 in
+      let place = cell_place design accepted.models path number is.0 is.1 is.2 in
       let site = site_of_place (cells design) path number place.0 place.1 in
       (length (columns design) + place.0, ap (option_map (λ (at : ℕ). length (columns design) + at)) place.1, omega (arith, slice_get_within (cells design) place.0 site.0 site.1))
 

@@ -4,6 +4,7 @@ pub mod WorkedRows
 pub mod WorkedFaults
 pub mod Has
 pub mod Names
+pub mod ModelNumbers
 pub mod Entries
 pub mod Claimed
 pub mod Ways
@@ -12,6 +13,7 @@ pub mod Reached
 pub mod Placed
 pub mod Sites
 pub mod Lists
+pub mod ListPlaces
 pub mod FlatValues
 pub mod FlatHistories
 pub mod Found

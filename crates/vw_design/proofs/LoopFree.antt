@@ -133,7 +133,7 @@ module _ (design : Design) (accepted : IsAccepted design) (free : IsLoopFree des
       → (name : Word) → Has name ins → Stays left path name
   inputs_stay left gates numbers met path number leads line ins out cover is further name has =
       let gate : Gate = record { path = path; number = number } in
-      let place = cell_place design accepted path number (Names line ins out cover) is refl in
+      let place = cell_place design accepted.models path number (Names line ins out cover) is refl in
       let back = λ (any : list_any (eqb place.0) numbers ≡ true).
       let found = from-any (eqb place.0) numbers any in
       let of_it = met.gate_of found.0 found.1 in

@@ -146,8 +146,8 @@ module _ (design : Design) where
       let cells_named = ap (λ (n : ℕ). items_weight cell_one (model_weight design cell_one depth) (take n items)) entry.number_is in
       let placed_named = ap (λ (n : ℕ). items_weight placed_one (model_weight design placed_one depth) (take n items)) entry.number_is in
       let sum : length (before ++ cut.front)
-          ≡ (weight_of cell_one before + weight_of placed_one before)
-          + (items_weight cell_one (model_weight design cell_one depth) (take number items) + items_weight placed_one (model_weight design placed_one depth) (take number items)) =
+      ≡ (weight_of cell_one before + weight_of placed_one before)
+      + (items_weight cell_one (model_weight design cell_one depth) (take number items) + items_weight placed_one (model_weight design placed_one depth) (take number items)) =
       omega (arith, length-append before cut.front, all_weigh before, all_weigh cut.front, cut.weighs cell_one, cut.weighs placed_one, cells_named, placed_named) in
       ap (place_of_site (sites design) path) (sym entry.number_is) ∙ site_once design (length (before ++ cut.front)) (site_at path entry.entry) stands ∙ ap (λ (n : ℕ). Some n) sum
 

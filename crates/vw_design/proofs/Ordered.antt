@@ -45,7 +45,7 @@ module _ (design : Design) (accepted : IsAccepted design) (flat : Flat) (made : 
   reader_by gate next (Some (LatchItem line d q edge control init)) is reads = absurd (true≢false (sym reads))
   reader_by gate next (Some (Sub line model binds)) is reads = absurd (true≢false (sym reads))
   reader_by gate next (Some (Names line ins out cover)) is reads =
-      let place = cell_place design accepted gate.path gate.number (Names line ins out cover) is refl in
+      let place = cell_place design accepted.models gate.path gate.number (Names line ins out cover) is refl in
       let found = site_of_place (cells design) gate.path gate.number place.0 place.1 in
       let site = found.0 in
       let listed = from-filter (λ (s : Site). is_cell s.item) site (sites design) (Has-at site (cells design) place.0 found.1) in

@@ -30,7 +30,7 @@ claim_at design name claim None is = absurd (none-some claim is)
 claim_at design name claim (Some model) is = (model, refl, claim_is design model name claim (Has-at claim (claims design model name) 0 is))
 
 -- what is bound to a formal leads to an output of an instance, which is no port
-no_port : (design : Design) → IsOneWay design → (place : ℕ) (path : Path) (name formal : Word) → first_claim design (model_at design path) name ≡ Some (bound place formal)
+pub no_port : (design : Design) → IsOneWay design → (place : ℕ) (path : Path) (name formal : Word) → first_claim design (model_at design path) name ≡ Some (bound place formal)
     → first_claim design (model_at design (place ∷ path)) formal ≡ Some port → ⊥
 no_port design one place path name formal is port_too =
     let here = claim_at design name (bound place formal) (model_at design path) is in

@@ -1,3 +1,4 @@
 pub mod Sources
 pub mod Tables
 pub mod Drivers
+pub mod Steps

@@ -1,5 +1,5 @@
 -- What drives a net, by numbers. Source: this project.
-use Rattle.std.specs.Prelude.{ℕ, List, Option, Some, None, option_map}
+use Rattle.std.specs.Prelude.{List, Option, Some, None, option_map}
 use Rattle.vw_design.specs.declared.design.Design.{Design}
 use Rattle.vw_design.specs.Drivers.{Source as PathSource, at_port, at_cell}
 use Rattle.vw_design.specs.Preorder.{cells}

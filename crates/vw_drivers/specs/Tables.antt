@@ -1,6 +1,5 @@
 -- Tables of a design by numbers.
-use Rattle.std.specs.Prelude.{◌≡◌, ℕ, List, [], slice_get, Option, Some, None, option_map, option_and_then}
-use Rattle.std.specs.Option.{unwrap_or}
+use Rattle.std.specs.Prelude.{◌≡◌, ℕ, List, slice_get, Some, option_map}
 use Rattle.vw_design.specs.declared.model.Model.{Model}
 use Rattle.vw_design.specs.declared.design.Design.{Design}
 use Rattle.vw_claims.specs.declared.model_claims.ModelClaims.{ModelClaims}

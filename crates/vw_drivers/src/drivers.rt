@@ -5,6 +5,9 @@ ghost use Rattle.vw_design.specs.Accepted.{HasNoModelFault};
 ghost use Rattle.vw_drivers.specs.Tables.{AreTables};
 ghost use Rattle.vw_drivers.specs.Drivers.{AreDrivers, IsSource};
 
+use crate::led::lead;
+use crate::outputs::outputs_by;
+use crate::ports::ports_by;
 use crate::source::Source;
 use crate::tables::Tables;
 use std::alloc::{AllocError, Global};
@@ -28,7 +31,12 @@ impl Drivers {
         requires tables { AreTables design.now tables.now }
         ensures { IfOk result (AreDrivers design.now tables.now) }
     {
-        Err(AllocError)
+        let outputs = outputs_by(alloc, tables)?;
+        let ports = ports_by(alloc, tables, outputs.as_slice())?;
+        Ok(Drivers {
+            outputs: Sequence::of(outputs),
+            ports: Sequence::of(ports),
+        })
     }
 
     /// The driver of the nets of an instance on whose names the first claim has this number. It takes no memory.
@@ -37,6 +45,7 @@ impl Drivers {
             → AreDrivers design tables.now self.now
             → IsSource design tables.now instance claim result }
     {
-        None
+        let outputs = self.outputs.as_slice();
+        lead(tables, outputs, self.ports.as_slice(), instance, claim)
     }
 }

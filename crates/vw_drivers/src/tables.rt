@@ -5,11 +5,12 @@ ghost use Rattle.vw_sizes.specs.Sizes.{AreBefore};
 ghost use Rattle.vw_walk.specs.Tables.{ArePlaced};
 ghost use Rattle.vw_drivers.specs.Tables.{AreTables};
 
+use crate::claimed::all_claims;
 use std::alloc::{AllocError, Global};
-use vw_claims::{ModelClaims, claims_of, outputs_of};
+use vw_claims::ModelClaims;
 use vw_design::Design;
-use vw_net::Sequence;
 use vw_names::{ModelNames, names_of};
+use vw_net::Sequence;
 use vw_sizes::Before;
 use vw_walk::Placed;
 
@@ -39,7 +40,14 @@ impl Tables {
         ensures tables { IfOk result (AreTables design.now) }
         ensures instances { IfOk result (λ tables. tables.instances ≡ instances) }
     {
-        Err(AllocError)
+        let claims = all_claims(alloc, design, targets)?;
+        let names = names_of(alloc, design, targets, claims.as_slice())?;
+        Ok(Tables {
+            instances,
+            before,
+            claims: Sequence::of(claims),
+            names: Sequence::of(names),
+        })
     }
 
     /// The instances, by their numbers.

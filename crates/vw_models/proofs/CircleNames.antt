@@ -19,7 +19,8 @@ use Rattle.vw_models.specs.Reach.{Targets}
 use Rattle.vw_models.specs.Circles.{IsLeast, name_of, names_of}
 use Rattle.vw_models.specs.Search.{Places, IsNumberCircle}
 use Rattle.vw_models.proofs.Among.{Has_among, among_left, among_right, among_either, among_at, at_among, eqb_comm, once_apart}
-use Rattle.vw_models.proofs.Models.{place_of_model, named_at, same_number, each_model, within, placed, reached_closed_numbers}
+use Rattle.vw_design.proofs.ModelNumbers.{place_of_model, named_at, same_number}
+use Rattle.vw_models.proofs.Models.{each_model, within, placed, reached_closed_numbers}
 use Rattle.vw_models.proofs.Places.{at_within, AllZip-maps}
 use Rattle.vw_models.proofs.Rounds.{turns}
 use Rattle.vw_models.proofs.Searches.{reached_within}

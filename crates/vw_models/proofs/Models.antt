@@ -1,64 +1,24 @@
 -- Models by their numbers: what the numbers say of names, and which numbers are reached.
-use Rattle.std.proofs.Common.{◌≡◌, ◌+◌, not, ℕ, zero, suc, Bool, true, false, cond, List, [], ◌∷◌, length, map, get_or, slice_get, Option, Some, None, is_some, inl, inr, refl, sym, ◌∙◌, ap, subst, true≢false, arith}
-use Rattle.std.specs.List.{AllZip, list_any, position_or_len}
-use Rattle.std.specs.Str.{bytes_eq}
-use Rattle.std.proofs.lemmas.Bool.{and_parts, not-true}
-use Rattle.std.proofs.lemmas.List.Folds.{find_at}
+use Rattle.std.proofs.Common.{◌≡◌, ℕ, Bool, true, List, [], length, get_or, slice_get, Option, Some, None, is_some, refl, sym, ◌∙◌, ap, true≢false, arith}
+use Rattle.std.specs.List.{AllZip, list_any}
 use Rattle.std.proofs.lemmas.Option.{none-some, same_Some, slice_get_within, get_or_from_slice_get}
 use Rattle.vw_design.specs.declared.item.Bind.{Bind}
 use Rattle.vw_design.specs.declared.item.Item.{Item}
 use Rattle.vw_design.specs.declared.item.Item.TheVariants.{Names, Latch, Sub}
 use Rattle.vw_design.specs.declared.model.Model.{Model}
 use Rattle.vw_design.specs.declared.design.Design.{Design}
-use Rattle.vw_design.specs.Distinct.{has_name, are_distinct}
 use Rattle.vw_design.specs.Paths.{Word, Placing, placing_of, placings, model_named}
 use Rattle.vw_design.specs.ModelFaults.{is_reached, names_model, model_places, place_in_file}
 use Rattle.vw_design.specs.ModelNumbers.{IsNumberOfModel, AreTargets, is_reached_model}
-use Rattle.vw_design.proofs.Has.{Has, Has-at, at-Has, any-Has, from-any, from-find, from-filter_map, Has-filter_map}
-use Rattle.vw_design.proofs.Names.{same_name, equal_names, has_name-Has}
+use Rattle.vw_design.proofs.Has.{Has-at, at-Has, any-Has, from-any, from-filter_map, Has-filter_map}
+use Rattle.vw_design.proofs.Names.{same_name, equal_names}
+use Rattle.vw_design.proofs.ModelNumbers.{place_of_model, model_of_place, named_at, name_of_named}
 use Rattle.vw_design.proofs.Lists.{AllZip-at, AllZip-length}
 use Rattle.vw_design.proofs.Closed.{reached_at, reached_closed, reached_least}
 use Rattle.vw_models.specs.Reach.{Targets, PlacesAt, AreWithin, IsClosed}
 use Rattle.vw_models.proofs.Places.{at_within, list_at, AllZip-back}
 
--- where names differ, the first model with the name of a model is that model
-name_at : (models : List Model) (k : ℕ) (model : Model) → slice_get models k ≡ Some model → Has model.name (map (λ m. m.name) models)
-name_at [] k model at = absurd (none-some model at)
-name_at (first ∷ models) zero model at = inl (ap (λ (m : Model). m.name) (same_Some first model at))
-name_at (first ∷ models) (suc k) model at = inr (name_at models k model at)
-
-place_at : (models : List Model) (k : ℕ) (model : Model) → are_distinct (map (λ m. m.name) models) ≡ true → slice_get models k ≡ Some model → position_or_len (λ m. bytes_eq m.name model.name) models ≡ k
-place_at [] k model distinct at = absurd (none-some model at)
-place_at (first ∷ models) zero model distinct at =
-    ap (λ (b : Bool). cond (not b) (1 + position_or_len (λ (m : Model). bytes_eq m.name model.name) models) 0) (equal_names first.name model.name (ap (λ (m : Model). m.name) (same_Some first model at)))
-place_at (first ∷ models) (suc k) model distinct at =
-    let parts = and_parts (not (has_name (map (λ (m : Model). m.name) models) first.name)) (are_distinct (map (λ (m : Model). m.name) models)) distinct in
-    by (bytes_eq first.name model.name) refl (not-true (has_name (map (λ (m : Model). m.name) models) first.name) parts.0) (place_at models k model parts.1 at)
-  where
-    by : (b : Bool) → bytes_eq first.name model.name ≡ b → has_name (map (λ (m : Model). m.name) models) first.name ≡ false → position_or_len (λ (m : Model). bytes_eq m.name model.name) models ≡ k
-        → cond (not b) (1 + position_or_len (λ (m : Model). bytes_eq m.name model.name) models) 0 ≡ suc k
-    by true is fresh rest =
-        let among = has_name-Has (map (λ (m : Model). m.name) models) first.name
-        (subst (λ (w : Word). Has w (map (λ (m : Model). m.name) models)) (sym (same_name first.name model.name is)) (name_at models k model at)) in
-        absurd (true≢false (sym among ∙ fresh))
-    by false is fresh rest = omega (arith, rest)
-
 module _ (design : Design) where
-  pub place_of_model : (k : ℕ) (model : Model) → slice_get design.models k ≡ Some model → place_in_file design model.name ≡ k
-  place_of_model k model at = place_at design.models k model design.named at
-
-  pub model_of_place : (name : Word) → model_named design.models name ≡ slice_get design.models (place_in_file design name)
-  model_of_place name = find_at (λ (m : Model). bytes_eq m.name name) design.models
-
-  pub named_at : (k : ℕ) (model : Model) → slice_get design.models k ≡ Some model → model_named design.models model.name ≡ Some model
-  named_at k model at = model_of_place model.name ∙ ap (slice_get design.models) (place_of_model k model at) ∙ at
-
-  pub same_number : (i j : ℕ) (one other : Model) → slice_get design.models i ≡ Some one → slice_get design.models j ≡ Some other → one.name ≡ other.name → i ≡ j
-  same_number i j one other at_i at_j same = sym (place_of_model i one at_i) ∙ ap (place_in_file design) same ∙ place_of_model j other at_j
-
-  pub name_of_named : (name : Word) (model : Model) → model_named design.models name ≡ Some model → model.name ≡ name
-  name_of_named name model is = same_name model.name name (from-find (λ (m : Model). bytes_eq m.name name) model design.models is).1
-
   -- the item of a placing, and the placing of an item
   item_names : (placing : Placing) (item : Item) → placing_of item ≡ Some placing → names_model placing.model item ≡ true
   item_names placing (Names line ins out cover) is = absurd (none-some placing is)
@@ -89,7 +49,7 @@ module _ (design : Design) where
         let placing = AllZip-back (λ placing number. IsNumberOfModel design placing.model number) (placings model.0.items) (get_or targets number []) place (Some kid) model.2 places in
         let next = at_within design.models kid placing.2.0 in
         let item = from-filter_map placing_of placing.0 model.0.items (Has-at placing.0 (placings model.0.items) place placing.1) in
-        let named : next.0.name ≡ placing.0.model = name_of_named placing.0.model next.0 (sym placing.2.1 ∙ next.1) in
+        let named : next.0.name ≡ placing.0.model = name_of_named design placing.0.model next.0 (sym placing.2.1 ∙ next.1) in
         record {
           model = model.0;
           next = next.0;
@@ -126,7 +86,7 @@ module _ (design : Design) where
           let is = placed number place kid places in
           let here : is_reached design is.model.name ≡ true = sym (ap (is_reached_model design) is.at) ∙ there in
           ap (is_reached_model design) is.next_at
-          ∙ reached_closed design is.model.name is.next.name here (ap (λ (m : Option Model). model_places m is.next.name) (named_at number is.model is.at) ∙ is.places) (ap (λ (m : Option Model). is_some m) (named_at kid is.next is.next_at));
+          ∙ reached_closed design is.model.name is.next.name here (ap (λ (m : Option Model). model_places m is.next.name) (named_at design number is.model is.at) ∙ is.places) (ap (λ (m : Option Model). is_some m) (named_at design kid is.next is.next_at));
     }
 
     -- and the least that are
@@ -138,18 +98,18 @@ module _ (design : Design) where
         number_known None place at none = absurd (true≢false (sym some ∙ ap (λ (m : Option Model). is_some m) none))
         number_known (Some kid) place at is =
             let model = at_within design.models kid is.0 in
-            let named : model.0.name ≡ next = name_of_named next model.0 (sym is.1 ∙ model.1) in
-            let same : place_in_file design next ≡ kid = ap (place_in_file design) (sym named) ∙ place_of_model kid model.0 model.1 in
+            let named : model.0.name ≡ next = name_of_named design next model.0 (sym is.1 ∙ model.1) in
+            let same : place_in_file design next ≡ kid = ap (place_in_file design) (sym named) ∙ place_of_model design kid model.0 model.1 in
             ap test same ∙ closed.placed (place_in_file design name) place kid there at
 
         named : (found : Option Model) → model_named design.models name ≡ found → model_places found next ≡ true → test (place_in_file design next) ≡ true
         named None is places = absurd (true≢false (sym places))
         named (Some model) is places =
-            let here = number_placed (place_in_file design name) model next (sym (model_of_place name) ∙ is) places in
+            let here = number_placed (place_in_file design name) model next (sym (model_of_place design name) ∙ is) places in
             number_known here.1 here.0 here.2 here.3
 
       by : (found : Option Model) → slice_get design.models number ≡ found → is_reached_model design found ≡ true → test number ≡ true
       by None is reached = absurd (true≢false (sym reached))
       by (Some model) is reached =
-          ap test (sym (place_of_model number model is))
-          ∙ reached_least design root.0 root.1 (λ (name : Word). test (place_in_file design name)) (ap test (place_of_model 0 root.0 root.1) ∙ closed.root) by_name model.name reached
+          ap test (sym (place_of_model design number model is))
+          ∙ reached_least design root.0 root.1 (λ (name : Word). test (place_in_file design name)) (ap test (place_of_model design 0 root.0 root.1) ∙ closed.root) by_name model.name reached

@@ -25,7 +25,8 @@ use Rattle.vw_models.specs.Search.{IsNumberOrder}
 use Rattle.vw_models.specs.Unknown.{unknown_of}
 use Rattle.vw_models.proofs.Among.{among_Has, Has_among, among_left, among_at, at_among, once_apart}
 use Rattle.vw_models.proofs.FirstUnknown.{unknown_is}
-use Rattle.vw_models.proofs.Models.{model_of_place, same_number, name_of_named, number_placed, reached_closed_numbers, reached_least_numbers}
+use Rattle.vw_design.proofs.ModelNumbers.{model_of_place, same_number, name_of_named}
+use Rattle.vw_models.proofs.Models.{number_placed, reached_closed_numbers, reached_least_numbers}
 use Rattle.vw_models.proofs.Places.{at_within, all_pass}
 use Rattle.vw_models.proofs.ReachMarks.{both_ways}
 

@@ -1,13 +1,35 @@
 //! The names of models by numbers.
-ghost use Rattle.std.specs.Prelude.{◌≡◌, length, IfOk};
+ghost use Rattle.std.specs.Prelude.{◌≡◌, length, map, IfOk};
+ghost use Rattle.vw_claims.specs.Firsts.{number_named};
 ghost use Rattle.vw_design.specs.ModelNumbers.{AreTargets};
-ghost use Rattle.vw_names.specs.Names.{AreNames};
+ghost use Rattle.vw_names.specs.Names.{AreNames, reads_of};
+ghost use Rattle.vw_names.specs.Steps.{placed_from};
 
 use crate::model_names::ModelNames;
+use crate::placed::items_placed;
+use crate::reads::items_reads;
 use std::alloc::{AllocError, Global};
 use vw_claims::ModelClaims;
-use vw_design::Design;
+use vw_design::{Design, Item};
 use vw_net::Sequence;
+
+/// The claims on the names of the items of a model with these claims, which place the models with these numbers.
+fn model_names(
+    alloc: Global,
+    own: &ModelClaims,
+    claims: &[ModelClaims],
+    targets: &[Option<u32>],
+    items: &[Item],
+) -> Result<ModelNames, AllocError>
+    ensures reads { IfOk result (λ names. names.reads
+        ≡ map (λ item. map (number_named own.now.firsts) (reads_of item)) items.now) }
+    ensures placed { IfOk result (λ names. names.placed
+        ≡ placed_from own.now.firsts claims.now targets.now 0 0 items.now) }
+{
+    let reads = Sequence::of(items_reads(alloc, own, items)?);
+    let placed = Sequence::of(items_placed(alloc, own, claims, targets, items)?);
+    Ok(ModelNames { reads, placed })
+}
 
 /// For each model, the claims on the names that its items read and bind, given the claims on the nets of each model. It is
 /// linear in the text of the design.
@@ -21,5 +43,17 @@ pub fn names_of(
     requires claims { length claims.now ≡ length design.now.models }
     ensures { IfOk result (λ names. AreNames design.now claims.now names.items) }
 {
-    Err(AllocError)
+    let models = design.models();
+    let mut names = Vec::with_capacity(alloc, models.len())?;
+    for number in 0..models.len() {
+        let placed = targets[number].as_slice();
+        names.push(model_names(
+            alloc,
+            &claims[number],
+            claims,
+            placed,
+            models[number].items(),
+        )?)?;
+    }
+    Ok(names)
 }

@@ -3,19 +3,11 @@ use Rattle.std.proofs.Common.{◌≡◌, ◌⊎◌, ℕ, zero, suc, List, [], �
 use Rattle.std.specs.List.{AllZip}
 use Rattle.std.proofs.lemmas.List.{reverse-append}
 use Rattle.std.proofs.lemmas.Option.{same_Some, none-some}
+use Rattle.vw_design.proofs.ListPlaces.{in_front, behind}
 use Rattle.vw_walk.specs.Tables.{AreNumbered}
 
 module _ {A : Type 0} where
-  -- an element of a front, the first one behind it, and an element of a list with one more
-  pub in_front : (xs ys : List A) (k : ℕ) (x : A) → slice_get xs k ≡ Some x → slice_get (xs ++ ys) k ≡ Some x
-  in_front [] ys k x at = absurd (none-some x at)
-  in_front (first ∷ xs) ys zero x at = at
-  in_front (first ∷ xs) ys (suc k) x at = in_front xs ys k x at
-
-  pub behind : (xs ys : List A) → slice_get (xs ++ ys) (length xs) ≡ slice_get ys 0
-  behind [] ys = refl
-  behind (first ∷ xs) ys = behind xs ys
-
+  -- an element of a list with one more
   pub or_last : (xs : List A) (last x : A) (k : ℕ) → slice_get (xs ++ (last ∷ [])) k ≡ Some x → (slice_get xs k ≡ Some x) ⊎ ((k ≡ length xs) × (last ≡ x))
   or_last [] last x zero at = inr (refl, same_Some last x at)
   or_last [] last x (suc k) at = absurd (none-some x at)

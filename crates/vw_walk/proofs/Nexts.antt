@@ -18,7 +18,7 @@ use Rattle.vw_design.proofs.Reached.{shallow, nothing_placed}
 use Rattle.vw_walk.specs.declared.frame.Frame.{Frame}
 use Rattle.vw_walk.specs.Steps.Nexts.{target_at, next_by, next_of}
 use Rattle.vw_walk.specs.Steps.Frames.{Level, IsFrame}
-use Rattle.vw_walk.proofs.Lists.{behind}
+use Rattle.vw_design.proofs.ListPlaces.{behind}
 
 -- a model that is named is known
 known : (design : Design) (line : ℕ) (found : Option Model) → (if is_none found then Some line else None) ≡ None → (model : Model) × (found ≡ Some model)

@@ -19,7 +19,8 @@ use Rattle.vw_walk.specs.declared.tables.CellSite.{CellSite}
 use Rattle.vw_walk.specs.declared.frame.Frame.{Frame}
 use Rattle.vw_walk.specs.Tables.{AreNumbered, IsPlacedBy, StandsAt, IsPlaced, IsCellSite}
 use Rattle.vw_walk.specs.Steps.Frames.{Level, sites_left, listed_with, cells_among, IsFrame, entered, behind_item, cell_of, placed_by, IsWalk}
-use Rattle.vw_walk.proofs.Lists.{in_front, behind, last_first, two_last_first, wider, one_more, more_numbered}
+use Rattle.vw_design.proofs.ListPlaces.{in_front, behind}
+use Rattle.vw_walk.proofs.Lists.{last_first, two_last_first, wider, one_more, more_numbered}
 use Rattle.vw_walk.proofs.Nexts.{IsPlacedNext}
 use Rattle.vw_walk.proofs.Levels.{level_of, site_of, placings_behind, listed_more, cells_more, below_of, sites_cut, sites_start, levels_same}
 

@@ -1,0 +1,27 @@
+//! The claims of all models.
+ghost use Rattle.std.specs.Prelude.{◌≡◌, length, IfOk};
+ghost use Rattle.vw_design.specs.ModelNumbers.{AreTargets};
+ghost use Rattle.vw_drivers.specs.Tables.{AreModelClaims};
+
+use std::alloc::{AllocError, Global};
+use vw_claims::{ModelClaims, claims_of, outputs_of};
+use vw_design::Design;
+use vw_net::Sequence;
+
+/// For each model, the claims on its nets.
+pub fn all_claims(
+    alloc: Global,
+    design: &Design,
+    targets: &[Sequence<Option<u32>>],
+) -> Result<Vec<ModelClaims>, AllocError>
+    requires { AreTargets design.now targets.now }
+    ensures claims { IfOk result (λ claims. AreModelClaims design.now claims.items) }
+    ensures each { IfOk result (λ claims. length claims.items ≡ length design.now.models) }
+{
+    let outputs = outputs_of(alloc, design)?;
+    let mut claims = Vec::with_capacity(alloc, design.models().len())?;
+    for model in 0..design.models().len() {
+        claims.push(claims_of(alloc, design, outputs.as_slice(), targets, model as u32)?)?;
+    }
+    Ok(claims)
+}

@@ -1,0 +1,2 @@
+pub mod PlacedItems
+pub mod AllNames
