@@ -1,1 +1,5 @@
 pub mod Places
+pub mod Finds
+pub mod CellItems
+pub mod Along
+pub mod Reading

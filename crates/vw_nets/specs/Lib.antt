@@ -1,2 +1,4 @@
 pub mod Nets
 pub mod Columns
+pub mod Items
+pub mod Wanted

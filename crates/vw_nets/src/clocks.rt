@@ -4,6 +4,7 @@ ghost use Rattle.vw_design.specs.NetFaults.{undriven, gated_clock, several_clock
 ghost use Rattle.vw_nets.specs.Nets.{AreNets, printed_net, ports_pair};
 
 use crate::nets::{Nets, Pair};
+use crate::wanted::Wanted;
 use std::alloc::{AllocError, Global};
 use vw_outside::Name;
 
@@ -13,7 +14,7 @@ impl<'a> Nets<'a> {
         requires { AreNets self.now }
         ensures { IfOk result (λ found. found ≡ printed_net (gated_clock self.now.design.now)) }
     {
-        Err(AllocError)
+        self.wanted_read(alloc, &Wanted::Gated)
     }
 
     /// The root port of the first control, and the first other one of another control.

@@ -4,10 +4,13 @@
 mod clocks;
 mod columns;
 mod edges;
+mod items;
 mod nets;
 mod print;
+mod search;
 mod two_drivers;
 mod undriven;
+mod wanted;
 
 pub use columns::Columns;
 pub use nets::{Nets, Pair};
