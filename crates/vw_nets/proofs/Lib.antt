@@ -3,3 +3,4 @@ pub mod Finds
 pub mod CellItems
 pub mod Along
 pub mod Reading
+pub mod Edged
