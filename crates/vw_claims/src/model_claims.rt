@@ -22,6 +22,13 @@ impl ModelClaims {
         self.firsts.number(name)
     }
 
+    /// How many names are claimed.
+    pub fn count(&self) -> usize
+        ensures { result ≡ length self.now.firsts }
+    {
+        self.firsts.count()
+    }
+
     /// The claim with a number.
     pub fn claim(&self, number: u32) -> Claim
         requires { number < length self.now.firsts }

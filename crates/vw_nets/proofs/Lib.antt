@@ -4,3 +4,6 @@ pub mod CellItems
 pub mod Along
 pub mod Reading
 pub mod Edged
+pub mod PortNumbers
+pub mod ClockMarks
+pub mod Unlikes

@@ -3,3 +3,4 @@ pub mod Columns
 pub mod Items
 pub mod Wanted
 pub mod Edges
+pub mod Ports

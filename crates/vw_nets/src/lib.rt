@@ -3,9 +3,12 @@
 
 mod clocks;
 mod columns;
+mod copy;
 mod edges;
 mod items;
+mod marks;
 mod nets;
+mod ports;
 mod print;
 mod search;
 mod two_drivers;
