@@ -7,3 +7,4 @@ pub mod Edged
 pub mod PortNumbers
 pub mod ClockMarks
 pub mod Unlikes
+pub mod FreeColumns

@@ -4,3 +4,4 @@ pub mod Items
 pub mod Wanted
 pub mod Edges
 pub mod Ports
+pub mod Free
