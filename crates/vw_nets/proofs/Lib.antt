@@ -8,3 +8,5 @@ pub mod PortNumbers
 pub mod ClockMarks
 pub mod Unlikes
 pub mod FreeColumns
+pub mod ClaimedAgain
+pub mod FirstAgain

@@ -5,3 +5,4 @@ pub mod Wanted
 pub mod Edges
 pub mod Ports
 pub mod Free
+pub mod Seconds
