@@ -1,18 +1,18 @@
 -- Items of cells, and the numbers of what they read.
-use Rattle.std.proofs.Common.{◌≡◌, ◌<◌, ℕ, List, [], length, get_or, ap₂, Option, Some, None, slice_get, map, option_map, option_and_then, refl, sym, ◌∙◌, ap, subst}
+use Rattle.std.proofs.Common.{◌≡◌, ◌<◌, ℕ, List, [], length, get_or, ap₂, Option, Some, slice_get, map, option_map, option_and_then, refl, sym, ◌∙◌, ap, subst}
 use Rattle.std.proofs.lemmas.Option.{slice_get-map, same_Some, slice_get_within, get_or_from_slice_get}
 use Rattle.std.specs.Option.{unwrap_or}
 use Rattle.vw_design.specs.declared.design.Design.{Design}
 use Rattle.vw_design.specs.declared.item.Item.{Item}
 use Rattle.vw_design.specs.declared.model.Model.{Model}
-use Rattle.vw_design.specs.Paths.{Word, Path, model_at, items_of}
+use Rattle.vw_design.specs.Paths.{Word, Path, items_of}
 use Rattle.vw_design.specs.PathValue.{item_at}
 use Rattle.vw_design.specs.Preorder.{instances}
 use Rattle.vw_claims.specs.declared.model_claims.ModelClaims.{ModelClaims}
 use Rattle.vw_claims.specs.Claimed.{AreClaims}
 use Rattle.vw_claims.specs.Firsts.{First, number_named}
 use Rattle.vw_names.specs.declared.model_names.ModelNames.{ModelNames}
-use Rattle.vw_names.specs.Names.{reads_of, firsts_of, AreModelNames}
+use Rattle.vw_names.specs.Names.{reads_of, firsts_of}
 use Rattle.vw_walk.specs.declared.tables.CellSite.{CellSite}
 use Rattle.vw_walk.specs.declared.tables.Placed.{Placed}
 use Rattle.vw_walk.specs.Tables.{IsPlaced}

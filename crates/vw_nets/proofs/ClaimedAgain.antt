@@ -1,24 +1,23 @@
 -- The first item of an instance that claims a name again.
-use Rattle.std.proofs.Common.{◌≡◌, ◌<◌, ◌≤◌, ◌+◌, ◌-◌, ℕ, zero, suc, Bool, true, false, cond, List, [], ◌∷◌, length, take, Option, Some, None, slice_get, nat_lt, option_map, option_and_then, ⊎_elim, refl, sym, ◌∙◌, ap, ap₂, subst, true≢false, arith}
-use Rattle.std.proofs.lemmas.Bool.{cases_lt, ltb-true, ltb-false}
+use Rattle.std.proofs.Common.{◌≡◌, ◌<◌, ◌≤◌, ◌+◌, ◌-◌, ℕ, zero, suc, List, [], ◌∷◌, length, take, Option, Some, None, slice_get, option_map, option_and_then, ⊎_elim, refl, sym, ◌∙◌, ap, ap₂, subst, arith}
+use Rattle.std.proofs.lemmas.Bool.{cases_lt}
 use Rattle.std.proofs.lemmas.Option.{same_Some, none-some, slice_get_within}
 use Rattle.vw_design.specs.declared.design.Design.{Design}
 use Rattle.vw_design.specs.declared.item.Item.{Item}
 use Rattle.vw_design.specs.declared.model.Model.{Model}
-use Rattle.vw_design.specs.Counts.{placed_one, cell_one, placed_weight, items_weight, model_weight}
+use Rattle.vw_design.specs.Counts.{placed_one, cell_one, items_weight, model_weight}
 use Rattle.vw_design.specs.Paths.{Word, Path, model_at, items_of}
 use Rattle.vw_design.specs.PathValue.{item_at, place_of_site}
 use Rattle.vw_design.specs.Preorder.{instances, sites}
 use Rattle.vw_claims.specs.declared.claim.Again.{Again}
 use Rattle.vw_claims.specs.declared.model_claims.ModelClaims.{ModelClaims}
-use Rattle.vw_claims.specs.Claimed.{AreClaims, IsAgain, again_at}
+use Rattle.vw_claims.specs.Claimed.{IsAgain}
 use Rattle.vw_sizes.specs.declared.before.Before.{Before}
 use Rattle.vw_walk.specs.declared.tables.Placed.{Placed}
 use Rattle.vw_walk.specs.Tables.{IsPlaced}
 use Rattle.vw_drivers.specs.declared.tables.Tables.{Tables}
 use Rattle.vw_drivers.specs.Tables.{AreTables}
-use Rattle.vw_nets.specs.declared.two_drivers.Second.{Second}
-use Rattle.vw_nets.specs.Seconds.{again_by, position_by, is_earlier, IsClaimedAt, AreFrom, AreNone, IsSecondAt, IsFirstSecond}
+use Rattle.vw_nets.specs.Seconds.{again_by, position_by, IsClaimedAt, AreFrom, AreNone}
 use Rattle.vw_nets.proofs.Places.{element}
 
 -- more items weigh no less

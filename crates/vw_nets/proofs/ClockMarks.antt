@@ -1,5 +1,5 @@
 -- Numbers that are marked, and names by their numbers.
-use Rattle.std.proofs.Common.{◌≡◌, ◌≢◌, ◌<◌, ◌≤◌, ◌==◌, ◌||◌, ◌+◌, ℕ, zero, suc, Bool, true, false, cond, List, [], ◌∷◌, ◌++◌, length, take, get_or, set, Option, Some, None, slice_get, filter_map, map, find, refl, sym, ◌∙◌, ap, ap₂, subst, true≢false, arith}
+use Rattle.std.proofs.Common.{◌≡◌, ◌≢◌, ◌<◌, ◌≤◌, ◌==◌, ◌||◌, ◌+◌, ℕ, zero, suc, Bool, true, false, List, [], ◌∷◌, ◌++◌, length, take, get_or, set, Option, Some, None, slice_get, filter_map, map, find, refl, sym, ◌∙◌, ap, ap₂, true≢false, arith}
 use Rattle.std.specs.List.{cons_option}
 use Rattle.std.specs.Option.{option_or}
 use Rattle.std.specs.Str.{bytes_eq}
@@ -7,14 +7,14 @@ use Rattle.std.proofs.lemmas.Bool.{eq-eqb, eqb-true}
 use Rattle.std.proofs.lemmas.List.{take_more}
 use Rattle.std.proofs.lemmas.List.Folds.{list_any-append, find-append}
 use Rattle.std.proofs.lemmas.List.Elements.{filter_map-append}
-use Rattle.std.proofs.lemmas.Option.{same_Some, slice_get_within}
+use Rattle.std.proofs.lemmas.Option.{slice_get_within}
 use Rattle.vw_net.specs.Order.{is_among}
 use Rattle.vw_design.specs.declared.design.Design.{Design}
 use Rattle.vw_design.specs.declared.model.Model.{Model}
 use Rattle.vw_design.specs.Distinct.{has_name}
 use Rattle.vw_design.specs.Paths.{Word, model_at}
 use Rattle.vw_design.specs.Clocks.{inputs_of, clocks_of, control_ports, clock_ports}
-use Rattle.vw_design.proofs.Has.{Has, from-find, some-find, at-place}
+use Rattle.vw_design.proofs.Has.{from-find, some-find, at-place}
 use Rattle.vw_design.proofs.Names.{same_name, Has-has_name}
 use Rattle.vw_claims.specs.Firsts.{First, number_named}
 use Rattle.vw_nets.specs.Ports.{has_number, root_ports}

@@ -10,7 +10,7 @@ use Rattle.vw_design.specs.declared.item.Edge.{Edge}
 use Rattle.vw_design.specs.declared.item.Edge.TheVariants.{Rise, Fall, Unsaid}
 use Rattle.vw_design.specs.declared.item.Item.{Item}
 use Rattle.vw_design.specs.declared.item.Item.TheVariants.{Names, Latch, Sub}
-use Rattle.vw_design.specs.NetFaults.{Edged, Unlike, written_edge, edge_at, same_edge, first_unlike, several_edges}
+use Rattle.vw_design.specs.NetFaults.{Edged, edge_at, same_edge, first_unlike, several_edges}
 use Rattle.vw_design.specs.Paths.{Word, Path, printed}
 use Rattle.vw_design.specs.Preorder.{Site, is_cell, is_latch, instances, sites, cells, latches}
 use Rattle.vw_nets.specs.declared.edges.Typed.{Typed}

@@ -1,5 +1,5 @@
 -- The first item of all that claims a name again.
-use Rattle.std.proofs.Common.{◌≡◌, ◌<◌, ◌≤◌, ◌+◌, ℕ, zero, suc, Bool, true, false, List, [], ◌∷◌, length, Option, Some, None, slice_get, nat_lt, option_map, ⊎_elim, refl, sym, ◌∙◌, ap, ap₂, subst, true≢false, arith}
+use Rattle.std.proofs.Common.{◌≡◌, ◌<◌, ◌≤◌, ◌+◌, ℕ, zero, suc, true, false, List, [], ◌∷◌, length, Option, Some, None, slice_get, option_map, ⊎_elim, refl, sym, ◌∙◌, ap, ap₂, subst, true≢false, arith}
 use Rattle.std.specs.Option.{option_or}
 use Rattle.std.proofs.lemmas.Bool.{cases_lt, ltb-true, ltb-false}
 use Rattle.std.proofs.lemmas.Option.{same_Some, none-some, slice_get_within}
@@ -7,18 +7,18 @@ use Rattle.vw_design.specs.declared.design.Design.{Design}
 use Rattle.vw_design.specs.declared.item.Item.{Item}
 use Rattle.vw_design.specs.declared.model.Model.{Model}
 use Rattle.vw_design.specs.Accepted.{HasNoModelFault}
-use Rattle.vw_design.specs.Claims.{Numbered, numbered}
+use Rattle.vw_design.specs.Claims.{numbered}
 use Rattle.vw_design.specs.Lists.{first_found}
 use Rattle.vw_design.specs.NetFaults.{claimed_again, two_drivers}
-use Rattle.vw_design.specs.Paths.{Word, Path, Net, model_at, items_of}
-use Rattle.vw_design.specs.PathValue.{item_at, place_of_site}
+use Rattle.vw_design.specs.Paths.{Word, Path, model_at, items_of}
+use Rattle.vw_design.specs.PathValue.{item_at}
 use Rattle.vw_design.specs.Preorder.{Site, instances, sites}
 use Rattle.vw_design.specs.Reads.{net_at}
 use Rattle.vw_design.proofs.FlatValues.{site_of_place}
 use Rattle.vw_design.proofs.Has.{Has, Has-at, at-Has, Has-Contains}
 use Rattle.vw_design.proofs.Once.{site_once}
 use Rattle.vw_design.proofs.Placed.{faultless_listed}
-use Rattle.vw_design.proofs.Sites.{IsSite, site_is, site_item}
+use Rattle.vw_design.proofs.Sites.{site_is, site_item}
 use Rattle.vw_claims.specs.Claimed.{again_at}
 use Rattle.vw_nets.specs.declared.two_drivers.Second.{Second}
 use Rattle.vw_nets.specs.Nets.{printed_net}
@@ -46,27 +46,28 @@ module _ (design : Design) (i : ℕ) (path : Path) (listed : slice_get (instance
   taken (Some found) (Some first) is had earlier = (
     (path, ap (slice_get (instances design)) is.0 ∙ listed, is.1),
     one_more (λ other. AreFrom design other found.position)
-    (λ k other below at number position name claimed.
-    let less : found.position < first.position = ltb-true found.position first.position earlier in
-    let least : first.position ≤ position = had.1 k other below at number position name claimed in
-    omega arith)
-    is.2,
+        (λ k other below at number position name claimed.
+        let less : found.position < first.position = ltb-true found.position first.position earlier in
+        let least : first.position ≤ position = had.1 k other below at number position name claimed in
+        omega arith)
+        is.2,
   )
 
   -- where none does
   pub kept : (found first : Option Second) → IsSecondAt design path i found → IsFirstSecond design i first → is_earlier found first ≡ false → IsFirstSecond design (i + 1) first
   kept None None is had later = one_more (λ other. AreNone design other) had is
   kept None (Some first) is had later = (
-    had.0, one_more (λ other. AreFrom design other first.position) had.1 (λ number position name claimed. absurd (is number position name claimed)),
+    had.0,
+    one_more (λ other. AreFrom design other first.position) had.1 (λ number position name claimed. absurd (is number position name claimed)),
   )
   kept (Some found) None is had later = absurd (true≢false later)
   kept (Some found) (Some first) is had later = (
     had.0,
     one_more (λ other. AreFrom design other first.position) had.1
-    (λ number position name claimed.
-    let less : first.position ≤ found.position = ltb-false found.position first.position later in
-    let least : found.position ≤ position = is.2 number position name claimed in
-    omega arith),
+        (λ number position name claimed.
+        let less : first.position ≤ found.position = ltb-false found.position first.position later in
+        let least : found.position ≤ position = is.2 number position name claimed in
+        omega arith),
   )
 
 module _ {A B : Type 0} (search : A → Option B) where

@@ -1,10 +1,10 @@
 -- Columns that are added one by one, and what is free.
-use Rattle.std.proofs.Common.{◌≡◌, ◌≢◌, ◌<◌, ◌+◌, ℕ, zero, suc, Bool, true, false, not, cond, List, [], ◌∷◌, ◌++◌, drop, take, length, get_or, set, replicate, Option, Some, None, is_some, slice_get, filter, flat_map, map, ◌||◌, inl, inr, option_map, option_and_then, refl, sym, ◌∙◌, ap, ap₂, subst, true≢false, append_assoc, append-nil, arith}
+use Rattle.std.proofs.Common.{◌≡◌, ◌<◌, ◌+◌, ℕ, zero, suc, Bool, true, false, not, cond, List, [], ◌∷◌, ◌++◌, drop, take, length, get_or, set, replicate, Option, Some, None, is_some, slice_get, filter, flat_map, map, ◌||◌, inl, inr, option_map, option_and_then, refl, sym, ◌∙◌, ap, ap₂, true≢false, append_assoc, append-nil, arith}
 use Rattle.std.specs.Option.{option_or, unwrap_or}
 use Rattle.std.specs.Str.{bytes_eq}
 use Rattle.std.proofs.lemmas.List.{drop_more, take_more, map-append, length-append}
 use Rattle.std.proofs.lemmas.List.Elements.{filter-append}
-use Rattle.std.proofs.lemmas.Option.{same_Some, none-some, slice_get_within, slice_get_read, get_or_from_slice_get}
+use Rattle.std.proofs.lemmas.Option.{same_Some, slice_get_within, slice_get_read, get_or_from_slice_get}
 use Rattle.vw_design.specs.declared.design.Design.{Design}
 use Rattle.vw_design.specs.declared.model.Model.{Model}
 use Rattle.vw_design.specs.Distinct.{has_name}
@@ -17,7 +17,7 @@ use Rattle.vw_design.proofs.Names.{same_name, equal_names, has_name-Has}
 use Rattle.vw_claims.specs.declared.claim.Claim.{Claim as NumberedClaim}
 use Rattle.vw_claims.specs.declared.model_claims.ModelClaims.{ModelClaims}
 use Rattle.vw_claims.specs.Claimed.{AreClaims, meant}
-use Rattle.vw_claims.specs.Firsts.{First, number_named, claim_at, claim_named}
+use Rattle.vw_claims.specs.Firsts.{First, number_named, claim_at}
 use Rattle.vw_drivers.specs.declared.tables.Tables.{Tables}
 use Rattle.vw_drivers.specs.Tables.{AreTables, root_firsts}
 use Rattle.vw_nets.specs.declared.columns.Columns.{Columns}

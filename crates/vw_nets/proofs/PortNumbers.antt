@@ -1,20 +1,20 @@
 -- Ports of the root, and their numbers.
-use Rattle.std.proofs.Common.{◌≡◌, ◌==◌, ◌+◌, ℕ, Bool, true, false, not, cond, List, [], ◌∷◌, ◌++◌, drop, Option, Some, None, is_none, slice_get, find, filter, filter_map, flat_map, map, option_map, refl, sym, ◌∙◌, ap, ap₂, subst, true≢false, append_assoc}
+use Rattle.std.proofs.Common.{◌≡◌, ◌==◌, ℕ, Bool, true, false, List, [], ◌∷◌, ◌++◌, Option, Some, None, is_none, slice_get, filter_map, flat_map, map, option_map, refl, sym, ◌∙◌, ap, ap₂, true≢false, append_assoc}
 use Rattle.std.specs.Prelude.{option_to_list}
 use Rattle.std.specs.List.{cons_option}
 use Rattle.std.specs.Str.{bytes_eq}
 use Rattle.std.proofs.lemmas.Bool.{eq-eqb, eqb-true}
 use Rattle.std.proofs.lemmas.List.{map-append}
 use Rattle.std.proofs.lemmas.List.Elements.{filter_map-append}
-use Rattle.std.proofs.lemmas.Option.{same_Some, none-some}
+use Rattle.std.proofs.lemmas.Option.{same_Some}
 use Rattle.vw_design.specs.declared.design.Design.{Design}
 use Rattle.vw_design.specs.declared.item.Item.{Item}
 use Rattle.vw_design.specs.declared.item.Item.TheVariants.{Names, Latch, Sub}
-use Rattle.vw_design.specs.Paths.{Word, Path, Net, model_at}
+use Rattle.vw_design.specs.Paths.{Word, Path, Net}
 use Rattle.vw_design.specs.Drivers.{Source as PathSource, at_port, at_cell, driver}
-use Rattle.vw_design.specs.Preorder.{Site, is_cell, sites, cells}
+use Rattle.vw_design.specs.Preorder.{Site, sites, cells}
 use Rattle.vw_design.specs.PathValue.{place_of_site}
-use Rattle.vw_design.specs.Reads.{net_at, nets_at, data_of, controls_of, controls}
+use Rattle.vw_design.specs.Reads.{net_at, nets_at, controls_of}
 use Rattle.vw_design.specs.Clocks.{port_of, control_ports}
 use Rattle.vw_design.proofs.Has.{at-place}
 use Rattle.vw_design.proofs.Names.{same_name, equal_names}

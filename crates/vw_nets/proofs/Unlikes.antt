@@ -1,16 +1,16 @@
 -- Two ports by their numbers.
-use Rattle.std.proofs.Common.{◌≡◌, ◌==◌, ℕ, Bool, true, false, not, cond, List, [], ◌∷◌, ◌++◌, Option, Some, None, slice_get, find, map, option_map, refl, sym, ◌∙◌, ap, ap₂, subst}
+use Rattle.std.proofs.Common.{◌≡◌, ◌==◌, ℕ, Bool, true, false, not, cond, List, [], ◌∷◌, ◌++◌, Option, Some, None, slice_get, find, map, option_map, refl, sym, ◌∙◌, ap}
 use Rattle.std.specs.Str.{bytes_eq}
 use Rattle.std.proofs.lemmas.List.Folds.{list_any-append}
 use Rattle.std.proofs.lemmas.Option.{same_Some, none-some}
 use Rattle.vw_design.specs.declared.design.Design.{Design}
 use Rattle.vw_design.specs.declared.model.Model.{Model}
 use Rattle.vw_design.specs.Distinct.{has_name}
-use Rattle.vw_design.specs.Paths.{Word, Net, model_at}
+use Rattle.vw_design.specs.Paths.{Word, Net}
 use Rattle.vw_design.specs.Clocks.{port_of, inputs_of, clocks_of, control_ports}
 use Rattle.vw_design.specs.Drivers.{Source, at_port, at_cell, driver}
 use Rattle.vw_design.specs.Reads.{controls}
-use Rattle.vw_design.specs.NetFaults.{Unlike, first_unlike, several_clocks}
+use Rattle.vw_design.specs.NetFaults.{first_unlike, several_clocks}
 use Rattle.vw_design.proofs.Found.{driver_is}
 use Rattle.vw_design.proofs.Has.{Has, Has-at, from-filter_map, from-find}
 use Rattle.vw_design.proofs.Names.{name_same}

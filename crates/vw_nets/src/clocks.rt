@@ -41,12 +41,7 @@ impl<'a> Nets<'a> {
     }
 
     /// Two ports of the root by their numbers.
-    fn two_ports(
-        &self,
-        alloc: Global,
-        first: u32,
-        other: u32,
-    ) -> Result<Option<Pair>, AllocError>
+    fn two_ports(&self, alloc: Global, first: u32, other: u32) -> Result<Option<Pair>, AllocError>
         requires { AreNets self.now }
         ensures { IfOk result (λ found. (one two : Word)
             → has_name (root_ports self.now.design.now) one ≡ true

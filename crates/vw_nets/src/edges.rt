@@ -64,7 +64,11 @@ impl<'a> Nets<'a> {
             → IsTyped self.now.design.now (other_edge edge path item) result }
     {
         match self.item_of(cell)? {
-            Item::Latch { q, edge: written, .. } if is_other(edge, *written) => Some(Typed {
+            Item::Latch {
+                q,
+                edge: written,
+                ..
+            } if is_other(edge, *written) => Some(Typed {
                 instance: cell.instance,
                 q,
                 edge: *written,

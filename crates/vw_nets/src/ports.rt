@@ -48,11 +48,10 @@ impl<'a> Nets<'a> {
         let item = self.item_of(cell)?;
         let numbers = self.numbers_of(cell)?;
         match control_of(item) {
-            Some(_) => port_of(self.drivers.source(
-                self.tables,
-                cell.instance,
-                number_at(numbers, 1),
-            )),
+            Some(_) => port_of(
+                self.drivers
+                    .source(self.tables, cell.instance, number_at(numbers, 1)),
+            ),
             None => None,
         }
     }

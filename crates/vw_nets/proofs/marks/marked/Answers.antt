@@ -1,4 +1,4 @@
-use Rattle.std.proofs.Common.{◌∙◌, ◌≡◌, List, Bool, length, get_or, set, true, slice_get, ap, sym, length-set}
+use Rattle.std.proofs.Common.{◌∙◌, ◌≡◌, List, Bool, length, get_or, set, true, slice_get, ap, length-set}
 use Rattle.vw_nets.proofs.ClockMarks.{marked_here, not_marked}
 use Rattle.vw_nets.proofs.marks.marked.Goals as goal
 use Rattle.vw_nets.proofs.marks.marked.Goals.{then-place-count, else-place-count}

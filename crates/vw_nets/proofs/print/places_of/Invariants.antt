@@ -1,5 +1,5 @@
 -- the places so far, and those of the instance that was reached
-use Rattle.std.proofs.Common.{◌≡◌, ◌++◌, ℕ, List, Some, slice_get}
+use Rattle.std.proofs.Common.{◌≡◌, ◌++◌, Some, slice_get}
 use Rattle.vw_design.specs.Paths.{Path}
 use Rattle.vw_design.specs.Preorder.{instances}
 use Rattle.vw_nets.proofs.print.places_of.Given as goal

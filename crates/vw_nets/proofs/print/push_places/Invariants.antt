@@ -1,5 +1,5 @@
 -- what is written, and the places that are left
-use Rattle.std.proofs.Common.{◌≡◌, ◌++◌, ℕ, List, length, flat_map, reverse}
+use Rattle.std.proofs.Common.{◌≡◌, ◌++◌, ℕ, length, flat_map, reverse}
 use Rattle.std.specs.Prelude.{codes, decimal}
 use Rattle.vw_nets.proofs.print.push_places.Given as goal
 

@@ -1,4 +1,4 @@
-use Rattle.std.proofs.Common.{◌∙◌, ◌++◌, ℕ, List, ap, ap₂, filter_map}
+use Rattle.std.proofs.Common.{◌∙◌, ◌++◌, ℕ, List, ap₂, filter_map}
 use Rattle.vw_design.specs.Paths.{Word}
 use Rattle.vw_claims.specs.Firsts.{First, number_named}
 use Rattle.vw_drivers.specs.Tables.{root_firsts}

@@ -1,12 +1,9 @@
-use Rattle.std.proofs.Common.{◌≡◌, ◌∷◌, [], ◌∙◌, ℕ, List, Option, map, sym, ap, subst}
+use Rattle.std.proofs.Common.{◌≡◌, ◌∷◌, [], ◌∙◌, ℕ, Option, map, sym, ap}
 use Rattle.std.specs.Prelude.{option_to_list}
-use Rattle.vw_design.specs.declared.item.Item.{Item}
 use Rattle.vw_design.specs.Drivers.{driver}
-use Rattle.vw_design.specs.Paths.{Word}
 use Rattle.vw_design.specs.Reads.{controls_of}
 use Rattle.vw_claims.specs.Firsts.{number_named}
 use Rattle.vw_drivers.specs.Tables.{root_firsts}
-use Rattle.vw_drivers.specs.declared.source.Source.{Source}
 use Rattle.vw_nets.proofs.CellItems.{item_here, numbers_here}
 use Rattle.vw_nets.proofs.PortNumbers.{somes, control_read, ports_here, source_port}
 use Rattle.vw_nets.proofs.nets.Nets.control_port.Goals as goal

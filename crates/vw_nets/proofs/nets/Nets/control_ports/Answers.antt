@@ -1,5 +1,4 @@
-use Rattle.std.proofs.Common.{◌≡◌, ◌∙◌, ◌++◌, ◌+◌, ℕ, List, [], Some, None, drop, map, get_or, sym, ap, append-nil}
-use Rattle.vw_design.specs.Paths.{Word}
+use Rattle.std.proofs.Common.{◌∙◌, ◌++◌, ◌+◌, List, Some, None, drop, map, get_or, sym, ap, append-nil}
 use Rattle.vw_design.specs.Preorder.{Site, cells}
 use Rattle.vw_claims.specs.Firsts.{number_named}
 use Rattle.vw_drivers.specs.Tables.{root_firsts}

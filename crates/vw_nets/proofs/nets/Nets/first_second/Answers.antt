@@ -1,4 +1,4 @@
-use Rattle.std.proofs.Common.{◌≡◌, ◌<◌, ◌≤◌, ◌∙◌, ◌+◌, ℕ, List, Option, length, sym, ap, subst, arith}
+use Rattle.std.proofs.Common.{◌≡◌, ◌<◌, ◌∙◌, ◌+◌, ℕ, List, Option, length, sym, ap, subst, arith}
 use Rattle.vw_design.specs.Preorder.{instances}
 use Rattle.vw_walk.specs.declared.tables.Placed.{Placed}
 use Rattle.vw_nets.specs.declared.two_drivers.Second.{Second}

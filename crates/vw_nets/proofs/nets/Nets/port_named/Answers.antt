@@ -1,4 +1,4 @@
-use Rattle.std.proofs.Common.{◌∙◌, ◌≡◌, List, Option, None, Some, find, ap, ap₂, sym}
+use Rattle.std.proofs.Common.{◌∙◌, ◌≡◌, List, Option, find, ap, ap₂, sym}
 use Rattle.std.specs.Option.{option_or}
 use Rattle.vw_design.specs.Paths.{Word}
 use Rattle.vw_claims.specs.Firsts.{First, number_named}

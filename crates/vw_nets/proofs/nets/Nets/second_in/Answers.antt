@@ -1,4 +1,4 @@
-use Rattle.std.proofs.Common.{◌≡◌, ◌∙◌, ◌+◌, ℕ, List, Option, Some, None, slice_get, sym, refl, ap, subst}
+use Rattle.std.proofs.Common.{◌≡◌, ◌∙◌, ◌+◌, ℕ, Option, Some, sym, refl, ap, subst}
 use Rattle.std.proofs.lemmas.Option.{same_Some, none-some}
 use Rattle.vw_design.specs.declared.item.Item.{Item}
 use Rattle.vw_design.specs.Paths.{Word, model_at}
@@ -32,8 +32,7 @@ returns c = λ path listed.
     λ place item there. c.entries_give_numbers.ensures.sites design tables.instances c.requires.faultless.small c.requires.tables.placed k path at.0 listed at.1 place item there in
     let position : base + weights design path again.item ≡ c.in_ok-position.position =
     same_Some (base + weights design path again.item) c.in_ok-position.position (sym (c.in_ok-position.ensures ∙ ap (position_by tables k) c.item.ensures ∙ position_is design tables c.requires.tables k path listed again.item is.0.0 is.0.1)) in
-    let name : again.name ≡ c.name.result.now = sym c.name.ensures in
-    (
+    let name : again.name ≡ c.name.result.now = sym c.name.ensures in (
       refl,
       (again.item, subst (λ (n : ℕ). IsClaimedAt design path again.item n c.name.result.now) position (subst (λ (w : Word). IsClaimedAt design path again.item (base + weights design path again.item) w) name (first_claimed design path base places again is))),
       subst (λ (n : ℕ). AreFrom design path n) position (first_least design path base places again is),

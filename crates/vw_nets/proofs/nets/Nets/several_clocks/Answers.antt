@@ -1,4 +1,4 @@
-use Rattle.std.proofs.Common.{◌∙◌, ◌≡◌, ◌==◌, ℕ, List, Option, Some, None, not, find, slice_get, ap}
+use Rattle.std.proofs.Common.{◌∙◌, ◌≡◌, ◌==◌, ℕ, List, Some, None, not, find, slice_get, ap}
 use Rattle.vw_drivers.specs.Tables.{root_firsts}
 use Rattle.vw_nets.proofs.Unlikes.{one_clock, two_clocks}
 use Rattle.vw_nets.proofs.nets.Nets.several_clocks.Goals as goal

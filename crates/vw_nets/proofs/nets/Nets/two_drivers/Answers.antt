@@ -1,7 +1,6 @@
-use Rattle.std.proofs.Common.{◌≡◌, ◌∙◌, Option, Some, ap, sym, subst}
+use Rattle.std.proofs.Common.{◌∙◌, Some, ap, sym}
 use Rattle.vw_design.specs.Paths.{Word}
 use Rattle.vw_nets.specs.Nets.{printed_net}
-use Rattle.vw_nets.specs.Seconds.{IsFirstSecond}
 use Rattle.vw_nets.proofs.FirstAgain.{nothing_again, first_again_is}
 use Rattle.vw_nets.proofs.nets.Nets.two_drivers.Goals as goal
 

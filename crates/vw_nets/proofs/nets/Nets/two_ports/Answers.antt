@@ -1,4 +1,4 @@
-use Rattle.std.proofs.Common.{◌∙◌, ◌≡◌, List, Option, None, Some, find, ap, ap₂, sym}
+use Rattle.std.proofs.Common.{◌∙◌, Some, ap, ap₂, sym}
 use Rattle.std.proofs.lemmas.Option.{none-some, same_Some}
 use Rattle.vw_design.specs.Paths.{Word}
 use Rattle.vw_drivers.specs.Tables.{root_firsts}

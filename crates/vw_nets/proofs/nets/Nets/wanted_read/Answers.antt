@@ -1,4 +1,4 @@
-use Rattle.std.proofs.Common.{◌∙◌, sym, ap, List, Option, get_or, Some}
+use Rattle.std.proofs.Common.{◌∙◌, sym, ap, get_or, Some}
 use Rattle.vw_design.specs.Drivers.{driver}
 use Rattle.vw_design.specs.Paths.{Net}
 use Rattle.vw_design.specs.Preorder.{Site}
