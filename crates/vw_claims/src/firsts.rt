@@ -67,6 +67,13 @@ impl Firsts {
         Ok(())
     }
 
+    /// How many names are claimed.
+    pub fn count(&self) -> usize
+        ensures { result ≡ length self.now }
+    {
+        self.claims.len()
+    }
+
     /// The number of the claim on a name, from 0, where something claims it.
     pub fn number(&self, name: &[u8]) -> Option<u32>
         ensures number { result ≡ number_named self.now name.now }

@@ -22,6 +22,13 @@ impl ModelClaims {
         self.firsts.number(name)
     }
 
+    /// How many names are claimed.
+    pub fn count(&self) -> usize
+        ensures { result ≡ length self.now.firsts }
+    {
+        self.firsts.count()
+    }
+
     /// The claim with a number, if so many names are claimed.
     pub fn claim(&self, number: u32) -> Option<Claim>
         ensures { result ≡ claim_at self.now.firsts number }

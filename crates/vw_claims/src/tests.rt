@@ -35,6 +35,7 @@ fn the_first_claims_keep_their_order(rt: HostRuntime) -> Result<(), Fail> {
             name: name(alloc, b"a")?,
         }),
     };
+    assert_eq!(rt; claims.count(), 2);
     assert_eq!(rt; claims.first(b"a"), Some(0));
     assert_eq!(rt; claims.first(b"q"), Some(1));
     assert_eq!(rt; claims.first(b"c"), None);

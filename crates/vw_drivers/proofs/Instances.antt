@@ -21,7 +21,7 @@ use Rattle.vw_claims.proofs.Targets.{none_at_place}
 use Rattle.vw_walk.specs.declared.tables.Placed.{Placed}
 use Rattle.vw_walk.specs.Tables.{IsPlaced}
 use Rattle.vw_walk.proofs.Entries.{stands_behind}
-use Rattle.vw_sizes.specs.declared.before.Before.{Before}
+use Rattle.vw_sizes.specs.declared.sizes.Before.{Before}
 use Rattle.vw_names.specs.declared.model_names.ModelNames.{ModelNames}
 use Rattle.vw_names.specs.declared.model_names.PlacedNames.{PlacedNames}
 use Rattle.vw_names.specs.Names.{firsts_of, IsPlacedNames}

@@ -7,7 +7,7 @@ use Rattle.vw_claims.specs.declared.claim.Claim.{Claim}
 use Rattle.vw_claims.specs.declared.claim.Claim.TheVariants as claims
 use Rattle.vw_claims.specs.Firsts.{claim_at}
 use Rattle.vw_walk.specs.declared.tables.Placed.{Placed}
-use Rattle.vw_sizes.specs.declared.before.Before.{Before}
+use Rattle.vw_sizes.specs.declared.sizes.Before.{Before}
 use Rattle.vw_names.specs.declared.model_names.Way.{Way}
 use Rattle.vw_names.specs.declared.model_names.Way.TheVariants as ways
 use Rattle.vw_names.specs.declared.model_names.PlacedNames.{PlacedNames}

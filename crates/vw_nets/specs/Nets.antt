@@ -1,6 +1,5 @@
 -- Tables of nets, and nets as they are printed.
-use Rattle.std.specs.Prelude.{◌≡◌, ℕ, List, Option, Some, None, option_map}
-use Rattle.vw_design.specs.declared.design.Design.{Design}
+use Rattle.std.specs.Prelude.{Option, option_map}
 use Rattle.vw_design.specs.Paths.{Word, Net, printed}
 use Rattle.vw_design.specs.NetFaults.{Unlike, Edged}
 use Rattle.vw_design.specs.Accepted.{HasNoModelFault}

@@ -1,9 +1,17 @@
 //! Controls of latches, and nets that read clock ports.
-ghost use Rattle.std.specs.Prelude.{◌≡◌, None, IfOk};
-ghost use Rattle.vw_design.specs.NetFaults.{undriven, gated_clock, several_clocks, clock_as_data};
+ghost use Rattle.std.specs.Prelude.{◌≡◌, Some, true, IfOk};
+ghost use Rattle.vw_design.specs.Distinct.{has_name};
+ghost use Rattle.vw_design.specs.Paths.{Word};
+ghost use Rattle.vw_design.specs.NetFaults.{gated_clock, several_clocks, clock_as_data};
+ghost use Rattle.vw_claims.specs.Firsts.{number_named};
+ghost use Rattle.vw_drivers.specs.Tables.{root_firsts};
+ghost use Rattle.vw_nets.specs.Ports.{root_ports};
 ghost use Rattle.vw_nets.specs.Nets.{AreNets, printed_net, ports_pair};
 
+use crate::copy::copy;
 use crate::nets::{Nets, Pair};
+use crate::ports::{first_port, other_port};
+use crate::wanted::Wanted;
 use std::alloc::{AllocError, Global};
 use vw_outside::Name;
 
@@ -13,7 +21,7 @@ impl<'a> Nets<'a> {
         requires { AreNets self.now }
         ensures { IfOk result (λ found. found ≡ printed_net (gated_clock self.now.design.now)) }
     {
-        Err(AllocError)
+        self.wanted_read(alloc, &Wanted::Gated)
     }
 
     /// The root port of the first control, and the first other one of another control.
@@ -21,7 +29,36 @@ impl<'a> Nets<'a> {
         requires { AreNets self.now }
         ensures { IfOk result (λ found. found ≡ ports_pair (several_clocks self.now.design.now)) }
     {
-        Err(AllocError)
+        let ports = self.control_ports(alloc)?;
+        let Some(first) = first_port(ports.as_slice()) else {
+            return Ok(None);
+        };
+        let Some(other) = other_port(ports.as_slice(), first) else {
+            return Ok(None);
+        };
+        let pair = self.two_ports(alloc, first, other)?;
+        Ok(pair)
+    }
+
+    /// Two ports of the root by their numbers.
+    fn two_ports(&self, alloc: Global, first: u32, other: u32) -> Result<Option<Pair>, AllocError>
+        requires { AreNets self.now }
+        ensures { IfOk result (λ found. (one two : Word)
+            → has_name (root_ports self.now.design.now) one ≡ true
+            → has_name (root_ports self.now.design.now) two ≡ true
+            → number_named (root_firsts self.now.tables.now) one ≡ Some first
+            → number_named (root_firsts self.now.tables.now) two ≡ Some other
+            → found ≡ Some (record { first = one; other = two })) }
+    {
+        let Some(first) = self.port_named(first) else {
+            return Ok(None);
+        };
+        let Some(other) = self.port_named(other) else {
+            return Ok(None);
+        };
+        let first = copy(alloc, first)?;
+        let other = copy(alloc, other)?;
+        Ok(Some(Pair { first, other }))
     }
 
     /// The first net that a gate, the data input of a latch or an output of the root reads, and that is a clock port.
@@ -29,6 +66,7 @@ impl<'a> Nets<'a> {
         requires { AreNets self.now }
         ensures { IfOk result (λ found. found ≡ printed_net (clock_as_data self.now.design.now)) }
     {
-        Err(AllocError)
+        let marks = self.clock_marks(alloc)?;
+        self.first_wanted(alloc, &Wanted::ClockPort(marks.as_slice()))
     }
 }

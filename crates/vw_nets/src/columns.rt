@@ -1,12 +1,16 @@
 //! Columns of a stimulus.
-ghost use Rattle.std.specs.Prelude.{IfOk};
+ghost use Rattle.std.specs.Prelude.{◌≡◌, ◌++◌, ◌∷◌, [], None, false, length, replicate, slice_get, slice_index_or, IfOk, OnOk};
+ghost use Rattle.vw_claims.specs.Firsts.{number_named};
 ghost use Rattle.vw_drivers.specs.Tables.{root_firsts};
 ghost use Rattle.vw_nets.specs.Nets.{AreNets};
 ghost use Rattle.vw_nets.specs.Columns.{AreColumns};
+ghost use Rattle.vw_nets.specs.Free.{unmarked, with_column, AreFree};
 
 use crate::nets::Nets;
 use std::alloc::{AllocError, Global};
+use vw_claims::ModelClaims;
 use vw_net::Sequence;
+use vw_outside::Name;
 
 /// The columns of a stimulus: the inputs of the root that are no clock ports.
 #[derive(Drop)]
@@ -25,6 +29,95 @@ impl Columns {
         ensures { IfOk result (AreColumns nets.now.design.now
             (root_firsts nets.now.tables.now)) }
     {
-        Err(AllocError)
+        let marks = nets.clock_marks(alloc)?;
+        let names = nets.root().inputs();
+        let columns = Columns::of_names(alloc, nets.root_claims(), marks.as_slice(), names)?;
+        Ok(columns)
     }
+
+    /// The columns of those names whose claims have no mark.
+    fn of_names(
+        alloc: Global,
+        claims: &ModelClaims,
+        marks: &[bool],
+        names: &[Name],
+    ) -> Result<Self, AllocError>
+        ensures { IfOk result (AreFree claims.now.firsts marks.now names.now) }
+    {
+        let mut inputs = Vec::new(alloc);
+        let mut ports = no_columns(alloc, claims.count())?;
+        for (place, name) in names.iter().enumerate() {
+            if let Some(number) = free_number(claims, marks, name) {
+                add_column(&mut inputs, &mut ports, place, number)?;
+            }
+        }
+        Ok(Columns {
+            inputs: Sequence::of(inputs),
+            ports: Sequence::of(ports),
+        })
+    }
+}
+
+/// For each of so many claims no column.
+fn no_columns(alloc: Global, count: usize) -> Result<Vec<Option<u32>>, AllocError>
+    ensures { IfOk result (λ ports. ports.items ≡ replicate count None) }
+{
+    let ports = vec![in alloc; None; count]?;
+    Ok(ports)
+}
+
+/// The number of the claim on a name, where it has no mark.
+fn free_number(claims: &ModelClaims, marks: &[bool], name: &Name) -> Option<u32>
+    ensures { result ≡ unmarked marks.now (number_named claims.now.firsts name.now) }
+{
+    let number = claims.first(name.as_slice())?;
+    if has_mark(marks, number) {
+        None
+    } else {
+        Some(number)
+    }
+}
+
+/// Whether a number has a mark.
+fn has_mark(marks: &[bool], number: u32) -> bool
+    ensures { result ≡ slice_index_or marks.now number false }
+{
+    marks.get(number as usize).copied().unwrap_or(false)
+}
+
+/// Adds the name at a place as a further column, whose claim has this number. 2 ^ 32 inputs have no room.
+fn add_column(
+    inputs: &mut Vec<u32>,
+    ports: &mut Vec<Option<u32>>,
+    place: usize,
+    number: u32,
+) -> Result<(), AllocError>
+    ensures inputs { OnOk result (inputs.new.items ≡ inputs.old.items ++ place ∷ []) }
+    ensures ports { OnOk result (ports.new.items
+        ≡ with_column ports.old.items number (length inputs.old.items)) }
+{
+    let column = small(inputs.len())?;
+    inputs.push(small(place)?)?;
+    set_column(ports, number, column);
+    Ok(())
+}
+
+/// Writes the column of a claim that has none.
+fn set_column(ports: &mut Vec<Option<u32>>, number: u32, column: u32)
+    ensures { ports.new.items ≡ with_column ports.old.items number column }
+{
+    let place = number as usize;
+    if let Some(None) = ports.get(place) {
+        ports[place] = Some(column);
+    }
+}
+
+/// The number as one of 32 bits.
+fn small(number: usize) -> Result<u32, AllocError>
+    ensures { IfOk result (λ small. small ≡ number) }
+{
+    if number >= 1 << 32 {
+        return Err(AllocError);
+    }
+    Ok(number as u32)
 }

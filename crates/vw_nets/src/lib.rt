@@ -3,11 +3,17 @@
 
 mod clocks;
 mod columns;
+mod copy;
 mod edges;
+mod items;
+mod marks;
 mod nets;
+mod ports;
 mod print;
+mod search;
 mod two_drivers;
 mod undriven;
+mod wanted;
 
 pub use columns::Columns;
 pub use nets::{Nets, Pair};

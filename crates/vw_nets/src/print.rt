@@ -1,9 +1,10 @@
 //! Nets as they are printed.
-ghost use Rattle.std.specs.Prelude.{◌≡◌, Some, slice_get, IfOk};
+ghost use Rattle.std.specs.Prelude.{◌≡◌, ◌++◌, ℕ, Some, codes, decimal, reverse, flat_map, slice_get, IfOk, OnOk};
 ghost use Rattle.vw_design.specs.Paths.{Path, printed};
 ghost use Rattle.vw_design.specs.Preorder.{instances};
 ghost use Rattle.vw_walk.specs.Tables.{ArePlaced};
 
+use itoa::Buffer;
 use std::alloc::{AllocError, Global};
 use vw_design::Design;
 use vw_outside::Name;
@@ -22,5 +23,54 @@ pub fn print_net(
         → slice_get (instances design.now) instance ≡ Some path
         → text ≡ printed (record { path = path; name = name.now })) }
 {
-    Err(AllocError)
+    let places = places_of(alloc, design, table, instance)?;
+    let mut text = Vec::new(alloc);
+    push_places(&mut text, places)?;
+    text.extend_from_slice(name.as_slice())?;
+    Ok(Name::of(text))
+}
+
+/// The places of an instance, the last one first.
+fn places_of(
+    alloc: Global,
+    design: &Design,
+    table: &[Placed],
+    instance: u32,
+) -> Result<Vec<u32>, AllocError>
+    requires { ArePlaced design.now table.now }
+    ensures { IfOk result (λ places. (path : Path)
+        → slice_get (instances design.now) instance ≡ Some path → places.items ≡ path) }
+{
+    let mut places = Vec::new(alloc);
+    let mut at = instance;
+    while at != 0 {
+        let Some(entry) = table.get(at as usize) else {
+            return Ok(places);
+        };
+        places.push(entry.place)?;
+        at = entry.parent;
+    }
+    Ok(places)
+}
+
+/// Appends places, the last one first, each followed by `/`.
+fn push_places(text: &mut Vec<u8>, mut places: Vec<u32>) -> Result<(), AllocError>
+    ensures { OnOk result (text.new.items ≡ text.old.items
+        ++ flat_map (λ (place : ℕ). decimal place ++ codes "/") (reverse places.items)) }
+{
+    while let Some(place) = places.pop() {
+        push_place(text, place)?;
+    }
+    Ok(())
+}
+
+/// Appends a place and `/`.
+fn push_place(text: &mut Vec<u8>, place: u32) -> Result<(), AllocError>
+    ensures { OnOk result (text.new.items
+        ≡ text.old.items ++ (decimal place ++ codes "/")) }
+{
+    let mut buffer = Buffer::new();
+    text.extend_from_slice(buffer.format(place).as_bytes())?;
+    text.push(b'/')?;
+    Ok(())
 }

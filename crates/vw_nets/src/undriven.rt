@@ -4,6 +4,7 @@ ghost use Rattle.vw_design.specs.NetFaults.{undriven};
 ghost use Rattle.vw_nets.specs.Nets.{AreNets, printed_net};
 
 use crate::nets::Nets;
+use crate::wanted::Wanted;
 use std::alloc::{AllocError, Global};
 use vw_outside::Name;
 
@@ -13,6 +14,6 @@ impl<'a> Nets<'a> {
         requires { AreNets self.now }
         ensures { IfOk result (λ found. found ≡ printed_net (undriven self.now.design.now)) }
     {
-        Err(AllocError)
+        self.first_wanted(alloc, &Wanted::Undriven)
     }
 }

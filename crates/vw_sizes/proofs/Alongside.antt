@@ -16,7 +16,7 @@ use Rattle.vw_design.specs.ModelNumbers.{IsNumberOfModel, AreTargets}
 use Rattle.vw_design.proofs.Lists.{AllZip-at}
 use Rattle.vw_models.specs.Reach.{Targets}
 use Rattle.vw_models.proofs.Unknowns.{AreAlong}
-use Rattle.vw_models.proofs.Models.{place_of_model, model_of_place, name_of_named}
+use Rattle.vw_design.proofs.ModelNumbers.{place_of_model, model_of_place, name_of_named}
 use Rattle.vw_models.proofs.Places.{at_within}
 use Rattle.vw_sizes.specs.Counting.{target_in, count_at, count_in, IsWithin}
 

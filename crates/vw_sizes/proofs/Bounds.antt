@@ -12,7 +12,7 @@ use Rattle.vw_design.specs.ModelFaults.{is_reached}
 use Rattle.vw_design.specs.Counts.{items_height, is_below}
 use Rattle.vw_design.proofs.Closed.{reached_at, model_is_named}
 use Rattle.vw_design.proofs.Has.{Has, Has-at}
-use Rattle.vw_models.proofs.Models.{name_of_named}
+use Rattle.vw_design.proofs.ModelNumbers.{name_of_named}
 use Rattle.vw_sizes.specs.declared.measure.Measure.{Measure}
 use Rattle.vw_sizes.specs.declared.measure.Measure.TheVariants.{Levels}
 use Rattle.vw_sizes.specs.Counting.{most, amount, count_in, AreCounts, IsRanked}

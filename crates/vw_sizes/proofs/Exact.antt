@@ -16,7 +16,7 @@ use Rattle.vw_design.proofs.Has.{Has, all-Has, from-filter_map}
 use Rattle.vw_design.proofs.Lists.{AllZip-at}
 use Rattle.vw_design.proofs.Sizes.{small_of}
 use Rattle.vw_design.proofs.Weights.{capped_weight}
-use Rattle.vw_models.proofs.Models.{place_of_model}
+use Rattle.vw_design.proofs.ModelNumbers.{place_of_model}
 use Rattle.vw_models.proofs.Places.{at_within}
 use Rattle.vw_sizes.specs.declared.measure.Measure.TheVariants.{Instances, Cells}
 use Rattle.vw_sizes.specs.declared.quantity.Quantity.{Quantity}

@@ -16,7 +16,7 @@ use Rattle.vw_design.proofs.Closed.{at_reached, model_is_named}
 use Rattle.vw_design.proofs.Has.{Has, at-Has, all-Has, from-any, any-Has}
 use Rattle.vw_design.proofs.Names.{same_name, equal_names}
 use Rattle.vw_models.proofs.Among.{among_Has, among_at, at_among, once_short}
-use Rattle.vw_models.proofs.Models.{place_of_model, model_of_place, name_of_named}
+use Rattle.vw_design.proofs.ModelNumbers.{place_of_model, model_of_place, name_of_named}
 use Rattle.vw_models.proofs.Orders.{rank, ranking, front_position}
 use Rattle.vw_sizes.specs.declared.measure.Measure.{Measure}
 use Rattle.vw_sizes.specs.Counting.{most, amount, count_in, AreCounts, IsRanked}

@@ -1,0 +1,12 @@
+pub mod Places
+pub mod Finds
+pub mod CellItems
+pub mod Along
+pub mod Reading
+pub mod Edged
+pub mod PortNumbers
+pub mod ClockMarks
+pub mod Unlikes
+pub mod FreeColumns
+pub mod ClaimedAgain
+pub mod FirstAgain

@@ -1,0 +1,20 @@
+use Rattle.std.proofs.Common.{◌≡◌, subst}
+use Rattle.vw_design.specs.declared.item.Item.{Item}
+use Rattle.vw_names.specs.Names.{reads_of}
+use Rattle.vw_drivers.specs.Tables.{instance_firsts}
+use Rattle.vw_nets.specs.Items.{lent, AreNumbersOf}
+use Rattle.vw_nets.specs.Wanted.{wanted_among, wanted_names}
+use Rattle.vw_nets.proofs.CellItems.{item_here, numbers_here}
+use Rattle.vw_nets.proofs.nets.Nets.wanted_at.Goals as goal
+
+pub returns : goal.returns
+returns c = λ path item listed at.
+    let design = c.args.self.now.design.now in
+    let tables = c.args.self.now.tables.now in
+    let wanted = c.args.wanted.now in
+    let cell = c.args.cell in
+    let numbers = c.in_ok-numbers.numbers.now in
+    subst (λ (x : Item). AreNumbersOf (instance_firsts tables cell.instance) (reads_of x) numbers → lent c.read_found.result ≡ wanted_among design wanted path (wanted_names wanted x))
+    (item_here design tables c.requires.nets.tables cell path item listed at c.in_ok-item.item.now c.in_ok-item.ensures)
+    (c.read_found.ensures path listed)
+    (numbers_here design tables c.requires.nets.tables cell path item listed at numbers c.in_ok-numbers.ensures)

@@ -1,0 +1,29 @@
+-- Ports of the root by the numbers of their claims.
+use Rattle.std.specs.Prelude.{ℕ, ◌==◌, Bool, false, List, [], ◌++◌, filter_map, Option, Some, None}
+use Rattle.vw_design.specs.declared.item.Item.{Item}
+use Rattle.vw_design.specs.declared.design.Design.{Design}
+use Rattle.vw_design.specs.Clocks.{port_of, inputs_of, clocks_of}
+use Rattle.vw_design.specs.Drivers.{driver}
+use Rattle.vw_design.specs.Paths.{Word, Path, model_at}
+use Rattle.vw_design.specs.Reads.{controls_of}
+use Rattle.vw_drivers.specs.declared.source.Source.{Source}
+use Rattle.vw_drivers.specs.declared.source.Source.TheVariants.{Port, Cell}
+
+-- the port that a driver is, by its number
+abbrev pub port_number : Option Source → Option ℕ
+port_number None = None
+port_number (Some (Port number)) = Some number
+port_number (Some (Cell number)) = None
+
+-- the ports of the root that drive the control of an item
+abbrev pub ports_of : Design → Path → Item → List Word
+ports_of design path item = filter_map (λ name. port_of (driver design path name)) (controls_of item)
+
+-- whether a number that was found is this one
+abbrev pub has_number : Option ℕ → ℕ → Bool
+has_number None number = false
+has_number (Some found) number = found == number
+
+-- the ports of the root
+abbrev pub root_ports : Design → List Word
+root_ports design = inputs_of (model_at design []) ++ clocks_of (model_at design [])

@@ -1,0 +1,68 @@
+-- What is looked for among the nets that are read.
+use Rattle.std.specs.Prelude.{◌≡◌, ℕ, Bool, true, false, List, ◌++◌, find, flat_map, is_none, slice_get, slice_index_or, Option, Some, None, option_map, []}
+use Rattle.std.specs.Option.{option_or}
+use Rattle.vw_design.specs.declared.item.Item.{Item}
+use Rattle.vw_design.specs.declared.design.Design.{Design}
+use Rattle.vw_design.specs.Distinct.{has_name}
+use Rattle.vw_design.specs.Paths.{Word, Path, Net, model_at, outputs_of}
+use Rattle.vw_design.specs.Drivers.{Source as PathSource, driver}
+use Rattle.vw_design.specs.Preorder.{cells}
+use Rattle.vw_design.specs.Reads.{net_at, nets_at, data_of, controls_of}
+use Rattle.vw_design.specs.Clocks.{clock_ports}
+use Rattle.vw_design.specs.NetFaults.{is_cell_source, is_clock_source}
+use Rattle.vw_claims.specs.Firsts.{First, number_named}
+use Rattle.vw_drivers.specs.declared.source.Source.{Source}
+use Rattle.vw_drivers.specs.declared.source.Source.TheVariants.{Port, Cell}
+use Rattle.vw_nets.specs.declared.wanted.Wanted.{Wanted}
+use Rattle.vw_nets.specs.declared.wanted.Wanted.TheVariants.{Undriven, Gated, ClockPort}
+
+-- whether a net with a driver is looked for
+abbrev pub wants : Design → Wanted → Option PathSource → Bool
+wants design Undriven source = is_none source
+wants design Gated source = is_cell_source source
+wants design (ClockPort marks) source = is_clock_source design source
+
+-- the same by the driver's number
+abbrev pub is_cell_number : Option Source → Bool
+is_cell_number None = false
+is_cell_number (Some (Port number)) = false
+is_cell_number (Some (Cell number)) = true
+
+abbrev pub is_marked : List Bool → Option Source → Bool
+is_marked marks None = false
+is_marked marks (Some (Port number)) = slice_index_or marks number false
+is_marked marks (Some (Cell number)) = false
+
+abbrev pub takes : Wanted → Option Source → Bool
+takes Undriven source = is_none source
+takes Gated source = is_cell_number source
+takes (ClockPort marks) source = is_marked marks.now source
+
+-- for each claim of the root, by its number, whether its name is a clock port
+abbrev pub AreMarks : Design → List First → List Bool → Type 0
+AreMarks design root marks =
+    (name : Word) (number : ℕ) → number_named root name ≡ Some number → slice_get marks number ≡ Some (has_name (clock_ports design) name)
+
+abbrev pub HasMarks : Design → List First → Wanted → Type 0
+HasMarks design root Undriven = Unit {0}
+HasMarks design root Gated = Unit {0}
+HasMarks design root (ClockPort marks) = AreMarks design root marks.now
+
+-- the names of an item among which it is looked for
+abbrev pub wanted_names : Wanted → Item → List Word
+wanted_names Undriven item = data_of item ++ controls_of item
+wanted_names Gated item = controls_of item
+wanted_names (ClockPort marks) item = data_of item
+
+-- the first of some names of an instance, and the first of those that the gates and latches read
+abbrev pub wanted_among : Design → Wanted → Path → List Word → Option Word
+wanted_among design wanted path names = find (λ name. wants design wanted (driver design path name)) names
+
+abbrev pub wanted_read : Design → Wanted → Option Net
+wanted_read design wanted =
+    find (λ net. wants design wanted (driver design net.path net.name)) (flat_map (λ site. nets_at site (wanted_names wanted site.item)) (cells design))
+
+-- the same, and behind them the outputs of the root
+abbrev pub first_wanted : Design → Wanted → Option Net
+first_wanted design wanted =
+    option_or (wanted_read design wanted) (option_map (net_at []) (wanted_among design wanted [] (outputs_of (model_at design []))))

@@ -1,0 +1,241 @@
+//! The first net that is looked for.
+ghost use Rattle.std.specs.Prelude.{◌≡◌, [], ◌∷◌, Some, slice_get, option_to_list, IfOk};
+ghost use Rattle.vw_design.specs.declared.item.Item.{Item};
+ghost use Rattle.vw_design.specs.Drivers.{driver};
+ghost use Rattle.vw_design.specs.Paths.{Path, Word, model_at, outputs_of};
+ghost use Rattle.vw_design.specs.PathValue.{item_at};
+ghost use Rattle.vw_design.specs.Preorder.{instances};
+ghost use Rattle.vw_design.specs.Reads.{data_of, controls_of};
+ghost use Rattle.vw_claims.specs.Firsts.{number_named};
+ghost use Rattle.vw_names.specs.Names.{reads_of};
+ghost use Rattle.vw_drivers.specs.Tables.{root_firsts, instance_firsts};
+ghost use Rattle.vw_nets.specs.Items.{lent, AreNumbersOf};
+ghost use Rattle.vw_nets.specs.Nets.{AreNets, printed_net};
+ghost use Rattle.vw_nets.specs.Wanted.{wants, HasMarks, wanted_names, wanted_among, wanted_read, first_wanted};
+
+use crate::items::{control_of, number_at};
+use crate::nets::Nets;
+use crate::print::print_net;
+use crate::wanted::Wanted;
+use std::alloc::{AllocError, Global};
+use vw_claims::ModelClaims;
+use vw_design::Item;
+use vw_outside::Name;
+use vw_walk::CellSite;
+
+impl<'a> Nets<'a> {
+    /// Whether the nets of an instance on whose names the first claim has this number are looked for.
+    fn is_wanted(&self, instance: u32, number: Option<u32>, wanted: &Wanted) -> bool
+        requires nets { AreNets self.now }
+        requires marks { HasMarks self.now.design.now (root_firsts self.now.tables.now) wanted.now }
+        ensures { (path : Path) (name : Word)
+            → slice_get (instances self.now.design.now) instance ≡ Some path
+            → number ≡ number_named (instance_firsts self.now.tables.now instance) name
+            → result ≡ wants self.now.design.now wanted.now (driver self.now.design.now path name) }
+    {
+        wanted.takes(self.drivers.source(self.tables, instance, number))
+    }
+
+    /// A name of an instance, where it is looked for.
+    fn only(
+        &self,
+        instance: u32,
+        name: &'a Name,
+        number: Option<u32>,
+        wanted: &Wanted,
+    ) -> Option<&'a Name>
+        requires nets { AreNets self.now }
+        requires marks { HasMarks self.now.design.now (root_firsts self.now.tables.now) wanted.now }
+        ensures { (path : Path) → slice_get (instances self.now.design.now) instance ≡ Some path
+            → number ≡ number_named (instance_firsts self.now.tables.now instance) name.now
+            → lent result ≡ wanted_among self.now.design.now wanted.now path (name.now ∷ []) }
+    {
+        if self.is_wanted(instance, number, wanted) {
+            Some(name)
+        } else {
+            None
+        }
+    }
+
+    /// The first of some names of an instance that is looked for.
+    fn first_among(
+        &self,
+        instance: u32,
+        names: &'a [Name],
+        numbers: &[Option<u32>],
+        wanted: &Wanted,
+    ) -> Option<&'a Name>
+        requires nets { AreNets self.now }
+        requires marks { HasMarks self.now.design.now (root_firsts self.now.tables.now) wanted.now }
+        ensures { (path : Path) → slice_get (instances self.now.design.now) instance ≡ Some path
+            → AreNumbersOf (instance_firsts self.now.tables.now instance) names.now numbers.now
+            → lent result ≡ wanted_among self.now.design.now wanted.now path names.now }
+    {
+        for (place, name) in names.iter().enumerate() {
+            let number = number_at(numbers, place);
+            if self.is_wanted(instance, number, wanted) {
+                return Some(name);
+            }
+        }
+        None
+    }
+
+    /// The first name that an item reads as data and that is looked for.
+    fn data_found(
+        &self,
+        instance: u32,
+        item: &'a Item,
+        numbers: &[Option<u32>],
+        wanted: &Wanted,
+    ) -> Option<&'a Name>
+        requires nets { AreNets self.now }
+        requires marks { HasMarks self.now.design.now (root_firsts self.now.tables.now) wanted.now }
+        ensures { (path : Path) → slice_get (instances self.now.design.now) instance ≡ Some path
+            → AreNumbersOf (instance_firsts self.now.tables.now instance) (reads_of item.now) numbers.now
+            → lent result ≡ wanted_among self.now.design.now wanted.now path (data_of item.now) }
+    {
+        match item {
+            Item::Names { ins, .. } => self.first_among(instance, ins.as_slice(), numbers, wanted),
+            Item::Latch { d, .. } => self.only(instance, d, number_at(numbers, 0), wanted),
+            Item::Sub { .. } => None,
+        }
+    }
+
+    /// The control of an item, where it is looked for.
+    fn control_found(
+        &self,
+        instance: u32,
+        item: &'a Item,
+        numbers: &[Option<u32>],
+        wanted: &Wanted,
+    ) -> Option<&'a Name>
+        requires nets { AreNets self.now }
+        requires marks { HasMarks self.now.design.now (root_firsts self.now.tables.now) wanted.now }
+        ensures { (path : Path) → slice_get (instances self.now.design.now) instance ≡ Some path
+            → AreNumbersOf (instance_firsts self.now.tables.now instance) (reads_of item.now) numbers.now
+            → lent result ≡ wanted_among self.now.design.now wanted.now path (controls_of item.now) }
+    {
+        match control_of(item) {
+            Some(control) => self.only(instance, control, number_at(numbers, 1), wanted),
+            None => None,
+        }
+    }
+
+    /// The first name of an item that is looked for.
+    fn read_found(
+        &self,
+        instance: u32,
+        item: &'a Item,
+        numbers: &[Option<u32>],
+        wanted: &Wanted,
+    ) -> Option<&'a Name>
+        requires nets { AreNets self.now }
+        requires marks { HasMarks self.now.design.now (root_firsts self.now.tables.now) wanted.now }
+        ensures { (path : Path) → slice_get (instances self.now.design.now) instance ≡ Some path
+            → AreNumbersOf (instance_firsts self.now.tables.now instance) (reads_of item.now) numbers.now
+            → lent result
+            ≡ wanted_among self.now.design.now wanted.now path (wanted_names wanted.now item.now) }
+    {
+        match wanted {
+            Wanted::Undriven => match self.data_found(instance, item, numbers, wanted) {
+                Some(name) => Some(name),
+                None => self.control_found(instance, item, numbers, wanted),
+            },
+            Wanted::Gated => self.control_found(instance, item, numbers, wanted),
+            Wanted::ClockPort(_) => self.data_found(instance, item, numbers, wanted),
+        }
+    }
+
+    /// The first name of the item of a cell that is looked for.
+    fn wanted_at(&self, cell: CellSite, wanted: &Wanted) -> Option<&'a Name>
+        requires nets { AreNets self.now }
+        requires marks { HasMarks self.now.design.now (root_firsts self.now.tables.now) wanted.now }
+        ensures { (path : Path) (item : Item)
+            → slice_get (instances self.now.design.now) cell.instance ≡ Some path
+            → item_at self.now.design.now path cell.item ≡ Some item
+            → lent result ≡ wanted_among self.now.design.now wanted.now path (wanted_names wanted.now item) }
+    {
+        let item = self.item_of(cell)?;
+        let numbers = self.numbers_of(cell)?;
+        self.read_found(cell.instance, item, numbers, wanted)
+    }
+
+    /// The first net that a gate or a latch reads and that is looked for.
+    pub(crate) fn wanted_read(
+        &self,
+        alloc: Global,
+        wanted: &Wanted,
+    ) -> Result<Option<Name>, AllocError>
+        requires nets { AreNets self.now }
+        requires marks { HasMarks self.now.design.now (root_firsts self.now.tables.now) wanted.now }
+        ensures { IfOk result (λ found. found
+            ≡ printed_net (wanted_read self.now.design.now wanted.now)) }
+    {
+        for cell in self.cells {
+            let found = self.wanted_at(*cell, wanted);
+            if let Some(name) = found {
+                let table = self.tables.instances();
+                let net = print_net(alloc, self.design, table, cell.instance, name)?;
+                return Ok(Some(net));
+            }
+        }
+        Ok(None)
+    }
+
+    /// The first output of the root that is looked for.
+    fn wanted_output(&self, wanted: &Wanted) -> Option<&'a Name>
+        requires nets { AreNets self.now }
+        requires marks { HasMarks self.now.design.now (root_firsts self.now.tables.now) wanted.now }
+        ensures { lent result ≡ wanted_among self.now.design.now wanted.now []
+            (outputs_of (model_at self.now.design.now [])) }
+    {
+        let root = self.tables.instances()[0];
+        let claims = &self.tables.claims()[root.model as usize];
+        self.output_among(claims, self.design.models()[0].outputs(), wanted)
+    }
+
+    /// The first of some names of the root that is looked for.
+    fn output_among(
+        &self,
+        claims: &ModelClaims,
+        names: &'a [Name],
+        wanted: &Wanted,
+    ) -> Option<&'a Name>
+        requires nets { AreNets self.now }
+        requires marks { HasMarks self.now.design.now (root_firsts self.now.tables.now) wanted.now }
+        requires claims { claims.now.firsts ≡ instance_firsts self.now.tables.now 0 }
+        ensures { lent result ≡ wanted_among self.now.design.now wanted.now [] names.now }
+    {
+        for name in names {
+            let number = claims.first(name.as_slice());
+            if self.is_wanted(0, number, wanted) {
+                return Some(name);
+            }
+        }
+        None
+    }
+
+    /// The first net that is read and looked for.
+    pub(crate) fn first_wanted(
+        &self,
+        alloc: Global,
+        wanted: &Wanted,
+    ) -> Result<Option<Name>, AllocError>
+        requires nets { AreNets self.now }
+        requires marks { HasMarks self.now.design.now (root_firsts self.now.tables.now) wanted.now }
+        ensures { IfOk result (λ found. found
+            ≡ printed_net (first_wanted self.now.design.now wanted.now)) }
+    {
+        let read = self.wanted_read(alloc, wanted)?;
+        if read.is_some() {
+            return Ok(read);
+        }
+        match self.wanted_output(wanted) {
+            Some(name) => {
+                let net = print_net(alloc, self.design, self.tables.instances(), 0, name)?;
+                Ok(Some(net))
+            }
+            None => Ok(None),
+        }
+    }
+}
