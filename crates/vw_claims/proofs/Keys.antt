@@ -1,7 +1,7 @@
 -- Maps and sets from names, as lists.
-use Rattle.std.proofs.Common.{◌≡◌, ◌<◌, ◌||◌, ◌+◌, ℕ, zero, suc, Bool, true, false, not, cond, List, [], ◌∷◌, ◌++◌, length, map, take, get_or, position, slice_get, Option, Some, None, option_map, is_some, nat_lt, if◌then◌else◌, refl, sym, ◌∙◌, ap, arith}
+use Rattle.std.proofs.Common.{◌≡◌, ◌<◌, ◌||◌, ◌+◌, ℕ, suc, Bool, true, false, not, cond, List, [], ◌∷◌, ◌++◌, length, map, take, get_or, position, Option, Some, None, option_map, is_some, nat_lt, if◌then◌else◌, refl, sym, ◌∙◌, ap, arith}
 use Rattle.std.specs.List.{AllZip, prefix_len}
-use Rattle.std.specs.Map.{lookup, keys_of, values_of}
+use Rattle.std.specs.Map.{lookup, keys_of}
 use Rattle.std.specs.Str.{bytes_eq}
 use Rattle.std.proofs.lemmas.Cmp.{nat_list_eq_equiv}
 use Rattle.std.proofs.lemmas.List.{take_more}
@@ -10,7 +10,7 @@ use Rattle.vw_design.specs.Distinct.{has_name}
 use Rattle.vw_design.specs.Paths.{Word}
 use Rattle.indexmap.specs.IndexMap.{insert_entry}
 use Rattle.vw_claims.specs.declared.claim.Claim.{Claim}
-use Rattle.vw_claims.specs.Firsts.{First, has_claim, claim_at, number_named}
+use Rattle.vw_claims.specs.Firsts.{First, has_claim, number_named}
 
 pub names_sym : (one other : Word) → bytes_eq one other ≡ bytes_eq other one
 names_sym one other = nat_list_eq_equiv.symm one other
@@ -91,12 +91,6 @@ number_first [] bytes name = refl
 number_first (entry ∷ entries) bytes name =
     place_step (bytes_eq name (bytes entry.0)) (bytes_eq (bytes entry.0) name) (prefix_len (λ key. not (bytes_eq name (bytes key))) (keys_of entries)) (length (keys_of entries))
     (number_named (firsts_of bytes entries) name) (names_sym name (bytes entry.0)) (number_first entries bytes name)
-
--- the claim at an index
-pub claim_first : {K : Type 0} (entries : List (K × Claim)) (bytes : K → Word) (number : ℕ) → slice_get (values_of entries) number ≡ claim_at (firsts_of bytes entries) number
-claim_first [] bytes number = refl
-claim_first (entry ∷ entries) bytes zero = refl
-claim_first (entry ∷ entries) bytes (suc number) = claim_first entries bytes number
 
 -- lists that go along with each other, and one element more
 pub along_more : {A B : Type 0} (R : A → B → Type 0) (xs : List A) (ys : List B) (x : A) (y : B) → AllZip R xs ys → R x y → AllZip R (xs ++ x ∷ []) (ys ++ y ∷ [])

@@ -1,7 +1,6 @@
 -- The outputs of the models that items place.
 use Rattle.std.proofs.Common.{◌≡◌, ◌<◌, ◌≤◌, ◌+◌, ℕ, zero, suc, Bool, List, [], ◌∷◌, length, drop, get_or, Option, Some, None, IfSome, option_and_then, slice_get, if◌then◌else◌, refl, sym, ◌∙◌, ap, ap₂, subst, arith}
 use Rattle.std.specs.Option.{unwrap_or}
-use Rattle.std.proofs.lemmas.Option.{none-some}
 use Rattle.vw_design.specs.declared.item.Bind.{Bind}
 use Rattle.vw_design.specs.declared.item.Item.{Item}
 use Rattle.vw_design.specs.declared.item.Item.TheVariants.{Names, Latch, Sub}
@@ -12,6 +11,7 @@ use Rattle.vw_design.specs.Paths.{Word, placings, model_named, outputs_of}
 use Rattle.vw_design.specs.Claims.{and_behind}
 use Rattle.vw_design.specs.ModelNumbers.{IsNumberOfModel}
 use Rattle.vw_design.proofs.Lists.{AllZip-length, AllZip-at}
+use Rattle.vw_design.proofs.ListPlaces.{none_at_place}
 use Rattle.vw_claims.specs.declared.claim.Claim.TheVariants.{Bound}
 use Rattle.vw_claims.specs.Firsts.{First}
 use Rattle.vw_claims.specs.Outputs.{AreOutputs, outputs_at}
@@ -22,11 +22,6 @@ pub at_place : {A : Type 0} (xs : List A) (k : ℕ) (x : A) → k < length xs �
 at_place [] k x within is = absurd (omega arith)
 at_place (y ∷ ys) zero x within is = ap (λ z. Some z) (sym is)
 at_place (y ∷ ys) (suc k) x within is = at_place ys k x (omega arith) is
-
-pub none_at_place : {A : Type 0} (xs : List A) (k : ℕ) → k < length xs → slice_get xs k ≡ None → ⊥
-none_at_place [] k within is = omega arith
-none_at_place (y ∷ ys) zero within is = none-some y (sym is)
-none_at_place (y ∷ ys) (suc k) within is = none_at_place ys k (omega arith) is
 
 -- no output, no claim
 pub none_made : (place number : ℕ) (binds : List Bind) → binds_made [] place number binds ≡ []

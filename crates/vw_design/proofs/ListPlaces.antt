@@ -1,5 +1,5 @@
 -- Elements of lists by their numbers.
-use Rattle.std.proofs.Common.{◌≡◌, ◌≢◌, ◌<◌, ℕ, zero, suc, List, [], ◌∷◌, ◌++◌, length, Some, slice_get, slice_set, refl, ap, subst, arith}
+use Rattle.std.proofs.Common.{◌≡◌, ◌≢◌, ◌<◌, ℕ, zero, suc, List, [], ◌∷◌, ◌++◌, length, Some, None, slice_get, slice_set, refl, sym, ap, subst, arith}
 use Rattle.std.proofs.lemmas.Option.{none-some}
 
 module _ {A : Type 0} where
@@ -15,6 +15,17 @@ module _ {A : Type 0} where
 
   pub at_end : (xs : List A) (x : A) (k : ℕ) → length xs ≡ k → slice_get (xs ++ (x ∷ [])) k ≡ Some x
   at_end xs x k long = subst (λ (n : ℕ). slice_get (xs ++ (x ∷ [])) n ≡ Some x) long (behind xs (x ∷ []))
+
+  pub same_front : (xs ys : List A) (k : ℕ) → k < length xs → slice_get (xs ++ ys) k ≡ slice_get xs k
+  same_front [] ys k within = absurd (omega arith)
+  same_front (x ∷ xs) ys zero within = refl
+  same_front (x ∷ xs) ys (suc k) within = same_front xs ys k (omega arith)
+
+  -- each number below the length has an element
+  pub none_at_place : (xs : List A) (k : ℕ) → k < length xs → slice_get xs k ≡ None → ⊥
+  none_at_place [] k within is = omega arith
+  none_at_place (x ∷ xs) zero within is = none-some x (sym is)
+  none_at_place (x ∷ xs) (suc k) within is = none_at_place xs k (omega arith) is
 
   -- an element that was set, and the others
   pub set_here : (xs : List A) (k : ℕ) (x : A) → k < length xs → slice_get (slice_set xs k x) k ≡ Some x

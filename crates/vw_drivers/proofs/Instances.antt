@@ -14,10 +14,10 @@ use Rattle.vw_design.specs.PathValue.{item_at, place_of_site}
 use Rattle.vw_design.specs.Paths.{Path, Placing, placings, items_of}
 use Rattle.vw_design.specs.Preorder.{is_cell, instances, cells}
 use Rattle.vw_design.proofs.FlatValues.{site_of_place}
+use Rattle.vw_design.proofs.ListPlaces.{none_at_place}
 use Rattle.vw_design.proofs.Numbers.{cell_number, instance_number}
 use Rattle.vw_claims.specs.declared.model_claims.ModelClaims.{ModelClaims}
 use Rattle.vw_claims.specs.Claimed.{AreClaims}
-use Rattle.vw_claims.proofs.Targets.{none_at_place}
 use Rattle.vw_walk.specs.declared.tables.Placed.{Placed}
 use Rattle.vw_walk.specs.Tables.{IsPlaced}
 use Rattle.vw_walk.proofs.Entries.{stands_behind}

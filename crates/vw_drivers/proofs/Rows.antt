@@ -1,8 +1,8 @@
 -- Rows of drivers: what they have at a number when further drivers are written.
-use Rattle.std.proofs.Common.{◌≡◌, ◌≢◌, ◌<◌, ◌≤◌, ℕ, zero, suc, List, [], ◌∷◌, ◌++◌, length, Option, None, slice_get, slice_set, option_and_then, inl, inr, ⊎_elim, refl, sym, ◌∙◌, ap, subst, arith}
+use Rattle.std.proofs.Common.{◌≡◌, ◌≢◌, ◌<◌, ◌≤◌, ℕ, zero, suc, List, [], ◌∷◌, ◌++◌, length, Option, None, slice_set, option_and_then, inl, inr, ⊎_elim, refl, sym, ◌∙◌, ap, subst, arith}
 use Rattle.std.proofs.lemmas.Bool.{cases_eq}
 use Rattle.vw_design.proofs.Has.{Has}
-use Rattle.vw_design.proofs.ListPlaces.{at_end, set_here, set_elsewhere}
+use Rattle.vw_design.proofs.ListPlaces.{at_end, same_front, set_here, set_elsewhere}
 use Rattle.vw_names.specs.declared.model_names.Way.{Way}
 use Rattle.vw_names.specs.declared.model_names.Way.TheVariants as ways
 use Rattle.vw_drivers.specs.declared.source.Source.{Source}
@@ -70,12 +70,6 @@ module _ (tables : Tables) (outputs ports : Rows) (parent number : ℕ) (source 
           kept list (with_way tables outputs ports parent way row) (λ a more. lead a (inr more))
           (ap (λ (w : Way). at_row (with_way tables outputs ports parent w row) number) same
           ∙ port_here row number (led tables outputs ports parent actual) ∙ lead actual (inl same))
-
--- the elements of a front
-same_front : (rows more : Rows) (k : ℕ) → k < length rows → slice_get (rows ++ more) k ≡ slice_get rows k
-same_front [] more k within = absurd (omega arith)
-same_front (row ∷ rows) more zero within = refl
-same_front (row ∷ rows) more (suc k) within = same_front rows more k (omega arith)
 
 -- rows with a row that was set, and with one more
 module _ (rows : Rows) (row : Row) where

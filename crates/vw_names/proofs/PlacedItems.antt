@@ -13,10 +13,10 @@ use Rattle.vw_design.specs.Paths.{Placing, placings, model_named}
 use Rattle.vw_design.specs.Claims.{and_behind}
 use Rattle.vw_design.specs.ModelNumbers.{IsNumberOfModel}
 use Rattle.vw_design.proofs.Lists.{AllZip-at}
+use Rattle.vw_design.proofs.ListPlaces.{none_at_place}
 use Rattle.vw_design.proofs.ModelNumbers.{one_number}
 use Rattle.vw_claims.specs.declared.model_claims.ModelClaims.{ModelClaims}
 use Rattle.vw_claims.specs.Firsts.{First}
-use Rattle.vw_claims.proofs.Targets.{none_at_place}
 use Rattle.vw_names.specs.declared.model_names.PlacedNames.{PlacedNames}
 use Rattle.vw_names.specs.Names.{firsts_of, way_of, IsPlacedNames}
 use Rattle.vw_names.specs.Steps.{placed_made, placed_from}
