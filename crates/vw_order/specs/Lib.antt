@@ -1,0 +1,6 @@
+pub mod Reads
+pub mod Loops
+pub mod Ahead
+pub mod Circles
+pub mod Search
+pub mod Found
