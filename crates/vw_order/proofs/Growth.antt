@@ -16,9 +16,9 @@ below test zero = inr (λ number within. absurd (omega arith))
 below test (suc end) = ⊎_elim
     (λ passes. inl (end, omega arith, passes))
     (λ fails. ⊎_elim
-        (λ found. inl (found.0, omega (arith, found.1), found.2))
-        (λ none. inr (λ number within. ⊎_elim (λ earlier. none number earlier) (λ last. ap test (let e : number ≡ end = omega arith in e) ∙ fails) (cases_lt number end)))
-        (below test end))
+    (λ found. inl (found.0, omega (arith, found.1), found.2))
+    (λ none. inr (λ number within. ⊎_elim (λ earlier. none number earlier) (λ last. ap test (let e : number ≡ end = omega arith in e) ∙ fails) (cases_lt number end)))
+    (below test end))
     (cases_Bool (test end))
 
 -- a place of a number that isn't among others, or all are
@@ -68,9 +68,9 @@ module _ (graph : Graph) (within : IsWithin graph) where
   step : (order stack : List ℕ) (last : ℕ) → IsWalk order stack last → (Circle ⊎ ((number : ℕ) × IsNext order number)) ⊎ ((next : ℕ) × IsWalk order (stack ++ last ∷ []) next)
   step order stack last along = ⊎_elim
       (λ found. ⊎_elim
-          (λ met. inl (inl (round_from found.1 stack ++ last ∷ [], closes graph stack last found.1 along.once along.leads (found.0, found.2) met)))
-          (λ new. inr (found.1, on found.1 new found.3 (found.0, found.2)))
-          (cases_Bool (is_among (stack ++ last ∷ []) found.1)))
+      (λ met. inl (inl (round_from found.1 stack ++ last ∷ [], closes graph stack last found.1 along.once along.leads (found.0, found.2) met)))
+      (λ new. inr (found.1, on found.1 new found.3 (found.0, found.2)))
+      (cases_Bool (is_among (stack ++ last ∷ []) found.1)))
       (λ kids. inl (inr (last, record { counts = along.counted last (among_last stack last); left = along.left; kids = kids })))
       (left_place order (graph.reads last))
     where
@@ -111,15 +111,18 @@ module _ (graph : Graph) (within : IsWithin graph) where
   grown : (order : List ℕ) → IsPart order → (Circle ⊎ ((numbers : List ℕ) × IsNumberOrder graph numbers)) ⊎ ((next : ℕ) × IsPart (order ++ next ∷ []))
   grown order part = ⊎_elim
       (λ found.
-          let parts = and_parts (graph.counts found.0) (not (is_among order found.0)) found.2 in
-          ⊎_elim (λ circle. inl (inl circle)) (λ next. inr (next.0, longer order next.0 part next.1))
-          (walk graph.count order [] found.0 (omega arith) (begun order found.0 parts.0 (not_true (is_among order found.0) parts.1))))
-      (λ none. inl (inr (order, record {
-        all = λ number counts. whole (is_among order number) (ap (λ (b : Bool). b && not (is_among order number)) (sym counts) ∙ none number (within.below number counts));
-        counted = part.counted;
-        once = part.once;
-        behind = part.behind;
-      })))
+      let parts = and_parts (graph.counts found.0) (not (is_among order found.0)) found.2 in
+      ⊎_elim (λ circle. inl (inl circle)) (λ next. inr (next.0, longer order next.0 part next.1))
+      (walk graph.count order [] found.0 (omega arith) (begun order found.0 parts.0 (not_true (is_among order found.0) parts.1))))
+      (λ none. inl (inr (
+        order,
+        record {
+          all = λ number counts. whole (is_among order number) (ap (λ (b : Bool). b && not (is_among order number)) (sym counts) ∙ none number (within.below number counts));
+          counted = part.counted;
+          once = part.once;
+          behind = part.behind;
+        },
+      )))
       (below (λ (number : ℕ). graph.counts number && not (is_among order number)) graph.count)
     where
       not_true : (b : Bool) → not b ≡ true → b ≡ false

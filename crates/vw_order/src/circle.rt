@@ -19,12 +19,7 @@ fn place_of(numbers: &[u32], number: u32) -> usize
 }
 
 /// The stack from a number on, with one more at the end.
-pub fn round(
-    alloc: Global,
-    stack: &[u32],
-    last: u32,
-    number: u32,
-) -> Result<Vec<u32>, AllocError>
+pub fn round(alloc: Global, stack: &[u32], last: u32, number: u32) -> Result<Vec<u32>, AllocError>
     ensures { IfOk result (λ circle. circle.items ≡ round_from number stack.now ++ last ∷ []) }
 {
     let start = place_of(stack, number);

@@ -3,11 +3,14 @@
 
 mod circle;
 mod depth;
+mod gate_order;
 mod laws;
 mod mark;
-mod gate_order;
 mod read;
 mod search;
 
-pub use laws::{loop_free_is_ordered, orders_are_loop_free};
 pub use gate_order::{OrderFault, OrderRefused, order};
+pub use laws::{loop_free_is_ordered, orders_are_loop_free};
+
+#[cfg(test)]
+mod tests;

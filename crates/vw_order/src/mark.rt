@@ -1,7 +1,7 @@
 //! What a search knows of a gate.
 
 /// How far a gate is.
-#[derive(Clone, Copy, Debug, PartialEq, Eq)]
+#[derive(Clone, Copy)]
 pub enum Mark {
     /// It hasn't been reached.
     Fresh,
@@ -12,7 +12,7 @@ pub enum Mark {
 }
 
 /// A gate that is read by another one, at a place among its inputs.
-#[derive(Clone, Copy, Debug, PartialEq, Eq)]
+#[derive(Clone, Copy)]
 pub struct Ahead {
     pub place: usize,
     pub number: u32,

@@ -18,25 +18,20 @@ pub enum Found {
 }
 
 /// Goes on until no gate is open, or until there is a circle.
-fn go_on(
-    alloc: Global,
-    flat: &Flat,
-    depth: &mut Depth,
-) -> Result<Option<Vec<u32>>, AllocError>
+fn go_on(alloc: Global, flat: &Flat, depth: &mut Depth) -> Result<Option<Vec<u32>>, AllocError>
     requires { IsDepth flat.now depth.old }
     ensures { IfOk result (IsGoneOn flat.now depth.old depth.new) }
 {
     while let Some(number) = depth.stack.pop() {
-        match depth.ahead(flat, number) {
-            None => depth.finish(number)?,
-            Some(ahead) => {
-                if depth.is_open(ahead.number) {
-                    let circle = round(alloc, depth.stack.as_slice(), number, ahead.number)?;
-                    return Ok(Some(circle));
-                }
-                depth.open_ahead(number, ahead)?;
-            }
+        let Some(ahead) = depth.ahead(flat, number) else {
+            depth.finish(number)?;
+            continue;
+        };
+        if depth.is_open(ahead.number) {
+            let circle = round(alloc, depth.stack.as_slice(), number, ahead.number)?;
+            return Ok(Some(circle));
         }
+        depth.open_ahead(number, ahead)?;
     }
     Ok(None)
 }

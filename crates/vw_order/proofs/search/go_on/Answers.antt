@@ -73,32 +73,32 @@ finish-requires c =
     let far = apart flat depth stack number c.in-Some.ensures.items c.loop-number.invariant.0 in
     omega (arith, top_within (gates flat) (within flat) depth.marks.items depth.cursors.items depth.order.items stack number far, far.marks_each)
 
-pub loop-number-smaller-in-Continue-1 : goal.loop-number-smaller-in-Continue-1
-loop-number-smaller-in-Continue-1 c =
+pub loop-number-smaller-in_default-ahead : goal.loop-number-smaller-in_default-ahead
+loop-number-smaller-in_default-ahead c =
     let flat = c.args.flat.now in
     let depth = c.loop-number.depth in
     let stack = c.pop.new.self.items in
     let number = c.in-Some.number in
     let far = apart flat depth stack number c.in-Some.ensures.items c.loop-number.invariant.0 in
     let most = bound (gates flat) (within flat) depth.marks.items depth.cursors.items depth.order.items stack number far in
-    let new = c.in_ok-finish-in-None.ensures in
+    let new = c.in_ok-finish.ensures in
     let before : length depth.stack.items ≡ length (stack ++ number ∷ []) = ap (λ (l : List ℕ). length l) c.in-Some.ensures.items in
     let done : length c.finish.new.self.order.items ≡ length (depth.order.items ++ number ∷ []) = ap (λ (l : List ℕ). length l) new.order in
     let left : length c.finish.new.self.stack.items ≡ length stack = ap (λ (l : List ℕ). length l) new.stack in
     smaller (length flat.cells) (length depth.order.items) (length depth.stack.items) (length c.finish.new.self.order.items) (length c.finish.new.self.stack.items) (omega arith)
     (omega (arith, length-append stack (number ∷ []))) (omega (arith, length-append stack (number ∷ []), length-append depth.order.items (number ∷ [])))
 
-pub loop-number-preserved-in-Continue-1 : goal.loop-number-preserved-in-Continue-1
-loop-number-preserved-in-Continue-1 c =
+pub loop-number-preserved-in_default-ahead : goal.loop-number-preserved-in_default-ahead
+loop-number-preserved-in_default-ahead c =
     let flat = c.args.flat.now in
     let depth = c.loop-number.depth in
     let stack = c.pop.new.self.items in
     let number = c.in-Some.number in
     let far = apart flat depth stack number c.in-Some.ensures.items c.loop-number.invariant.0 in
-    let new = c.in_ok-finish-in-None.ensures in (
-      same_search (gates flat) _ _ _ _ _ _ _ _ (finished (gates flat) (within flat) depth.marks.items depth.cursors.items depth.order.items stack number far c.in-None.ensures) new.marks new.cursors new.order new.stack,
+    let new = c.in_ok-finish.ensures in (
+      same_search (gates flat) _ _ _ _ _ _ _ _ (finished (gates flat) (within flat) depth.marks.items depth.cursors.items depth.order.items stack number far c.in_default-ahead.ensures) new.marks new.cursors new.order new.stack,
       kept c.args.depth.now depth c.finish.new.self stack (depth.order.items ++ number ∷ []) stack number c.in-Some.ensures.items new.order new.stack c.loop-number.invariant.1
-      (moved (gates flat) (within flat) depth.marks.items depth.cursors.items depth.order.items stack number far),
+          (moved (gates flat) (within flat) depth.marks.items depth.cursors.items depth.order.items stack number far),
     )
 
 pub is_open-requires : goal.is_open-requires
@@ -119,7 +119,7 @@ returns-then-is_open c =
     let far = apart flat depth stack number c.in-Some.ensures.items c.loop-number.invariant.0 in
     let next = c.in-Some-ahead.ahead in
     let on = open_is (get_or depth.marks.items next.number Fresh) (sym c.is_open.ensures ∙ c.if-is_open.true) in
-    let is = c.in_ok-circle-in-Some-ahead.ensures ∙ ap (λ (l : List ℕ). round_from next.number l ++ number ∷ []) c.as_slice.ensures.value in
+    let is = c.in_ok-circle.ensures ∙ ap (λ (l : List ℕ). round_from next.number l ++ number ∷ []) c.as_slice.ensures.value in
     subst (λ (l : List ℕ). IsNumberCircle (gates flat) l) (sym is) (circled (gates flat) (within flat) depth.marks.items depth.cursors.items depth.order.items stack number far next c.in-Some-ahead.ensures on)
 
 pub open_ahead-requires-clause-number : goal.open_ahead-requires-clause-number
@@ -149,7 +149,7 @@ loop-number-smaller c =
     let next = c.in-Some-ahead.ahead in
     let far = apart flat depth stack number c.in-Some.ensures.items c.loop-number.invariant.0 in
     let most = bound (gates flat) (within flat) depth.marks.items depth.cursors.items depth.order.items stack number far in
-    let new = c.in_ok-open_ahead-in-Some-ahead.ensures in
+    let new = c.in_ok-open_ahead.ensures in
     let before : length depth.stack.items ≡ length (stack ++ number ∷ []) = ap (λ (l : List ℕ). length l) c.in-Some.ensures.items in
     let done : length c.open_ahead.new.self.order.items ≡ length depth.order.items = ap (λ (l : List ℕ). length l) new.order in
     let left : length c.open_ahead.new.self.stack.items ≡ length (stack ++ number ∷ next.number ∷ []) = ap (λ (l : List ℕ). length l) new.stack in
@@ -164,11 +164,11 @@ loop-number-preserved c =
     let number = c.in-Some.number in
     let next = c.in-Some-ahead.ahead in
     let far = apart flat depth stack number c.in-Some.ensures.items c.loop-number.invariant.0 in
-    let new = c.in_ok-open_ahead-in-Some-ahead.ensures in
+    let new = c.in_ok-open_ahead.ensures in
     let off = open_not (get_or depth.marks.items next.number Fresh) (sym c.is_open.ensures ∙ c.if-is_open.false) in (
       same_search (gates flat) _ _ _ _ _ _ _ _ (opened_on (gates flat) (within flat) depth.marks.items depth.cursors.items depth.order.items stack number far next c.in-Some-ahead.ensures off) new.marks new.cursors new.order new.stack,
       kept c.args.depth.now depth c.open_ahead.new.self stack depth.order.items (stack ++ number ∷ next.number ∷ []) number c.in-Some.ensures.items new.order new.stack c.loop-number.invariant.1
-      (joined (gates flat) (within flat) depth.marks.items depth.cursors.items depth.order.items stack number far next c.in-Some-ahead.ensures),
+          (joined (gates flat) (within flat) depth.marks.items depth.cursors.items depth.order.items stack number far next c.in-Some-ahead.ensures),
     )
 
 pub returns : goal.returns

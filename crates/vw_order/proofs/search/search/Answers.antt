@@ -23,6 +23,6 @@ returns c =
     let depth = c.loop-number.depth in
     let far : IsSearch (gates flat) depth.marks.items depth.cursors.items depth.order.items [] = subst (λ (l : List ℕ). IsSearch (gates flat) depth.marks.items depth.cursors.items depth.order.items l) c.loop-number.invariant.1 c.loop-number.invariant.0 in
     ended (gates flat) depth.marks.items depth.cursors.items depth.order.items far (λ number counts.
-        let below : number < length flat.cells = gate_within flat.cells number counts in
-        let long : length c.cells-number-end.result.now ≡ length flat.cells = ap (λ (l : List Cell). length l) c.cells-number-end.ensures in
-        c.loop-number.invariant.2 number (omega (arith, below, long, c.loop-number-test.false)) counts)
+    let below : number < length flat.cells = gate_within flat.cells number counts in
+    let long : length c.cells-number-end.result.now ≡ length flat.cells = ap (λ (l : List Cell). length l) c.cells-number-end.ensures in
+    c.loop-number.invariant.2 number (omega (arith, below, long, c.loop-number-test.false)) counts)
