@@ -10,7 +10,7 @@ use Rattle.vw_net.specs.Order.{IsOrder, is_gate, is_latch, is_among, is_ready, r
 use Rattle.vw_net.specs.Cells.{read_nets}
 use Rattle.vw_net.proofs.Orders.{gate_or_latch}
 use Rattle.vw_order.specs.declared.mark.Mark.{Mark}
-use Rattle.vw_order.specs.Reads.{gate_inputs, gate_of}
+use Rattle.vw_order.specs.Inputs.{gate_inputs, gate_of}
 use Rattle.vw_order.specs.Search.{Graph, gates, ReadsAt, IsSearch, IsNumberOrder}
 use Rattle.vw_order.proofs.Among.{at_among, once_apart}
 use Rattle.vw_order.proofs.Gates.{is_gate_of}

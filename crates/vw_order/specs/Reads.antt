@@ -1,7 +1,5 @@
--- Which gates a gate reads.
-use Rattle.std.specs.Prelude.{ℕ, ◌+◌, ◌-◌, Bool, ◌&&◌, List, [], map, nat_lt, slice_get, Option, Some, None, if◌then◌else◌}
-use Rattle.vw_net.specs.declared.cell.Cell.{Cell}
-use Rattle.vw_net.specs.declared.cell.Cell.TheVariants.{Gate, Latch}
+-- Which gates read each other.
+use Rattle.std.specs.Prelude.{ℕ, ◌+◌, Bool, ◌&&◌, slice_get}
 use Rattle.vw_net.specs.declared.flat.Flat.{Flat}
 use Rattle.vw_net.specs.Order.{is_gate, is_among, read_nets_at}
 
@@ -9,18 +7,3 @@ use Rattle.vw_net.specs.Order.{is_gate, is_among, read_nets_at}
 abbrev pub gate_reads : Flat → ℕ → ℕ → Bool
 gate_reads flat number other =
     is_gate (slice_get flat.cells number) && (is_gate (slice_get flat.cells other) && is_among (read_nets_at (slice_get flat.cells number)) (flat.inputs + other))
-
--- the nets that a gate reads; none at a latch
-abbrev pub gate_inputs : Option Cell → List ℕ
-gate_inputs None = []
-gate_inputs (Some (Gate ins cover)) = ins
-gate_inputs (Some (Latch d init)) = []
-
--- the number of the gate that drives a net
-abbrev pub gate_of : ℕ → List Cell → ℕ → Option ℕ
-gate_of inputs cells net =
-    if nat_lt net inputs then None else (if is_gate (slice_get cells (net - inputs)) then Some (net - inputs) else None)
-
--- for each net that the gate at a number reads, the gate that drives it
-abbrev pub gates_read : ℕ → List Cell → ℕ → List (Option ℕ)
-gates_read inputs cells number = map (gate_of inputs cells) (gate_inputs (slice_get cells number))

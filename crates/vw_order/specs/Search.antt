@@ -10,7 +10,7 @@ use Rattle.vw_order.specs.declared.mark.Mark.TheVariants.{Fresh, Open, Done}
 use Rattle.vw_order.specs.declared.depth.Depth.{Depth}
 use Rattle.vw_order.specs.declared.search.Found.{Found}
 use Rattle.vw_order.specs.declared.search.Found.TheVariants.{Order, Circle}
-use Rattle.vw_order.specs.Reads.{gates_read}
+use Rattle.vw_order.specs.Inputs.{gates_read}
 use Rattle.vw_order.specs.Loops.{turned}
 
 -- numbers that read each other: how many there are, which of them count, and what each reads at its places

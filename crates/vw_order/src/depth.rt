@@ -15,7 +15,7 @@ ghost use Rattle.std.specs.Prelude.{
   OnOk,
 };
 ghost use Rattle.std.specs.Vec.{vec_len};
-ghost use Rattle.vw_order.specs.Reads.{gate_of, gates_read};
+ghost use Rattle.vw_order.specs.Inputs.{gate_of, gates_read};
 ghost use Rattle.vw_order.specs.Ahead.{is_open_mark, is_fresh_mark, undone, IsAhead};
 
 use crate::mark::{Ahead, Mark};

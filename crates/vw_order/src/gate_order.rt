@@ -1,6 +1,7 @@
 //! An order of the gates of a netlist.
 ghost use Rattle.std.specs.Prelude.{◌≡◌, IfOk, IfErr};
-ghost use Rattle.vw_order.specs.Found.{IsOrderFault, IsAnswered};
+ghost use Rattle.vw_order.specs.Faults.{IsOrderFault};
+ghost use Rattle.vw_order.specs.Found.{IsAnswered};
 
 use crate::circle::from_least;
 use crate::search::{Found, search};

@@ -1,6 +1,6 @@
 -- what stands before the place is done
 use Rattle.std.specs.Prelude.{slice_index}
-use Rattle.vw_order.specs.Reads.{gates_read}
+use Rattle.vw_order.specs.Inputs.{gates_read}
 use Rattle.vw_order.specs.Ahead.{AreDone}
 use Rattle.vw_order.proofs.depth.Depth.ahead.Given as goal
 
