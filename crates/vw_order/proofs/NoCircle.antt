@@ -1,0 +1,73 @@
+-- Where gates have an order, they don't read each other in a circle.
+use Rattle.std.proofs.Common.{◌≡◌, ◌<◌, ◌+◌, ◌-◌, ◌||◌, ◌&&◌, ◌==◌, not, ℕ, zero, suc, Bool, true, false, cond, List, [], ◌∷◌, ◌++◌, length, take, get_or, slice_get, nat_lt, Option, Some, None, ◌⊎◌, inl, inr, ⊎_elim, refl, sym, ◌∙◌, ap, subst, true≢false, arith}
+use Rattle.std.specs.List.{list_any, list_all, position_or_len, AllZip}
+use Rattle.std.proofs.lemmas.Bool.{and_parts, or_cases, eqb-true, le-ltb}
+use Rattle.vw_net.specs.declared.cell.Cell.{Cell}
+use Rattle.vw_net.specs.declared.cell.Cell.TheVariants.{Gate, Latch}
+use Rattle.vw_net.specs.declared.flat.Flat.{Flat}
+use Rattle.vw_net.specs.Order.{IsOrder, is_gate, is_latch, is_among, is_ready, read_nets_at}
+use Rattle.vw_order.specs.Reads.{gate_reads}
+use Rattle.vw_order.specs.Loops.{IsCircle}
+
+-- the first that passes stands before what is behind another one that passes
+front_position : {A : Type 0} → (test : A → Bool) (xs : List A) (end : ℕ) → list_any test (take end xs) ≡ true → position_or_len test xs < end
+front_position test [] zero any = absurd (true≢false (sym any))
+front_position test [] (suc end) any = absurd (true≢false (sym any))
+front_position test (x ∷ xs) zero any = absurd (true≢false (sym any))
+front_position test (x ∷ xs) (suc end) any = by (test x) refl (⊎_elim (λ here. inl here) (λ there. inr (front_position test xs end there)) (or_cases (test x) (list_any test (take end xs)) any)) where
+  by : (b : Bool) → test x ≡ b → (test x ≡ true) ⊎ (position_or_len test xs < end) → cond (not b) (1 + position_or_len test xs) 0 < suc end
+  by true is which = omega arith
+  by false is which = ⊎_elim (λ here. absurd (true≢false (sym here ∙ is))) (λ further. omega (arith, further)) which
+
+-- where a number stands first, and that it stands there
+abbrev place_of : List ℕ → ℕ → ℕ
+place_of order number = position_or_len (λ (other : ℕ). other == number) order
+
+at_place : (order : List ℕ) (number : ℕ) → is_among order number ≡ true → (place_of order number < length order) × (get_or order (place_of order number) 0 ≡ number)
+at_place [] number among = absurd (true≢false (sym among))
+at_place (first ∷ order) number among = by (first == number) refl (⊎_elim (λ here. inl here) (λ there. inr (at_place order number there)) (or_cases (first == number) (is_among order number) among)) where
+  by : (b : Bool) → (first == number) ≡ b → ((first == number) ≡ true) ⊎ ((place_of order number < length order) × (get_or order (place_of order number) 0 ≡ number))
+      → (cond (not b) (1 + place_of order number) 0 < suc (length order)) × (get_or (first ∷ order) (cond (not b) (1 + place_of order number) 0) 0 ≡ number)
+  by true is which = (omega arith, eqb-true first number is)
+  by false is which = ⊎_elim (λ here. absurd (true≢false (sym here ∙ is))) further which where
+    further : (place_of order number < length order) × (get_or order (place_of order number) 0 ≡ number)
+        → (1 + place_of order number < suc (length order)) × (get_or (first ∷ order) (1 + place_of order number) 0 ≡ number)
+    further at = let one : 1 + place_of order number ≡ suc (place_of order number) = omega arith in (omega (arith, at.0), ap (λ (n : ℕ). get_or (first ∷ order) n 0) one ∙ at.1)
+
+-- each that is among others passes where all do
+one_of : (test : ℕ → Bool) (nets : List ℕ) (net : ℕ) → list_all test nets ≡ true → is_among nets net ≡ true → test net ≡ true
+one_of test [] net all among = absurd (true≢false (sym among))
+one_of test (first ∷ nets) net all among =
+    let parts = and_parts (test first) (list_all test nets) all in
+    ⊎_elim (λ here. ap test (sym (eqb-true first net here)) ∙ parts.0) (λ there. one_of test nets net parts.1 there) (or_cases (first == net) (is_among nets net) among)
+
+not_latch : (found : Option Cell) → is_gate found ≡ true → is_latch found ≡ false
+not_latch None gate = refl
+not_latch (Some (Gate ins cover)) gate = refl
+not_latch (Some (Latch d init)) gate = absurd (true≢false (sym gate))
+
+module _ (flat : Flat) (order : List ℕ) (is_order : IsOrder flat.inputs flat.cells order) where
+  -- a gate whose net is read stands before the gate that reads it
+  before : (number other : ℕ) → gate_reads flat number other ≡ true → place_of order other < place_of order number
+  before number other reads =
+      let parts = and_parts (is_gate (slice_get flat.cells number)) (is_gate (slice_get flat.cells other) && is_among (read_nets_at (slice_get flat.cells number)) (flat.inputs + other)) reads in
+      let more = and_parts (is_gate (slice_get flat.cells other)) (is_among (read_nets_at (slice_get flat.cells number)) (flat.inputs + other)) parts.1 in
+      let at = at_place order number (sym (is_order.each number) ∙ parts.0) in
+      let done = take (place_of order number) order in
+      let all : list_all (is_ready flat.inputs flat.cells done) (read_nets_at (slice_get flat.cells number)) ≡ true =
+      subst (λ (n : ℕ). list_all (is_ready flat.inputs flat.cells done) (read_nets_at (slice_get flat.cells n)) ≡ true) at.1 (is_order.after (place_of order number) at.0) in
+      let ready : is_ready flat.inputs flat.cells done (flat.inputs + other) ≡ true = one_of (is_ready flat.inputs flat.cells done) (read_nets_at (slice_get flat.cells number)) (flat.inputs + other) all more.1 in
+      let its_number : flat.inputs + other - flat.inputs ≡ other = omega arith in
+      let no_input : nat_lt (flat.inputs + other) flat.inputs ≡ false = le-ltb (flat.inputs + other) flat.inputs (omega arith) in
+      let there : (is_latch (slice_get flat.cells other) || is_among done other) ≡ true = rw (no_input, its_number) at ready in
+      let gate_there : is_among done other ≡ true = rw (not_latch (slice_get flat.cells other) more.0) at there in
+      front_position (λ (n : ℕ). n == other) order (place_of order number) gate_there
+
+  -- along gates of which each reads the next, places fall
+  falls : (number : ℕ) (numbers : List ℕ) (last : ℕ) → AllZip (λ one next. gate_reads flat one next ≡ true) (number ∷ numbers) (numbers ++ last ∷ []) → place_of order last < place_of order number
+  falls number [] last along = before number last along.0
+  falls number (next ∷ numbers) last along = omega (arith, before number next along.0, falls next numbers last along.1)
+
+  pub no_circle : (numbers : List ℕ) → IsCircle flat numbers → ⊥
+  no_circle [] circle = omega (arith, circle.some)
+  no_circle (number ∷ numbers) circle = omega (arith, falls number numbers number circle.each)

@@ -1,0 +1,20 @@
+-- The gates that drive what a gate reads, one for each of its inputs.
+use Rattle.std.specs.Prelude.{ℕ, ◌-◌, List, [], map, nat_lt, slice_get, Option, Some, None, if◌then◌else◌}
+use Rattle.vw_net.specs.declared.cell.Cell.{Cell}
+use Rattle.vw_net.specs.declared.cell.Cell.TheVariants.{Gate, Latch}
+use Rattle.vw_net.specs.Order.{is_gate}
+
+-- the nets that a gate reads; none at a latch
+abbrev pub gate_inputs : Option Cell → List ℕ
+gate_inputs None = []
+gate_inputs (Some (Gate ins cover)) = ins
+gate_inputs (Some (Latch d init)) = []
+
+-- the number of the gate that drives a net
+abbrev pub gate_of : ℕ → List Cell → ℕ → Option ℕ
+gate_of inputs cells net =
+    if nat_lt net inputs then None else (if is_gate (slice_get cells (net - inputs)) then Some (net - inputs) else None)
+
+-- for each net that the gate at a number reads, the gate that drives it
+abbrev pub gates_read : ℕ → List Cell → ℕ → List (Option ℕ)
+gates_read inputs cells number = map (gate_of inputs cells) (gate_inputs (slice_get cells number))
