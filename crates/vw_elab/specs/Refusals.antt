@@ -1,5 +1,5 @@
 -- Why a design is refused: its fault, by what a message tells of it. Of circles any one may be told.
-use Rattle.std.specs.Prelude.{◌≡◌, ℕ, Result, Ok, Err}
+use Rattle.std.specs.Prelude.{◌≡◌, ℕ, Bool, true, false, Result, Ok, Err}
 use Rattle.vw_design.specs.declared.design.Design.{Design}
 use Rattle.vw_design.specs.Paths.{Word, Net, printed}
 use Rattle.vw_design.specs.NetFaults.{Unlike, Edged}
@@ -38,3 +38,19 @@ IsRefusal design NoMemory = Unit {0}
 abbrev pub Judges : {A : Type 0} → Design → (A → Type 0) → Result A DesignFault → Type 0
 Judges design Good (Ok x) = Good x
 Judges design Good (Err fault) = IsRefusal design fault
+
+-- whether a fault lies in the design; want of memory doesn't
+abbrev pub is_design_fault : DesignFault → Bool
+is_design_fault (UnknownModel line) = true
+is_design_fault (RecursiveModel names) = true
+is_design_fault (UnknownFormal line formal) = true
+is_design_fault (UnboundInput line formal) = true
+is_design_fault (BothWays model name) = true
+is_design_fault (TooBig quantity limit) = true
+is_design_fault (Undriven net) = true
+is_design_fault (TwoDrivers net) = true
+is_design_fault (GatedClock net) = true
+is_design_fault (SeveralClocks first other) = true
+is_design_fault (SeveralEdges first other) = true
+is_design_fault (ClockAsData net) = true
+is_design_fault NoMemory = false

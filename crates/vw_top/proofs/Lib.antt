@@ -2,9 +2,5 @@ pub mod Clocks
 pub mod TraceLines
 pub mod CourseLaws
 pub mod StageLaws
-pub mod LoopSteps
-pub mod Numbering
-pub mod Cells
-pub mod Orders
-pub mod DesignTests
 pub mod SimLaws
+pub mod DesignApart

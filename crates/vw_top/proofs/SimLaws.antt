@@ -1,6 +1,7 @@
 -- What the table of statuses says of the files of `sim`, and of words that spell no command.
-use Rattle.std.proofs.Common.{◌≡◌, ◌<◌, ◌⊎◌, ℕ, Bool, List, [], ◌∷◌, Ok, Err, refl, sym, ◌∙◌, ap, subst, inl, inr, ⊎_elim, arith}
-use Rattle.vw_net.specs.declared.flat.Flat.{Flat}
+use Rattle.std.proofs.Common.{◌≡◌, ◌<◌, ◌⊎◌, ℕ, Bool, List, [], ◌∷◌, length, Ok, Err, refl, sym, ◌∙◌, ap, ap₂, subst, inl, inr, ⊎_elim, arith}
+use Rattle.vw_design.specs.declared.design.Design.{Design as Spelled}
+use Rattle.vw_design.specs.Clocks.{columns}
 use Rattle.vw_outside.specs.Told.{Told, absent, held, IsTextOf}
 use Rattle.vw_outside.specs.Reads.{CountsFault}
 use Rattle.vw_outside.specs.Writes.{SeenSink, appended, WrotePart}
@@ -8,13 +9,14 @@ use Rattle.vw_rows.specs.declared.stimulus.StimFault.{StimFault}
 use Rattle.vw_rows.specs.Stimulus.{stimulus_rows}
 use Rattle.vw_top.specs.declared.stop.File.{File}
 use Rattle.vw_top.specs.declared.reason.Reason.{Reason}
-use Rattle.vw_top.specs.declared.reason.Reason.TheVariants.{Design, NotYet, Usage, Stimulus}
+use Rattle.vw_top.specs.declared.reason.Reason.TheVariants.{Usage, Stimulus}
+use Rattle.vw_top.specs.declared.reason.Reason.TheVariants as reasons
 use Rattle.vw_top.specs.Reasons.{reason_status}
-use Rattle.vw_blif.specs.Spelled.{SpelledModel}
-use Rattle.vw_top.specs.Runnable.{IsDesignOf, IsNoDesign, IsNetlistOfModels}
+use Rattle.vw_top.specs.Designs.{IsDesignOf, RefusesDesign, IsNoDesign}
+use Rattle.vw_top.proofs.DesignApart.{spells_once, design_apart}
 use Rattle.vw_top.specs.Course.{Course, refuses, Outside, outside, MayWrite, MayRefuse, MayRead, AtFile, writing, refusing, missing, ComesTo}
 use Rattle.vw_top.specs.Statuses.{Statuses, IsRefusal, IsWantOfMemory, LeavesPart}
-use Rattle.vw_top.specs.Commands.{sim_course, trace_of, RefusesDesign, design_apart}
+use Rattle.vw_top.specs.Commands.{sim_course, trace_of}
 use Rattle.vw_top.specs.CommandStatuses.{SimStatuses, UsageStatuses, Yields}
 use Rattle.vw_top.proofs.StageLaws.{same_outside}
 
@@ -33,29 +35,20 @@ at_held told bytes Absent Held is here = subst (λ (t : Told). AtFile t Absent H
 at_absent : (told : Told) (Absent : Type 0) (Held : List ℕ → Type 0) → told ≡ absent → Absent → AtFile told Absent Held
 at_absent told Absent Held is here = subst (λ (t : Told). AtFile t Absent Held) (sym is) here
 
--- the netlists of one design have as many inputs, and so have those of one text
-inputs_agree : (models : List SpelledModel) (flat other : Flat) → IsNetlistOfModels models flat → IsNetlistOfModels models other → other.inputs ≡ flat.inputs
-inputs_agree [] flat other is its = absurd is
-inputs_agree (model ∷ []) flat other is its = its.1.inputs ∙ sym is.1.inputs
-inputs_agree (model ∷ next ∷ models) flat other is its = absurd is
-
-same_inputs : (d : List ℕ) (flat other : Flat) → IsDesignOf d flat → IsDesignOf d other → other.inputs ≡ flat.inputs
-same_inputs d flat other is its =
-    let said = sym is.spelled ∙ its.spelled in
-    let same : its.models ≡ is.models = cc in
-    inputs_agree is.models flat other is.netlist (subst (λ (models : List SpelledModel). IsNetlistOfModels models other) same its.netlist)
-
 -- a text without a design is refused, with status 1
-why_none : (d : List ℕ) → IsNoDesign d → (reason : Reason) × RefusesDesign d reason
-why_none d (inl (fault, said)) = (Design fault, inl (fault, refl, said))
-why_none d (inr not_yet) = (NotYet, inr (refl, not_yet))
+status_one : (d : List ℕ) (reason : Reason) → RefusesDesign d reason → reason_status reason ≡ 1
+status_one d (reasons.Design fault) refused = refl
+status_one d (reasons.Elaboration fault) refused = refl
+status_one d (reasons.Loop names) refused = refl
+status_one d (reasons.Usage place) refused = absurd refused
+status_one d (reasons.Stimulus fault) refused = absurd refused
 
-none_left : (d : List ℕ) (reason : Reason) → RefusesDesign d reason → IsNoDesign d × (reason_status reason ≡ 1)
-none_left d reason (inl (fault, is, said)) = (inl (fault, said), ap reason_status is)
-none_left d reason (inr (is, not_yet)) = (inr not_yet, ap reason_status is)
+no_both : (d : List ℕ) (spelled : Spelled) → IsDesignOf d spelled → IsNoDesign d → ⊥
+no_both d spelled is none = design_apart d spelled none.0 is none.1
 
-no_both : (d : List ℕ) (flat : Flat) → IsDesignOf d flat → IsNoDesign d → ⊥
-no_both d flat design none = let why = why_none d none in design_apart d flat why.0 design why.1
+-- designs of one text are one, and so are their rows
+same_design : (d : List ℕ) (spelled other : Spelled) → IsDesignOf d spelled → IsDesignOf d other → other ≡ spelled
+same_design d spelled other is its = spells_once d other spelled its.spelled is.spelled
 
 module _ (design stimulus : List ℕ) (unknown : Bool) (told : List ℕ → Told) where
   abbrev course : Course
@@ -64,60 +57,60 @@ module _ (design stimulus : List ℕ) (unknown : Bool) (told : List ℕ → Told
   -- why `sim` refuses
   data WhyRefused (reason : Reason) : Type 0 where
     bad_design : (d : List ℕ) → IsTextOf (told design) d → reason_status reason ≡ 1 → IsNoDesign d → WhyRefused reason
-    bad_rows : (d s : List ℕ) (flat : Flat) (fault : StimFault) → IsTextOf (told design) d → IsDesignOf d flat → IsTextOf (told stimulus) s
-        → reason ≡ Stimulus fault → stimulus_rows flat.inputs s ≡ Err fault → WhyRefused reason
+    bad_rows : (d s : List ℕ) (spelled : Spelled) (fault : StimFault) → IsTextOf (told design) d → IsDesignOf d spelled → IsTextOf (told stimulus) s
+        → reason ≡ Stimulus fault → stimulus_rows (length (columns spelled)) s ≡ Err fault → WhyRefused reason
 
   why : (reason : Reason) → MayRefuse course told reason → WhyRefused reason
-  why reason (d, d_is, inl refused) = let left = none_left d reason refused in bad_design d d_is left.1 left.0
-  why reason (d, d_is, inr (flat, netlist, (s, s_is, inl (fault, is, said)))) = bad_rows d s flat fault d_is netlist s_is is said
-  why reason (d, d_is, inr (flat, netlist, (s, s_is, inr (rows, are, more)))) = absurd more
+  why reason (d, d_is, inl refused) = bad_design d d_is (status_one d reason refused) (reason, refused)
+  why reason (d, d_is, inr (spelled, its_design, (s, s_is, inl (fault, is, said)))) = bad_rows d s spelled fault d_is its_design s_is is said
+  why reason (d, d_is, inr (spelled, its_design, (s, s_is, inr (rows, are, more)))) = absurd more
 
   -- what `sim` writes
   record WhatWritten (text : List ℕ) : Type 0 where
     d : List ℕ
     s : List ℕ
-    flat : Flat
+    spelled : Spelled
     rows : List (List Bool)
     d_is : IsTextOf (told design) d
     s_is : IsTextOf (told stimulus) s
-    netlist : IsDesignOf d flat
-    are : stimulus_rows flat.inputs s ≡ Ok rows
-    text_is : text ≡ trace_of unknown flat rows
+    its_design : IsDesignOf d spelled
+    are : stimulus_rows (length (columns spelled)) s ≡ Ok rows
+    text_is : text ≡ trace_of unknown spelled rows
 
   what : (text : List ℕ) → MayWrite course told text → WhatWritten text
-  what text (d, d_is, (flat, netlist, (s, s_is, (rows, are, is)))) =
-      record { d = d; s = s; flat = flat; rows = rows; d_is = d_is; s_is = s_is; netlist = netlist; are = are; text_is = is }
+  what text (d, d_is, (spelled, its_design, (s, s_is, (rows, are, is)))) =
+      record { d = d; s = s; spelled = spelled; rows = rows; d_is = d_is; s_is = s_is; its_design = its_design; are = are; text_is = is }
 
   -- what `sim` reads
   which : (file : File) (name : List ℕ) → MayRead course told file name → (name ≡ design) ⊎ (name ≡ stimulus)
   which file name (inl (is, same)) = inl same
-  which file name (inr (d, d_is, (flat, netlist, inl (is, same)))) = inr same
-  which file name (inr (d, d_is, (flat, netlist, inr (s, s_is, (rows, are, more))))) = absurd more
+  which file name (inr (d, d_is, (spelled, its_design, inl (is, same)))) = inr same
+  which file name (inr (d, d_is, (spelled, its_design, inr (s, s_is, (rows, are, more))))) = absurd more
 
   comes_to_no_design : (d : List ℕ) → told design ≡ held d → IsNoDesign d → ComesTo refusing course told
-  comes_to_no_design d is none = let why = why_none d none in at_held (told design) d _ _ is (inl (refl, why.0, why.1))
+  comes_to_no_design d is none = at_held (told design) d _ _ is (inl (refl, none.0, none.1))
 
-  comes_to_no_rows : (d s : List ℕ) (flat : Flat) (fault : StimFault) → told design ≡ held d → told stimulus ≡ held s → IsDesignOf d flat
-      → stimulus_rows flat.inputs s ≡ Err fault → ComesTo refusing course told
-  comes_to_no_rows d s flat fault d_is s_is netlist said = at_held (told design) d _ _ d_is (inr (
-    (flat, netlist),
+  comes_to_no_rows : (d s : List ℕ) (spelled : Spelled) (fault : StimFault) → told design ≡ held d → told stimulus ≡ held s → IsDesignOf d spelled
+      → stimulus_rows (length (columns spelled)) s ≡ Err fault → ComesTo refusing course told
+  comes_to_no_rows d s spelled fault d_is s_is its_design said = at_held (told design) d _ _ d_is (inr (
+    (spelled, its_design),
     λ other its.
-        at_held (told stimulus) s _ _ s_is (inl (refl, Stimulus fault, (fault, refl, ap (λ n. stimulus_rows n s) (same_inputs d flat other netlist its) ∙ said))),
+        at_held (told stimulus) s _ _ s_is (inl (refl, Stimulus fault, (fault, refl, ap (λ (one : Spelled). stimulus_rows (length (columns one)) s) (same_design d spelled other its_design its) ∙ said))),
   ))
 
-  comes_to_trace : (d s : List ℕ) (flat : Flat) (rows : List (List Bool)) → told design ≡ held d → told stimulus ≡ held s → IsDesignOf d flat
-      → stimulus_rows flat.inputs s ≡ Ok rows → ComesTo writing course told
-  comes_to_trace d s flat rows d_is s_is netlist said = at_held (told design) d _ _ d_is (inr (
-    (flat, netlist),
+  comes_to_trace : (d s : List ℕ) (spelled : Spelled) (rows : List (List Bool)) → told design ≡ held d → told stimulus ≡ held s → IsDesignOf d spelled
+      → stimulus_rows (length (columns spelled)) s ≡ Ok rows → ComesTo writing course told
+  comes_to_trace d s spelled rows d_is s_is its_design said = at_held (told design) d _ _ d_is (inr (
+    (spelled, its_design),
     λ other its.
-        at_held (told stimulus) s _ _ s_is (inr ((rows, ap (λ n. stimulus_rows n s) (same_inputs d flat other netlist its) ∙ said), λ these are. refl)),
+        at_held (told stimulus) s _ _ s_is (inr ((rows, ap (λ (one : Spelled). stimulus_rows (length (columns one)) s) (same_design d spelled other its_design its) ∙ said), λ these are. refl)),
   ))
 
   comes_to_no_file : told design ≡ absent → ComesTo missing course told
   comes_to_no_file is = at_absent (told design) _ _ is refl
 
-  comes_to_no_stimulus : (d : List ℕ) (flat : Flat) → told design ≡ held d → IsDesignOf d flat → told stimulus ≡ absent → ComesTo missing course told
-  comes_to_no_stimulus d flat d_is netlist is = at_held (told design) d _ _ d_is (inr ((flat, netlist), λ other its. at_absent (told stimulus) _ _ is refl))
+  comes_to_no_stimulus : (d : List ℕ) (spelled : Spelled) → told design ≡ held d → IsDesignOf d spelled → told stimulus ≡ absent → ComesTo missing course told
+  comes_to_no_stimulus d spelled d_is its_design is = at_held (told design) d _ _ d_is (inr ((spelled, its_design), λ other its. at_absent (told stimulus) _ _ is refl))
 
 module _ (design stimulus : List ℕ) (unknown : Bool) (before after : Outside) (status : ℕ) (table : Statuses (sim_course design stimulus unknown) before after status) where
   abbrev told : List ℕ → Told
@@ -143,9 +136,9 @@ module _ (design stimulus : List ℕ) (unknown : Bool) (before after : Outside) 
   -- a text without a design stops the call in its own reading
   at_design : (d : List ℕ) (file : File) (name : List ℕ) → told design ≡ held d → IsNoDesign d → MayRead (sim_course design stimulus unknown) told file name → name ≡ design
   at_design d file name held_d none (inl (is, same)) = same
-  at_design d file name held_d none (inr (text, text_is, (flat, netlist, more))) =
-      let design_is : IsDesignOf d flat = subst (λ (t : List ℕ). IsDesignOf t flat) (its_text (told design) text d held_d text_is) netlist in
-      absurd (no_both d flat design_is none)
+  at_design d file name held_d none (inr (text, text_is, (spelled, its_design, more))) =
+      let design_is : IsDesignOf d spelled = subst (λ (t : List ℕ). IsDesignOf t spelled) (its_text (told design) text d held_d text_is) its_design in
+      absurd (no_both d spelled design_is none)
 
   yields_at_design : (d : List ℕ) → told design ≡ held d → IsNoDesign d → (status ≡ 7) ⊎ (status ≡ 9) → Yields design before after status
   yields_at_design d held_d none (inl is) =
@@ -156,42 +149,42 @@ module _ (design stimulus : List ℕ) (unknown : Bool) (before after : Outside) 
   -- a refusal is status 1 or 5
   one_or_five : (reason : Reason) → WhyRefused design stimulus unknown told reason → status ≡ reason_status reason → (status ≡ 1) ⊎ (status ≡ 5)
   one_or_five reason (bad_design d d_is is none) its = inl (its ∙ is)
-  one_or_five reason (bad_rows d s flat fault d_is netlist s_is is said) its = inr (its ∙ ap reason_status is)
+  one_or_five reason (bad_rows d s spelled fault d_is its_design s_is is said) its = inr (its ∙ ap reason_status is)
 
   no_other : (0 < status) → (status < 7) → (status ≡ 1) ⊎ (status ≡ 5)
   no_other some few = let refusal = table.refused some few in one_or_five refusal.reason (its_why refusal) refusal.its_status
 
   why_one : (d : List ℕ) (reason : Reason) → told design ≡ held d → WhyRefused design stimulus unknown told reason → 1 ≡ reason_status reason → IsNoDesign d
   why_one d reason held_d (bad_design text text_is is none) its = subst IsNoDesign (its_text (told design) text d held_d text_is) none
-  why_one d reason held_d (bad_rows text s flat fault text_is netlist s_is is said) its = absurd (let wrong : 1 ≡ 5 = its ∙ ap reason_status is in omega arith)
+  why_one d reason held_d (bad_rows text s spelled fault text_is its_design s_is is said) its = absurd (let wrong : 1 ≡ 5 = its ∙ ap reason_status is in omega arith)
 
   -- a text without a design gives status 1
   one_comes : (d : List ℕ) (reason : Reason) → told design ≡ held d → IsNoDesign d → WhyRefused design stimulus unknown told reason → status ≡ reason_status reason → status ≡ 1
   one_comes d reason held_d none (bad_design text text_is is gone) its = its ∙ is
-  one_comes d reason held_d none (bad_rows text s flat fault text_is netlist s_is is said) its =
-      let design_is : IsDesignOf d flat = subst (λ (t : List ℕ). IsDesignOf t flat) (its_text (told design) text d held_d text_is) netlist in
-      absurd (no_both d flat design_is none)
+  one_comes d reason held_d none (bad_rows text s spelled fault text_is its_design s_is is said) its =
+      let design_is : IsDesignOf d spelled = subst (λ (t : List ℕ). IsDesignOf t spelled) (its_text (told design) text d held_d text_is) its_design in
+      absurd (no_both d spelled design_is none)
 
   record HasFault (d s : List ℕ) : Type 0 where
-    flat : Flat
+    spelled : Spelled
     fault : StimFault
-    netlist : IsDesignOf d flat
-    said : stimulus_rows flat.inputs s ≡ Err fault
+    its_design : IsDesignOf d spelled
+    said : stimulus_rows (length (columns spelled)) s ≡ Err fault
 
   why_five : (d s : List ℕ) (reason : Reason) → told design ≡ held d → told stimulus ≡ held s → WhyRefused design stimulus unknown told reason → 5 ≡ reason_status reason → HasFault d s
   why_five d s reason held_d held_s (bad_design text text_is is none) its = absurd (let wrong : 5 ≡ 1 = its ∙ is in omega arith)
-  why_five d s reason held_d held_s (bad_rows text rest flat fault text_is netlist rest_is is said) its = record {
-    flat = flat;
+  why_five d s reason held_d held_s (bad_rows text rest spelled fault text_is its_design rest_is is said) its = record {
+    spelled = spelled;
     fault = fault;
-    netlist = subst (λ (t : List ℕ). IsDesignOf t flat) (its_text (told design) text d held_d text_is) netlist;
-    said = subst (λ (t : List ℕ). stimulus_rows flat.inputs t ≡ Err fault) (its_text (told stimulus) rest s held_s rest_is) said;
+    its_design = subst (λ (t : List ℕ). IsDesignOf t spelled) (its_text (told design) text d held_d text_is) its_design;
+    said = subst (λ (t : List ℕ). stimulus_rows (length (columns spelled)) t ≡ Err fault) (its_text (told stimulus) rest s held_s rest_is) said;
   }
 
   -- a fault of the rows gives status 5
-  five_comes : (d : List ℕ) (flat : Flat) (reason : Reason) → told design ≡ held d → IsDesignOf d flat → WhyRefused design stimulus unknown told reason → status ≡ reason_status reason → status ≡ 5
-  five_comes d flat reason held_d netlist (bad_design text text_is is none) its =
-      let gone : IsNoDesign d = subst IsNoDesign (its_text (told design) text d held_d text_is) none in absurd (no_both d flat netlist gone)
-  five_comes d flat reason held_d netlist (bad_rows text rest other fault text_is its_netlist rest_is is said) its = its ∙ ap reason_status is
+  five_comes : (d : List ℕ) (spelled : Spelled) (reason : Reason) → told design ≡ held d → IsDesignOf d spelled → WhyRefused design stimulus unknown told reason → status ≡ reason_status reason → status ≡ 5
+  five_comes d spelled reason held_d its_design (bad_design text text_is is none) its =
+      let gone : IsNoDesign d = subst IsNoDesign (its_text (told design) text d held_d text_is) none in absurd (no_both d spelled its_design gone)
+  five_comes d spelled reason held_d its_design (bad_rows text rest other fault text_is its_netlist rest_is is said) its = its ∙ ap reason_status is
 
   -- a file that is absent leaves out as it was
   want_untouched : IsWantOfMemory (sim_course design stimulus unknown) before after → ((text : List ℕ) → MayWrite (sim_course design stimulus unknown) told text → ⊥) → after.out ≡ before.out
@@ -214,10 +207,10 @@ module _ (design stimulus : List ℕ) (unknown : Bool) (before after : Outside) 
     done = λ d s held_d held_s is.
         let done = table.done is in
         let w = what design stimulus unknown told done.text done.may in (
-          w.flat,
+          w.spelled,
           w.rows,
-          subst (λ (t : List ℕ). IsDesignOf t w.flat) (its_text (told design) w.d d held_d w.d_is) w.netlist,
-          subst (λ (t : List ℕ). stimulus_rows w.flat.inputs t ≡ Ok w.rows) (its_text (told stimulus) w.s s held_s w.s_is) w.are,
+          subst (λ (t : List ℕ). IsDesignOf t w.spelled) (its_text (told design) w.d d held_d w.d_is) w.its_design,
+          subst (λ (t : List ℕ). stimulus_rows (length (columns w.spelled)) t ≡ Ok w.rows) (its_text (told stimulus) w.s s held_s w.s_is) w.are,
           done.leaves ∙ ap (λ (t : List ℕ). outside before.shelf (appended before.out t)) w.text_is,
         );
     no_design = λ d held_d is.
@@ -230,11 +223,11 @@ module _ (design stimulus : List ℕ) (unknown : Bool) (before after : Outside) 
     no_rows = λ d s held_d held_s is.
         let refusal = table.refused (omega arith) (omega arith) in
         let fault = why_five d s refusal.reason held_d held_s (its_why refusal) (sym is ∙ refusal.its_status) in
-        (fault.flat, fault.fault, fault.netlist, fault.said);
-    no_rows_comes = λ d s flat fault held_d held_s netlist said.
+        (fault.spelled, fault.fault, fault.its_design, fault.said);
+    no_rows_comes = λ d s spelled fault held_d held_s its_design said.
         ends_or_stops (status ≡ 5) (Yields design before after status ⊎ Yields stimulus before after status)
-        (λ some few. let refusal = table.refused some few in five_comes d flat refusal.reason held_d netlist (its_why refusal) refusal.its_status) yields
-        (table.rejected (comes_to_no_rows design stimulus unknown told d s flat fault held_d held_s netlist said));
+        (λ some few. let refusal = table.refused some few in five_comes d spelled refusal.reason held_d its_design (its_why refusal) refusal.its_status) yields
+        (table.rejected (comes_to_no_rows design stimulus unknown told d s spelled fault held_d held_s its_design said));
     read_fault = read_fault;
     others = (
       λ is. omega (arith, no_other (omega arith) (omega arith)),
@@ -242,28 +235,23 @@ module _ (design stimulus : List ℕ) (unknown : Bool) (before after : Outside) 
       λ is. omega (arith, no_other (omega arith) (omega arith)),
       λ is. omega (arith, no_other (omega arith) (omega arith)),
     );
-    part = λ flat rows accepted.
-        let part = table.part (comes_to_trace design stimulus unknown told accepted.design_text accepted.stimulus_text flat rows accepted.design_held accepted.stimulus_held accepted.netlist accepted.read) in
-        let w = what design stimulus unknown told part.0 part.1 in (
-          w.flat,
-          w.rows,
-          record {
-            design_text = accepted.design_text;
-            stimulus_text = accepted.stimulus_text;
-            design_held = accepted.design_held;
-            stimulus_held = accepted.stimulus_held;
-            netlist = subst (λ (t : List ℕ). IsDesignOf t w.flat) (its_text (told design) w.d accepted.design_text accepted.design_held w.d_is) w.netlist;
-            read = subst (λ (t : List ℕ). stimulus_rows w.flat.inputs t ≡ Ok w.rows) (its_text (told stimulus) w.s accepted.stimulus_text accepted.stimulus_held w.s_is) w.are;
-          },
-          subst (λ (t : List ℕ). LeavesPart t before.out after.out) w.text_is part.2,
-        );
+    part = λ spelled rows accepted.
+        let part = table.part (comes_to_trace design stimulus unknown told accepted.design_text accepted.stimulus_text spelled rows accepted.design_held accepted.stimulus_held accepted.is accepted.read) in
+        let w = what design stimulus unknown told part.0 part.1 in
+        let its_design : IsDesignOf accepted.design_text w.spelled = subst (λ (t : List ℕ). IsDesignOf t w.spelled) (its_text (told design) w.d accepted.design_text accepted.design_held w.d_is) w.its_design in
+        let same = same_design accepted.design_text spelled w.spelled accepted.is its_design in
+        let read : stimulus_rows (length (columns w.spelled)) accepted.stimulus_text ≡ Ok w.rows =
+        subst (λ (t : List ℕ). stimulus_rows (length (columns w.spelled)) t ≡ Ok w.rows) (its_text (told stimulus) w.s accepted.stimulus_text accepted.stimulus_held w.s_is) w.are in
+        let said : Ok {E = StimFault} w.rows ≡ Ok rows = sym read ∙ ap (λ (one : Spelled). stimulus_rows (length (columns one)) accepted.stimulus_text) same ∙ accepted.read in
+        let same_rows : w.rows ≡ rows = cc in
+        subst (λ (t : List ℕ). LeavesPart t before.out after.out) (w.text_is ∙ ap₂ (trace_of unknown) same same_rows) part.2;
     absent_design = λ gone.
         missing_leaves (table.absent_file (comes_to_no_file design stimulus unknown told gone))
         (λ text may. let w = what design stimulus unknown told text may in no_text (told design) w.d gone w.d_is);
-    absent_stimulus = λ d flat held_d netlist gone.
-        missing_leaves (table.absent_file (comes_to_no_stimulus design stimulus unknown told d flat held_d netlist gone))
+    absent_stimulus = λ d spelled held_d its_design gone.
+        missing_leaves (table.absent_file (comes_to_no_stimulus design stimulus unknown told d spelled held_d its_design gone))
         (λ text may. let w = what design stimulus unknown told text may in no_text (told stimulus) w.s gone w.s_is);
-    complete = λ flat rows accepted no_design no_stimulus no_write.
+    complete = λ spelled rows accepted no_design no_stimulus no_write.
         ⊎_elim
         (λ (is : status ≡ 0). inl is)
         (λ (stops : (status ≡ 7) ⊎ ((status ≡ 8) ⊎ (status ≡ 9))). ⊎_elim
@@ -271,7 +259,7 @@ module _ (design stimulus : List ℕ) (unknown : Bool) (before after : Outside) 
         (λ (more : (status ≡ 8) ⊎ (status ≡ 9)). ⊎_elim
         (λ (is : status ≡ 8). absurd (no_write (ap (λ (o : SeenSink). o.faults) (table.write_fault is).counted.2)))
         (λ (is : status ≡ 9). inr is) more) stops)
-        (table.accepted (comes_to_trace design stimulus unknown told accepted.design_text accepted.stimulus_text flat rows accepted.design_held accepted.stimulus_held accepted.netlist accepted.read));
+        (table.accepted (comes_to_trace design stimulus unknown told accepted.design_text accepted.stimulus_text spelled rows accepted.design_held accepted.stimulus_held accepted.is accepted.read));
   }
 
 -- words that spell no command

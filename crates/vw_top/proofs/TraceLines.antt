@@ -7,7 +7,7 @@ use Rattle.vw_net.specs.History.{outputs_of, states_of, state_after, flat_histor
 use Rattle.vw_outside.specs.Writes.{SeenSink}
 use Rattle.vw_outside.proofs.PiecesWritten.{IsLeft, nothing_written}
 use Rattle.vw_rows.specs.Trace.{rows_text, clock_text, head_text, end_text}
-use Rattle.vw_top.specs.Commands.{trace_of}
+use Rattle.vw_top.specs.Steps.FlatTrace.{flat_trace}
 use Rattle.vw_net.proofs.Counts.{length-outputs_of, length-states_of}
 
 -- the lines of clocks, and then of others
@@ -59,7 +59,7 @@ pub lines_written : (flat : Flat) (first : ℕ) (state : List Bool) (rows output
 lines_written flat first state rows outputs states lines made o s = made ∙ ap (λ os. rows_text first os states) o ∙ ap (λ ss. rows_text first (outputs_of flat state rows) ss) s
 
 -- the parts of a trace
-pub trace_parts : (unknown : Bool) (flat : Flat) (rows : List (List Bool)) → trace_of unknown flat rows ≡ head_text (length flat.outputs) (latch_count flat.cells) ++ (clock_lines flat 0 (start_values unknown flat.cells) rows ++ end_text (length rows) (state_after flat (start_values unknown flat.cells) rows))
+pub trace_parts : (unknown : Bool) (flat : Flat) (rows : List (List Bool)) → flat_trace unknown flat rows ≡ head_text (length flat.outputs) (latch_count flat.cells) ++ (clock_lines flat 0 (start_values unknown flat.cells) rows ++ end_text (length rows) (state_after flat (start_values unknown flat.cells) rows))
 trace_parts unknown flat rows =
     append_assoc (head_text (length flat.outputs) (latch_count flat.cells)) (clock_lines flat 0 (start_values unknown flat.cells) rows) (end_text (length (outputs_of flat (start_values unknown flat.cells) rows)) (state_after flat (start_values unknown flat.cells) rows))
     ∙ ap (λ n. head_text (length flat.outputs) (latch_count flat.cells) ++ (clock_lines flat 0 (start_values unknown flat.cells) rows ++ end_text n (state_after flat (start_values unknown flat.cells) rows))) (length-outputs_of flat (start_values unknown flat.cells) rows)
@@ -72,7 +72,7 @@ abbrev pub last_line : Bool → Flat → List (List Bool) → List ℕ
 last_line unknown flat rows = end_text (length rows) (state_after flat (start_values unknown flat.cells) rows)
 
 -- at first all of a trace is left
-pub head_left : (unknown : Bool) (flat : Flat) (rows : List (List Bool)) (before : SeenSink) (head : List ℕ) → head ≡ head_text (length flat.outputs) (latch_count flat.cells) → IsLeft before (trace_of unknown flat rows) before (head ++ (all_lines unknown flat rows ++ last_line unknown flat rows))
+pub head_left : (unknown : Bool) (flat : Flat) (rows : List (List Bool)) (before : SeenSink) (head : List ℕ) → head ≡ head_text (length flat.outputs) (latch_count flat.cells) → IsLeft before (flat_trace unknown flat rows) before (head ++ (all_lines unknown flat rows ++ last_line unknown flat rows))
 head_left unknown flat rows before head is =
-    let text : trace_of unknown flat rows ≡ head ++ (all_lines unknown flat rows ++ last_line unknown flat rows) = rw is (trace_parts unknown flat rows) in
-    subst (λ (rest : List ℕ). IsLeft before (trace_of unknown flat rows) before rest) text (nothing_written before (trace_of unknown flat rows))
+    let text : flat_trace unknown flat rows ≡ head ++ (all_lines unknown flat rows ++ last_line unknown flat rows) = rw is (trace_parts unknown flat rows) in
+    subst (λ (rest : List ℕ). IsLeft before (flat_trace unknown flat rows) before rest) text (nothing_written before (flat_trace unknown flat rows))

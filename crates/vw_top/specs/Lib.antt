@@ -1,10 +1,11 @@
 pub mod Words
+pub mod LoopLine
 pub mod Reasons
 pub mod Stops
 pub mod Course
 pub mod Endings
 pub mod Statuses
-pub mod Runnable
+pub mod Designs
 pub mod Commands
 pub mod CommandStatuses
 pub mod Steps

@@ -1,5 +1,5 @@
 -- What functions of this crate compute, step by step. No public clause cites it.
 pub mod Commands
 pub mod Stage
-pub mod Numbers
-pub mod Order
+pub mod FlatTrace
+pub mod Made

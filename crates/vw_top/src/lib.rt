@@ -3,8 +3,8 @@
 
 mod batch;
 mod commands;
+mod design;
 mod endings;
-mod netlist;
 mod reason;
 mod refusal;
 mod run;

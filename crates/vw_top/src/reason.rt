@@ -1,7 +1,12 @@
-ghost use Rattle.std.specs.Prelude.{◌≡◌, IfOk};
+ghost use Rattle.std.specs.Prelude.{◌≡◌, ◌++◌, IfOk, OnOk};
+ghost use Rattle.vw_elab.specs.MessageLines.{spaced};
+ghost use Rattle.vw_top.specs.LoopLine.{loop_line};
 
 use std::alloc::{AllocError, Global};
 use vw_blif::TextFault;
+use vw_elab::DesignFault;
+use vw_net::Sequence;
+use vw_outside::Name;
 use vw_rows::StimFault;
 
 /// What is wrong with the words or the files of a command: a variant for each kind of fault, with the fault of the
@@ -10,12 +15,35 @@ use vw_rows::StimFault;
 pub enum Reason {
     /// The design text has this fault.
     Design(TextFault),
-    /// The design doesn't run yet.
-    NotYet,
+    /// The design has this fault.
+    Elaboration(DesignFault),
+    /// Gates of the design read each other in a circle: the nets that they drive, as they are printed.
+    Loop(Sequence<Name>),
     /// The words spell no command; the number of the first wrong word, from 1.
     Usage(u64),
     /// The stimulus text has this fault.
     Stimulus(StimFault),
+}
+
+/// Adds each name behind a blank.
+fn add_spaced(line: &mut Vec<u8>, names: &[Name]) -> Result<(), AllocError>
+    ensures { OnOk result (line.new.items ≡ line.old.items ++ spaced names.now) }
+{
+    for name in names {
+        line.push(b' ')?;
+        line.extend_from_slice(name.as_slice())?;
+    }
+    Ok(())
+}
+
+/// The message line of a loop.
+fn loop_line(alloc: Global, names: &[Name]) -> Result<Vec<u8>, AllocError>
+    ensures { IfOk result (λ line. line.items ≡ loop_line names.now) }
+{
+    let mut line = b"design 25: loop".to_vec(alloc)?;
+    add_spaced(&mut line, names)?;
+    line.push(b'\n')?;
+    Ok(line)
 }
 
 impl Reason {
@@ -26,7 +54,7 @@ impl Reason {
         ensures { result ≡ reason_status self.now }
     {
         match self {
-            Reason::Design(_) | Reason::NotYet => 1,
+            Reason::Design(_) | Reason::Elaboration(_) | Reason::Loop(_) => 1,
             Reason::Usage(_) => 2,
             Reason::Stimulus(_) => 5,
         }
@@ -38,7 +66,8 @@ impl Reason {
     {
         match self {
             Reason::Design(fault) => Ok(fault.text(alloc)?),
-            Reason::NotYet => Ok(b"design 0: not yet\n".to_vec(alloc)?),
+            Reason::Elaboration(fault) => Ok(fault.text(alloc)?),
+            Reason::Loop(names) => loop_line(alloc, names.as_slice()),
             Reason::Usage(place) => {
                 let line = format!(in alloc; "usage: word {place}\n")?;
                 Ok(line.into_bytes())

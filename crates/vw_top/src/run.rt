@@ -4,7 +4,7 @@ ghost use Rattle.std.specs.List.{All};
 ghost use Rattle.vw_net.specs.Cells.{latch_count};
 ghost use Rattle.vw_net.specs.History.{outputs_of, states_of, state_after};
 ghost use Rattle.vw_rows.specs.Trace.{rows_text};
-ghost use Rattle.vw_top.specs.Commands.{trace_of};
+ghost use Rattle.vw_top.specs.Steps.FlatTrace.{flat_trace};
 ghost use Rattle.vw_top.specs.Steps.Stage.{WritesOut};
 
 use crate::batch::run_batch;
@@ -55,7 +55,7 @@ pub fn write_trace<O: Sink>(
     out: &mut O,
 ) -> Result<(), Stop>
     requires { All (λ row. length row ≡ ordered.now.flat.inputs) rows.now }
-    ensures { WritesOut (trace_of unknown ordered.now.flat rows.now) (O.seen out.old) (O.seen out.new)
+    ensures { WritesOut (flat_trace unknown ordered.now.flat rows.now) (O.seen out.old) (O.seen out.new)
         result }
 {
     let flat = ordered.flat();

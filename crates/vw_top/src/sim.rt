@@ -1,19 +1,20 @@
 //! The command `sim`.
 ghost use Rattle.std.specs.Prelude.{◌≡◌, length, map, IfOk};
 ghost use Rattle.std.specs.List.{All};
-ghost use Rattle.vw_top.specs.Runnable.{IsDesignOf};
+ghost use Rattle.vw_top.specs.Designs.{RefusesDesign};
+ghost use Rattle.vw_top.specs.Steps.Made.{IsMadeOf};
 ghost use Rattle.vw_top.specs.Course.{Follows, outside};
-ghost use Rattle.vw_top.specs.Commands.{sim_course, RefusesDesign, IsRowsOf, RefusesRows};
-ghost use Rattle.vw_top.specs.Steps.Stage.{StageEnds, JudgesText};
+ghost use Rattle.vw_top.specs.Commands.{sim_course, IsRowsOf, RefusesRows};
+ghost use Rattle.vw_top.specs.Steps.Stage.{StageEnds};
 
+use crate::design::netlist_of_text;
 use crate::endings::Unfinished;
-use crate::netlist::netlist_of;
 use crate::reason::Reason;
 use crate::refusal::Refusal;
 use crate::run::write_trace;
 use crate::stop::{File, Stop};
 use std::alloc::Global;
-use vw_blif::{TextFault, read};
+use vw_blif::TextFault;
 use vw_net::{Ordered, Rows};
 use vw_outside::{Name, Shelf, Sink, TextRefused, read_text};
 use vw_rows::{StimFault, read_all};
@@ -21,26 +22,10 @@ use vw_rows::{StimFault, read_all};
 /// The most bytes that a design text has.
 const TEXT_LIMIT: u64 = 16_777_216;
 
-/// The netlist of the design that a text spells.
-fn netlist_of_text(alloc: Global, text: &[u8]) -> Result<Ordered, Unfinished>
-    ensures { JudgesText (λ ordered. IsDesignOf text.now ordered.flat) (RefusesDesign text.now) result }
-{
-    let design = match read(alloc, text) {
-        Ok(design) => design,
-        Err(TextFault::NoMemory) => return Err(Unfinished::Stopped(Stop::NoMemory)),
-        Err(fault) => return Err(Unfinished::Refused(Refusal::new(Reason::Design(fault)))),
-    };
-    match netlist_of(alloc, &design) {
-        Ok(Some(ordered)) => Ok(ordered),
-        Ok(None) => Err(Unfinished::Refused(Refusal::new(Reason::NotYet))),
-        Err(_) => Err(Unfinished::Stopped(Stop::NoMemory)),
-    }
-}
-
 /// Reads the design.
 fn read_design<S: Shelf>(alloc: Global, shelf: &mut S, name: &Name) -> Result<Ordered, Unfinished>
     ensures { StageEnds File.Design name.now
-        (λ text ordered. IsDesignOf text ordered.flat) RefusesDesign
+        IsMadeOf RefusesDesign
         (S.seen shelf.old) (S.seen shelf.new) result }
 {
     match read_text(alloc, shelf, name, TEXT_LIMIT) {

@@ -8,7 +8,7 @@ use Rattle.vw_outside.proofs.PiecesWritten.{IsLeft, written_further, part_writte
 use Rattle.vw_top.specs.declared.stop.Stop.{Stop}
 use Rattle.vw_top.specs.declared.stop.Stop.TheVariants.{ReadFault, WriteFault, NoMemory}
 use Rattle.vw_rows.specs.Trace.{head_text, end_text}
-use Rattle.vw_top.specs.Commands.{trace_of}
+use Rattle.vw_top.specs.Steps.FlatTrace.{flat_trace}
 use Rattle.vw_top.specs.Steps.Stage.{WritesOut}
 use Rattle.vw_net.proofs.Counts.{length-start_values, latch_count-le}
 use Rattle.vw_top.proofs.TraceLines.{clock_lines, head_left, all_lines, last_line}
@@ -46,7 +46,7 @@ returns-in_err-put_all g c =
 
 -- once the first line is written, the clocks are left
 clocks_left : (g : Over) (c : In_ok-put_all g) → c.deref.result.now ≡ head_text (length c.args.ordered.now.flat.outputs) (latch_count c.args.ordered.now.flat.cells)
-    → IsLeft (g.O.Sink.seen c.args.out.now) (trace_of c.args.unknown c.args.ordered.now.flat c.args.rows.now) (g.O.Sink.seen c.put_all.new.out) (all_lines c.args.unknown c.args.ordered.now.flat c.args.rows.now ++ last_line c.args.unknown c.args.ordered.now.flat c.args.rows.now)
+    → IsLeft (g.O.Sink.seen c.args.out.now) (flat_trace c.args.unknown c.args.ordered.now.flat c.args.rows.now) (g.O.Sink.seen c.put_all.new.out) (all_lines c.args.unknown c.args.ordered.now.flat c.args.rows.now ++ last_line c.args.unknown c.args.ordered.now.flat c.args.rows.now)
 clocks_left g c head = written_further _ _ _ _ _ _ (head_left c.args.unknown c.args.ordered.now.flat c.args.rows.now (g.O.Sink.seen c.args.out.now) c.deref.result.now head) c.in_ok-put_all.ensures.all
 
 -- the lines that were to be written are those of the trace
@@ -73,8 +73,8 @@ returns-in_err-write_clocks g c =
 
 -- once they are written, the last line is left
 end_left : (g : Over) (c : In_ok-write_clocks g) → clock_lines c.args.ordered.now.flat 0 c.in_ok-state.state c.as_slice-rows.result.now ≡ all_lines c.args.unknown c.args.ordered.now.flat c.args.rows.now
-    → IsLeft (g.O.Sink.seen c.args.out.now) (trace_of c.args.unknown c.args.ordered.now.flat c.args.rows.now) (g.O.Sink.seen c.put_all.new.out) (all_lines c.args.unknown c.args.ordered.now.flat c.args.rows.now ++ last_line c.args.unknown c.args.ordered.now.flat c.args.rows.now)
-    → IsLeft (g.O.Sink.seen c.args.out.now) (trace_of c.args.unknown c.args.ordered.now.flat c.args.rows.now) (g.O.Sink.seen c.write_clocks.new.out) (last_line c.args.unknown c.args.ordered.now.flat c.args.rows.now)
+    → IsLeft (g.O.Sink.seen c.args.out.now) (flat_trace c.args.unknown c.args.ordered.now.flat c.args.rows.now) (g.O.Sink.seen c.put_all.new.out) (all_lines c.args.unknown c.args.ordered.now.flat c.args.rows.now ++ last_line c.args.unknown c.args.ordered.now.flat c.args.rows.now)
+    → IsLeft (g.O.Sink.seen c.args.out.now) (flat_trace c.args.unknown c.args.ordered.now.flat c.args.rows.now) (g.O.Sink.seen c.write_clocks.new.out) (last_line c.args.unknown c.args.ordered.now.flat c.args.rows.now)
 end_left g c lines left = written_further _ _ _ _ _ _ left (c.in_ok-write_clocks.ensures.writes ∙ ap (appended (g.O.Sink.seen c.put_all.new.out)) lines)
 
 pub returns-in_err-end : goal.returns-in_err-end

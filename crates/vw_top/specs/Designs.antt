@@ -1,0 +1,47 @@
+-- The design of a text, and why a text has none that runs.
+use Rattle.std.specs.Prelude.{◌≡◌, ◌<◌, ◌≤◌, ◌==◌, ℕ, List, map, length, slice_get, slice_index, Some, IsTrue, Ok, Err}
+use Rattle.std.specs.List.{AllZip, IsDistinct}
+use Rattle.vw_design.specs.declared.design.Design.{Design}
+use Rattle.vw_design.specs.Paths.{Word}
+use Rattle.vw_design.specs.Preorder.{Site, cells}
+use Rattle.vw_design.specs.Accepted.{IsAccepted}
+use Rattle.vw_design.specs.Loops.{gate_at, IsLoop, IsLoopFree}
+use Rattle.vw_blif.specs.Spelled.{spelled_model}
+use Rattle.vw_blif.specs.Read.{design_of}
+use Rattle.vw_elab.specs.Refusals.{IsRefusal, is_design_fault}
+use Rattle.vw_flat.specs.Printed.{printed_site}
+use Rattle.vw_top.specs.declared.reason.Reason.{Reason}
+use Rattle.vw_top.specs.declared.reason.Reason.TheVariants as reasons
+
+-- the text spells the design, and no other one
+abbrev pub Spells : List ℕ → Design → Type 0
+Spells text design = design_of text ≡ Ok (map spelled_model design.models)
+
+-- the design of a text that runs: it has no fault, and its gates don't read each other in a circle
+pub record IsDesignOf (text : List ℕ) (design : Design) : Type 0 where
+  pub spelled : Spells text design
+  pub accepted : IsAccepted design
+  pub loop_free : IsLoopFree design
+
+-- gates of a design that read each other in a circle, each the next one and the last one the first, with their numbers
+-- among the cells: none stands twice, and the least number stands first. They are named by the nets that they drive
+pub record IsLoopOf (design : Design) (names : List Word) : Type 0 where
+  pub numbers : List ℕ
+  pub gates : List Site
+  pub are : AllZip (λ number gate. slice_get (cells design) number ≡ Some gate) numbers gates
+  pub loop : IsLoop design (map gate_at gates)
+  pub once : IsDistinct ◌==◌ numbers
+  pub least : (i : ℕ) → i < length numbers → slice_index numbers 0 ≤ slice_index numbers i
+  pub named : names ≡ map printed_site gates
+
+-- the text has a fault, or its design has one, or its design has a loop
+abbrev pub RefusesDesign : List ℕ → Reason → Type 0
+RefusesDesign text (reasons.Design fault) = design_of text ≡ Err fault
+RefusesDesign text (reasons.Elaboration fault) = IsTrue (is_design_fault fault) × (design : Design) × Spells text design × IsRefusal design fault
+RefusesDesign text (reasons.Loop names) = (design : Design) × Spells text design × IsAccepted design × IsLoopOf design names
+RefusesDesign text (reasons.Usage place) = ⊥
+RefusesDesign text (reasons.Stimulus fault) = ⊥
+
+-- there is such a reason
+abbrev pub IsNoDesign : List ℕ → Type 0
+IsNoDesign text = (reason : Reason) × RefusesDesign text reason

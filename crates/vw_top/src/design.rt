@@ -1,0 +1,97 @@
+//! The netlist of the design that a text spells.
+ghost use Rattle.std.specs.Prelude.{◌≡◌, ◌<◌, Some, option_map, slice_get, IfOk};
+ghost use Rattle.std.specs.List.{All, AllZip};
+ghost use Rattle.vw_design.specs.Accepted.{IsAccepted};
+ghost use Rattle.vw_design.specs.Flattened.{IsFlatOf};
+ghost use Rattle.vw_design.specs.Limits.{cell_count};
+ghost use Rattle.vw_design.specs.Preorder.{cells};
+ghost use Rattle.vw_flat.specs.Printed.{printed_site};
+ghost use Rattle.vw_order.specs.Faults.{IsOrderFault};
+ghost use Rattle.vw_top.specs.Designs.{Spells, RefusesDesign};
+ghost use Rattle.vw_top.specs.Steps.Made.{IsMadeOf, IsOrderedOf, EndsLoop, RefusesLoop};
+ghost use Rattle.vw_top.specs.Steps.Stage.{JudgesText};
+
+use crate::endings::Unfinished;
+use crate::reason::Reason;
+use crate::refusal::Refusal;
+use crate::stop::Stop;
+use std::alloc::{AllocError, Global};
+use vw_blif::{TextFault, read};
+use vw_design::ordered_is_loop_free;
+use vw_elab::{DesignFault, Elaborated, elaborate};
+use vw_flat::{flatten, path_of};
+use vw_net::{Flat, Ordered, Sequence};
+use vw_order::{OrderFault, order};
+use vw_outside::Name;
+
+/// The elaborated design of a text.
+fn elaborated_of_text(alloc: Global, text: &[u8]) -> Result<Elaborated, Unfinished>
+    ensures { JudgesText (λ elaborated. Spells text.now elaborated × IsAccepted elaborated)
+        (RefusesDesign text.now) result }
+{
+    let design = match read(alloc, text) {
+        Ok(design) => design,
+        Err(TextFault::NoMemory) => return Err(Unfinished::Stopped(Stop::NoMemory)),
+        Err(fault) => return Err(Unfinished::Refused(Refusal::new(Reason::Design(fault)))),
+    };
+    match elaborate(alloc, design) {
+        Ok(elaborated) => Ok(elaborated),
+        Err(DesignFault::NoMemory) => Err(Unfinished::Stopped(Stop::NoMemory)),
+        Err(fault) => Err(Unfinished::Refused(Refusal::new(Reason::Elaboration(fault)))),
+    }
+}
+
+/// The nets that cells drive, as they are printed.
+fn nets_of(alloc: Global, elaborated: &Elaborated, numbers: &[u32]) -> Result<Vec<Name>, AllocError>
+    requires { All (λ number. number < cell_count elaborated.now) numbers.now }
+    ensures { IfOk result (λ names.
+        AllZip (λ number name. option_map printed_site (slice_get (cells elaborated.now) number)
+        ≡ Some name) numbers.now names.items) }
+{
+    let mut names = Vec::with_capacity(alloc, numbers.len())?;
+    for number in numbers {
+        names.push(path_of(alloc, elaborated, *number)?)?;
+    }
+    Ok(names)
+}
+
+/// The refusal of a netlist that has no order.
+fn refuse_loop(alloc: Global, elaborated: &Elaborated, flat: &Flat, fault: OrderFault) -> Unfinished
+    requires flat { IsFlatOf elaborated.now flat.now }
+    requires fault { IsOrderFault flat.now fault }
+    ensures { EndsLoop elaborated.now result }
+{
+    let OrderFault::Loop(numbers) = fault else {
+        return Unfinished::Stopped(Stop::NoMemory);
+    };
+    match nets_of(alloc, elaborated, numbers.as_slice()) {
+        Ok(names) => {
+            let reason = Reason::Loop(Sequence::of(names));
+            Unfinished::Refused(Refusal::new(reason))
+        }
+        Err(_) => Unfinished::Stopped(Stop::NoMemory),
+    }
+}
+
+/// The netlist of a design, with an order of its gates.
+fn ordered_of(alloc: Global, elaborated: &Elaborated) -> Result<Ordered, Unfinished>
+    ensures { JudgesText (IsOrderedOf elaborated.now) (RefusesLoop elaborated.now) result }
+{
+    elaborated.is_accepted();
+    ordered_is_loop_free();
+    let Ok(flat) = flatten(alloc, elaborated) else {
+        return Err(Unfinished::Stopped(Stop::NoMemory));
+    };
+    match order(alloc, flat) {
+        Ok(ordered) => Ok(ordered),
+        Err(refused) => Err(refuse_loop(alloc, elaborated, &refused.flat, refused.fault)),
+    }
+}
+
+/// The netlist of the design that a text spells, with an order of its gates.
+pub fn netlist_of_text(alloc: Global, text: &[u8]) -> Result<Ordered, Unfinished>
+    ensures { JudgesText (IsMadeOf text.now) (RefusesDesign text.now) result }
+{
+    let elaborated = elaborated_of_text(alloc, text)?;
+    ordered_of(alloc, &elaborated)
+}
