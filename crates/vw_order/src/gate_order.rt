@@ -35,9 +35,9 @@ fn answer(alloc: Global, flat: &Flat) -> Result<Found, AllocError>
     }
 }
 
-/// The netlist with an order in which its gates can be worked out, one after the other; refused where gates read each
-/// other in a loop. Feedback through a latch is no loop. It takes memory for a few words of each cell, and time for
-/// each gate and each of its inputs.
+/// The netlist with an order in which its gates can be worked out, one after the other. It is refused with `Loop` where
+/// gates read each other in a loop, and feedback through a latch is none; and with `NoMemory` where there is no memory
+/// for a few words of each cell. The search goes over each gate and each of its inputs once, and its calls don't nest.
 pub fn order(alloc: Global, flat: Flat) -> Result<Ordered, OrderRefused>
     ensures ordered { IfOk result (λ ordered. ordered.flat ≡ flat) }
     ensures handed_back { IfErr result (λ refused. refused.flat ≡ flat) }
