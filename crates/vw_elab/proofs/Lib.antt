@@ -1,3 +1,4 @@
 pub mod FurtherFaults
 pub mod PortColumns
 pub mod ReadTables
+pub mod RefusedDesigns

@@ -117,12 +117,11 @@ fn add_spaced(text: &mut Vec<u8>, names: &[Name]) -> Result<(), AllocError>
     Ok(())
 }
 
-/// The message of a circle of models.
-fn of_circle(alloc: Global, names: &[Name]) -> Result<Vec<u8>, AllocError>
-    ensures { IfOk result (λ text. text.items
-        ≡ codes "design 14: recursive models" ++ spaced names.now ++ 10 ∷ []) }
+/// A line that begins with these bytes and has each name behind a blank, with the end of the line.
+pub fn line_of_names(alloc: Global, front: &[u8], names: &[Name]) -> Result<Vec<u8>, AllocError>
+    ensures { IfOk result (λ text. text.items ≡ front.now ++ spaced names.now ++ 10 ∷ []) }
 {
-    let mut text = b"design 14: recursive models".to_vec(alloc)?;
+    let mut text = front.to_vec(alloc)?;
     add_spaced(&mut text, names)?;
     text.push(b'\n')?;
     Ok(text)
@@ -185,7 +184,9 @@ impl DesignFault {
     {
         match self {
             DesignFault::UnknownModel(line) => at_line(alloc, 13, *line, b"unknown model", b""),
-            DesignFault::RecursiveModel(names) => of_circle(alloc, names.as_slice()),
+            DesignFault::RecursiveModel(names) => {
+                line_of_names(alloc, b"design 14: recursive models", names.as_slice())
+            }
             DesignFault::UnknownFormal(line, formal) => {
                 at_line(alloc, 15, *line, b"unknown formal ", formal.as_slice())
             }

@@ -12,6 +12,6 @@ mod parts;
 pub use driver::Driver;
 pub use elaborated::{Elaborated, Instance};
 pub use elaboration::elaborate;
-pub use fault::DesignFault;
+pub use fault::{DesignFault, line_of_names};
 pub use vw_sizes::Quantity;
 pub use vw_walk::CellSite as Site;

@@ -3,4 +3,5 @@ pub mod TraceLines
 pub mod CourseLaws
 pub mod StageLaws
 pub mod SimLaws
-pub mod DesignApart
+pub mod Gates
+pub mod FlatTraces

@@ -12,8 +12,7 @@ use Rattle.vw_top.specs.declared.reason.Reason.{Reason}
 use Rattle.vw_top.specs.declared.reason.Reason.TheVariants.{Usage, Stimulus}
 use Rattle.vw_top.specs.declared.reason.Reason.TheVariants as reasons
 use Rattle.vw_top.specs.Reasons.{reason_status}
-use Rattle.vw_top.specs.Designs.{IsDesignOf, RefusesDesign, IsNoDesign}
-use Rattle.vw_top.proofs.DesignApart.{spells_once, design_apart}
+use Rattle.vw_top.specs.Designs.{IsDesignOf, RefusesDesign, IsNoDesign, spells_once, design_apart}
 use Rattle.vw_top.specs.Course.{Course, refuses, Outside, outside, MayWrite, MayRefuse, MayRead, AtFile, writing, refusing, missing, ComesTo}
 use Rattle.vw_top.specs.Statuses.{Statuses, IsRefusal, IsWantOfMemory, LeavesPart}
 use Rattle.vw_top.specs.Commands.{sim_course, trace_of}
@@ -242,7 +241,7 @@ module _ (design stimulus : List ℕ) (unknown : Bool) (before after : Outside) 
         let same = same_design accepted.design_text spelled w.spelled accepted.is its_design in
         let read : stimulus_rows (length (columns w.spelled)) accepted.stimulus_text ≡ Ok w.rows =
         subst (λ (t : List ℕ). stimulus_rows (length (columns w.spelled)) t ≡ Ok w.rows) (its_text (told stimulus) w.s accepted.stimulus_text accepted.stimulus_held w.s_is) w.are in
-        let said : Ok {E = StimFault} w.rows ≡ Ok rows = sym read ∙ ap (λ (one : Spelled). stimulus_rows (length (columns one)) accepted.stimulus_text) same ∙ accepted.read in
+        let said = sym read ∙ ap (λ (one : Spelled). stimulus_rows (length (columns one)) accepted.stimulus_text) same ∙ accepted.read in
         let same_rows : w.rows ≡ rows = cc in
         subst (λ (t : List ℕ). LeavesPart t before.out after.out) (w.text_is ∙ ap₂ (trace_of unknown) same same_rows) part.2;
     absent_design = λ gone.

@@ -12,10 +12,9 @@ use Rattle.vw_rows.specs.Trace.{trace_text}
 use Rattle.vw_top.specs.declared.stop.File.TheVariants as files
 use Rattle.vw_top.specs.declared.reason.Reason.{Reason}
 use Rattle.vw_top.specs.declared.reason.Reason.TheVariants.{Usage, Stimulus}
-use Rattle.vw_top.specs.Designs.{IsDesignOf, RefusesDesign}
+use Rattle.vw_top.specs.Designs.{IsDesignOf, RefusesDesign, design_apart}
 use Rattle.vw_top.specs.Words.{Spelled, sim, nothing}
 use Rattle.vw_top.specs.Course.{Course, writes, refuses, reads, judges}
-use Rattle.vw_top.proofs.DesignApart.{design_apart}
 
 -- ---- what is good and bad of a stimulus
 

@@ -1,14 +1,18 @@
 -- The design of a text, and why a text has none that runs.
-use Rattle.std.specs.Prelude.{◌≡◌, ◌<◌, ◌≤◌, ◌==◌, ℕ, List, map, length, slice_get, slice_index, Some, IsTrue, Ok, Err}
+use Rattle.std.specs.Prelude.{◌≡◌, ◌<◌, ◌≤◌, ◌==◌, ℕ, List, map, length, slice_get, slice_index, Some, IsTrue, Result, Ok, Err}
+use Rattle.std.proofs.Common.{refl, sym, subst}
 use Rattle.std.specs.List.{AllZip, IsDistinct}
 use Rattle.vw_design.specs.declared.design.Design.{Design}
 use Rattle.vw_design.specs.Paths.{Word}
 use Rattle.vw_design.specs.Preorder.{Site, cells}
 use Rattle.vw_design.specs.Accepted.{IsAccepted}
 use Rattle.vw_design.specs.Loops.{gate_at, IsLoop, IsLoopFree}
-use Rattle.vw_blif.specs.Spelled.{spelled_model}
+use Rattle.vw_blif.specs.declared.fault.TextFault.{TextFault}
+use Rattle.vw_blif.specs.Spelled.{SpelledModel, spelled_model}
 use Rattle.vw_blif.specs.Read.{design_of}
+use Rattle.vw_blif.proofs.SpelledOnce.{spelled_once}
 use Rattle.vw_elab.specs.Refusals.{IsRefusal, is_design_fault}
+use Rattle.vw_elab.proofs.RefusedDesigns.{accepted_unrefused}
 use Rattle.vw_flat.specs.Printed.{printed_site}
 use Rattle.vw_top.specs.declared.reason.Reason.{Reason}
 use Rattle.vw_top.specs.declared.reason.Reason.TheVariants as reasons
@@ -45,3 +49,28 @@ RefusesDesign text (reasons.Stimulus fault) = ⊥
 -- there is such a reason
 abbrev pub IsNoDesign : List ℕ → Type 0
 IsNoDesign text = (reason : Reason) × RefusesDesign text reason
+
+-- ---- one text has one design, and a text with a design that runs is not refused
+
+abbrev pub HasModels : List SpelledModel → Result (List SpelledModel) TextFault → Type 0
+HasModels models (Ok others) = models ≡ others
+HasModels models (Err fault) = ⊥
+
+abbrev pub models_said : (text : List ℕ) (design : Design) → Spells text design → HasModels (map spelled_model design.models) (design_of text)
+models_said text design is = subst (HasModels (map spelled_model design.models)) (sym is) refl
+
+abbrev pub spells_once : (text : List ℕ) (one other : Design) → Spells text one → Spells text other → one ≡ other
+spells_once text one other is its = spelled_once one other (subst (HasModels (map spelled_model one.models)) its (models_said text one is))
+
+abbrev pub design_apart : (text : List ℕ) (design : Design) (reason : Reason) → IsDesignOf text design → RefusesDesign text reason → ⊥
+design_apart text design (reasons.Design fault) is refused =
+    subst (HasModels (map spelled_model design.models)) refused (models_said text design is.spelled)
+design_apart text design (reasons.Elaboration fault) is refused =
+    let same = spells_once text refused.1 design refused.2 is.spelled in
+    accepted_unrefused design is.accepted fault refused.0 (subst (λ (d : Design). IsRefusal d fault) same refused.3)
+design_apart text design (reasons.Loop names) is refused =
+    let same = spells_once text refused.0 design refused.1 is.spelled in
+    let gates = map gate_at refused.3.gates in
+    is.loop_free gates (subst (λ (d : Design). IsLoop d gates) same refused.3.loop)
+design_apart text design (reasons.Usage place) is refused = refused
+design_apart text design (reasons.Stimulus fault) is refused = refused

@@ -37,11 +37,11 @@ fn carry_out<S: Shelf, O: Sink>(
 
 /// Writes the message line of a call that wasn't carried out, and gives the exit status. Where there is no memory
 /// for the line of a refusal, the call ends with want of memory.
-fn report<E: Sink>(alloc: Global, unfinished: Unfinished, err: &mut E) -> u8
-    ensures { EndsUnfinished unfinished (E.seen err.old) (E.seen err.new) result }
+fn report<E: Sink>(alloc: Global, unfinished: &Unfinished, err: &mut E) -> u8
+    ensures { EndsUnfinished unfinished.now (E.seen err.old) (E.seen err.new) result }
 {
     let stop = match unfinished {
-        Unfinished::Stopped(stop) => stop,
+        Unfinished::Stopped(stop) => *stop,
         Unfinished::Refused(refusal) => match refusal.reason().line(alloc) {
             Ok(line) => {
                 let _ = put_all(err, &line);
@@ -77,6 +77,6 @@ pub fn virtual_wires<S: Shelf, O: Sink, E: Sink>(
 {
     match carry_out(alloc, words, shelf, out) {
         Ok(()) => 0,
-        Err(unfinished) => report(alloc, unfinished, err),
+        Err(unfinished) => report(alloc, &unfinished, err),
     }
 }

@@ -21,7 +21,7 @@ use vw_design::ordered_is_loop_free;
 use vw_elab::{DesignFault, Elaborated, elaborate};
 use vw_flat::{flatten, path_of};
 use vw_net::{Flat, Ordered, Sequence};
-use vw_order::{OrderFault, order};
+use vw_order::{OrderFault, OrderRefused, order};
 use vw_outside::Name;
 
 /// The elaborated design of a text.
@@ -84,7 +84,10 @@ fn ordered_of(alloc: Global, elaborated: &Elaborated) -> Result<Ordered, Unfinis
     };
     match order(alloc, flat) {
         Ok(ordered) => Ok(ordered),
-        Err(refused) => Err(refuse_loop(alloc, elaborated, &refused.flat, refused.fault)),
+        Err(refused) => {
+            let OrderRefused { fault, flat } = refused;
+            Err(refuse_loop(alloc, elaborated, &flat, fault))
+        }
     }
 }
 

@@ -1,10 +1,8 @@
-ghost use Rattle.std.specs.Prelude.{◌≡◌, ◌++◌, IfOk, OnOk};
-ghost use Rattle.vw_elab.specs.MessageLines.{spaced};
-ghost use Rattle.vw_top.specs.LoopLine.{loop_line};
+ghost use Rattle.std.specs.Prelude.{◌≡◌, IfOk};
 
 use std::alloc::{AllocError, Global};
 use vw_blif::TextFault;
-use vw_elab::DesignFault;
+use vw_elab::{DesignFault, line_of_names};
 use vw_net::Sequence;
 use vw_outside::Name;
 use vw_rows::StimFault;
@@ -23,27 +21,6 @@ pub enum Reason {
     Usage(u64),
     /// The stimulus text has this fault.
     Stimulus(StimFault),
-}
-
-/// Adds each name behind a blank.
-fn add_spaced(line: &mut Vec<u8>, names: &[Name]) -> Result<(), AllocError>
-    ensures { OnOk result (line.new.items ≡ line.old.items ++ spaced names.now) }
-{
-    for name in names {
-        line.push(b' ')?;
-        line.extend_from_slice(name.as_slice())?;
-    }
-    Ok(())
-}
-
-/// The message line of a loop.
-fn loop_line(alloc: Global, names: &[Name]) -> Result<Vec<u8>, AllocError>
-    ensures { IfOk result (λ line. line.items ≡ loop_line names.now) }
-{
-    let mut line = b"design 25: loop".to_vec(alloc)?;
-    add_spaced(&mut line, names)?;
-    line.push(b'\n')?;
-    Ok(line)
 }
 
 impl Reason {
@@ -67,7 +44,7 @@ impl Reason {
         match self {
             Reason::Design(fault) => Ok(fault.text(alloc)?),
             Reason::Elaboration(fault) => Ok(fault.text(alloc)?),
-            Reason::Loop(names) => loop_line(alloc, names.as_slice()),
+            Reason::Loop(names) => line_of_names(alloc, b"design 25: loop", names.as_slice()),
             Reason::Usage(place) => {
                 let line = format!(in alloc; "usage: word {place}\n")?;
                 Ok(line.into_bytes())
