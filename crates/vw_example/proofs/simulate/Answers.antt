@@ -36,9 +36,9 @@ simulated words before after status design stimulus out are law statuses design_
     let table = law (codes "design") (codes "stimulus") false before after status (subst (λ (ws : List (List ℕ)). Statuses (course_of (spelled_by ws)) before after status) are statuses) in
     let done = table.done design stimulus design_held stimulus_held is in
     record {
-      flat = done.0;
+      spelled = done.0;
       rows = done.1;
-      netlist = done.2;
+      is = done.2;
       read = done.3;
       trace = whole_text before.out after.out (trace_of false done.0 done.1) out none some (ap (λ (o : Outside). o.out) done.4);
     }
