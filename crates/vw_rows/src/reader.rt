@@ -17,12 +17,7 @@ use vw_text::first_line;
 const TEXT_LIMIT: u64 = 16_777_216;
 
 /// Adds what a line asks for, unless these are too many clocks.
-fn add_asked(
-    alloc: Global,
-    rows: &mut RowRuns,
-    asked: Asked,
-    width: u32,
-) -> Result<(), StimFault>
+fn add_asked(alloc: Global, rows: &mut RowRuns, asked: Asked, width: u32) -> Result<(), StimFault>
     requires width { HasWidth width asked }
     requires widths { All (λ row. length row ≡ width) rows.old }
     requires clocks { length rows.old ≤ 4294967295 }

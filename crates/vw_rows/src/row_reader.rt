@@ -1,5 +1,5 @@
 //! Rows that are read in batches.
-ghost use Rattle.std.specs.Prelude.{◌≡◌, [], ◌∷◌, List, Bool, Option, take, drop, IfOk, OnOk};
+ghost use Rattle.std.specs.Prelude.{◌≡◌, [], ◌∷◌, List, Bool, Option, length, ◌+◌, take, drop, IfOk, OnOk};
 ghost use Rattle.vw_rows.specs.Runs.{rows_of_runs};
 ghost use Rattle.vw_rows.specs.Steps.{ReadsRow};
 
@@ -58,6 +58,7 @@ impl<'a> RowReader<'a> {
     pub fn next_batch(&mut self, alloc: Global, most: usize) -> Result<Rows, AllocError>
         ensures batch { IfOk result (λ rows. rows ≡ take most self.old) }
         ensures left { OnOk result (self.new ≡ drop most self.old) }
+        ensures count { IfOk result (λ rows. length rows + length self.new ≡ length self.old) }
     {
         let mut rows = Vec::new(alloc);
         while rows.len() < most {

@@ -1,6 +1,5 @@
 -- The first blank, or the end of the line.
-use Rattle.std.proofs.Common.{◌≡◌, ◌+◌, [], length, take, drop, sym, ◌∙◌, ap, arith}
-use Rattle.std.specs.List.{position_or_len}
+use Rattle.std.proofs.Common.{◌+◌, length, take, drop, sym, ◌∙◌, ap, arith}
 use Rattle.std.proofs.lemmas.List.{take_all, take_rest, drop_all}
 use Rattle.std.proofs.lemmas.List.Sums.{position_or_len_is}
 use Rattle.vw_text.specs.Bare.{is_blank}

@@ -1,7 +1,6 @@
 -- A row that is held has the width of the rows before it.
-use Rattle.std.proofs.Common.{◌≡◌, ◌++◌, Bool, List, length, replicate, sym, subst}
+use Rattle.std.proofs.Common.{◌≡◌, Bool, List, length, sym, subst}
 use Rattle.std.specs.List.{All}
-use Rattle.vw_rows.specs.Stimulus.{row_before}
 use Rattle.vw_rows.proofs.HeldRows.{widths_held}
 use Rattle.vw_rows.proofs.reader.add_asked.Goals as goal
 
