@@ -1,4 +1,6 @@
 pub mod Stimulus
+pub mod Runs
+pub mod Steps
 pub mod Trace
 pub mod Messages
 pub use Rattle.vw_net.specs.History

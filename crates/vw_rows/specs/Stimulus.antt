@@ -1,47 +1,108 @@
--- The rows of a stimulus text, or its fault: the first line at fault, and on it the least fault.
-use Rattle.std.specs.Prelude.{ℕ, ◌+◌, Bool, true, false, not, ◌||◌, ◌&&◌, List, [], ◌∷◌, ◌++◌, map, length, Result, Ok, Err, if◌then◌else◌, ◌==◌, nat_lt}
+-- The rows of a stimulus text, or its fault: the first line at fault, and on it the least fault. Source: this project.
+use Rattle.std.specs.Prelude.{ℕ, ◌+◌, Bool, true, false, not, ◌||◌, ◌&&◌, List, [], ◌∷◌, ◌++◌, map, length, replicate, codes, Option, Some, None, Result, Ok, Err, if◌then◌else◌, ◌==◌, nat_le, nat_lt}
 use Rattle.std.specs.List.{list_all}
-use Rattle.vw_rows.specs.declared.stimulus.StimFault.{StimFault}
-use Rattle.vw_rows.specs.declared.stimulus.StimFault.TheVariants.{TooLarge, BadLine, WrongWidth, ReadFault, NoMemory}
+use Rattle.std.specs.Option.{option_and_then}
+use Rattle.std.specs.Str.{bytes_eq}
+use Rattle.vw_text.specs.Bare.{without_comment}
+use Rattle.vw_text.specs.Number.{number_of}
 use Rattle.vw_text.specs.Physical.{text_lines}
+use Rattle.vw_text.specs.WordLines.{words_of}
+use Rattle.vw_rows.specs.declared.stimulus.StimFault.{StimFault}
+use Rattle.vw_rows.specs.declared.stimulus.StimFault.TheVariants.{TooLarge, BadLine, WrongWidth, TooManyClocks, ReadFault, NoMemory}
+
+-- ---- words
+
+-- the words of a line; a `#` begins a comment, and no line goes on with the next
+abbrev pub line_words : List ℕ → List (List ℕ)
+line_words line = words_of (without_comment line)
 
 -- a word of `0` and `1` that isn't empty
 abbrev pub is_bits : List ℕ → Bool
-is_bits line = list_all (λ b. b == 48 || b == 49) line && not (length line == 0)
+is_bits word = list_all (λ b. b == 48 || b == 49) word && not (length word == 0)
 
--- the row of the line with this number, for this many columns
-abbrev pub line_row : ℕ → ℕ → List ℕ → Result (List Bool) StimFault
-line_row width number line =
-    if is_bits line then
-    (if length line == width then Ok (map (λ b. b == 49) line) else Err (WrongWidth number (length line) width))
-    else Err (BadLine number)
+-- the bits that a word spells; `-` spells a row that has none
+abbrev pub bits_of : List ℕ → Option (List Bool)
+bits_of word =
+    if is_bits word then Some (map (λ b. b == 49) word)
+    else if bytes_eq word (codes "-") then Some []
+    else None
 
--- rows before others, unless there is a fault
-abbrev pub with_front : {A : Type 0} → List A → Result (List A) StimFault → Result (List A) StimFault
-with_front front (Ok rows) = Ok (front ++ rows)
-with_front front (Err fault) = Err fault
+-- a number of clocks that a run can have
+abbrev pub clocks_within : ℕ → Option ℕ
+clocks_within number = if nat_le number 4294967295 then Some number else None
 
--- a row before others; of two faults the first
-abbrev pub with_first : {A : Type 0} → Result A StimFault → Result (List A) StimFault → Result (List A) StimFault
-with_first (Ok row) rows = with_front (row ∷ []) rows
-with_first (Err fault) rows = Err fault
+-- how often two words, `hold` and a number, repeat the row before them
+abbrev pub held_times : List ℕ → List ℕ → Option ℕ
+held_times verb count =
+    if bytes_eq verb (codes "hold") then option_and_then clocks_within (number_of count) else None
 
--- the rows of lines of which the first has this number
-abbrev pub rows_from : ℕ → ℕ → List (List ℕ) → Result (List (List Bool)) StimFault
-rows_from width number [] = Ok []
-rows_from width number (line ∷ lines) =
-    with_first (line_row width number line) (rows_from width (number + 1) lines)
+-- ---- lines
+
+-- a row with as many bits as there are columns, for the line with this number
+abbrev pub row_of_bits : ℕ → ℕ → Option (List Bool) → Result (List (List Bool)) StimFault
+row_of_bits width number None = Err (BadLine number)
+row_of_bits width number (Some row) =
+    if length row == width then Ok (row ∷ []) else Err (WrongWidth number (length row) width)
+
+-- a row so many times
+abbrev pub repeated : ℕ → List Bool → Option ℕ → Result (List (List Bool)) StimFault
+repeated number row None = Err (BadLine number)
+repeated number row (Some times) = Ok (replicate times row)
+
+-- the rows that a line of words adds, where this is the row before it
+abbrev pub rows_added : ℕ → ℕ → List Bool → List (List ℕ) → Result (List (List Bool)) StimFault
+rows_added width number before [] = Ok []
+rows_added width number before (word ∷ []) = row_of_bits width number (bits_of word)
+rows_added width number before (verb ∷ count ∷ []) = repeated number before (held_times verb count)
+rows_added width number before (verb ∷ count ∷ word ∷ words) = Err (BadLine number)
+
+-- the last of some rows, or else this one
+abbrev pub last_row : List Bool → List (List Bool) → List Bool
+last_row row [] = row
+last_row row (next ∷ rows) = last_row next rows
+
+-- before all lines there is a row of zeros
+abbrev pub row_before : ℕ → List (List Bool) → List Bool
+row_before width rows = last_row (replicate width false) rows
+
+-- ---- texts
+
+-- rows and those that are added to them, unless they are too many for a run
+abbrev pub joined_rows : List (List Bool) → Result (List (List Bool)) StimFault → Result (List (List Bool)) StimFault
+joined_rows rows (Err fault) = Err fault
+joined_rows rows (Ok added) =
+    if nat_lt 4294967295 (length rows + length added) then Err (TooManyClocks (length rows + length added))
+    else Ok (rows ++ added)
+
+-- rows and those of a line behind them
+abbrev pub with_line : ℕ → ℕ → List (List Bool) → List ℕ → Result (List (List Bool)) StimFault
+with_line width number rows line =
+    joined_rows rows (rows_added width number (row_before width rows) (line_words line))
+
+-- what comes of rows, unless there is a fault
+abbrev pub and_then : Result (List (List Bool)) StimFault → (List (List Bool) → Result (List (List Bool)) StimFault) → Result (List (List Bool)) StimFault
+and_then (Ok rows) further = further rows
+and_then (Err fault) further = Err fault
+
+-- rows and those of the lines behind them, the first of which has this number
+abbrev pub with_lines : ℕ → ℕ → List (List Bool) → List (List ℕ) → Result (List (List Bool)) StimFault
+with_lines width number rows [] = Ok rows
+with_lines width number rows (line ∷ lines) =
+    and_then (with_line width number rows line) (λ all. with_lines width (number + 1) all lines)
 
 -- the rows of a text; that it is too large is decided before all lines
 abbrev pub stimulus_rows : ℕ → List ℕ → Result (List (List Bool)) StimFault
 stimulus_rows width text =
-    if nat_lt 16777216 (length text) then Err TooLarge else rows_from width 1 (text_lines text)
+    if nat_lt 16777216 (length text) then Err TooLarge else with_lines width 1 [] (text_lines text)
+
+-- ---- faults
 
 -- whether a fault lies in the text; the others are a read that failed and want of memory
 abbrev pub is_text_fault : StimFault → Bool
 is_text_fault TooLarge = true
 is_text_fault (BadLine line) = true
 is_text_fault (WrongWidth line found wanted) = true
+is_text_fault (TooManyClocks count) = true
 is_text_fault ReadFault = false
 is_text_fault NoMemory = false
 

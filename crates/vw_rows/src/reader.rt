@@ -1,80 +1,96 @@
-ghost use Rattle.std.specs.Prelude.{◌≡◌, ◌≢◌, ◌≤◌, ◌<◌, ◌+◌, ◌==◌, map, true, length, IfOk, IsErrOf, Err};
+ghost use Rattle.std.specs.Prelude.{◌≡◌, ◌≢◌, ◌≤◌, true, [], length, IfOk, OnOk, IsErrOf, Ok, Err};
 ghost use Rattle.std.specs.List.{All};
 ghost use Rattle.vw_outside.specs.Told.{absent, OfText};
 ghost use Rattle.vw_outside.specs.Reads.{CountsFault};
 ghost use Rattle.vw_text.specs.Physical.{text_lines};
-ghost use Rattle.vw_rows.specs.Stimulus.{is_bits, line_row, rows_from, stimulus_rows, is_of_text};
+ghost use Rattle.vw_rows.specs.Stimulus.{row_before, joined_rows, with_line, with_lines, stimulus_rows, is_of_text};
+ghost use Rattle.vw_rows.specs.Steps.{Answers, rows_asked, HasWidth, AnswersNew};
 
+use crate::line::{Asked, CLOCKS_LIMIT, read_line};
+use crate::row_runs::RowRuns;
 use crate::stimulus::StimFault;
-use std::alloc::{AllocError, Global};
-use vw_net::{Bits, Rows};
+use std::alloc::Global;
 use vw_outside::{Name, Shelf, TextRefused, read_text};
 use vw_text::first_line;
 
 /// The most bytes that a stimulus text has.
 const TEXT_LIMIT: u64 = 16_777_216;
 
-/// Whether a line is a word of `0` and `1` that isn't empty.
-fn is_word_of_bits(line: &[u8]) -> bool
-    ensures { result ≡ is_bits line.now }
-{
-    for byte in line {
-        if *byte != b'0' && *byte != b'1' {
-            return false;
-        }
-    }
-    !line.is_empty()
-}
-
-/// The values that the characters of a word stand for.
-fn bits_of(alloc: Global, word: &[u8]) -> Result<Vec<bool>, AllocError>
-    ensures { IfOk result (λ bits. bits.items ≡ map (λ b. b == 49) word.now) }
-{
-    word.iter().map(|b| *b == b'1').collect(alloc)
-}
-
-/// The row of one line.
-fn line_row(alloc: Global, line: &[u8], width: u32, number: u64) -> Result<Bits, StimFault>
-    ensures row { is_of_text result ≡ true → line_row width number line.now ≡ result }
-    ensures width { IfOk result (λ row. length row ≡ width) }
+/// Adds what a line asks for, unless these are too many clocks.
+fn add_asked(alloc: Global, rows: &mut RowRuns, asked: Asked, width: u32) -> Result<(), StimFault>
+    requires width { HasWidth width asked }
+    requires widths { All (λ row. length row ≡ width) rows.old }
+    requires clocks { length rows.old ≤ 4294967295 }
+    ensures rows { AnswersNew (joined_rows rows.old (Ok (rows_asked (row_before width rows.old) asked)))
+        rows.new result }
+    ensures widths { OnOk result (All (λ row. length row ≡ width) rows.new) }
+    ensures clocks { OnOk result (length rows.new ≤ 4294967295) }
     ensures reads_nothing { result ≢ Err StimFault.ReadFault }
 {
-    if !is_word_of_bits(line) {
-        return Err(StimFault::BadLine(number));
+    let added = match &asked {
+        Asked::Nothing => 0,
+        Asked::Row(_) => 1,
+        Asked::Hold(times) => *times,
+    };
+    let clocks = rows.clocks() + added;
+    if clocks > CLOCKS_LIMIT {
+        return Err(StimFault::TooManyClocks(clocks));
     }
-    if line.len() != width as usize {
-        return Err(StimFault::WrongWidth(number, line.len() as u64, u64::from(width)));
+    match asked {
+        Asked::Nothing => {}
+        Asked::Row(row) => rows.push(row)?,
+        Asked::Hold(times) => rows.hold(alloc, width, times)?,
     }
-    Ok(Bits::of(bits_of(alloc, line)?))
+    Ok(())
+}
+
+/// Adds the rows of a line.
+fn add_line(
+    alloc: Global,
+    rows: &mut RowRuns,
+    line: &[u8],
+    width: u32,
+    number: u64,
+) -> Result<(), StimFault>
+    requires widths { All (λ row. length row ≡ width) rows.old }
+    requires clocks { length rows.old ≤ 4294967295 }
+    ensures rows { AnswersNew (with_line width number rows.old line.now) rows.new result }
+    ensures widths { OnOk result (All (λ row. length row ≡ width) rows.new) }
+    ensures clocks { OnOk result (length rows.new ≤ 4294967295) }
+    ensures reads_nothing { result ≢ Err StimFault.ReadFault }
+{
+    let asked = read_line(alloc, line, width, number)?;
+    add_asked(alloc, rows, asked, width)
 }
 
 /// The rows of a text.
-fn rows_of_text(alloc: Global, text: &[u8], width: u32) -> Result<Rows, StimFault>
+fn rows_of_text(alloc: Global, text: &[u8], width: u32) -> Result<RowRuns, StimFault>
     requires { length text.now ≤ 16777216 }
-    ensures rows { is_of_text result ≡ true → rows_from width 1 (text_lines text.now) ≡ result }
+    ensures rows { is_of_text result ≡ true → with_lines width 1 [] (text_lines text.now) ≡ result }
     ensures width { IfOk result (All (λ row. length row ≡ width)) }
-    ensures clocks { IfOk result (λ rows. length rows ≤ length text.now) }
+    ensures clocks { IfOk result (λ rows. length rows ≤ 4294967295) }
     ensures reads_nothing { result ≢ Err StimFault.ReadFault }
 {
-    let mut rows = Vec::new(alloc);
+    let mut rows = RowRuns::new(alloc);
     let mut rest = text;
     let mut number = 1;
     while !rest.is_empty() {
         let (line, after) = first_line(rest);
-        rows.push(line_row(alloc, line, width, number)?)?;
+        add_line(alloc, &mut rows, line, width, number)?;
         rest = after;
         number += 1;
     }
-    Ok(Rows::of(rows))
+    Ok(rows)
 }
 
-/// Reads the rows of a stimulus, each of `width` bits.
+/// Reads the rows of a stimulus, each of `width` bits. It takes memory for the text, and for one row of each of its
+/// lines, however often the row is held.
 pub fn read_all<S: Shelf>(
     alloc: Global,
     shelf: &mut S,
     name: &Name,
     width: u32,
-) -> Result<Rows, StimFault>
+) -> Result<RowRuns, StimFault>
     // The rows are those of the text, and so is a fault that lies in it.
     ensures rows { is_of_text result ≡ true
         → OfText ((S.seen shelf.old).told name.now) (λ text. stimulus_rows width text ≡ result) }

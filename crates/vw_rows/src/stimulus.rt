@@ -9,12 +9,15 @@ pub enum StimFault {
     /// The text has more than 16,777,216 bytes.
     #[error("text longer than 16777216 bytes")]
     TooLarge,
-    /// The line is no word of `0` and `1`.
+    /// The line has none of the forms that a line can have.
     #[error("line {0}: bad line")]
     BadLine(u64),
     /// The line, the number of bits that it has, and the number of columns.
     #[error("line {0}: found {1} bits, wanted {2}")]
     WrongWidth(u64, u64, u64),
+    /// With some line there are more than 4,294,967,295 clocks; so many there are then.
+    #[error("{0} clocks")]
+    TooManyClocks(u64),
     /// A read failed, and the fault was counted.
     #[error("read fault")]
     ReadFault,
@@ -62,6 +65,10 @@ impl StimFault {
                 let line = format!(in alloc;
                     "stimulus 3: line {number}: found {found} bits, wanted {wanted}\n"
                 )?;
+                Ok(line.into_bytes())
+            }
+            StimFault::TooManyClocks(count) => {
+                let line = format!(in alloc; "stimulus 4: {count} clocks\n")?;
                 Ok(line.into_bytes())
             }
             StimFault::ReadFault => Ok(b"read fault: stimulus\n".to_vec(alloc)?),
