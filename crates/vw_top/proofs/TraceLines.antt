@@ -1,6 +1,7 @@
 -- The lines of a trace, batch by batch.
-use Rattle.std.proofs.Common.{◌≡◌, ◌≤◌, ◌+◌, ℕ, Bool, false, List, [], ◌∷◌, ◌++◌, length, take, drop, ap, sym, ◌∙◌, subst, arith, append_assoc, length-take, length-drop, ◌-◌}
-use Rattle.std.proofs.lemmas.List.{take-append-drop, drop-drop}
+use Rattle.std.proofs.Common.{◌≡◌, ◌<◌, ◌≤◌, ◌+◌, ℕ, Bool, false, List, [], ◌∷◌, ◌++◌, length, take, drop, ap, sym, ◌∙◌, subst, arith, append_assoc, length-take, length-drop, ⊎_elim, ◌-◌}
+use Rattle.std.proofs.lemmas.List.{take-append-drop, drop-drop, take_all, drop_all}
+use Rattle.std.proofs.lemmas.Bool.{cases_lt}
 use Rattle.vw_net.specs.declared.flat.Flat.{Flat}
 use Rattle.vw_net.specs.Cells.{latch_count, start_values}
 use Rattle.vw_net.specs.History.{outputs_of, states_of, state_after, flat_history, joined}
@@ -54,6 +55,39 @@ module _ (flat : Flat) (join : HistoriesJoin flat) (state : List Bool) (rows : L
   -- and the state after all of them
   pub batch_state : state_after flat state (drop done rows) ≡ state_after flat (state_after flat state (take (end - done) (drop done rows))) (drop end rows)
   batch_state = ap (state_after flat state) batch_rows ∙ ap (λ history. history.last) (join state (take (end - done) (drop done rows)) (drop end rows))
+
+-- the next rows, as many as a batch has or as are left
+pub record IsBatch (rows next : List (List Bool)) (done end : ℕ) : Type 0 where
+  pub forward : done ≤ end
+  pub within : end ≤ length rows
+  pub same : next ≡ take (end - done) (drop done rows)
+  pub left : drop 256 (drop done rows) ≡ drop end rows
+
+pub batch_is : (rows next : List (List Bool)) (done end : ℕ) → done ≤ length rows → next ≡ take 256 (drop done rows) → end ≡ done + length next → IsBatch rows next done end
+batch_is rows next done end within is ends = ⊎_elim few full (cases_lt (length (drop done rows)) 256) where
+  few : length (drop done rows) < 256 → IsBatch rows next done end
+  few short =
+      let all : next ≡ drop done rows = is ∙ take_all 256 (drop done rows) (omega (arith, short)) in
+      let long : length next ≡ length (drop done rows) = ap (λ (list : List (List Bool)). length list) all in
+      let size = length-drop done rows in
+      record {
+        forward = omega (arith, ends);
+        within = omega (arith, ends, long, size, within);
+        same = all ∙ sym (take_all (end - done) (drop done rows) (omega (arith, ends, long)));
+        left = drop_all 256 (drop done rows) (omega (arith, short)) ∙ sym (drop_all end rows (omega (arith, ends, long, size, within)));
+      }
+
+  full : 256 ≤ length (drop done rows) → IsBatch rows next done end
+  full enough =
+      let long : length next ≡ 256 = ap (λ (list : List (List Bool)). length list) is ∙ omega (arith, length-take 256 (drop done rows), enough) in
+      let size = length-drop done rows in
+      let count : 256 ≡ end - done = omega (arith, ends, long) in
+      record {
+        forward = omega (arith, ends);
+        within = omega (arith, ends, long, size, within, enough);
+        same = is ∙ ap (λ (n : ℕ). take n (drop done rows)) count;
+        left = drop-drop 256 done rows ∙ ap (λ (n : ℕ). drop n rows) (let e : done + 256 ≡ end = omega (arith, ends, long) in e);
+      }
 
 pub lines_written : (flat : Flat) (first : ℕ) (state : List Bool) (rows outputs states : List (List Bool)) (lines : List ℕ) → lines ≡ rows_text first outputs states → outputs ≡ outputs_of flat state rows → states ≡ states_of flat state rows → lines ≡ clock_lines flat first state rows
 lines_written flat first state rows outputs states lines made o s = made ∙ ap (λ os. rows_text first os states) o ∙ ap (λ ss. rows_text first (outputs_of flat state rows) ss) s

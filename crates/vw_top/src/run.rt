@@ -10,36 +10,39 @@ ghost use Rattle.vw_top.specs.Steps.Stage.{WritesOut};
 use crate::batch::run_batch;
 use crate::stop::Stop;
 use std::alloc::Global;
-use vw_net::{Bits, Ordered, Rows, histories_join};
+use vw_net::{Bits, Ordered, histories_join};
 use vw_outside::{Sink, put_all};
-use vw_rows::{trace_end, trace_head, trace_rows};
+use vw_rows::{RowReader, RowRuns, trace_end, trace_head, trace_rows};
 
 /// How many clocks are worked out before their lines are written.
 const BATCH: usize = 256;
 
-/// Runs the clocks of some rows from a state on, and writes their lines.
+/// Runs the clocks of some rows, which are so many, from a state on, and writes their lines.
 fn write_clocks<O: Sink>(
     alloc: Global,
     ordered: &Ordered,
-    rows: &[Bits],
+    mut rows: RowReader,
+    clocks: u64,
     state: &mut Bits,
     values: &mut Bits,
     out: &mut O,
 ) -> Result<(), Stop>
-    requires columns { All (λ row. length row ≡ ordered.now.flat.inputs) rows.now }
+    requires columns { All (λ row. length row ≡ ordered.now.flat.inputs) rows }
+    requires clocks { clocks ≡ length rows }
     requires latches { length state.old ≡ latch_count ordered.now.flat.cells }
     requires nets { length values.old ≡ ordered.now.flat.inputs + length ordered.now.flat.cells }
     ensures writes { let flat = ordered.now.flat in WritesOut
-        (rows_text 0 (outputs_of flat state.old rows.now) (states_of flat state.old rows.now))
+        (rows_text 0 (outputs_of flat state.old rows.entry) (states_of flat state.old rows.entry))
         (O.seen out.old) (O.seen out.new) result }
-    ensures state { OnOk result (state.new ≡ state_after ordered.now.flat state.old rows.now) }
+    ensures state { OnOk result (state.new ≡ state_after ordered.now.flat state.old rows.entry) }
 {
     histories_join();
     let mut done = 0;
-    while done < rows.len() {
-        let end = rows.len().min(done + BATCH);
-        let batch = run_batch(alloc, ordered, &rows[done..end], state, values)?;
-        let lines = trace_rows(alloc, done as u64, &batch.outputs, &batch.states)?;
+    while done < clocks {
+        let next = rows.next_batch(alloc, BATCH)?;
+        let end = done + next.len() as u64;
+        let batch = run_batch(alloc, ordered, next.as_slice(), state, values)?;
+        let lines = trace_rows(alloc, done, &batch.outputs, &batch.states)?;
         put_all(out, &lines)?;
         done = end;
     }
@@ -51,7 +54,7 @@ pub fn write_trace<O: Sink>(
     alloc: Global,
     ordered: &Ordered,
     unknown: bool,
-    rows: &Rows,
+    rows: &RowRuns,
     out: &mut O,
 ) -> Result<(), Stop>
     requires { All (λ row. length row ≡ ordered.now.flat.inputs) rows.now }
@@ -64,9 +67,10 @@ pub fn write_trace<O: Sink>(
     let mut values = Bits::of(vec![in alloc; false; nets]?);
     let head = trace_head(alloc, flat.outputs().len() as u32, state.len() as u32)?;
     put_all(out, &head)?;
-    let rows = rows.as_slice();
-    write_clocks(alloc, ordered, rows, &mut state, &mut values, out)?;
-    let end = trace_end(alloc, rows.len() as u64, &state)?;
+    let clocks = rows.clocks();
+    let reader = rows.reader();
+    write_clocks(alloc, ordered, reader, clocks, &mut state, &mut values, out)?;
+    let end = trace_end(alloc, clocks, &state)?;
     put_all(out, &end)?;
     Ok(())
 }

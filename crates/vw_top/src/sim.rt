@@ -15,9 +15,9 @@ use crate::run::write_trace;
 use crate::stop::{File, Stop};
 use std::alloc::Global;
 use vw_blif::TextFault;
-use vw_net::{Ordered, Rows};
+use vw_net::Ordered;
 use vw_outside::{Name, Shelf, Sink, TextRefused, read_text};
-use vw_rows::{StimFault, read_all};
+use vw_rows::{RowRuns, StimFault, read_all};
 
 /// The most bytes that a design text has.
 const TEXT_LIMIT: u64 = 16_777_216;
@@ -45,7 +45,7 @@ fn read_rows<S: Shelf>(
     shelf: &mut S,
     name: &Name,
     ordered: &Ordered,
-) -> Result<Rows, Unfinished>
+) -> Result<RowRuns, Unfinished>
     ensures judges { let width = ordered.now.flat.inputs in
         StageEnds File.Stimulus name.now (IsRowsOf width) (RefusesRows width)
         (S.seen shelf.old) (S.seen shelf.new) result }

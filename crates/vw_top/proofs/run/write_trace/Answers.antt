@@ -65,14 +65,14 @@ returns-in_err-write_clocks g c =
     let flat = c.args.ordered.now.flat in
     let p = err_from_is_err_and c.from_residual-in_err-write_clocks.result c.from_residual-in_err-write_clocks.ensures.1 in
     let head = c.deref.ensures.value ∙ head_is g at.In_ok-head (start_size g at.In_ok-state) in
-    let lines = lines_are c.args.unknown flat c.in_ok-state.state c.args.rows.now c.as_slice-rows.result.now (starts g at.In_ok-state) c.as_slice-rows.ensures in
+    let lines = lines_are c.args.unknown flat c.in_ok-state.state c.args.rows.now c.reader-reader.result (starts g at.In_ok-state) c.reader-reader.ensures in
     let stop = c.in_err-write_clocks.field-0.0 in
     let stopped : WritesOut (all_lines c.args.unknown flat c.args.rows.now) (g.O.Sink.seen c.put_all.new.out) (g.O.Sink.seen c.write_clocks.new.out) (Err stop) =
     subst (λ (text : List ℕ). WritesOut text (g.O.Sink.seen c.put_all.new.out) (g.O.Sink.seen c.write_clocks.new.out) (Err stop)) lines c.in_err-write_clocks.ensures.writes in
     rw (p.1, p.2) (stopped_in_piece _ _ _ _ _ _ stop (clocks_left g at.In_ok-put_all head) stopped)
 
 -- once they are written, the last line is left
-end_left : (g : Over) (c : In_ok-write_clocks g) → clock_lines c.args.ordered.now.flat 0 c.in_ok-state.state c.as_slice-rows.result.now ≡ all_lines c.args.unknown c.args.ordered.now.flat c.args.rows.now
+end_left : (g : Over) (c : In_ok-write_clocks g) → clock_lines c.args.ordered.now.flat 0 c.in_ok-state.state c.reader-reader.result ≡ all_lines c.args.unknown c.args.ordered.now.flat c.args.rows.now
     → IsLeft (g.O.Sink.seen c.args.out.now) (flat_trace c.args.unknown c.args.ordered.now.flat c.args.rows.now) (g.O.Sink.seen c.put_all.new.out) (all_lines c.args.unknown c.args.ordered.now.flat c.args.rows.now ++ last_line c.args.unknown c.args.ordered.now.flat c.args.rows.now)
     → IsLeft (g.O.Sink.seen c.args.out.now) (flat_trace c.args.unknown c.args.ordered.now.flat c.args.rows.now) (g.O.Sink.seen c.write_clocks.new.out) (last_line c.args.unknown c.args.ordered.now.flat c.args.rows.now)
 end_left g c lines left = written_further _ _ _ _ _ _ left (c.in_ok-write_clocks.ensures.writes ∙ ap (appended (g.O.Sink.seen c.put_all.new.out)) lines)
@@ -82,15 +82,15 @@ returns-in_err-end g c =
     let at = goal.at.returns-in_err-end g c in
     let p = err_from_is_err_and c.from_residual-in_err-end.result c.from_residual-in_err-end.ensures.1 in
     let head = c.deref.ensures.value ∙ head_is g at.In_ok-head (start_size g at.In_ok-state) in
-    let lines = lines_are c.args.unknown c.args.ordered.now.flat c.in_ok-state.state c.args.rows.now c.as_slice-rows.result.now (starts g at.In_ok-state) c.as_slice-rows.ensures in
+    let lines = lines_are c.args.unknown c.args.ordered.now.flat c.in_ok-state.state c.args.rows.now c.reader-reader.result (starts g at.In_ok-state) c.reader-reader.ensures in
     rw (p.1, p.2) (part_written _ _ _ _ (end_left g at.In_ok-write_clocks lines (clocks_left g at.In_ok-put_all head)))
 
 end_is : (g : Over) (c : In_ok-end g) → c.in_ok-state.state ≡ start_values c.args.unknown c.args.ordered.now.flat.cells → c.in_ok-end.end.items ≡ last_line c.args.unknown c.args.ordered.now.flat c.args.rows.now
 end_is g c starts =
     let flat = c.args.ordered.now.flat in
     let state : c.write_clocks.new.state ≡ state_after flat (start_values c.args.unknown flat.cells) c.args.rows.now =
-    c.in_ok-write_clocks.ensures.state ∙ ap (λ (s : List Bool). state_after flat s c.as_slice-rows.result.now) starts ∙ ap (λ (rows : List (List Bool)). state_after flat (start_values c.args.unknown flat.cells) rows) c.as_slice-rows.ensures in
-    let clocks : length c.as_slice-rows.result.now ≡ length c.args.rows.now = ap (λ (rows : List (List Bool)). length rows) c.as_slice-rows.ensures in
+    c.in_ok-write_clocks.ensures.state ∙ ap (λ (s : List Bool). state_after flat s c.reader-reader.result) starts ∙ ap (λ (rows : List (List Bool)). state_after flat (start_values c.args.unknown flat.cells) rows) c.reader-reader.ensures in
+    let clocks = c.clocks-clocks.ensures in
     c.in_ok-end.ensures ∙ ap (λ n. end_text n c.write_clocks.new.state) clocks ∙ ap (end_text (length c.args.rows.now)) state
 
 pub returns-in_err-put_all-2 : goal.returns-in_err-put_all-2
@@ -98,7 +98,7 @@ returns-in_err-put_all-2 g c =
     let at = goal.at.returns-in_err-put_all-2 g c in
     let p = err_from_is_err_and c.from_residual-in_err-put_all-2.result c.from_residual-in_err-put_all-2.ensures.1 in
     let head = c.deref.ensures.value ∙ head_is g at.In_ok-head (start_size g at.In_ok-state) in
-    let lines = lines_are c.args.unknown c.args.ordered.now.flat c.in_ok-state.state c.args.rows.now c.as_slice-rows.result.now (starts g at.In_ok-state) c.as_slice-rows.ensures in
+    let lines = lines_are c.args.unknown c.args.ordered.now.flat c.in_ok-state.state c.args.rows.now c.reader-reader.result (starts g at.In_ok-state) c.reader-reader.ensures in
     let end : c.deref-2.result.now ≡ last_line c.args.unknown c.args.ordered.now.flat c.args.rows.now = c.deref-2.ensures.value ∙ end_is g at.In_ok-end (starts g at.In_ok-state) in
     let failed = subst (λ (piece : List ℕ). FailedAfterPart piece (g.O.Sink.seen c.write_clocks.new.out) (g.O.Sink.seen c.put_all-2.new.out)) end c.in_err-put_all-2.ensures.part in
     rw (p.1, p.2) (failed_in_last _ _ _ _ _ (end_left g at.In_ok-write_clocks lines (clocks_left g at.In_ok-put_all head)) failed)
@@ -107,6 +107,6 @@ pub returns : goal.returns
 returns g c =
     let at = goal.at.returns g c in
     let head = c.deref.ensures.value ∙ head_is g at.In_ok-head (start_size g at.In_ok-state) in
-    let lines = lines_are c.args.unknown c.args.ordered.now.flat c.in_ok-state.state c.args.rows.now c.as_slice-rows.result.now (starts g at.In_ok-state) c.as_slice-rows.ensures in
+    let lines = lines_are c.args.unknown c.args.ordered.now.flat c.in_ok-state.state c.args.rows.now c.reader-reader.result (starts g at.In_ok-state) c.reader-reader.ensures in
     let end : c.deref-2.result.now ≡ last_line c.args.unknown c.args.ordered.now.flat c.args.rows.now = c.deref-2.ensures.value ∙ end_is g at.In_ok-end (starts g at.In_ok-state) in
     last_piece _ _ _ _ _ (end_left g at.In_ok-write_clocks lines (clocks_left g at.In_ok-put_all head)) (c.in_ok-put_all-2.ensures.all ∙ ap (appended (g.O.Sink.seen c.write_clocks.new.out)) end)
