@@ -1,3 +1,4 @@
 pub mod HeldRows
 pub mod FoundWords
 pub mod RowsLeft
+pub mod PlainRows

@@ -18,11 +18,11 @@ rows_asked before Nothing = []
 rows_asked before (Row row) = row ∷ []
 rows_asked before (Hold times) = replicate times before
 
--- a row that is asked for has so many bits
-abbrev pub HasWidth : ℕ → Asked → Type 0
-HasWidth width Nothing = Unit {0}
-HasWidth width (Row row) = length row ≡ width
-HasWidth width (Hold times) = times ≤ 4294967295
+-- a row that is asked for has so many bits, and no row is held more often than there may be clocks
+abbrev pub FitsRun : ℕ → Asked → Type 0
+FitsRun width Nothing = Unit {0}
+FitsRun width (Row row) = length row ≡ width
+FitsRun width (Hold times) = times ≤ 4294967295
 
 -- the first word of a line was found, and this is left; or there is none
 abbrev pub FindsWord : List ℕ → Option (Bor (List ℕ) × Bor (List ℕ)) → Type 0

@@ -1,6 +1,7 @@
 //! The rows of a stimulus text, and the text of a trace.
 #![tactic(auto)]
 
+mod laws;
 mod line;
 mod reader;
 mod row_reader;
@@ -9,6 +10,7 @@ mod run;
 mod stimulus;
 mod trace;
 
+pub use laws::plain_rows_read;
 pub use reader::read_all;
 pub use row_reader::RowReader;
 pub use row_runs::RowRuns;

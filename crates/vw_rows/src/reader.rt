@@ -4,7 +4,7 @@ ghost use Rattle.vw_outside.specs.Told.{absent, OfText};
 ghost use Rattle.vw_outside.specs.Reads.{CountsFault};
 ghost use Rattle.vw_text.specs.Physical.{text_lines};
 ghost use Rattle.vw_rows.specs.Stimulus.{row_before, joined_rows, with_line, with_lines, stimulus_rows, is_of_text};
-ghost use Rattle.vw_rows.specs.Steps.{Answers, rows_asked, HasWidth, AnswersNew};
+ghost use Rattle.vw_rows.specs.Steps.{Answers, rows_asked, FitsRun, AnswersNew};
 
 use crate::line::{Asked, CLOCKS_LIMIT, read_line};
 use crate::row_runs::RowRuns;
@@ -18,7 +18,7 @@ const TEXT_LIMIT: u64 = 16_777_216;
 
 /// Adds what a line asks for, unless these are too many clocks.
 fn add_asked(alloc: Global, rows: &mut RowRuns, asked: Asked, width: u32) -> Result<(), StimFault>
-    requires width { HasWidth width asked }
+    requires fits { FitsRun width asked }
     requires widths { All (λ row. length row ≡ width) rows.old }
     requires clocks { length rows.old ≤ 4294967295 }
     ensures rows { AnswersNew (joined_rows rows.old (Ok (rows_asked (row_before width rows.old) asked)))
@@ -83,8 +83,13 @@ fn rows_of_text(alloc: Global, text: &[u8], width: u32) -> Result<RowRuns, StimF
     Ok(rows)
 }
 
-/// Reads the rows of a stimulus, each of `width` bits. It takes memory for the text, and for one row of each of its
-/// lines, however often the row is held.
+/// Reads the rows of a stimulus, each of `width` bits.
+///
+/// A line is a word of `0` and `1`, with one character for each bit; or `-`, a row without bits; or `hold N`, which gives
+/// the row before it so many times, or a row of zeros where there is none before it. A `#` begins a comment, and a line
+/// without words says nothing. Of several lines at fault the first counts.
+///
+/// It takes memory for the text, and for a row of each of its lines, however often it is held.
 pub fn read_all<S: Shelf>(
     alloc: Global,
     shelf: &mut S,

@@ -1,4 +1,4 @@
-//! Rows of which many in a row may be equal.
+//! Rows of which many may be equal that follow each other.
 ghost use Rattle.std.specs.Prelude.{◌≡◌, ◌<◌, ◌+◌, ◌^◌, ◌++◌, ◌∷◌, [], length, replicate, OnOk};
 ghost use Rattle.vw_rows.specs.Stimulus.{row_before};
 
@@ -8,8 +8,8 @@ use std::alloc::{AllocError, Global};
 use std::marker::Model;
 use vw_net::Bits;
 
-/// Rows of a run of a netlist, one for each clock. A row that comes several times, one clock after the other, is kept
-/// once for each line that gives it. Contracts see the list of all rows.
+/// The rows of a stimulus, one for each clock. A row that is held is kept once, with how often it comes. Contracts see
+/// the list of all rows.
 #[derive(Drop)]
 pub struct RowRuns {
     runs: Vec<Run>,

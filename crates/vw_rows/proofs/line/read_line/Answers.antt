@@ -21,5 +21,5 @@ returns-clause-asked c before =
     (sym (two_words c.args.line.now c.without_comment.result.now c.in-Some.first.now c.in-Some.rest.now c.in-Some-next_word.second.now c.in-Some-next_word.rest.now c.without_comment.ensures begins goes_on none))
     (c.hold_of_words.ensures.hold before)
 
-pub returns-clause-width : goal.returns-clause-width
-returns-clause-width c = c.hold_of_words.ensures.width c.args.width
+pub returns-clause-fits : goal.returns-clause-fits
+returns-clause-fits c = c.hold_of_words.ensures.fits c.args.width
