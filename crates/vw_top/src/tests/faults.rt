@@ -170,6 +170,10 @@ fn the_first_place_of_a_kind_counts(rt: HostRuntime) -> Result<(), Fail> {
             ".model m\n.inputs a\n.outputs a\n.subckt m a=a\n.end\n",
             "design 14: recursive models m\n",
         ),
+        (
+            ".model a\n.subckt b\n.model b\n.subckt a\n",
+            "design 14: recursive models a b\n",
+        ),
         // models in the order of the file, not in that of the places
         (
             ".model m\n.subckt k\n.subckt n\n.model n\n.subckt x\n.model k\n.subckt y\n",
