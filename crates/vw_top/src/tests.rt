@@ -7,11 +7,11 @@ use vw_outside::{Held, MemShelf, MemSink, Name};
 
 mod claims;
 mod designs;
-mod faults;
 mod hierarchy;
 mod hostile;
 mod limits;
 mod loops;
+mod refusals;
 
 /// The design and the stimulus of the program's stored run.
 const TOGGLE: &str =

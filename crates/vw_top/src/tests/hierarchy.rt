@@ -2,7 +2,8 @@
 use super::*;
 
 /// Models three levels deep, whose nets have equal names. The root binds b to the second half's a.
-const HALVES: &str = ".model top\n.inputs a b\n.outputs y z\n.subckt half a=a b=b y=t\n.latch t q 1\n.subckt half a=b b=q y=u\n.names u y\n0 1\n.names q z\n1 1\n.end\n.model store\n.inputs d\n.outputs q\n.names d t\n0 1\n.latch t q 0\n.end\n.model half\n.inputs a b\n.outputs y\n.names a b t\n11 1\n.subckt store d=t q=q\n.names t q y\n10 1\n01 1\n.end\n";
+const HALVES: &str =
+    ".model top\n.inputs a b\n.outputs y z\n.subckt half a=a b=b y=t\n.latch t q 1\n.subckt half a=b b=q y=u\n.names u y\n0 1\n.names q z\n1 1\n.end\n.model store\n.inputs d\n.outputs q\n.names d t\n0 1\n.latch t q 0\n.end\n.model half\n.inputs a b\n.outputs y\n.names a b t\n11 1\n.subckt store d=t q=q\n.names t q y\n10 1\n01 1\n.end\n";
 
 /// The latches, in preorder, are that of the first half's store, that of the root, and that of the second half's store.
 #[test]
@@ -63,7 +64,8 @@ fn placed_models_run(rt: HostRuntime) -> Result<(), Fail> {
 /// A text with tables of constants and a latch of five words. Its clock is no column.
 #[test]
 fn a_clocked_toggle_runs(rt: HostRuntime) -> Result<(), Fail> {
-    let design = "# constants and a clock\n\n.model top\n.inputs clk en\n.outputs q\n.names $false\n.names $true\n1\n.names $undef\n.names en q d\n10 1\n01 1\n.latch d q re clk 2\n.end\n";
+    let design =
+        "# constants and a clock\n\n.model top\n.inputs clk en\n.outputs q\n.names $false\n.names $true\n1\n.names $undef\n.names en q d\n10 1\n01 1\n.latch d q re clk 2\n.end\n";
     let table: [(&[&str], &str); 3] = [
         (&["sim", "d", "s"], TOGGLE_TRACE),
         (&["sim", "d", "s", "unknown=0"], TOGGLE_TRACE),
@@ -84,7 +86,8 @@ fn a_clocked_toggle_runs(rt: HostRuntime) -> Result<(), Fail> {
 /// The setting is for latches that are free, in each instance alike.
 #[test]
 fn only_free_latches_start_at_the_setting(rt: HostRuntime) -> Result<(), Fail> {
-    let design = ".model m\n.inputs a\n.outputs a\n.subckt n i=a\n.latch a r 1\n.subckt n i=a\n.model n\n.inputs i\n.latch i p 0\n.latch i q\n.latch i r 1\n.latch i s 2\n";
+    let design =
+        ".model m\n.inputs a\n.outputs a\n.subckt n i=a\n.latch a r 1\n.subckt n i=a\n.model n\n.inputs i\n.latch i p 0\n.latch i q\n.latch i r 1\n.latch i s 2\n";
     let table: [(&[&str], &str); 2] = [
         (
             &["sim", "d", "s", "unknown=0"],

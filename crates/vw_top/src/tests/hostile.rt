@@ -1,7 +1,7 @@
 //! Small texts that spell large designs.
 ghost use Rattle.std.specs.Prelude.{◌<◌};
 
-use super::faults::chain_of_models;
+use super::refusals::chain_of_models;
 use super::*;
 
 /// Models that each place the next one twice: so many, the first of which is the root. The text ends within the last.

@@ -9,10 +9,7 @@ fn gates_that_read_each_other_are_a_loop(rt: HostRuntime) -> Result<(), Fail> {
             ".model m\n.inputs a\n.outputs y\n.names y y\n1 1\n.end\n",
             "design 25: loop y\n",
         ),
-        (
-            ".model m\n.outputs y\n.names y y\n",
-            "design 25: loop y\n",
-        ),
+        (".model m\n.outputs y\n.names y y\n", "design 25: loop y\n"),
         (
             ".model m\n.inputs a\n.outputs a\n.names x a x\n-1 1\n",
             "design 25: loop x\n",
