@@ -5,8 +5,13 @@ use std::alloc::{AllocError, Global};
 use std::test::Fail;
 use vw_outside::{Held, MemShelf, MemSink, Name};
 
+mod claims;
 mod designs;
+mod hierarchy;
+mod hostile;
 mod limits;
+mod loops;
+mod refusals;
 
 /// The design and the stimulus of the program's stored run.
 const TOGGLE: &str =

@@ -140,34 +140,3 @@ fn a_word_is_shown_as_its_bytes(rt: HostRuntime) -> Result<(), Fail> {
     );
     Ok(())
 }
-
-#[test]
-fn other_designs_do_not_run_yet(rt: HostRuntime) -> Result<(), Fail> {
-    let table = [
-        // gates that read each other, and a gate that reads a later one
-        ".model m\n.outputs a\n.names a b\n1 1\n.names b a\n1 1\n.end\n",
-        ".model m\n.inputs a\n.outputs y\n.names n y\n1 1\n.names a n\n1 1\n.end\n",
-        ".model m\n.inputs a\n.outputs y\n.names y y\n1 1\n.end\n",
-        // nets that nothing drives
-        ".model m\n.inputs a\n.outputs y\n.end\n",
-        ".model m\n.inputs a\n.outputs y\n.names b y\n1 1\n.end\n",
-        ".model m\n.inputs a\n.outputs q\n.latch b q 0\n.end\n",
-        // nets with two drivers
-        ".model m\n.inputs a\n.outputs a\n.names a\n1\n.end\n",
-        ".model m\n.inputs a\n.outputs y\n.names a y\n1 1\n.latch a y 0\n.end\n",
-        // clocks: a port, a control, a type
-        ".model m\n.inputs a\n.outputs a\n.clock c\n.end\n",
-        ".model m\n.inputs a c\n.outputs q\n.latch a q re c 0\n.end\n",
-        ".model m\n.inputs a\n.outputs q\n.latch a q re NIL 0\n.end\n",
-        // a second model, and a placed one
-        ".model m\n.inputs a\n.outputs a\n.end\n.model n\n.end\n",
-        ".model m\n.inputs a\n.outputs a\n.subckt m a=a\n.end\n",
-    ];
-    for design in table {
-        let ran = sim(rt.alloc(), design, "")?;
-        assert_eq!(rt; ran.status, 1, "{design}");
-        assert_eq!(rt; ran.err.as_slice(), b"design 0: not yet\n".as_slice());
-        assert!(rt; ran.out.is_empty());
-    }
-    Ok(())
-}

@@ -161,20 +161,50 @@ fn design_of_latches(
 }
 
 #[test]
-fn designs_past_the_limits_do_not_run_yet(rt: HostRuntime) -> Result<(), Fail> {
+fn designs_past_the_limits_are_refused(rt: HostRuntime) -> Result<(), Fail> {
     let table = [
         (4096, 1, 1, ""),
-        (4097, 1, 1, "design 0: not yet\n"),
+        (4097, 1, 1, "design 18: more than 4096 inputs\n"),
         (1, 4096, 4096, ""),
-        (1, 4097, 4097, "design 0: not yet\n"),
+        (1, 4097, 4097, "design 18: more than 4096 outputs\n"),
+        (4097, 4097, 4097, "design 18: more than 4096 inputs\n"),
         (1, 1, 65536, ""),
-        (1, 1, 65537, "design 0: not yet\n"),
+        (1, 1, 65537, "design 18: more than 65536 cells\n"),
     ];
     for (inputs, outputs, latches, line) in table {
         let design = design_of_latches(rt.alloc(), inputs, outputs, latches)?;
         let ran = sim(rt.alloc(), design.as_str(), "")?;
         let status = if line.is_empty() { 0 } else { 1 };
         assert_eq!(rt; ran.status, status, "{inputs} {outputs} {latches}");
+        assert_eq!(rt; ran.err.as_slice(), line.as_bytes());
+    }
+    Ok(())
+}
+
+/// A declared clock isn't counted among the inputs. One that is a clock for a control alone is.
+#[test]
+fn declared_clocks_are_not_counted_as_inputs(rt: HostRuntime) -> Result<(), Fail> {
+    let table = [
+        (4096, ".clock c\n", ""),
+        (4096, "", "design 18: more than 4096 inputs\n"),
+        (4097, ".clock c\n", "design 18: more than 4096 inputs\n"),
+        (4095, "", ""),
+    ];
+    for (inputs, lines, line) in table {
+        let mut text = Vec::new(rt.alloc());
+        text.extend_from_slice(b".model m\n.inputs c")?;
+        push_names(&mut text, "i", inputs)?;
+        text.extend_from_slice(b"\n.latch i0 q re c 0\n")?;
+        text.extend_from_slice(lines.as_bytes())?;
+        let design = str::from_utf8(&text).ok().ok_or("it is ASCII")?;
+        let ran = sim(rt.alloc(), design, "")?;
+        let (status, trace) = if line.is_empty() {
+            (0, "trace 1 0 1\nend 0 0\n")
+        } else {
+            (1, "")
+        };
+        assert_eq!(rt; ran.status, status, "{inputs} {lines}");
+        assert_eq!(rt; ran.out.as_slice(), trace.as_bytes());
         assert_eq!(rt; ran.err.as_slice(), line.as_bytes());
     }
     Ok(())
