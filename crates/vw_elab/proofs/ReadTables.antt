@@ -1,11 +1,10 @@
 -- What the tables of a design have of an instance and of a cell.
-use Rattle.std.proofs.Common.{◌≡◌, ◌<◌, ℕ, true, List, [], ◌∷◌, ◌++◌, length, map, Option, Some, None, is_none, option_map, option_and_then, get_or, slice_get, filter, refl, sym, ◌∙◌, ap, subst, arith}
-use Rattle.std.specs.List.{AllZip}
+use Rattle.std.proofs.Common.{◌≡◌, ◌<◌, ℕ, List, [], ◌∷◌, map, Option, Some, option_map, option_and_then, get_or, slice_get, sym, ◌∙◌, ap, subst, arith}
 use Rattle.std.proofs.lemmas.Option.{same_Some, slice_get-map, slice_get-get_or, get_or_from_slice_get}
 use Rattle.vw_design.specs.declared.item.Item.{Item}
 use Rattle.vw_design.specs.declared.model.Model.{Model}
 use Rattle.vw_design.specs.declared.design.Design.{Design}
-use Rattle.vw_design.specs.Paths.{Word, Path, model_at, items_of}
+use Rattle.vw_design.specs.Paths.{Word, Path, items_of}
 use Rattle.vw_design.specs.Drivers.{driver}
 use Rattle.vw_design.specs.Preorder.{Site, is_cell, sites, instances, cells}
 use Rattle.vw_design.proofs.Has.{Has-at, from-filter}
@@ -22,11 +21,10 @@ use Rattle.vw_walk.specs.Tables.{ArePlaced, AreCellSites, IsCellSite}
 use Rattle.vw_walk.specs.Tables as walks
 use Rattle.vw_drivers.specs.declared.source.Source.{Source}
 use Rattle.vw_drivers.specs.declared.tables.Tables.{Tables}
-use Rattle.vw_drivers.specs.Tables.{AreTables, root_firsts, instance_firsts}
+use Rattle.vw_drivers.specs.Tables.{root_firsts, instance_firsts}
 use Rattle.vw_drivers.specs.Drivers.{IsSource}
 use Rattle.vw_nets.specs.declared.columns.Columns.{Columns}
 use Rattle.vw_nets.specs.Columns.{AreColumns}
-use Rattle.vw_elab.specs.declared.elaborated.Instance.{Instance}
 use Rattle.vw_elab.specs.declared.elaborated.Reading.{Reading}
 use Rattle.vw_elab.specs.declared.parts.Parts.{Parts}
 use Rattle.vw_elab.specs.Tables.{AreParts}
