@@ -36,6 +36,39 @@ gates() {
     }
     printf ".end\n" }'
 }
+# placed_outputs OUTPUTS COUNT: a model with so many outputs that nobody binds, placed so many times
+placed_outputs() {
+  awk -v outputs="$1" -v count="$2" 'BEGIN {
+    printf ".model top\n.inputs a\n.outputs z\n"
+    for (n = 0; n < count; n++) printf ".subckt wide i=a\n"
+    printf ".names a z\n1 1\n.end\n.model wide\n.inputs i\n.outputs"
+    for (n = 0; n < outputs; n++) printf " o%d", n
+    printf "\n.names i o0\n1 1\n.end\n" }'
+}
+# chain COUNT: models that each place the next one
+chain() {
+  awk -v count="$1" 'BEGIN { for (n = 0; n < count; n++) { printf ".model m%d\n", n; if (n + 1 < count) printf ".subckt m%d\n", n + 1 } }'
+}
+# circle COUNT: the same, and the last one places the first
+circle() { awk -v count="$1" 'BEGIN { for (n = 0; n < count; n++) printf ".model m%d\n.subckt m%d\n", n, (n + 1) % count }'; }
+# doubling COUNT: models that each place the next one twice
+doubling() {
+  awk -v count="$1" 'BEGIN { for (n = 0; n < count; n++) { printf ".model m%d\n", n; if (n + 1 < count) printf ".subckt m%d\n.subckt m%d\n", n + 1, n + 1 } }'
+}
+# hierarchy GROUPS SIZE FURTHER CELLS: a counter of one bit for each block, in so many groups of so many blocks and some
+# further blocks at the top, and a chain of gates that makes the cells so many
+hierarchy() {
+  awk -v groups="$1" -v size="$2" -v further="$3" -v cells="$4" 'BEGIN {
+    rest = cells - 3 * (groups * size + further)
+    printf ".model top\n.inputs en\n.outputs c%d f%d\n", groups + further, rest - 1
+    printf ".names en c0\n1 1\n"
+    for (n = 0; n < groups + further; n++) printf ".subckt %s en=c%d carry=c%d\n", n < groups ? "group" : "block", n, n + 1
+    for (n = 0; n < rest - 1; n++) printf ".names %s f%d\n1 1\n", n ? "f" n : "en", n + 1
+    printf ".end\n.model group\n.inputs en\n.outputs carry\n"
+    for (n = 0; n < size; n++) printf ".subckt block en=%s carry=%s\n", n ? "c" n : "en", n + 1 < size ? "c" (n + 1) : "carry"
+    printf ".end\n.model block\n.inputs en\n.outputs carry\n"
+    printf ".names en q d\n10 1\n01 1\n.names en q carry\n11 1\n.latch d q 0\n.end\n" }'
+}
 # clocks COUNT WIDTH: rows of a stimulus
 clocks() {
   awk -v count="$1" -v width="$2" 'BEGIN { x = 3
@@ -76,6 +109,10 @@ row() {
   [ "$evaluations" -gt 0 ] && rate=$(awk -v n="$evaluations" -v s="$seconds" 'BEGIN { printf "%.1f", n / s / 1e6 }')
   echo "| $name | $(($(stat -c %s "$2") / 1000)) | $status | $(head -c 60 err) | $seconds | $peak | $rate |"
 }
+# expect STATUS MESSAGE: says so where the last run ended in another way. Of a long message the front is given
+expect() {
+  [ "$status" = "$1" ] && [ "$(head -c ${#2} err)" = "$2" ] || echo "expected status $1 and '$2'" >&2
+}
 
 echo "| design | text, kB | status | message | seconds | peak, MB | million tables a second |"
 echo "|---|---|---|---|---|---|---|"
@@ -100,5 +137,22 @@ row "4,000 gates over 10,000 clocks" 40000000 sim gates.blif gates.stim
 gates 65000 > gates.blif
 clocks 500 8 > gates.stim
 row "65,000 gates over 500 clocks" 32500000 sim gates.blif gates.stim
+clocks 4 1 > short.stim
+placed_outputs 1000000 60000 > wide.blif
+row "a million unbound outputs, placed 60,000 times" 0 sim wide.blif short.stim
+expect 0 ''
+circle 100000 > circle.blif
+row "a circle of 100,000 models" 0 sim circle.blif none.stim
+expect 1 'design 14: recursive models m0 m1 m2'
+chain 500000 > chain.blif
+row "a chain of 500,000 models" 0 sim chain.blif none.stim
+expect 1 'design 18: more than 65536 instances'
+doubling 40 > doubling.blif
+row "forty models that each place the next twice" 0 sim doubling.blif none.stim
+expect 1 'design 18: more than 65536 instances'
+hierarchy 199 99 99 65536 > hierarchy.blif
+clocks 200 1 > hierarchy.stim
+row "65,536 cells in 20,000 instances over 200 clocks" 9147200 sim hierarchy.blif hierarchy.stim
+expect 0 ''
 echo
 echo "Cores: $(nproc)."

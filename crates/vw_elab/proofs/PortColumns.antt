@@ -1,5 +1,5 @@
 -- Columns by their places among the inputs, and drivers by the columns of ports.
-use Rattle.std.proofs.Common.{◌≡◌, ◌<◌, ℕ, true, false, List, [], ◌∷◌, length, map, Option, Some, None, is_none, option_map, slice_get, get_or, refl, sym, ◌∙◌, ap, ap₂, subst, true≢false}
+use Rattle.std.proofs.Common.{◌≡◌, ◌<◌, ℕ, List, [], length, map, Option, Some, None, is_none, option_map, slice_get, get_or, refl, sym, ◌∙◌, ap, true≢false}
 use Rattle.std.proofs.lemmas.List.{length-map}
 use Rattle.std.proofs.lemmas.Option.{none-some, same_Some, slice_get-map, slice_get-get_or}
 use Rattle.vw_design.specs.declared.design.Design.{Design}
@@ -15,7 +15,6 @@ use Rattle.vw_drivers.specs.declared.source.Source.TheVariants as sources
 use Rattle.vw_drivers.specs.Sources.{source_of}
 use Rattle.vw_nets.specs.declared.columns.Columns.{Columns}
 use Rattle.vw_nets.specs.Columns.{AreColumns}
-use Rattle.vw_elab.specs.declared.driver.Driver.{Driver}
 use Rattle.vw_elab.specs.declared.driver.Driver.TheVariants.{Cell}
 use Rattle.vw_elab.specs.Numbers.{of_port, driver_of}
 use Rattle.vw_elab.specs.ByColumns.{driver_by}

@@ -1,11 +1,10 @@
 -- What the tables of a design have of an instance and of a cell.
-use Rattle.std.proofs.Common.{◌≡◌, ◌<◌, ℕ, true, List, [], ◌∷◌, ◌++◌, length, map, Option, Some, None, is_none, option_map, option_and_then, get_or, slice_get, filter, refl, sym, ◌∙◌, ap, subst, arith}
-use Rattle.std.specs.List.{AllZip}
+use Rattle.std.proofs.Common.{◌≡◌, ◌<◌, ℕ, List, [], ◌∷◌, map, Option, Some, option_map, option_and_then, get_or, slice_get, sym, ◌∙◌, ap, subst, arith}
 use Rattle.std.proofs.lemmas.Option.{same_Some, slice_get-map, slice_get-get_or, get_or_from_slice_get}
 use Rattle.vw_design.specs.declared.item.Item.{Item}
 use Rattle.vw_design.specs.declared.model.Model.{Model}
 use Rattle.vw_design.specs.declared.design.Design.{Design}
-use Rattle.vw_design.specs.Paths.{Word, Path, model_at, items_of}
+use Rattle.vw_design.specs.Paths.{Word, Path, items_of}
 use Rattle.vw_design.specs.Drivers.{driver}
 use Rattle.vw_design.specs.Preorder.{Site, is_cell, sites, instances, cells}
 use Rattle.vw_design.proofs.Has.{Has-at, from-filter}
@@ -22,7 +21,7 @@ use Rattle.vw_walk.specs.Tables.{ArePlaced, AreCellSites, IsCellSite}
 use Rattle.vw_walk.specs.Tables as walks
 use Rattle.vw_drivers.specs.declared.source.Source.{Source}
 use Rattle.vw_drivers.specs.declared.tables.Tables.{Tables}
-use Rattle.vw_drivers.specs.Tables.{AreTables, root_firsts, instance_firsts}
+use Rattle.vw_drivers.specs.Tables.{root_firsts, instance_firsts}
 use Rattle.vw_drivers.specs.Drivers.{IsSource}
 use Rattle.vw_nets.specs.declared.columns.Columns.{Columns}
 use Rattle.vw_nets.specs.Columns.{AreColumns}
@@ -34,20 +33,23 @@ use Rattle.vw_elab.specs.Numbers.{IsPlacedBy, IsInstance, driver_of}
 use Rattle.vw_elab.specs.ByColumns.{driver_by, reading_of}
 use Rattle.vw_elab.proofs.PortColumns.{by_columns}
 
+-- the instance of an entry
+abbrev pub instance_of : Placed → Instance
+instance_of entry = record { model = entry.model; parent = entry.parent; place = entry.place }
+
 module _ (design : Design) where
-  -- the instance of an entry
   placed_by : (number : ℕ) (path : Path) (entry : Placed) → walks.IsPlacedBy (instances design) number path entry
-      → IsPlacedBy design number path (record { model = entry.model; parent = entry.parent; place = entry.place })
+      → IsPlacedBy design number path (instance_of entry)
   placed_by number [] entry by = by
   placed_by number (place ∷ path) entry by = by
 
   pub instance_is : (table : List Placed) → ArePlaced design table → (number : ℕ) (path : Path) → slice_get (instances design) number ≡ Some path
-      → (entry : Placed) → slice_get table number ≡ Some entry → IsInstance design number (record { model = entry.model; parent = entry.parent; place = entry.place })
+      → (entry : Placed) → slice_get table number ≡ Some entry → IsInstance design number (instance_of entry)
   instance_is table are number path listed entry at =
       let found = are.each number path listed in
       let same : found.0 ≡ entry = same_Some found.0 entry (sym found.1 ∙ at) in
       let stands = found.2.stands in
-      subst (λ (e : Placed). IsInstance design number (record { model = e.model; parent = e.parent; place = e.place })) same
+      subst (λ (e : Placed). IsInstance design number (instance_of e)) same
       (record { path = path; listed = listed; model = found.2.model_is ∙ sym stands; by = placed_by number path found.0 found.2.by })
 
   -- the driver of a source
@@ -99,7 +101,7 @@ module _ (design : Design) where
 
   -- the instance and the site at a number
   pub instance_read : (table : List Placed) → ArePlaced design table → (number : ℕ) → number < instance_count design → (default : Placed)
-      → IsInstance design number (record { model = (get_or table number default).model; parent = (get_or table number default).parent; place = (get_or table number default).place })
+      → IsInstance design number (instance_of (get_or table number default))
   instance_read table are number within default =
       instance_is table are number (get_or (instances design) number []) (slice_get-get_or (instances design) number [] within) (get_or table number default)
       (slice_get-get_or table number default (omega (arith, within, are.same_length)))

@@ -1,5 +1,5 @@
 -- Instances, sites and drivers of a design by numbers. Source: this project.
-use Rattle.std.specs.Prelude.{◌≡◌, ◌<◌, ℕ, List, [], ◌∷◌, Option, Some, None, option_map, slice_get}
+use Rattle.std.specs.Prelude.{◌≡◌, ◌<◌, ℕ, [], ◌∷◌, Option, Some, None, option_map, slice_get}
 use Rattle.vw_design.specs.declared.design.Design.{Design}
 use Rattle.vw_design.specs.Paths.{Path, model_at}
 use Rattle.vw_design.specs.Drivers.{Source, at_port, at_cell}

@@ -1,10 +1,10 @@
 -- How far the search for a design's faults has come.
-use Rattle.std.specs.Prelude.{◌≡◌, ℕ, List, None}
+use Rattle.std.specs.Prelude.{◌≡◌, List, None}
 use Rattle.vw_design.specs.declared.design.Design.{Design}
 use Rattle.vw_design.specs.Paths.{Word}
 use Rattle.vw_design.specs.ModelFaults.{unknown_model, IsCircle, unknown_formal, unbound_input, both_ways}
 use Rattle.vw_design.specs.ModelNumbers.{AreTargets, IsModelOrder}
-use Rattle.vw_design.specs.NetFaults.{undriven, two_drivers, gated_clock, several_clocks, several_edges, clock_as_data}
+use Rattle.vw_design.specs.NetFaults.{undriven, two_drivers}
 use Rattle.vw_design.specs.Accepted.{HasNoModelFault}
 use Rattle.vw_elab.specs.declared.models.Models.{Models}
 

@@ -1,5 +1,4 @@
 -- The tables of a design.
-use Rattle.std.specs.Prelude.{List}
 use Rattle.vw_design.specs.declared.design.Design.{Design}
 use Rattle.vw_design.specs.Accepted.{IsAccepted}
 use Rattle.vw_walk.specs.Tables.{AreCellSites}

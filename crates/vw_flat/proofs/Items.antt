@@ -1,6 +1,6 @@
 -- The item of a cell, looked up by numbers.
-use Rattle.std.proofs.Common.{◌≡◌, ◌<◌, ℕ, zero, suc, true, true≢false, List, [], ◌∷◌, length, Option, Some, None, option_map, slice_get, refl, sym, ◌∙◌, ap, arith}
-use Rattle.std.proofs.lemmas.Option.{none-some, same_Some}
+use Rattle.std.proofs.Common.{◌≡◌, ◌<◌, ℕ, zero, suc, true, true≢false, List, [], ◌∷◌, length, Option, Some, None, slice_get, get_or, refl, sym, ◌∙◌, ap, arith}
+use Rattle.std.proofs.lemmas.Option.{none-some, same_Some, slice_get_within, slice_get_read}
 use Rattle.vw_design.specs.declared.item.Bind.{Bind}
 use Rattle.vw_design.specs.declared.item.Item.{Item}
 use Rattle.vw_design.specs.declared.item.Item.TheVariants.{Sub}
@@ -22,6 +22,19 @@ pub some_at : {A : Type 0} → (xs : List A) (k : ℕ) → k < length xs → (x 
 some_at [] k within = absurd (omega arith)
 some_at (x ∷ xs) zero within = (x, refl)
 some_at (x ∷ xs) (suc k) within = some_at xs k (omega arith)
+
+-- what stands in a list at a number is what is read there
+pub record StandsAt (A : Type 0) (xs : List A) (k : ℕ) (x : A) : Type 0 where
+  pub within : k < length xs
+  pub read : (y : A) → y ≡ get_or xs k y → x ≡ y
+
+pub stands_at : {A : Type 0} → (xs : List A) (k : ℕ) (x : A) → slice_get xs k ≡ Some x → StandsAt A xs k x
+stands_at xs k x is =
+    let within = slice_get_within xs k x is in
+    record {
+      within = within;
+      read = λ y at. same_Some x y (sym is ∙ slice_get_read xs (length xs) k y refl within at);
+    }
 
 module _ (design : Design) where
   -- a cell, its item, and that it is one
@@ -65,10 +78,30 @@ module _ (design : Design) where
         same = ap item_of is.at;
       }
 
-  -- the same where there is such a cell
-  pub item_found : (cell : ℕ) → cell < cell_count design → (entry : CellSite) → ((site : Site) → slice_get (cells design) cell ≡ Some site → IsCellSite (instances design) site entry)
-      → (instance : Instance) → IsInstance design entry.instance instance → IsLookedUp cell entry instance
-  item_found cell within = looked_up cell (cell_is cell within)
+  -- the item of a cell, as it is read: first its model among the models, then the item among those of the model
+  pub record IsItemAt (cell number : ℕ) (items : List Item) : Type 0 where
+    pub within : number < length items
+    pub same : (item : Item) → item ≡ get_or items number item → item_of (slice_get (cells design) cell) ≡ Some item
+
+  pub record IsModelAt (cell : ℕ) (entry : CellSite) (number : ℕ) (models : List Model) : Type 0 where
+    pub within : number < length models
+    pub items : (model : Model) → model ≡ get_or models number model → (items : List Item) → items ≡ model.items → IsItemAt cell entry.item items
+
+  pub item_read : (cell : ℕ) → cell < cell_count design → (entry : CellSite) → ((site : Site) → slice_get (cells design) cell ≡ Some site → IsCellSite (instances design) site entry)
+      → (instance : Instance) → IsInstance design entry.instance instance → (models : List Model) → models ≡ design.models → IsModelAt cell entry instance.model models
+  item_read cell within entry of_site instance is_instance models are =
+      let is = looked_up cell (cell_is cell within) entry of_site instance is_instance in
+      let model = stands_at models instance.model is.model (ap (λ (list : List Model). slice_get list instance.model) are ∙ is.model_is) in
+      record {
+        within = model.within;
+        items = λ m at items same.
+            let own : items ≡ is.model.items = same ∙ ap (λ (x : Model). x.items) (sym (model.read m at)) in
+            let item : StandsAt Item items entry.item is.item = stands_at items entry.item is.item (ap (λ (list : List Item). slice_get list entry.item) own ∙ is.item_is) in
+            record {
+              within = item.within;
+              same = λ i here. is.same ∙ ap (λ (x : Item). Some x) (item.read i here);
+            };
+      }
 
   -- no cell is a placed model
   pub never_placed : (cell : ℕ) (item : Item) → item_of (slice_get (cells design) cell) ≡ Some item → (line : ℕ) (name : Word) (binds : List Bind) → item ≡ Sub line name binds → ⊥

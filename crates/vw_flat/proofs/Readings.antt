@@ -1,5 +1,5 @@
 -- The numbers of what is read as data.
-use Rattle.std.proofs.Common.{◌≡◌, ◌<◌, ◌+◌, ◌^◌, ◌==◌, ◌++◌, ℕ, zero, suc, true, List, [], ◌∷◌, length, map, flat_map, Option, Some, None, option_map, slice_get, refl, sym, ◌∙◌, ap, subst, arith}
+use Rattle.std.proofs.Common.{◌≡◌, ◌<◌, ◌+◌, ◌^◌, ◌==◌, ◌++◌, ℕ, zero, suc, true, List, [], ◌∷◌, length, flat_map, Option, Some, None, option_map, slice_get, refl, sym, ◌∙◌, ap, subst, arith}
 use Rattle.std.proofs.lemmas.Bool.{eqb-true}
 use Rattle.std.proofs.lemmas.List.{length-map}
 use Rattle.std.proofs.lemmas.Option.{none-some, same_Some, slice_get-map, slice_get_within, get_or_from_slice_get}
@@ -9,14 +9,13 @@ use Rattle.vw_design.specs.declared.item.Item.TheVariants.{Names}
 use Rattle.vw_design.specs.declared.model.Model.{Model}
 use Rattle.vw_design.specs.Shape.{has_its_shape, IsWellMade}
 use Rattle.vw_design.specs.declared.design.Design.{Design}
-use Rattle.vw_design.specs.Paths.{Word, Path, Net, items_of}
+use Rattle.vw_design.specs.Paths.{Word, Net, items_of}
 use Rattle.vw_design.specs.Drivers.{Source, at_port, at_cell, driver}
 use Rattle.vw_design.specs.Preorder.{Site, is_cell, sites, cells}
 use Rattle.vw_design.specs.Reads.{net_at, nets_at, data_of, controls_of, root_outputs, data_reads}
 use Rattle.vw_design.specs.Clocks.{columns}
 use Rattle.vw_design.specs.PathValue.{place_of_name, place_of_site}
 use Rattle.vw_design.specs.Flattened.{number_of_source, number_of}
-use Rattle.vw_design.specs.Limits.{input_count, cell_count}
 use Rattle.vw_design.specs.Accepted.{IsAccepted}
 use Rattle.vw_design.proofs.Has.{Has, Has-at, at-Has, all-Has, Has-left, Has-right, Has-map, Has-flat_map, from-filter, Contains-Has}
 use Rattle.vw_design.proofs.Sites.{site_item}
@@ -49,25 +48,31 @@ module _ (design : Design) where
     by None = refl
     by (Some place) = refl
 
+  -- a net that is read as data has the number of its driver
+  pub record IsNumbered (net : Net) (count : ℕ) (driven : Option Driver) : Type 0 where
+    pub has : HasNumber count driven
+    pub number : (n : ℕ) → number_by count driven ≡ Some n → number_of design net.path net.name ≡ Some n
+    pub fits : (n : ℕ) → number_by count driven ≡ Some n → n < nets design
+
   module _ (accepted : IsAccepted design) where
     few_nets : nets design < 2 ^ 32
     few_nets = omega (arith, few_columns design, accepted.models.small.inputs, accepted.models.small.cells)
 
-    -- the driver of a net that is read as data has a number
-    pub read_has_number : (net : Net) → Has net (data_reads design) → (driven : Option Driver) → driven ≡ driver_of design (driver design net.path net.name) → HasNumber (length (columns design)) driven
-    read_has_number net has driven is =
+    pub numbered : (net : Net) → Has net (data_reads design) → (count : ℕ) → count ≡ length (columns design)
+        → (driven : Option Driver) → driven ≡ driver_of design (driver design net.path net.name) → IsNumbered net count driven
+    numbered net has count counted driven is =
         let found = read_numbered design accepted net (Contains-Has net (data_reads design) has) in
+        let agree : number_by count driven ≡ number_of design net.path net.name =
+        ap (λ (n : ℕ). number_by n driven) counted ∙ ap (number_by (length (columns design))) is ∙ numbers_agree (driver design net.path net.name) in
         record {
-          number = found.0;
-          is = ap (number_by (length (columns design))) is ∙ numbers_agree (driver design net.path net.name) ∙ found.1;
-          fits = omega (arith, found.2, few_nets);
+          has = record {
+            number = found.0;
+            is = agree ∙ found.1;
+            fits = omega (arith, found.2, few_nets);
+          };
+          number = λ n same. sym agree ∙ same;
+          fits = λ n same. subst (λ (k : ℕ). k < nets design) (same_Some found.0 n (sym found.1 ∙ sym agree ∙ same)) found.2;
         }
-
-    pub read_below : (net : Net) → Has net (data_reads design) → (number : ℕ) → number_of design net.path net.name ≡ Some number → number < nets design
-    read_below net has number is =
-        let found = read_numbered design accepted net (Contains-Has net (data_reads design) has) in
-        let same = same_Some found.0 number (sym found.1 ∙ is) in
-        omega (arith, found.2, same)
 
   -- what a cell reads as data, by its place
   pub record IsReadAt (cell input : ℕ) : Type 0 where

@@ -1,4 +1,4 @@
-use Rattle.std.proofs.Common.{◌≡◌, ◌<◌, ◌++◌, ◌∷◌, [], ℕ, Some, map, take, slice_get, sym, ◌∙◌, ap, ap₂}
+use Rattle.std.proofs.Common.{◌<◌, ◌++◌, ◌∷◌, [], ℕ, Some, map, slice_get, sym, ◌∙◌, ap}
 use Rattle.std.proofs.lemmas.List.{map-append}
 use Rattle.vw_design.specs.Preorder.{cells}
 use Rattle.vw_flat.specs.Numbers.{nets, numbers_at}

@@ -2,12 +2,12 @@ use Rattle.std.proofs.Common.{◌≡◌, ◌<◌, ◌+◌, ℕ, List, length, ma
 use Rattle.std.specs.List.{All, AllZip}
 use Rattle.vw_net.specs.declared.cell.Cell.{Cell}
 use Rattle.vw_net.specs.Cells.{IsWellFormed}
-use Rattle.vw_design.specs.Clocks.{columns}
 use Rattle.vw_design.specs.Flattened.{IsCellOf, IsFlatOf}
 use Rattle.vw_design.specs.Preorder.{Site, cells}
 use Rattle.vw_design.proofs.Lists.{AllZip-length}
 use Rattle.vw_design.proofs.Sizes.{few_columns}
 use Rattle.vw_flat.specs.Numbers.{nets}
+use Rattle.vw_flat.proofs.netlist.flatten.Goals.{After-of}
 use Rattle.vw_flat.proofs.netlist.flatten.Goals as goal
 
 -- the columns are among the inputs that count
@@ -15,26 +15,25 @@ pub make-requires-clause-few_inputs : goal.make-requires-clause-few_inputs
 make-requires-clause-few_inputs c = omega (arith, c.columns.ensures, few_columns c.args.elaborated.now, c.is_accepted.ensures.models.small.inputs)
 
 -- there are as many cells as the design has
-pub make-requires-clause-few_cells : goal.make-requires-clause-few_cells
-make-requires-clause-few_cells c =
+counted : (c : After-of) → length c.of.result ≡ length (cells c.args.elaborated.now)
+counted c =
     let design = c.args.elaborated.now in
-    let long = AllZip-length (λ (site : Site) (cell : Cell). IsCellOf design site.path site.item cell) (cells design) c.in_ok-cells.cells.items c.in_ok-cells.ensures.are in
-    omega (arith, long, ap (λ (list : List Cell). length list) c.of.ensures, c.is_accepted.ensures.models.small.cells)
+    ap (λ (list : List Cell). length list) c.of.ensures
+    ∙ sym (AllZip-length (λ (site : Site) (cell : Cell). IsCellOf design site.path site.item cell) (cells design) c.in_ok-cells.cells.items c.in_ok-cells.ensures.are)
+
+pub make-requires-clause-few_cells : goal.make-requires-clause-few_cells
+make-requires-clause-few_cells c = omega (arith, counted (goal.at.make-requires-clause-few_cells c).After-of, c.is_accepted.ensures.models.small.cells)
 
 pub make-requires-clause-cells_fit : goal.make-requires-clause-cells_fit
 make-requires-clause-cells_fit c =
     let design = c.args.elaborated.now in
-    let made = c.in_ok-cells.cells.items in
-    let long = AllZip-length (λ (site : Site) (cell : Cell). IsCellOf design site.path site.item cell) (cells design) made c.in_ok-cells.ensures.are in
-    let same : nets design ≡ c.columns.result + length c.of.result = omega (arith, c.columns.ensures, long, ap (λ (list : List Cell). length list) c.of.ensures) in
+    let same : nets design ≡ c.columns.result + length c.of.result = omega (arith, c.columns.ensures, counted (goal.at.make-requires-clause-cells_fit c).After-of) in
     subst (λ (count : ℕ). All (IsWellFormed count) c.of.result) same (subst (All (IsWellFormed (nets design))) (sym c.of.ensures) c.in_ok-cells.ensures.fit)
 
 pub make-requires-clause-outputs_fit : goal.make-requires-clause-outputs_fit
 make-requires-clause-outputs_fit c =
     let design = c.args.elaborated.now in
-    let made = c.in_ok-cells.cells.items in
-    let long = AllZip-length (λ (site : Site) (cell : Cell). IsCellOf design site.path site.item cell) (cells design) made c.in_ok-cells.ensures.are in
-    let same : nets design ≡ c.columns.result + length c.of.result = omega (arith, c.columns.ensures, long, ap (λ (list : List Cell). length list) c.of.ensures) in
+    let same : nets design ≡ c.columns.result + length c.of.result = omega (arith, c.columns.ensures, counted (goal.at.make-requires-clause-outputs_fit c).After-of) in
     subst (λ (count : ℕ). All (λ (net : ℕ). net < count) c.of-2.result) same (subst (All (λ (net : ℕ). net < nets design)) (sym c.of-2.ensures) c.in_ok-outputs.ensures.fit)
 
 -- the netlist has the history of the design

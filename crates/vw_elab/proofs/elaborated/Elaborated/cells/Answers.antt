@@ -1,5 +1,4 @@
-use Rattle.std.proofs.Common.{◌≡◌, ◌≤◌, length, sym, ◌∙◌, ap, arith}
-use Rattle.vw_design.specs.declared.design.Design.{Design}
+use Rattle.std.proofs.Common.{◌≡◌, sym, ◌∙◌, ap, arith}
 use Rattle.vw_design.specs.Limits.{cell_count}
 use Rattle.vw_design.specs.Preorder.{instances, cells}
 use Rattle.vw_design.proofs.Lists.{AllZip-length}
