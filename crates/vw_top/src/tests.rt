@@ -160,15 +160,16 @@ fn each_fault_of_a_stimulus_has_its_line(rt: HostRuntime) -> Result<(), Fail> {
     let table = [
         ("2", "stimulus 2: line 1: bad line\n"),
         ("10", "stimulus 3: line 1: found 2 bits, wanted 1\n"),
-        ("1\n\n0\n", "stimulus 2: line 2: bad line\n"),
+        ("1\n\n-\n", "stimulus 3: line 3: found 0 bits, wanted 1\n"),
         (
             "1\n0\n01\n2\n",
             "stimulus 3: line 3: found 2 bits, wanted 1\n",
         ),
         ("1\n1x\n", "stimulus 2: line 2: bad line\n"),
-        ("1 \n", "stimulus 2: line 1: bad line\n"),
-        ("1\n0\n\n", "stimulus 2: line 3: bad line\n"),
-        ("\n", "stimulus 2: line 1: bad line\n"),
+        ("1 0\n", "stimulus 2: line 1: bad line\n"),
+        ("# none\n1\nhold 01\n", "stimulus 2: line 3: bad line\n"),
+        ("hold 4294967296\n", "stimulus 2: line 1: bad line\n"),
+        ("hold 4294967295\n1\n2\n", "stimulus 4: 4294967296 clocks\n"),
     ];
     for (stimulus, line) in table {
         let ran = sim(rt.alloc(), TOGGLE, stimulus)?;
@@ -180,11 +181,37 @@ fn each_fault_of_a_stimulus_has_its_line(rt: HostRuntime) -> Result<(), Fail> {
 }
 
 #[test]
-fn a_design_without_inputs_has_no_rows(rt: HostRuntime) -> Result<(), Fail> {
+fn rows_may_be_held_and_commented(rt: HostRuntime) -> Result<(), Fail> {
+    let table = [
+        // the row before, at first one of zeros
+        (
+            TOGGLE,
+            "hold 1 # off\n\n 1 \nhold 2\nhold 0\n0\n",
+            "trace 1 1 1\n0 0 0\n1 0 0\n2 1 1\n3 0 0\n4 1 1\nend 5 1\n",
+        ),
+        // a design without columns has rows without bits
+        (
+            ".model m\n.inputs\n.outputs q\n.names q d\n0 1\n.latch d q 0\n.end\n",
+            "-\nhold 2\n",
+            "trace 1 1 1\n0 0 0\n1 1 1\n2 0 0\nend 3 1\n",
+        ),
+    ];
+    for (design, stimulus, trace) in table {
+        let ran = sim(rt.alloc(), design, stimulus)?;
+        assert_eq!(rt; ran.status, 0, "{stimulus}");
+        assert_eq!(rt; ran.out.as_slice(), trace.as_bytes(), "{stimulus}");
+        assert!(rt; ran.err.is_empty());
+    }
+    Ok(())
+}
+
+#[test]
+fn a_design_without_inputs_has_rows_without_bits(rt: HostRuntime) -> Result<(), Fail> {
     let design = ".model m\n.inputs\n.outputs\n.end\n";
     let table = [
         ("1\n", "stimulus 3: line 1: found 1 bits, wanted 0\n"),
-        ("\n", "stimulus 2: line 1: bad line\n"),
+        ("- -\n", "stimulus 2: line 1: bad line\n"),
+        ("--\n", "stimulus 2: line 1: bad line\n"),
     ];
     for (stimulus, line) in table {
         let ran = sim(rt.alloc(), design, stimulus)?;
