@@ -8,3 +8,6 @@ mod printing;
 
 pub use netlist::flatten;
 pub use printing::path_of;
+
+#[cfg(test)]
+mod tests;
