@@ -1,5 +1,5 @@
 //! Rows that are read in batches.
-ghost use Rattle.std.specs.Prelude.{◌≡◌, [], ◌∷◌, List, Bool, Option, length, ◌+◌, take, drop, IfOk, OnOk};
+ghost use Rattle.std.specs.Prelude.{◌≡◌, [], ◌∷◌, List, Bool, Option, length, ◌+◌, take, drop, IfOk, IfErr, OnOk};
 ghost use Rattle.vw_rows.specs.Runs.{rows_of_runs};
 ghost use Rattle.vw_rows.specs.Steps.{ReadsRow};
 
@@ -54,19 +54,26 @@ impl<'a> RowReader<'a> {
         None
     }
 
-    /// The next rows, `most` of them, or all that are left where these are fewer. It takes memory for these rows alone.
+    /// The next rows, `most` of them, or all that are left where these are fewer. It takes memory for these rows
+    /// alone. Where there is none, no row is gone.
     pub fn next_batch(&mut self, alloc: Global, most: usize) -> Result<Rows, AllocError>
         ensures batch { IfOk result (λ rows. rows ≡ take most self.old) }
         ensures left { OnOk result (self.new ≡ drop most self.old) }
         ensures count { IfOk result (λ rows. length rows + length self.new ≡ length self.old) }
+        ensures kept { IfErr result (λ _. self.new ≡ self.old) }
     {
+        let mut ahead = RowReader {
+            runs: self.runs,
+            gone: self.gone,
+        };
         let mut rows = Vec::new(alloc);
         while rows.len() < most {
-            let Some(row) = self.next_row() else {
+            let Some(row) = ahead.next_row() else {
                 break;
             };
             rows.push(copy_of(alloc, row)?)?;
         }
+        *self = ahead;
         Ok(Rows::of(rows))
     }
 }

@@ -4,7 +4,7 @@ use Rattle.vw_rows.proofs.row_reader.RowReader.next_batch.Given as goal
 
 abbrev pub invariant-loop-alloc : goal.invariant-loop-alloc
 invariant-loop-alloc l = record {
-  rows : l.rows.items ++ l.self ≡ l.fn.self;
+  rows : l.rows.items ++ l.ahead ≡ l.fn.self;
   few : length l.rows.items ≤ l.most;
 }
 
