@@ -1,5 +1,5 @@
 -- A design that is accepted isn't refused.
-use Rattle.std.proofs.Common.{◌≡◌, true, false, true≢false, sym}
+use Rattle.std.proofs.Common.{◌≡◌, true, true≢false, sym}
 use Rattle.vw_design.specs.declared.design.Design.{Design}
 use Rattle.vw_design.specs.Accepted.{IsAccepted, Fault, model_unknown, recursive, formal_unknown, input_unbound, output_both_ways, over_limit, net_undriven, driven_twice, clock_gated, clocks_differ, edges_differ, clock_read, IsFaultOf}
 use Rattle.vw_design.proofs.FaultLaws.{accepted_fine}

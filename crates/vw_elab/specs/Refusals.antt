@@ -1,5 +1,5 @@
 -- Why a design is refused: its fault, by what a message tells of it. Of circles any one may be told.
-use Rattle.std.specs.Prelude.{◌≡◌, ℕ, Bool, true, false, Result, Ok, Err}
+use Rattle.std.specs.Prelude.{◌≡◌, Bool, true, false, Result, Ok, Err}
 use Rattle.vw_design.specs.declared.design.Design.{Design}
 use Rattle.vw_design.specs.Paths.{Word, Net, printed}
 use Rattle.vw_design.specs.NetFaults.{Unlike, Edged}

@@ -1,8 +1,8 @@
 -- The trace of a design's netlist is the trace of the design.
-use Rattle.std.proofs.Common.{◌≡◌, ℕ, Bool, false, List, [], Option, Some, length, map, sym, ◌∙◌, ap}
+use Rattle.std.proofs.Common.{◌≡◌, ℕ, Bool, false, List, [], Option, Some, length, sym, ◌∙◌, ap}
 use Rattle.std.proofs.lemmas.List.{length-map}
 use Rattle.vw_net.specs.declared.flat.Flat.{Flat}
-use Rattle.vw_net.specs.Cells.{latch_count, start_values}
+use Rattle.vw_net.specs.Cells.{latch_count}
 use Rattle.vw_net.specs.History.{History}
 use Rattle.vw_net.proofs.Counts.{length-start_values}
 use Rattle.vw_design.specs.declared.design.Design.{Design}

@@ -1,5 +1,5 @@
 -- A loop of a netlist is one of its design.
-use Rattle.std.proofs.Common.{◌≡◌, ◌<◌, ◌+◌, ◌==◌, ◌&&◌, ℕ, zero, suc, Bool, true, false, true≢false, List, [], ◌∷◌, ◌++◌, length, map, Option, Some, None, option_map, get_or, slice_get, ⊎_elim, inl, inr, refl, sym, ◌∙◌, ap, ap₂, subst, arith}
+use Rattle.std.proofs.Common.{◌≡◌, ◌<◌, ◌+◌, ◌&&◌, ℕ, zero, suc, true, true≢false, List, [], ◌∷◌, ◌++◌, length, map, Option, Some, None, option_map, get_or, slice_get, ⊎_elim, inl, inr, refl, sym, ◌∙◌, ap, ap₂, subst, arith}
 use Rattle.std.specs.List.{All, AllZip}
 use Rattle.std.proofs.lemmas.Bool.{and_parts}
 use Rattle.std.proofs.lemmas.Option.{none-some, same_Some, slice_get-get_or, slice_get_within}
@@ -13,11 +13,11 @@ use Rattle.vw_design.specs.declared.item.Item.{Item}
 use Rattle.vw_design.specs.declared.item.Item.TheVariants.{Names, Latch as LatchItem, Sub}
 use Rattle.vw_design.specs.declared.design.Design.{Design}
 use Rattle.vw_design.specs.Lists.{turned}
-use Rattle.vw_design.specs.Paths.{Word, Path}
+use Rattle.vw_design.specs.Paths.{Word}
 use Rattle.vw_design.specs.Preorder.{Site, cells}
 use Rattle.vw_design.specs.Limits.{cell_count}
 use Rattle.vw_design.specs.Flattened.{IsFlatOf, IsCellOf}
-use Rattle.vw_design.specs.Loops.{Gate as GateAt, gate_at, gate_reads, IsLoop}
+use Rattle.vw_design.specs.Loops.{Gate as GateAt, gate_at, gate_reads}
 use Rattle.vw_design.proofs.FlatReads.{reads_agree}
 use Rattle.vw_design.proofs.Lists.{AllZip-length}
 use Rattle.vw_design.proofs.Has.{Has, Has-at}

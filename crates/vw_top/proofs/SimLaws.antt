@@ -1,5 +1,5 @@
 -- What the table of statuses says of the files of `sim`, and of words that spell no command.
-use Rattle.std.proofs.Common.{◌≡◌, ◌<◌, ◌⊎◌, ℕ, Bool, List, [], ◌∷◌, length, Ok, Err, refl, sym, ◌∙◌, ap, ap₂, subst, inl, inr, ⊎_elim, arith}
+use Rattle.std.proofs.Common.{◌≡◌, ◌<◌, ◌⊎◌, ℕ, Bool, List, length, Ok, Err, refl, sym, ◌∙◌, ap, ap₂, subst, inl, inr, ⊎_elim, arith}
 use Rattle.vw_design.specs.declared.design.Design.{Design as Spelled}
 use Rattle.vw_design.specs.Clocks.{columns}
 use Rattle.vw_outside.specs.Told.{Told, absent, held, IsTextOf}

@@ -1,4 +1,4 @@
-use Rattle.std.proofs.Common.{◌≡◌, ◌<◌, ℕ, List, Some, option_map, slice_get, sym, ◌∙◌, ap, subst}
+use Rattle.std.proofs.Common.{◌≡◌, ◌<◌, ℕ, List, Some, option_map, slice_get, sym, subst}
 use Rattle.std.specs.List.{All, AllZip}
 use Rattle.vw_design.specs.Limits.{cell_count}
 use Rattle.vw_design.specs.Paths.{Word}
@@ -6,7 +6,6 @@ use Rattle.vw_design.specs.Preorder.{cells}
 use Rattle.vw_flat.specs.Printed.{printed_site}
 use Rattle.vw_order.specs.Faults.{IsOrderFault}
 use Rattle.vw_order.specs.Loops.{IsLoop}
-use Rattle.vw_top.specs.declared.reason.Reason.{Reason}
 use Rattle.vw_top.specs.Steps.Made.{RefusesLoop}
 use Rattle.vw_top.proofs.Gates.{within_cells, loop_named}
 use Rattle.vw_top.proofs.design.refuse_loop.Goals as goal

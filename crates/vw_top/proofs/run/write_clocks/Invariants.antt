@@ -1,6 +1,5 @@
 -- the lines of the rows that are left are left to be written
 use Rattle.std.proofs.Common.{◌≡◌, ◌≤◌, ◌+◌, ◌-◌, length, drop}
-use Rattle.std.specs.List.{All}
 use Rattle.vw_net.specs.Cells.{latch_count}
 use Rattle.vw_net.specs.History.{state_after}
 use Rattle.vw_outside.proofs.PiecesWritten.{IsLeft}
