@@ -21,7 +21,6 @@ pub mod LoopFree
 pub mod Once
 pub mod Weights
 pub mod Heights
-pub mod SlotDrivers
 pub mod ClaimedOnce
 pub mod Closed
 pub mod Circles

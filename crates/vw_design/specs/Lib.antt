@@ -16,5 +16,4 @@ pub mod NetFaults
 pub mod Accepted
 pub mod Loops
 pub mod Counts
-pub mod Slots
 pub mod ModelNumbers

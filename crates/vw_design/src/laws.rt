@@ -9,9 +9,7 @@ mod values;
 pub use counts::{
     counts_are_weights, heights_are_counted, numbers_are_counts, weights_are_counted,
 };
-pub use drivers::{
-    claims_are_single, drivers_are_one, drivers_turn, reads_are_numbered, slots_give_drivers,
-};
+pub use drivers::{claims_are_single, drivers_are_one, drivers_turn, reads_are_numbered};
 pub use faults::{faults_are_exact, sizes_are_small};
 pub use models::{ranked_models, reached_models};
 pub use sites::{instances_are_listed, items_are_once, items_are_sites, sites_are_items};

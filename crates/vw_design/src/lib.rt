@@ -13,7 +13,7 @@ pub use laws::{
     faults_are_exact, gates_have_their_values, heights_are_counted, histories_agree,
     instances_are_listed, items_are_once, items_are_sites, numbers_are_counts,
     ordered_is_loop_free, ranked_models, reached_models, reads_agree, reads_are_numbered,
-    sites_are_items, sizes_are_small, slots_give_drivers, values_agree, weights_are_counted,
+    sites_are_items, sizes_are_small, values_agree, weights_are_counted,
 };
 pub use model::Model;
 

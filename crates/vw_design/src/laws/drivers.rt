@@ -8,7 +8,6 @@ ghost use Rattle.vw_design.specs.Preorder.{cells};
 ghost use Rattle.vw_design.specs.Reads.{data_reads};
 ghost use Rattle.vw_design.specs.Clocks.{columns};
 ghost use Rattle.vw_design.specs.Claims.{claims};
-ghost use Rattle.vw_design.specs.Slots.{by_slots, AreSlots};
 ghost use Rattle.vw_design.specs.NetFaults.{two_drivers};
 ghost use Rattle.vw_design.specs.Flattened.{number_of};
 ghost use Rattle.vw_design.specs.Accepted.{HasNoModelFault, IsAccepted};
@@ -32,13 +31,6 @@ pub fn reads_are_numbered()
     ensures { (design : Design) → IsAccepted design → (net : Net) → Contains (data_reads design) net
         → (number : ℕ) × (number_of design net.path net.name ≡ Some number)
         × (number < length (columns design) + length (cells design)) }
-{}
-
-/// Without a fault of models a right table of the formals that are bound gives each net its driver.
-pub fn slots_give_drivers()
-    ensures { (design : Design) (slot : Path → Word → Option Source) → AreSlots design slot
-        → HasNoModelFault design → (path : Path) (name : Word)
-        → by_slots design slot path name ≡ driver design path name }
 {}
 
 /// In an accepted design no net has two claims, and the net that has two drivers has two claims.
