@@ -74,6 +74,115 @@ clocks() {
   awk -v count="$1" -v width="$2" 'BEGIN { x = 3
     for (n = 0; n < count; n++) { row = ""; for (k = 0; k < width; k++) { x = (75 * x + 74) % 65537; row = row x % 2 } print row } }'
 }
+# crowd: 32,768 latches, and as many tables of 32 latches each, so that the tables of each of 32 chips read every latch
+crowd() {
+  awk 'BEGIN {
+    printf ".model m\n.inputs a\n.outputs\n"
+    for (n = 0; n < 32768; n++) printf ".latch l%d l%d 0\n", n, n
+    for (n = 0; n < 32768; n++) { printf ".names"; for (k = 0; k < 32; k++) printf " l%d", 32 * int(n / 32) + k; printf " g%d\n", n }
+    printf ".end\n" }'
+}
+# crowd_board: 32 chips, each joined to each other and the host to the first
+crowd_board() {
+  awk 'BEGIN {
+    printf "board 1\nchips 32\ncells 65536\nsettle 1\npins 4096\nlink 0 1 64\nlink 1 0 64\n"
+    for (a = 1; a <= 32; a++) for (b = 1; b <= 32; b++) if (a != b) printf "link %d %d 64\n", a, b }'
+}
+# crowd_plan LAST: the cells are dealt to the chips in turn, and each latch has a wire to each other chip; the last hop is
+# in this microcycle
+crowd_plan() {
+  awk -v last="$1" 'BEGIN {
+    printf "plan 1 65536 1015808 17\nchips"
+    for (n = 0; n < 65536; n++) printf " %d", n % 32 + 1
+    printf "\n"
+    for (n = 0; n < 32768; n++) {
+      from = n % 32 + 1; k = int(n / 32)
+      for (to = 1; to <= 32; to++) if (to != from) {
+        at = (n == 32767 && to == 31) ? last : int(k / 64)
+        printf "wire %d %d 1\nhop %d %d %d %d\n", n + 1, to, from, to, k % 64, at
+      }
+    }
+    printf "end\n" }'
+}
+# grid SIDE: cells in a square; each reads the ones left of it and above it, and every eighth column is latches
+grid() {
+  awk -v side="$1" 'BEGIN {
+    printf ".model m\n.inputs a b\n.outputs x%dy%d\n", side - 1, side - 1
+    for (y = 0; y < side; y++) for (x = 0; x < side; x++) {
+      left = x ? "x" (x - 1) "y" y : "a"; above = y ? "x" x "y" (y - 1) : "b"
+      if (x % 8 == 7) printf ".latch %s x%dy%d 0\n", left, x, y
+      else printf ".names %s %s x%dy%d\n10 1\n01 1\n", left, above, x, y
+    }
+    printf ".end\n" }'
+}
+# tree COUNT: each cell reads the two below it; the leaves are latches
+tree() {
+  awk -v count="$1" 'BEGIN {
+    printf ".model m\n.inputs a\n.outputs t1\n"
+    for (n = count; n >= 1; n--) {
+      if (2 * n + 1 > count) printf ".latch a t%d 0\n", n
+      else printf ".names t%d t%d t%d\n11 1\n", 2 * n, 2 * n + 1, n
+    }
+    printf ".end\n" }'
+}
+# window COUNT REACH: tables that read three of the nets before them within a window; every tenth cell is a latch
+window() {
+  awk -v count="$1" -v reach="$2" 'BEGIN {
+    x = 7; printf ".model m\n.inputs i\n.outputs n%d\n", count - 1
+    for (n = 0; n < count; n++) {
+      for (k = 0; k < 3; k++) { x = (75 * x + 74) % 65537; t = n - 1 - x % reach; net[k] = t < 0 ? "i" : "n" t }
+      if (n % 10 == 9) printf ".latch %s n%d 0\n", net[0], n
+      else printf ".names %s %s %s n%d\n11- 1\n--1 1\n", net[0], net[1], net[2], n
+    }
+    printf ".end\n" }'
+}
+# mesh ROWS COLUMNS ROOM WIDTH: chips in rows, each linked to its neighbours and to the host
+mesh() {
+  awk -v rows="$1" -v columns="$2" -v room="$3" -v width="$4" 'BEGIN {
+    chips = rows * columns
+    printf "board 1\nchips %d\ncells %d\nsettle 0\npins 4096\n", chips, room
+    for (a = 0; a <= chips; a++) for (b = 0; b <= chips; b++) {
+      p = a - 1; q = b - 1
+      beside = (q == p + 1 && q % columns) || (p == q + 1 && p % columns) || q == p + columns || p == q + columns
+      if (a != b && (a == 0 || b == 0 || beside)) printf "link %d %d %d\n", a, b, width
+    } }'
+}
+# wires_in_blocks DESIGN ROOM: the number of wires where the cells are dealt to the chips in their order
+wires_in_blocks() {
+  awk -v room="$2" '
+    function reads(net, node) { if (home[net] != node && !((net, node) in seen)) { seen[net, node] = 1; wires++ } }
+    FNR == 1 { pass++; cell = 0 }
+    $1 == ".inputs" && pass == 1 { for (k = 2; k <= NF; k++) home[$k] = 0 }
+    $1 == ".names" || $1 == ".latch" {
+      node = int(cell / room) + 1; cell++
+      if (pass == 1) home[$1 == ".names" ? $NF : $3] = node
+      else if ($1 == ".latch") reads($2, node)
+      else for (k = 2; k < NF; k++) reads($k, node)
+    }
+    $1 == ".outputs" && pass == 2 { for (k = 2; k <= NF; k++) reads($k, 0) }
+    END { print wires + 0 }' "$1" "$1"
+}
+# least_period DESIGN PLAN WIDTH: a bound for the period of a plan by phases. A phase takes as many microcycles as the fullest
+# link has hops for each pin, and as its longest wire has hops. Each gate of the design stands behind what it reads
+least_period() {
+  awk -v width="$3" '
+    function done() { if (wire && hops > longest[phase]) longest[phase] = hops }
+    FNR == 1 { file++ }
+    file == 1 && $1 == "chips" { for (k = 2; k <= NF; k++) chip[k - 2] = $k }
+    file == 2 && $1 == ".inputs" { for (k = 2; k <= NF; k++) { number[$k] = inputs; net[inputs++] = 0 } }
+    file == 2 && ($1 == ".names" || $1 == ".latch") {
+      node = chip[cell++]; out = $1 == ".names" ? $NF : $3; deep = 0
+      if ($1 == ".names") for (k = 2; k < NF; k++) { d = depth[number[$k]] + (net[number[$k]] != node); if (d > deep) deep = d }
+      number[out] = inputs + cell - 1; net[number[out]] = node; depth[number[out]] = deep
+    }
+    file == 3 && $1 == "wire" { done(); wire = 1; hops = 0; phase = depth[$2] + 0; if (phase > last) last = phase }
+    file == 3 && $1 == "hop" { hops++; load = ++used[phase, $2, $3]; if (load > most[phase]) most[phase] = load }
+    END {
+      done()
+      for (p = 0; p <= last; p++) { link = int((most[p] + width - 1) / width); sum += link > longest[p] ? link : longest[p] }
+      print sum + 0
+    }' "$2" "$1" "$2"
+}
 
 # ---- one run
 
@@ -156,3 +265,52 @@ row "65,536 cells in 20,000 instances over 200 clocks" 9147200 sim hierarchy.bli
 expect 0 ''
 echo
 echo "Cores: $(nproc)."
+
+echo
+echo "| plan | text, kB | status | message | seconds | peak, MB |"
+echo "|---|---|---|---|---|---|"
+# checked NAME PLAN: one line of the table of plans
+checked() {
+  measured check crowd.blif crowd.board "$2"
+  echo "| $1 | $(($(stat -c %s "$2") / 1000)) | $status | $(head -c 80 err) | $seconds | $peak |"
+}
+crowd >crowd.blif
+crowd_board >crowd.board
+crowd_plan 15 >sound.plan
+crowd_plan 0 >broken.plan
+crowd_plan 15 | head -n 2 >early.plan
+checked "1,015,808 hops of 65,536 cells on 32 chips, sound" sound.plan
+expect 0 ""
+checked "the same, the last hop on a pin that is in use" broken.plan
+expect 4 "plan 13: wire "
+checked "the same, cut behind its second line" early.plan
+expect 4 "plan 2: line 3"
+
+echo
+echo "| design | chips | wires in blocks | wires of the plan | period | bound of the period | seconds | peak, MB |"
+echo "|---|---|---|---|---|---|---|---|"
+# planned NAME CELLS ROWS COLUMNS WIDTH: one line of the table of plans that are made, of design.blif, with room for 3 % more cells
+planned() {
+  local chips=$(($3 * $4)) wires period
+  local room=$((($2 * 103 + 100 * chips - 1) / (100 * chips)))
+  mesh "$3" "$4" $room "$5" >mesh.board
+  measured plan design.blif mesh.board
+  expect 0 ""
+  read -r _ _ _ wires period <out
+  mv out made.plan
+  echo "| $1 | $chips | $(wires_in_blocks design.blif $room) | $wires | $period | $(least_period design.blif made.plan "$5") | $seconds | $peak |"
+  measured check design.blif mesh.board made.plan
+  expect 0 ""
+}
+grid 32 >design.blif
+planned "grid of 32 by 32" 1024 2 2 8
+grid 255 >design.blif
+planned "grid of 255 by 255" 65025 4 8 8
+tree 4095 >design.blif
+planned "tree of 4,095" 4095 4 4 8
+tree 65535 >design.blif
+planned "tree of 65,535" 65535 4 8 8
+window 4000 64 >design.blif
+planned "4,000 cells, window of 64" 4000 4 4 8
+window 65000 1000 >design.blif
+planned "65,000 cells, window of 1,000" 65000 4 8 8

@@ -1,16 +1,14 @@
 -- Designs that spell the same are the same.
-use Rattle.std.proofs.Common.{◌≡◌, ◌≤◌, ◌<◌, ◌^◌, ℕ, Bool, true, List, [], ◌∷◌, length, map, refl, sym, ap, ◌∙◌}
+use Rattle.std.proofs.Common.{◌≡◌, ◌<◌, ◌^◌, true, List, [], ◌∷◌, length, map, refl, sym, ap, ◌∙◌}
 use Rattle.std.specs.Prelude.{IsTrue}
 use Rattle.std.proofs.lemmas.Bool.{and_parts, eqb-true}
 use Rattle.std.proofs.lemmas.List.Elements.{All-head, All-tail}
 use Rattle.std.proofs.Math.Bridge.{le_prop}
 use Rattle.std.specs.List.{All, list_all}
-use Rattle.std.proofs.Math.Nat.{ℕ_set}
 use Rattle.std.proofs.Math.Bool.{Bool-set}
 use mathlib.Core.HLevel.{is_prop→PathP}
-use Rattle.vw_net.specs.declared.cover.Cover.{Cover}
 use Rattle.vw_net.specs.declared.cover.Row.{Row}
-use Rattle.vw_net.specs.declared.cover.Mark.{Mark}
+use Rattle.vw_net.proofs.SameCovers.{cover_same}
 use Rattle.vw_design.specs.declared.item.Bind.{Bind}
 use Rattle.vw_design.specs.declared.item.Item.{Item}
 use Rattle.vw_design.specs.declared.item.Item.TheVariants.{Names, Latch, Sub}
@@ -30,15 +28,6 @@ rows_same (row ∷ rows) (other ∷ others) e =
     let same : row ≡ other = λ i. record { marks = first i } in
     let all : rows ≡ others = rows_same rows others rest in
     λ i. same i ∷ all i
-
-cover_same : (one other : Cover) → one.inputs ≡ other.inputs → one.on ≡ other.on → one.rows ≡ other.rows → one ≡ other
-cover_same one other inputs on rows = λ i. record {
-  inputs = inputs i;
-  on = on i;
-  rows = rows i;
-  narrow = is_prop→PathP (λ j. inputs j ≤ 128) (λ j. le_prop) one.narrow other.narrow i;
-  even = is_prop→PathP (λ j. All (λ (row : Row). length row.marks ≡ inputs j) (rows j)) (λ j. hlevel ℕ_set) one.even other.even i;
-}
 
 bind_same : (one other : Bind) → spelled_bind one ≡ spelled_bind other → one ≡ other
 bind_same one other e =

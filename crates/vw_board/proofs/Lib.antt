@@ -5,3 +5,4 @@ mod Near
 mod LineNumbers
 mod Joins
 mod Spelled
+pub mod Accepted

@@ -1,5 +1,5 @@
 -- Board texts: the board that a text spells, or its fault. Source: this project.
-use Rattle.std.specs.Prelude.{◌≡◌, ◌<◌, ◌≤◌, ℕ, List, [], length, drop, Option, Some, None, ⊤, ◌⊎◌}
+use Rattle.std.specs.Prelude.{◌≡◌, ◌<◌, ◌≤◌, ℕ, Bool, true, false, List, [], length, drop, Option, Some, None, ⊤, ◌⊎◌}
 use Rattle.std.specs.Option.{option_or}
 use Rattle.vw_text.specs.declared.line.Line.{Line}
 use Rattle.vw_text.specs.WordLines.{word_lines}
@@ -69,3 +69,14 @@ pub record Accepts (text : List ℕ) (board : Board) : Type 0 where
 abbrev pub Refuses : List ℕ → BoardFault → Type 0
 Refuses text fault =
     ((fault ≡ TooLarge) × (1048576 < length text)) ⊎ ((length text ≤ 1048576) × RefusesLines (word_lines text) fault)
+
+-- whether a fault lies in the text; want of memory doesn't
+abbrev pub is_text_fault : BoardFault → Bool
+is_text_fault TooLarge = true
+is_text_fault (BadLine line) = true
+is_text_fault (BadNumber line) = true
+is_text_fault (SelfLink a) = true
+is_text_fault (DuplicateLink a b) = true
+is_text_fault (PinsExceeded chip used limit) = true
+is_text_fault (Unreachable a b) = true
+is_text_fault NoMemory = false

@@ -30,3 +30,4 @@ pub mod FlatReads
 pub mod Numbers
 pub mod OncePaths
 pub mod Ordered
+pub mod FlatOnce

@@ -1,11 +1,12 @@
 -- Tables, items and designs that are written out, for designs that are worked out by hand.
-use Rattle.std.proofs.Common.{◌≡◌, ◌<◌, ◌≤◌, ◌^◌, ◌&&◌, ◌==◌, ℕ, Bool, true, List, [], ◌∷◌, length, map, nat_lt, nat_le, All}
+use Rattle.std.proofs.Common.{◌≡◌, ◌<◌, ◌≤◌, ◌^◌, ◌&&◌, ◌==◌, ℕ, Bool, true, List, [], ◌∷◌, length, map, nat_lt, nat_le, All, refl}
 use Rattle.std.specs.List.{list_all}
 use Rattle.std.proofs.lemmas.Bool.{and_parts, ltb-true, leb-true, eqb-true}
 use Rattle.std.proofs.lemmas.List.Elements.{All-cons, All-nil}
 use Rattle.vw_net.specs.declared.cover.Mark.{Mark}
 use Rattle.vw_net.specs.declared.cover.Row.{Row}
 use Rattle.vw_net.specs.declared.cover.Cover.{Cover}
+use Rattle.vw_net.specs.Word.{table_word}
 use Rattle.vw_design.specs.declared.item.Bind.{Bind}
 use Rattle.vw_design.specs.declared.model.Model.{Model}
 use Rattle.vw_design.specs.declared.design.Design.{Design}
@@ -34,7 +35,7 @@ even_table inputs rows fits = even_rows inputs rows (and_parts (nat_le inputs 12
 
 -- a table, whose rows have its width
 abbrev pub table : (inputs : ℕ) (on : Bool) (rows : List (List Mark)) → (nat_le inputs 128 && list_all (λ (marks : List Mark). length marks == inputs) rows) ≡ true → Cover
-table inputs on rows fits = record { inputs = inputs; on = on; rows = map row rows; narrow = narrow_table inputs rows fits; even = even_table inputs rows fits }
+table inputs on rows fits = record { inputs = inputs; on = on; rows = map row rows; word = table_word inputs on (map row rows); narrow = narrow_table inputs rows fits; even = even_table inputs rows fits; word_is = refl }
 
 -- whether a model is well made, and whether some models are a design
 abbrev pub is_well_made : Model → Bool

@@ -2,3 +2,5 @@ pub mod Counts
 pub mod Histories
 pub mod Orders
 pub mod Levels
+pub mod Words
+pub mod SameCovers

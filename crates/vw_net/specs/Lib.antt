@@ -1,5 +1,6 @@
 pub mod Mark
 pub mod Cover
+pub mod Word
 pub mod Cells
 pub mod Order
 pub mod Value

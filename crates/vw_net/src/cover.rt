@@ -1,8 +1,10 @@
 ghost use Rattle.std.specs.Prelude.{◌≡◌, ◌≤◌, length, IfOk};
 ghost use Rattle.std.specs.List.{All};
 ghost use Rattle.vw_net.specs.Mark.{mark_matches, row_matches};
+ghost use Rattle.vw_net.specs.Word.{table_word};
 
 use crate::sequence::{Bits, Sequence};
+use crate::word::{WORD_INPUTS, bit_of, place_of, table_word};
 use std::alloc::{AllocError, Global};
 
 /// What a row asks of one input of its table. Source: the characters `0`, `1` and `-` of a BLIF table.
@@ -79,8 +81,11 @@ pub struct Cover {
     pub inputs: u32,
     pub on: bool,
     pub rows: Sequence<Row>,
+    /// Where there are at most six inputs: bit k is the value where input i has bit i of k.
+    word: u64,
     ghost narrow: { inputs ≤ 128 },
     ghost even: { All (λ row. length row.marks ≡ inputs) rows },
+    ghost word_is: { word ≡ table_word inputs on rows },
 }
 
 impl Cover {
@@ -94,7 +99,13 @@ impl Cover {
         ensures on { result.on ≡ on }
         ensures rows { result.rows ≡ rows }
     {
-        Cover { inputs, on, rows }
+        let word = table_word(inputs, on, rows.as_slice());
+        Cover {
+            inputs,
+            on,
+            rows,
+            word,
+        }
     }
 
     /// The number of inputs.
@@ -116,6 +127,13 @@ impl Cover {
         ensures { result.now ≡ self.now.rows }
     {
         self.rows.as_slice()
+    }
+
+    /// The word of its values, where it has at most six inputs: bit k is the value where input i has bit i of k.
+    pub fn word(&self) -> u64
+        ensures { result ≡ table_word self.now.inputs self.now.on self.now.rows }
+    {
+        self.word
     }
 
     /// A copy of the table.
@@ -141,6 +159,17 @@ impl Cover {
 
     /// The same for bits that lie in a slice.
     pub fn value_on(&self, bits: &[bool]) -> bool
+        requires { length bits.now ≡ self.now.inputs }
+        ensures { result ≡ cover_value self.now bits.now }
+    {
+        if self.inputs <= WORD_INPUTS {
+            return bit_of(self.word, place_of(bits));
+        }
+        self.value_by_rows(bits)
+    }
+
+    /// The same, row by row.
+    fn value_by_rows(&self, bits: &[bool]) -> bool
         requires { length bits.now ≡ self.now.inputs }
         ensures { result ≡ cover_value self.now bits.now }
     {

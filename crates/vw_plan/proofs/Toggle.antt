@@ -1,6 +1,6 @@
 -- A worked example: a toggle flip-flop on a board of two chips, each joined to the host and to the other chip. Its plan is
 -- sound. Where a gate takes one microcycle to settle, it isn't.
-use Rattle.std.proofs.Common.{◌≡◌, ◌≢◌, ◌<◌, ◌≤◌, ◌^◌, ◌&&◌, ◌==◌, not, ℕ, zero, suc, Bool, true, false, List, [], ◌∷◌, length, slice_get, Option, get_or, slice_index, take, nat_le, if◌then◌else◌, eqb, eq-eqb, leb-true, ne_eqb, ap, refl, IsTrue, subst, All, lit≤, arith}
+use Rattle.std.proofs.Common.{◌≡◌, ◌≢◌, ◌<◌, ◌≤◌, ◌^◌, ◌&&◌, ◌==◌, not, ℕ, zero, suc, Bool, true, false, List, [], ◌∷◌, length, map, slice_get, Option, get_or, slice_index, take, nat_le, if◌then◌else◌, eqb, eq-eqb, leb-true, ne_eqb, ap, refl, IsTrue, subst, All, lit≤, arith}
 use Rattle.std.specs.List.{AllPairs, list_all, count_by}
 use Rattle.std.proofs.lemmas.Bool.{and_parts, and_from, not-true, both_ways}
 use Rattle.std.specs.Option.{option_map_or}
@@ -15,6 +15,7 @@ use Rattle.vw_net.specs.declared.cover.Cover.{Cover}
 use Rattle.vw_net.specs.declared.flat.Flat.{Flat}
 use Rattle.vw_net.specs.declared.ordered.Ordered.{Ordered}
 use Rattle.vw_net.specs.Cells.{IsWellFormed}
+use Rattle.vw_net.specs.Word.{table_word}
 use Rattle.vw_net.specs.Order.{is_gate, is_among, is_ready, read_nets_at}
 use Rattle.vw_plan.specs.declared.link.Link.{Link}
 use Rattle.vw_plan.specs.declared.board.Board.{Board}
@@ -24,6 +25,7 @@ use Rattle.vw_plan.specs.declared.plan.Plan.{Plan}
 use Rattle.vw_plan.specs.Walks.{IsJoined}
 use Rattle.vw_plan.specs.Links.{HaveSameEnds}
 use Rattle.vw_plan.specs.Setting.{Setting, home}
+use Rattle.vw_plan.specs.Needs.{depth, needed_pairs}
 use Rattle.vw_plan.specs.Nets.{is_needed}
 use Rattle.vw_plan.specs.Lead.{lead, usable, brings}
 use Rattle.vw_plan.specs.Sound.{IsPlaced, IsRouted, IsRising, IsSound, IsSentWhenUsable, AreLatchesInTime, has_pin, share_pin, hops_of}
@@ -53,8 +55,10 @@ xor = record {
   inputs = 2;
   on = true;
   rows = record { marks = one_mark ∷ zero_mark ∷ [] } ∷ record { marks = zero_mark ∷ one_mark ∷ [] } ∷ [];
+  word = table_word 2 true (record { marks = one_mark ∷ zero_mark ∷ [] } ∷ record { marks = zero_mark ∷ one_mark ∷ [] } ∷ []);
   narrow = omega arith;
   even = two (λ row. length row.marks ≡ 2) (record { marks = one_mark ∷ zero_mark ∷ [] }) (record { marks = zero_mark ∷ one_mark ∷ [] }) refl refl;
+  word_is = refl;
 }
 
 -- net 0 is the input `en`; net 1 is the exclusive or of `en` and net 2; net 2 is the latch of net 1, and the output
@@ -208,6 +212,16 @@ one_wire (suc (suc zero)) (suc zero) = refl
 one_wire (suc (suc zero)) (suc (suc zero)) = refl
 one_wire (suc (suc (suc net))) node = far_net (suc (suc (suc net))) node (omega arith)
 one_wire net (suc (suc (suc node))) = far_node net (suc (suc (suc node))) (omega arith)
+
+-- ---- its needed pairs, and the depths of its nets
+
+needed_there : needed_pairs toggle (1 ∷ 2 ∷ []) ≡ record { net = 0; to = 1 } ∷ record { net = 1; to = 2 } ∷ record { net = 2; to = 0 } ∷ record { net = 2; to = 1 } ∷ []
+unfolding needed_pairs
+needed_there = refl
+
+depths_there : map (depth toggle (1 ∷ 2 ∷ [])) (0 ∷ 1 ∷ 2 ∷ []) ≡ 0 ∷ 1 ∷ 0 ∷ []
+unfolding depth
+depths_there = refl
 
 module _ (settle : ℕ) (quick : settle ≤ 15) where
   abbrev setting : Setting

@@ -4,4 +4,9 @@ pub mod Distance
 pub mod Nets
 pub mod Setting
 pub mod Lead
+pub mod Needs
+pub mod Ways
 pub mod Sound
+pub mod Earliest
+pub mod Routes
+pub mod Good

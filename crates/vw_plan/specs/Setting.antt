@@ -13,3 +13,7 @@ pub record Setting : Type 0 where
 -- the node of a net, by the plan
 abbrev pub home : Setting → ℕ → ℕ
 home setting net = node_of setting.ordered.flat setting.plan.chip_of net
+
+-- these three
+abbrev pub setting_of : Ordered → Board → Plan → Setting
+setting_of ordered board plan = record { ordered = ordered; board = board; plan = plan }

@@ -6,14 +6,19 @@ mod checked;
 mod laws;
 mod link;
 mod need;
+mod node;
 mod plan;
 mod wire;
 
 pub use board::Board;
 pub use checked::Checked;
-pub use laws::{distances_are_least, leads_settle};
+pub use laws::{
+    depths_are_deepest, depths_are_small, depths_settle, distances_are_least, leads_settle,
+    needed_pairs_are_needed,
+};
 pub use link::Link;
 pub use need::{Need, Route};
+pub use node::node_of;
 pub use plan::Plan;
 pub use wire::{Hop, Wire};
 

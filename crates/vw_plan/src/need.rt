@@ -2,8 +2,8 @@ ghost use Rattle.std.specs.Prelude.{◌≡◌};
 
 use vw_net::Sequence;
 
-/// A net, and a node other than its own where it is needed.
-#[derive(Clone, Copy, Debug, PartialEq, Eq)]
+/// A net, and a node other than its own where it is needed. Needs are ordered by net, and then by node.
+#[derive(Clone, Copy, Debug, PartialEq, Eq, PartialOrd, Ord)]
 pub struct Need {
     pub net: u32,
     /// The node where it is needed.

@@ -54,6 +54,17 @@ impl Plan {
         self.wires.as_slice()
     }
 
+    /// The number of hops of all wires.
+    pub fn hops(&self) -> u64
+        ensures { result ≡ sum_by (λ wire. length wire.hops) self.now.wires }
+    {
+        let mut count = 0;
+        for wire in self.wires.as_slice() {
+            count += wire.hops().len() as u64;
+        }
+        count
+    }
+
     /// The number of microcycles of one clock.
     pub fn period(&self) -> u64
         ensures { result ≡ self.now.period }

@@ -11,3 +11,4 @@ pub mod Faults
 pub mod Reached
 pub mod Ended
 pub mod OneLine
+pub mod Accepted

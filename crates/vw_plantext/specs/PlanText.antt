@@ -1,5 +1,5 @@
 -- Plan texts: the plan that a text spells, or its fault. Source: this project.
-use Rattle.std.specs.Prelude.{◌≡◌, ◌<◌, ◌≤◌, ℕ, List, length, ⊤}
+use Rattle.std.specs.Prelude.{◌≡◌, ◌<◌, ◌≤◌, ℕ, Bool, true, false, List, length, ⊤}
 use Rattle.vw_plan.specs.declared.plan.Plan.{Plan}
 use Rattle.vw_plantext.specs.declared.fault.PlanTextFault.{PlanTextFault}
 use Rattle.vw_plantext.specs.declared.fault.PlanTextFault.TheVariants.{TooLarge, BadLine, NoMemory}
@@ -18,3 +18,9 @@ abbrev pub Refuses : List ℕ → PlanTextFault → Type 0
 Refuses text TooLarge = 67108864 < length text
 Refuses text (BadLine line) = (length text ≤ 67108864) × IsFirstBadLine text line
 Refuses text NoMemory = ⊤
+
+-- whether a fault lies in the text; want of memory doesn't
+abbrev pub is_text_fault : PlanTextFault → Bool
+is_text_fault TooLarge = true
+is_text_fault (BadLine line) = true
+is_text_fault NoMemory = false

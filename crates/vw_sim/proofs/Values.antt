@@ -60,7 +60,7 @@ module _ (flat : Flat) (row state : List Bool) where
         ap (λ (at : ℕ). slice_index_or values at false) its_net ∙ bits number is_its ∙ sym (net_value-latch number is_its) ∙ ap (net_value flat row state) (sym its_net)
 
 -- the nets that latches take are below the number of nets
-latch_inputs-within : (nets : ℕ) (cells : List Cell) → All (IsWellFormed nets) cells → All (λ net. net < nets) (latch_inputs cells)
+pub latch_inputs-within : (nets : ℕ) (cells : List Cell) → All (IsWellFormed nets) cells → All (λ net. net < nets) (latch_inputs cells)
 latch_inputs-within nets [] fit = All-nil (λ net. net < nets)
 latch_inputs-within nets (Gate ins cover ∷ cells) fit = latch_inputs-within nets cells (All-tail (IsWellFormed nets) (Gate ins cover) cells fit)
 latch_inputs-within nets (Latch d init ∷ cells) fit =

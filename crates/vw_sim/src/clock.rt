@@ -32,7 +32,7 @@ pub fn step(ordered: &Ordered, inputs: &Bits, state: &mut Bits, values: &mut Bit
 }
 
 /// Puts the bit of each input into the place of its net.
-fn put_inputs(inputs: &Bits, values: &mut Bits)
+pub(crate) fn put_inputs(inputs: &Bits, values: &mut Bits)
     requires { length inputs.now ≤ length values.old }
     ensures { values.new ≡ inputs.now ++ drop (length inputs.now) values.old }
 {
@@ -86,7 +86,7 @@ fn put_gates(ordered: &Ordered, values: &mut Bits)
 }
 
 /// The value of a table where its inputs are these nets.
-fn gate_value(ins: &[u32], cover: &Cover, values: &Bits) -> bool
+pub(crate) fn gate_value(ins: &[u32], cover: &Cover, values: &Bits) -> bool
     requires arity { length ins.now ≡ cover.now.inputs }
     requires within { All (λ net. net < length values.now) ins.now }
     ensures { result ≡ cover_value cover.now (bits_at values.now ins.now) }

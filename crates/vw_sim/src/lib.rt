@@ -2,5 +2,7 @@
 #![tactic(auto)]
 
 mod clock;
+mod machine;
 
 pub use clock::step;
+pub use machine::Machine;

@@ -7,11 +7,11 @@ use Rattle.vw_outside.proofs.PiecesWritten.{appended-nil}
 use Rattle.vw_top.specs.declared.stop.File.{File}
 use Rattle.vw_top.specs.declared.stop.Stop.TheVariants.{ReadFault, WriteFault, NoMemory}
 use Rattle.vw_top.specs.declared.reason.Reason.{Reason}
-use Rattle.vw_top.specs.declared.reason.Reason.TheVariants.{Design, Elaboration, Loop, Usage, Stimulus}
+use Rattle.vw_top.specs.declared.reason.Reason.TheVariants.{Design, Elaboration, Loop, Usage, Board, PlanText, Plan, Stimulus, Fit}
 use Rattle.vw_top.specs.declared.refusal.Refusal.{Refusal}
 use Rattle.vw_top.specs.declared.endings.Unfinished.TheVariants.{Stopped, Refused}
 use Rattle.vw_top.specs.Reasons.{reason_status}
-use Rattle.vw_top.specs.Course.{Course, writes, refuses, reads, judges, Outside, Answer, Follows, EndsWriting, EndsRefused, EndsReading, MayWrite, MayRefuse, AtFile, Outcome, writing, refusing, missing, ComesTo}
+use Rattle.vw_top.specs.Course.{Course, writes, refuses, reads, makes, Outside, Answer, Follows, EndsWriting, EndsRefused, EndsReading, MayWrite, MayRefuse, AtFile, Outcome, writing, refusing, missing, ComesTo}
 use Rattle.vw_top.specs.Endings.{answer_status}
 use Rattle.vw_top.specs.Statuses.{IsDone, IsReadFault, IsWriteFault, IsWantOfMemory, LeavesPart, Statuses}
 
@@ -24,8 +24,8 @@ module _ (before after : Outside) where
   done_by (reads file name next) (inl ends) = absurd ends
   done_by (reads file name next) (inr (text, is, goes)) =
       let done = done_by (next text) goes in record { text = done.text; may = (text, is, done.may); leaves = done.leaves }
-  done_by (judges A Good Bad apart next) (inl ends) = absurd ends
-  done_by (judges A Good Bad apart next) (inr (x, good, goes)) =
+  done_by (makes A Good Bad Comes apart sure next) (inl ends) = absurd ends
+  done_by (makes A Good Bad Comes apart sure next) (inr (x, good, goes)) =
       let done = done_by (next x good) goes in record { text = done.text; may = (x, good, done.may); leaves = done.leaves }
 
   refused_by : (course : Course) (refusal : Refusal) → Follows course before after (Err (Refused refusal)) → MayRefuse course before.shelf.told refusal.reason × (after ≡ before)
@@ -34,8 +34,8 @@ module _ (before after : Outside) where
   refused_by (reads file name next) refusal (inl ends) = absurd ends
   refused_by (reads file name next) refusal (inr (text, is, goes)) =
       let refused = refused_by (next text) refusal goes in ((text, is, refused.0), refused.1)
-  refused_by (judges A Good Bad apart next) refusal (inl ends) = (inl ends.1, ends.0)
-  refused_by (judges A Good Bad apart next) refusal (inr (x, good, goes)) =
+  refused_by (makes A Good Bad Comes apart sure next) refusal (inl ends) = (inl ends.1, ends.0)
+  refused_by (makes A Good Bad Comes apart sure next) refusal (inr (x, good, goes)) =
       let refused = refused_by (next x good) refusal goes in (inr (x, good, refused.0), refused.1)
 
   read_by : (course : Course) (file : File) → Follows course before after (Err (Stopped (ReadFault file))) → IsReadFault course before after
@@ -46,8 +46,8 @@ module _ (before after : Outside) where
   read_by (reads file name next) other (inr (text, is, goes)) =
       let fault = read_by (next text) other goes in
       record { file = fault.file; name = fault.name; may = inr (text, is, fault.may); counted = fault.counted; leaves = fault.leaves }
-  read_by (judges A Good Bad apart next) file (inl ends) = absurd ends
-  read_by (judges A Good Bad apart next) file (inr (x, good, goes)) =
+  read_by (makes A Good Bad Comes apart sure next) file (inl ends) = absurd ends
+  read_by (makes A Good Bad Comes apart sure next) file (inr (x, good, goes)) =
       let fault = read_by (next x good) file goes in
       record { file = fault.file; name = fault.name; may = (x, good, fault.may); counted = fault.counted; leaves = fault.leaves }
 
@@ -58,8 +58,8 @@ module _ (before after : Outside) where
   write_by (reads file name next) (inr (text, is, goes)) =
       let fault = write_by (next text) goes in
       record { text = fault.text; may = (text, is, fault.may); counted = fault.counted; leaves = fault.leaves }
-  write_by (judges A Good Bad apart next) (inl ends) = absurd ends
-  write_by (judges A Good Bad apart next) (inr (x, good, goes)) =
+  write_by (makes A Good Bad Comes apart sure next) (inl ends) = absurd ends
+  write_by (makes A Good Bad Comes apart sure next) (inr (x, good, goes)) =
       let fault = write_by (next x good) goes in
       record { text = fault.text; may = (x, good, fault.may); counted = fault.counted; leaves = fault.leaves }
 
@@ -82,10 +82,10 @@ module _ (before after : Outside) where
       let want = memory_by (next text) goes in
       let further : (t : List ℕ) → MayWrite (next text) before.shelf.told t → MayWrite (reads file name next) before.shelf.told t = λ t may. (text, is, may) in
       record { part = some_part want.part further; leaves = want.leaves }
-  memory_by (judges A Good Bad apart next) (inl ends) = unchanged (judges A Good Bad apart next) ends
-  memory_by (judges A Good Bad apart next) (inr (x, good, goes)) =
+  memory_by (makes A Good Bad Comes apart sure next) (inl ends) = unchanged (makes A Good Bad Comes apart sure next) ends
+  memory_by (makes A Good Bad Comes apart sure next) (inr (x, good, goes)) =
       let want = memory_by (next x good) goes in
-      let further : (t : List ℕ) → MayWrite (next x good) before.shelf.told t → MayWrite (judges A Good Bad apart next) before.shelf.told t = λ t may. (x, good, may) in
+      let further : (t : List ℕ) → MayWrite (next x good) before.shelf.told t → MayWrite (makes A Good Bad Comes apart sure next) before.shelf.told t = λ t may. (x, good, may) in
       record { part = some_part want.part further; leaves = want.leaves }
 
 -- a call that is refused could have ended for want of memory
@@ -95,8 +95,8 @@ module _ (before after : Outside) where
   memory_instead (refuses reason) refusal ends = ends.0
   memory_instead (reads file name next) refusal (inl ends) = absurd ends
   memory_instead (reads file name next) refusal (inr (text, is, goes)) = inr (text, is, memory_instead (next text) refusal goes)
-  memory_instead (judges A Good Bad apart next) refusal (inl ends) = inl ends.0
-  memory_instead (judges A Good Bad apart next) refusal (inr (x, good, goes)) = inr (x, good, memory_instead (next x good) refusal goes)
+  memory_instead (makes A Good Bad Comes apart sure next) refusal (inl ends) = inl ends.0
+  memory_instead (makes A Good Bad Comes apart sure next) refusal (inr (x, good, goes)) = inr (x, good, memory_instead (next x good) refusal goes)
 
 -- ---- what it comes to
 
@@ -143,30 +143,10 @@ module _ (outcome : Outcome) (before after : Outside) (answer : Answer) where
   outcome_agrees (reads file name next) comes (inr (text, is, goes)) =
       let Next : List ℕ → Type 0 = λ t. ComesTo outcome (next t) before.shelf.told in
       outcome_agrees (next text) (at_text (before.shelf.told name) text (outcome ≡ missing) Next is comes) goes
-  outcome_agrees (judges A Good Bad apart next) (inl comes) (inl ends) = refused_agrees outcome Bad before after answer (λ reason bad. comes.0) ends
-  outcome_agrees (judges A Good Bad apart next) (inl comes) (inr (x, good, goes)) = absurd (apart x comes.1 good comes.2)
-  outcome_agrees (judges A Good Bad apart next) (inr (some, all)) (inl ends) = refused_agrees outcome Bad before after answer (λ reason bad. absurd (apart some.0 reason some.1 bad)) ends
-  outcome_agrees (judges A Good Bad apart next) (inr (some, all)) (inr (x, good, goes)) = outcome_agrees (next x good) (all x good) goes
-
--- a file with an outcome may have a text, or the outcome is that of an absent file
-text_at : (told : Told) (Absent : Type 0) (Held : List ℕ → Type 0) → AtFile told Absent Held → Absent ⊎ ((text : List ℕ) × IsTextOf told text × Held text)
-text_at untold Absent Held at = absurd at
-text_at absent Absent Held at = inl at
-text_at (held bytes) Absent Held at = inr (bytes, refl, at)
-
--- a course that comes to writing may write some text
-pub some_text : (told : List ℕ → Told) (course : Course) → ComesTo writing course told → (text : List ℕ) × MayWrite course told text
-some_text told (writes text) comes = (text, refl)
-some_text told (refuses reason) comes = absurd (cc)
-some_text told (reads file name next) comes =
-    ⊎_elim
-    (λ (wrong : writing ≡ missing). absurd (cc))
-    (λ (read : (text : List ℕ) × IsTextOf (told name) text × ComesTo writing (next text) told).
-    let later = some_text told (next read.0) read.2 in (later.0, (read.0, read.1, later.1)))
-    (text_at (told name) (writing ≡ missing) (λ t. ComesTo writing (next t) told) comes)
-some_text told (judges A Good Bad apart next) (inl comes) = absurd (let wrong = comes.0 in cc)
-some_text told (judges A Good Bad apart next) (inr (some, all)) =
-    let later = some_text told (next some.0 some.1) (all some.0 some.1) in (later.0, (some.0, some.1, later.1))
+  outcome_agrees (makes A Good Bad Comes apart sure next) (inl comes) (inl ends) = refused_agrees outcome Bad before after answer (λ reason bad. comes.0) ends
+  outcome_agrees (makes A Good Bad Comes apart sure next) (inl comes) (inr (x, good, goes)) = absurd (apart x comes.1 good comes.2)
+  outcome_agrees (makes A Good Bad Comes apart sure next) (inr (some, all)) (inl ends) = refused_agrees outcome Bad before after answer (λ reason bad. absurd (sure reason some bad)) ends
+  outcome_agrees (makes A Good Bad Comes apart sure next) (inr (some, all)) (inr (x, good, goes)) = outcome_agrees (next x good) (all x good) goes
 
 -- ---- the table
 
@@ -176,32 +156,28 @@ refusal_status (Design fault) = (lit< tt, lit< tt)
 refusal_status (Elaboration fault) = (lit< tt, lit< tt)
 refusal_status (Loop names) = (lit< tt, lit< tt)
 refusal_status (Usage place) = (lit< tt, lit< tt)
+refusal_status (Board fault) = (lit< tt, lit< tt)
+refusal_status (PlanText fault) = (lit< tt, lit< tt)
+refusal_status (Plan fault) = (lit< tt, lit< tt)
 refusal_status (Stimulus fault) = (lit< tt, lit< tt)
+refusal_status (Fit cells room) = (lit< tt, lit< tt)
 
 -- a text that was written whole
 whole_part : (text : List ℕ) (before after : SeenSink) → after ≡ appended before text → LeavesPart text before after
 whole_part text before after all = inl (length text, omega arith, all ∙ ap (appended before) (sym (take-length text)))
 
 -- out as it was has the empty part of any text
-none_written : (text : List ℕ) (before after : SeenSink) → after ≡ before → LeavesPart text before after
+pub none_written : (text : List ℕ) (before after : SeenSink) → after ≡ before → LeavesPart text before after
 none_written text before after same = inl (0, omega arith, same ∙ sym (appended-nil before))
 
 module _ (course : Course) (before after : Outside) where
-  abbrev told : List ℕ → Told
-  told = before.shelf.told
-
-  abbrev Part : Type 0
-  Part = (text : List ℕ) × MayWrite course told text × LeavesPart text before.out after.out
-
-  -- out as it was, where the course comes to writing
-  untouched_part : after.out ≡ before.out → ComesTo writing course told → Part
-  untouched_part same comes = let some = some_text told course comes in (some.0, some.1, none_written some.0 before.out after.out same)
-
-  memory_part : IsWantOfMemory course before after → ComesTo writing course told → Part
-  memory_part want comes =
+  -- out as it was, or a part of a text, where memory ran out
+  memory_part : IsWantOfMemory course before after
+      → (after.out ≡ before.out) ⊎ ((text : List ℕ) × MayWrite course before.shelf.told text × LeavesPart text before.out after.out)
+  memory_part want =
       ⊎_elim
-      (λ (same : after.out ≡ before.out). untouched_part same comes)
-      (λ (some : (text : List ℕ) × MayWrite course told text × WrotePart text before.out after.out). (some.0, some.1, inl some.2))
+      (λ (same : after.out ≡ before.out). inl same)
+      (λ (some : (text : List ℕ) × MayWrite course before.shelf.told text × WrotePart text before.out after.out). inr (some.0, some.1, inl some.2))
       want.part
 
   pub statuses : (answer : Answer) → Follows course before after answer → Statuses course before after (answer_status answer)
@@ -215,7 +191,7 @@ module _ (course : Course) (before after : Outside) where
         want_of_memory = λ status. absurd (omega arith);
         known = lit< tt;
         accepted = λ comes. inl refl;
-        part = λ comes. (is.text, is.may, whole_part is.text before.out after.out (ap (λ (o : Outside). o.out) is.leaves));
+        part = λ comes. inr (is.text, is.may, whole_part is.text before.out after.out (ap (λ (o : Outside). o.out) is.leaves));
         rejected = λ comes. absurd (let wrong = outcome_agrees refusing before after (Ok tt) course comes follows in cc);
         absent_file = λ comes. absurd (let wrong = outcome_agrees missing before after (Ok tt) course comes follows in cc);
       }
@@ -229,7 +205,7 @@ module _ (course : Course) (before after : Outside) where
         want_of_memory = λ status. absurd (omega arith);
         known = lit< tt;
         accepted = λ comes. inr (inr (inl refl));
-        part = λ comes. (is.text, is.may, inr is.counted);
+        part = λ comes. inr (is.text, is.may, inr is.counted);
         rejected = λ comes. absurd (let wrong = outcome_agrees refusing before after (Err (Stopped WriteFault)) course comes follows in cc);
         absent_file = λ comes. absurd (let wrong = outcome_agrees missing before after (Err (Stopped WriteFault)) course comes follows in cc);
       }
@@ -243,7 +219,7 @@ module _ (course : Course) (before after : Outside) where
         want_of_memory = λ status. is;
         known = lit< tt;
         accepted = λ comes. inr (inr (inr refl));
-        part = λ comes. memory_part is comes;
+        part = λ comes. memory_part is;
         rejected = λ comes. inr (inr refl);
         absent_file = λ comes. inr refl;
       }
@@ -257,7 +233,7 @@ module _ (course : Course) (before after : Outside) where
         want_of_memory = λ status. absurd (omega arith);
         known = lit< tt;
         accepted = λ comes. inr (inl refl);
-        part = λ comes. untouched_part is.leaves comes;
+        part = λ comes. inl is.leaves;
         rejected = λ comes. inr (inl refl);
         absent_file = λ comes. inl refl;
       }

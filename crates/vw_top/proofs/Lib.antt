@@ -5,3 +5,5 @@ pub mod StageLaws
 pub mod SimLaws
 pub mod Gates
 pub mod FlatTraces
+pub mod CheckLaws
+pub mod PlanLaws

@@ -15,32 +15,37 @@ use Rattle.vw_top.specs.Reasons.{reason_status}
 use Rattle.vw_top.specs.Designs.{IsDesignOf, RefusesDesign, IsNoDesign, spells_once, design_apart}
 use Rattle.vw_top.specs.Course.{Course, refuses, Outside, outside, MayWrite, MayRefuse, MayRead, AtFile, writing, refusing, missing, ComesTo}
 use Rattle.vw_top.specs.Statuses.{Statuses, IsRefusal, IsWantOfMemory, LeavesPart}
+use Rattle.vw_top.proofs.CourseLaws.{none_written}
 use Rattle.vw_top.specs.Commands.{sim_course, trace_of}
-use Rattle.vw_top.specs.CommandStatuses.{SimStatuses, UsageStatuses, Yields}
+use Rattle.vw_top.specs.CommandStatuses.{IsAccepted, SimStatuses, UsageStatuses, Yields}
 use Rattle.vw_top.proofs.StageLaws.{same_outside}
 
 -- ---- what is told of a file
 
 -- the text of a name that is held
-its_text : (told : Told) (text bytes : List ℕ) → told ≡ held bytes → IsTextOf told text → text ≡ bytes
+pub its_text : (told : Told) (text bytes : List ℕ) → told ≡ held bytes → IsTextOf told text → text ≡ bytes
 its_text told text bytes is may = subst (λ (t : Told). IsTextOf t text) is may
 
-no_text : (told : Told) (text : List ℕ) → told ≡ absent → IsTextOf told text → ⊥
+pub no_text : (told : Told) (text : List ℕ) → told ≡ absent → IsTextOf told text → ⊥
 no_text told text is may = subst (λ (t : Told). IsTextOf t text) is may
 
-at_held : (told : Told) (bytes : List ℕ) (Absent : Type 0) (Held : List ℕ → Type 0) → told ≡ held bytes → Held bytes → AtFile told Absent Held
+pub at_held : (told : Told) (bytes : List ℕ) (Absent : Type 0) (Held : List ℕ → Type 0) → told ≡ held bytes → Held bytes → AtFile told Absent Held
 at_held told bytes Absent Held is here = subst (λ (t : Told). AtFile t Absent Held) (sym is) here
 
-at_absent : (told : Told) (Absent : Type 0) (Held : List ℕ → Type 0) → told ≡ absent → Absent → AtFile told Absent Held
+pub at_absent : (told : Told) (Absent : Type 0) (Held : List ℕ → Type 0) → told ≡ absent → Absent → AtFile told Absent Held
 at_absent told Absent Held is here = subst (λ (t : Told). AtFile t Absent Held) (sym is) here
 
 -- a text without a design is refused, with status 1
-status_one : (d : List ℕ) (reason : Reason) → RefusesDesign d reason → reason_status reason ≡ 1
+pub status_one : (d : List ℕ) (reason : Reason) → RefusesDesign d reason → reason_status reason ≡ 1
 status_one d (reasons.Design fault) refused = refl
 status_one d (reasons.Elaboration fault) refused = refl
 status_one d (reasons.Loop names) refused = refl
 status_one d (reasons.Usage place) refused = absurd refused
+status_one d (reasons.Board fault) refused = absurd refused
+status_one d (reasons.PlanText fault) refused = absurd refused
+status_one d (reasons.Plan fault) refused = absurd refused
 status_one d (reasons.Stimulus fault) refused = absurd refused
+status_one d (reasons.Fit cells room) refused = absurd refused
 
 no_both : (d : List ℕ) (spelled : Spelled) → IsDesignOf d spelled → IsNoDesign d → ⊥
 no_both d spelled is none = design_apart d spelled none.0 is none.1
@@ -201,6 +206,18 @@ module _ (design stimulus : List ℕ) (unknown : Bool) (before after : Outside) 
   ends_or_stops P Q refused stopped (inl (some, few)) = inl (refused some few)
   ends_or_stops P Q refused stopped (inr stops) = inr (stopped stops)
 
+  -- what `sim` writes is the trace of the design and the rows that its files have
+  text_of : (spelled : Spelled) (rows : List (List Bool)) (text : List ℕ) (accepted : IsAccepted design stimulus before spelled rows) → MayWrite (sim_course design stimulus unknown) told text → text ≡ trace_of unknown spelled rows
+  text_of spelled rows text accepted may =
+      let w = what design stimulus unknown told text may in
+      let its_design : IsDesignOf accepted.design_text w.spelled = subst (λ (t : List ℕ). IsDesignOf t w.spelled) (its_text (told design) w.d accepted.design_text accepted.design_held w.d_is) w.its_design in
+      let same = same_design accepted.design_text spelled w.spelled accepted.is its_design in
+      let read : stimulus_rows (length (columns w.spelled)) accepted.stimulus_text ≡ Ok w.rows =
+      subst (λ (t : List ℕ). stimulus_rows (length (columns w.spelled)) t ≡ Ok w.rows) (its_text (told stimulus) w.s accepted.stimulus_text accepted.stimulus_held w.s_is) w.are in
+      let said = sym read ∙ ap (λ (one : Spelled). stimulus_rows (length (columns one)) accepted.stimulus_text) same ∙ accepted.read in
+      let same_rows : w.rows ≡ rows = cc in
+      w.text_is ∙ ap₂ (trace_of unknown) same same_rows
+
   pub sim_table : SimStatuses design stimulus unknown before after status
   sim_table = record {
     done = λ d s held_d held_s is.
@@ -235,15 +252,11 @@ module _ (design stimulus : List ℕ) (unknown : Bool) (before after : Outside) 
       λ is. omega (arith, no_other (omega arith) (omega arith)),
     );
     part = λ spelled rows accepted.
-        let part = table.part (comes_to_trace design stimulus unknown told accepted.design_text accepted.stimulus_text spelled rows accepted.design_held accepted.stimulus_held accepted.is accepted.read) in
-        let w = what design stimulus unknown told part.0 part.1 in
-        let its_design : IsDesignOf accepted.design_text w.spelled = subst (λ (t : List ℕ). IsDesignOf t w.spelled) (its_text (told design) w.d accepted.design_text accepted.design_held w.d_is) w.its_design in
-        let same = same_design accepted.design_text spelled w.spelled accepted.is its_design in
-        let read : stimulus_rows (length (columns w.spelled)) accepted.stimulus_text ≡ Ok w.rows =
-        subst (λ (t : List ℕ). stimulus_rows (length (columns w.spelled)) t ≡ Ok w.rows) (its_text (told stimulus) w.s accepted.stimulus_text accepted.stimulus_held w.s_is) w.are in
-        let said = sym read ∙ ap (λ (one : Spelled). stimulus_rows (length (columns one)) accepted.stimulus_text) same ∙ accepted.read in
-        let same_rows : w.rows ≡ rows = cc in
-        subst (λ (t : List ℕ). LeavesPart t before.out after.out) (w.text_is ∙ ap₂ (trace_of unknown) same same_rows) part.2;
+        ⊎_elim
+        (λ (same : after.out ≡ before.out). none_written (trace_of unknown spelled rows) before.out after.out same)
+        (λ (some : (text : List ℕ) × MayWrite (sim_course design stimulus unknown) told text × LeavesPart text before.out after.out).
+        subst (λ (t : List ℕ). LeavesPart t before.out after.out) (text_of spelled rows some.0 accepted some.1) some.2)
+        (table.part (comes_to_trace design stimulus unknown told accepted.design_text accepted.stimulus_text spelled rows accepted.design_held accepted.stimulus_held accepted.is accepted.read));
     absent_design = λ gone.
         missing_leaves (table.absent_file (comes_to_no_file design stimulus unknown told gone))
         (λ text may. let w = what design stimulus unknown told text may in no_text (told design) w.d gone w.d_is);

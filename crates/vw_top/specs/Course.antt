@@ -17,10 +17,18 @@ pub data Course : Type 1 where
   refuses : (reason : Reason) → Course
   -- it reads the text of a file of this name, and goes on by it
   reads : (file : File) (name : List ℕ) (next : List ℕ → Course) → Course
-  -- it goes on by something good, or refuses for a bad reason; where there is the one, there is not the other
-  judges : (A : Type 0) (Good : A → Type 0) (Bad : Reason → Type 0)
+  -- it makes something good and goes on by it, or refuses for a bad reason; where there is the one, there is not the
+  -- other, and no reason is bad where something comes to be made
+  makes : (A : Type 0) (Good : A → Type 0) (Bad : Reason → Type 0) (Comes : Type 0)
       → ((x : A) (reason : Reason) → Good x → Bad reason → ⊥)
+      → ((reason : Reason) → Comes → Bad reason → ⊥)
       → ((x : A) → Good x → Course) → Course
+
+-- it goes on by something good wherever there is such a thing, or refuses for a bad reason
+abbrev pub judges : (A : Type 0) (Good : A → Type 0) (Bad : Reason → Type 0)
+    → ((x : A) (reason : Reason) → Good x → Bad reason → ⊥)
+    → ((x : A) → Good x → Course) → Course
+judges A Good Bad apart next = makes A Good Bad ((x : A) × Good x) apart (λ reason some bad. apart some.0 reason some.1 bad) next
 
 -- ---- how a call follows a course
 
@@ -68,7 +76,7 @@ Follows (refuses reason) before after answer = EndsRefused (λ other. other ≡ 
 Follows (reads file name next) before after answer =
     EndsReading file name before after answer
     ⊎ ((text : List ℕ) × IsTextOf (before.shelf.told name) text × Follows (next text) before after answer)
-Follows (judges A Good Bad apart next) before after answer =
+Follows (makes A Good Bad Comes apart sure next) before after answer =
     EndsRefused Bad before after answer
     ⊎ ((x : A) × (good : Good x) × Follows (next x good) before after answer)
 
@@ -79,14 +87,14 @@ abbrev pub MayWrite : Course → (List ℕ → Told) → List ℕ → Type 0
 MayWrite (writes text) told other = other ≡ text
 MayWrite (refuses reason) told other = ⊥
 MayWrite (reads file name next) told other = (text : List ℕ) × IsTextOf (told name) text × MayWrite (next text) told other
-MayWrite (judges A Good Bad apart next) told other = (x : A) × (good : Good x) × MayWrite (next x good) told other
+MayWrite (makes A Good Bad Comes apart sure next) told other = (x : A) × (good : Good x) × MayWrite (next x good) told other
 
 -- a reason for which it refuses
 abbrev pub MayRefuse : Course → (List ℕ → Told) → Reason → Type 0
 MayRefuse (writes text) told other = ⊥
 MayRefuse (refuses reason) told other = other ≡ reason
 MayRefuse (reads file name next) told other = (text : List ℕ) × IsTextOf (told name) text × MayRefuse (next text) told other
-MayRefuse (judges A Good Bad apart next) told other =
+MayRefuse (makes A Good Bad Comes apart sure next) told other =
     Bad other ⊎ ((x : A) × (good : Good x) × MayRefuse (next x good) told other)
 
 -- a file that it reads
@@ -95,7 +103,7 @@ MayRead (writes text) told other its = ⊥
 MayRead (refuses reason) told other its = ⊥
 MayRead (reads file name next) told other its =
     ((other ≡ file) × (its ≡ name)) ⊎ ((text : List ℕ) × IsTextOf (told name) text × MayRead (next text) told other its)
-MayRead (judges A Good Bad apart next) told other its = (x : A) × (good : Good x) × MayRead (next x good) told other its
+MayRead (makes A Good Bad Comes apart sure next) told other its = (x : A) × (good : Good x) × MayRead (next x good) told other its
 
 -- ---- what it comes to
 
@@ -117,6 +125,6 @@ ComesTo outcome (writes text) told = outcome ≡ writing
 ComesTo outcome (refuses reason) told = outcome ≡ refusing
 ComesTo outcome (reads file name next) told =
     AtFile (told name) (outcome ≡ missing) (λ text. ComesTo outcome (next text) told)
-ComesTo outcome (judges A Good Bad apart next) told =
+ComesTo outcome (makes A Good Bad Comes apart sure next) told =
     ((outcome ≡ refusing) × (reason : Reason) × Bad reason)
-    ⊎ (((x : A) × Good x) × ((x : A) (good : Good x) → ComesTo outcome (next x good) told))
+    ⊎ (Comes × ((x : A) (good : Good x) → ComesTo outcome (next x good) told))

@@ -2,10 +2,12 @@
 use Rattle.std.specs.Prelude.{◌≡◌, ◌<◌, ◌≤◌, ◌==◌, ℕ, List, map, length, slice_get, slice_index, Some, IsTrue, Result, Ok, Err}
 use Rattle.std.proofs.Common.{refl, sym, subst}
 use Rattle.std.specs.List.{AllZip, IsDistinct}
+use Rattle.vw_net.specs.declared.ordered.Ordered.{Ordered}
 use Rattle.vw_design.specs.declared.design.Design.{Design}
 use Rattle.vw_design.specs.Paths.{Word}
 use Rattle.vw_design.specs.Preorder.{Site, cells}
 use Rattle.vw_design.specs.Accepted.{IsAccepted}
+use Rattle.vw_design.specs.Flattened.{IsFlatOf}
 use Rattle.vw_design.specs.Loops.{gate_at, IsLoop, IsLoopFree}
 use Rattle.vw_blif.specs.declared.fault.TextFault.{TextFault}
 use Rattle.vw_blif.specs.Spelled.{SpelledModel, spelled_model}
@@ -27,6 +29,12 @@ pub record IsDesignOf (text : List ℕ) (design : Design) : Type 0 where
   pub accepted : IsAccepted design
   pub loop_free : IsLoopFree design
 
+-- a netlist of that design, with an order of its gates
+pub record IsNetlistOf (text : List ℕ) (ordered : Ordered) : Type 0 where
+  pub design : Design
+  pub is : IsDesignOf text design
+  pub flat : IsFlatOf design ordered.flat
+
 -- gates of a design that read each other in a circle, each the next one and the last one the first, with their numbers
 -- among the cells: none stands twice, and the least number stands first. They are named by the nets that they drive
 pub record IsLoopOf (design : Design) (names : List Word) : Type 0 where
@@ -44,7 +52,11 @@ RefusesDesign text (reasons.Design fault) = design_of text ≡ Err fault
 RefusesDesign text (reasons.Elaboration fault) = IsTrue (is_design_fault fault) × (design : Design) × Spells text design × IsRefusal design fault
 RefusesDesign text (reasons.Loop names) = (design : Design) × Spells text design × IsAccepted design × IsLoopOf design names
 RefusesDesign text (reasons.Usage place) = ⊥
+RefusesDesign text (reasons.Board fault) = ⊥
+RefusesDesign text (reasons.PlanText fault) = ⊥
+RefusesDesign text (reasons.Plan fault) = ⊥
 RefusesDesign text (reasons.Stimulus fault) = ⊥
+RefusesDesign text (reasons.Fit cells room) = ⊥
 
 -- there is such a reason
 abbrev pub IsNoDesign : List ℕ → Type 0
@@ -73,4 +85,11 @@ design_apart text design (reasons.Loop names) is refused =
     let gates = map gate_at refused.3.gates in
     is.loop_free gates (subst (λ (d : Design). IsLoop d gates) same refused.3.loop)
 design_apart text design (reasons.Usage place) is refused = refused
+design_apart text design (reasons.Board fault) is refused = refused
+design_apart text design (reasons.PlanText fault) is refused = refused
+design_apart text design (reasons.Plan fault) is refused = refused
 design_apart text design (reasons.Stimulus fault) is refused = refused
+design_apart text design (reasons.Fit cells room) is refused = refused
+
+abbrev pub netlist_apart : (text : List ℕ) (ordered : Ordered) (reason : Reason) → IsNetlistOf text ordered → RefusesDesign text reason → ⊥
+netlist_apart text ordered reason is refused = design_apart text is.design reason is.is refused

@@ -8,4 +8,6 @@ pub mod Statuses
 pub mod Designs
 pub mod Commands
 pub mod CommandStatuses
+pub mod CheckStatuses
+pub mod PlanStatuses
 pub mod Steps

@@ -5,18 +5,28 @@ use Rattle.vw_blif.specs.Messages.{fault_text as design_fault_text}
 use Rattle.vw_blif.specs.Read.{is_text_fault as is_design_fault}
 use Rattle.vw_elab.specs.Messages.{fault_text as elaboration_fault_text}
 use Rattle.vw_elab.specs.Refusals.{is_design_fault as is_elaboration_fault}
+use Rattle.vw_board.specs.Messages.{fault_text as board_fault_text}
+use Rattle.vw_board.specs.BoardText.{is_text_fault as is_board_fault}
+use Rattle.vw_plantext.specs.Messages.{fault_text as plan_text_fault_text}
+use Rattle.vw_plantext.specs.PlanText.{is_text_fault as is_plan_text_fault}
+use Rattle.vw_check.specs.Messages.{fault_text as plan_fault_text}
+use Rattle.vw_check.specs.Answers.{is_plan_fault}
 use Rattle.vw_rows.specs.Messages.{fault_text as stimulus_fault_text}
 use Rattle.vw_rows.specs.Stimulus.{is_text_fault as is_stimulus_fault}
 use Rattle.vw_top.specs.LoopLine.{loop_line}
 use Rattle.vw_top.specs.declared.reason.Reason.{Reason}
-use Rattle.vw_top.specs.declared.reason.Reason.TheVariants.{Design, Elaboration, Loop, Usage, Stimulus}
+use Rattle.vw_top.specs.declared.reason.Reason.TheVariants.{Design, Elaboration, Loop, Usage, Board, PlanText, Plan, Stimulus, Fit}
 
 abbrev pub reason_status : Reason → ℕ
 reason_status (Design fault) = 1
 reason_status (Elaboration fault) = 1
 reason_status (Loop names) = 1
 reason_status (Usage place) = 2
+reason_status (Board fault) = 3
+reason_status (PlanText fault) = 4
+reason_status (Plan fault) = 4
 reason_status (Stimulus fault) = 5
+reason_status (Fit cells room) = 6
 
 -- with the byte that ends the line
 abbrev pub reason_line : Reason → List ℕ
@@ -24,7 +34,11 @@ reason_line (Design fault) = design_fault_text fault
 reason_line (Elaboration fault) = elaboration_fault_text fault
 reason_line (Loop names) = loop_line names
 reason_line (Usage place) = codes "usage: word " ++ decimal place ++ 10 ∷ []
+reason_line (Board fault) = board_fault_text fault
+reason_line (PlanText fault) = plan_text_fault_text fault
+reason_line (Plan fault) = plan_fault_text fault
 reason_line (Stimulus fault) = stimulus_fault_text fault
+reason_line (Fit cells room) = codes "fit: " ++ (decimal cells ++ (codes " cells, room for " ++ (decimal room ++ 10 ∷ [])))
 
 -- whether it lies in words or texts; a read that failed and want of memory don't
 abbrev pub is_of_content : Reason → Bool
@@ -32,4 +46,8 @@ is_of_content (Design fault) = is_design_fault fault
 is_of_content (Elaboration fault) = is_elaboration_fault fault
 is_of_content (Loop names) = true
 is_of_content (Usage place) = true
+is_of_content (Board fault) = is_board_fault fault
+is_of_content (PlanText fault) = is_plan_text_fault fault
+is_of_content (Plan fault) = is_plan_fault fault
 is_of_content (Stimulus fault) = is_stimulus_fault fault
+is_of_content (Fit cells room) = true

@@ -56,9 +56,10 @@ pub record Statuses (course : Course) (before after : Outside) (status : ℕ) : 
   -- what is accepted is carried out, unless the outside stops the call
   pub accepted : ComesTo writing course before.shelf.told
       → (status ≡ 0) ⊎ ((status ≡ 7) ⊎ ((status ≡ 8) ⊎ (status ≡ 9)))
-  -- and then out has a part of what status 0 would have written
+  -- and then out is as it was, or has a part of what status 0 would have written
   pub part : ComesTo writing course before.shelf.told
-      → (text : List ℕ) × MayWrite course before.shelf.told text × LeavesPart text before.out after.out
+      → (after.out ≡ before.out)
+      ⊎ ((text : List ℕ) × MayWrite course before.shelf.told text × LeavesPart text before.out after.out)
   -- what is to be refused is refused, unless a read fails or memory runs out
   pub rejected : ComesTo refusing course before.shelf.told
       → ((0 < status) × (status < 7)) ⊎ ((status ≡ 7) ⊎ (status ≡ 9))

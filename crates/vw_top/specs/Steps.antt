@@ -3,3 +3,4 @@ pub mod Commands
 pub mod Stage
 pub mod FlatTrace
 pub mod Made
+pub mod Plans

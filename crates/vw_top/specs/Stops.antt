@@ -1,7 +1,7 @@
 -- The stops of the outside, each with its status and its message line.
 use Rattle.std.specs.Prelude.{ℕ, List, [], ◌∷◌, ◌++◌, codes}
 use Rattle.vw_top.specs.declared.stop.File.{File}
-use Rattle.vw_top.specs.declared.stop.File.TheVariants.{Design, Stimulus}
+use Rattle.vw_top.specs.declared.stop.File.TheVariants.{Design, Board, Plan, Stimulus}
 use Rattle.vw_top.specs.declared.stop.Stop.{Stop}
 use Rattle.vw_top.specs.declared.stop.Stop.TheVariants.{ReadFault, WriteFault, NoMemory}
 
@@ -12,6 +12,8 @@ stop_status NoMemory = 9
 
 abbrev pub file_text : File → List ℕ
 file_text Design = codes "design"
+file_text Board = codes "board"
+file_text Plan = codes "plan"
 file_text Stimulus = codes "stimulus"
 
 -- with the byte that ends the line

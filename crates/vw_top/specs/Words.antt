@@ -1,5 +1,6 @@
 -- The words of commands: a keyword, names of files, and then settings.
-use Rattle.std.specs.Prelude.{ℕ, zero, suc, max, Bool, not, ◌&&◌, ◌||◌, List, [], ◌∷◌, ◌++◌, length, codes, if◌then◌else◌, nat_le, ◌==◌, ◌+◌}
+use Rattle.std.specs.Prelude.{ℕ, zero, suc, max, Bool, not, ◌&&◌, ◌||◌, List, [], ◌∷◌, ◌++◌, length, codes, Option, Some, None, unwrap_or, if◌then◌else◌, nat_le, ◌==◌, ◌+◌}
+use Rattle.std.specs.Option.{option_or}
 use Rattle.std.specs.List.{list_any}
 use Rattle.std.specs.Str.{bytes_eq}
 
@@ -45,9 +46,17 @@ matched (place ∷ places) settings (word ∷ words) = if fits place word then s
 abbrev pub sim_form : Form
 sim_form = record { places = keyword (codes "sim") ∷ file ∷ file ∷ []; settings = unknown_bit ∷ [] }
 
+-- check DESIGN BOARD PLAN
+abbrev pub check_form : Form
+check_form = record { places = keyword (codes "check") ∷ file ∷ file ∷ file ∷ []; settings = [] }
+
+-- plan DESIGN BOARD
+abbrev pub plan_form : Form
+plan_form = record { places = keyword (codes "plan") ∷ file ∷ file ∷ []; settings = [] }
+
 -- the forms of all commands
 abbrev pub commands : List Form
-commands = sim_form ∷ []
+commands = sim_form ∷ check_form ∷ plan_form ∷ []
 
 -- how many words, from the first, are as some command has them
 abbrev pub furthest : List Form → List (List ℕ) → ℕ
@@ -61,6 +70,8 @@ has_form form words = nat_le (length form.places) (length words) && matched form
 -- a command with its files and settings; or none, and the number of the first word, from 1, that no command has there
 pub data Spelled : Type 0 where
   sim : (design stimulus : List ℕ) (unknown : Bool) → Spelled
+  check : (design board plan : List ℕ) → Spelled
+  plan : (design board : List ℕ) → Spelled
   nothing : (place : ℕ) → Spelled
 
 -- the value of `unknown` among settings: 0 where it isn't set
@@ -71,9 +82,22 @@ unknown_in settings = list_any (λ word. bytes_eq word (codes "unknown=1")) sett
 abbrev pub no_command : List (List ℕ) → Spelled
 no_command words = nothing (furthest commands words + 1)
 
+-- what words spell where they are those of one command
+abbrev pub sim_of : List (List ℕ) → Option Spelled
+sim_of (verb ∷ design ∷ stimulus ∷ settings) =
+    if has_form sim_form (verb ∷ design ∷ stimulus ∷ settings) then Some (sim design stimulus (unknown_in settings)) else None
+sim_of words = None
+
+abbrev pub check_of : List (List ℕ) → Option Spelled
+check_of (verb ∷ design ∷ board ∷ its_plan ∷ settings) =
+    if has_form check_form (verb ∷ design ∷ board ∷ its_plan ∷ settings) then Some (check design board its_plan) else None
+check_of words = None
+
+abbrev pub plan_of : List (List ℕ) → Option Spelled
+plan_of (verb ∷ design ∷ board ∷ settings) =
+    if has_form plan_form (verb ∷ design ∷ board ∷ settings) then Some (plan design board) else None
+plan_of words = None
+
 -- what words spell
 abbrev pub spelled_by : List (List ℕ) → Spelled
-spelled_by (verb ∷ design ∷ stimulus ∷ settings) =
-    if has_form sim_form (verb ∷ design ∷ stimulus ∷ settings) then sim design stimulus (unknown_in settings)
-    else no_command (verb ∷ design ∷ stimulus ∷ settings)
-spelled_by words = no_command words
+spelled_by words = unwrap_or (option_or (sim_of words) (option_or (check_of words) (plan_of words))) (no_command words)

@@ -6,8 +6,8 @@ ghost use Rattle.vw_net.specs.History.{outputs_at, next_state, outputs_of, state
 ghost use Rattle.vw_sim.specs.Values.{bits_at};
 
 use std::alloc::{AllocError, Global};
-use vw_net::{Bits, Ordered, Rows};
-use vw_sim::step;
+use vw_net::{Bits, Rows};
+use vw_sim::Machine;
 
 /// What a netlist did in a number of clocks: the outputs of each, and the latch values before its step.
 #[derive(Drop)]
@@ -53,75 +53,75 @@ fn pick(values: &Bits, nets: &[u32], to: &mut Bits)
 
 /// One clock, whose outputs and latch values before the step are written over two lists of bits.
 fn record_clock(
-    ordered: &Ordered,
+    machine: &Machine,
     row: &Bits,
     state: &mut Bits,
     values: &mut Bits,
     outputs: &mut Bits,
     before: &mut Bits,
 )
-    requires columns { length row.now ≡ ordered.now.flat.inputs }
-    requires latches { length state.old ≡ latch_count ordered.now.flat.cells }
-    requires nets { length values.old ≡ ordered.now.flat.inputs + length ordered.now.flat.cells }
-    requires outputs { length outputs.old ≡ length ordered.now.flat.outputs }
+    requires columns { length row.now ≡ machine.now.flat.inputs }
+    requires latches { length state.old ≡ latch_count machine.now.flat.cells }
+    requires nets { length values.old ≡ machine.now.flat.inputs + length machine.now.flat.cells }
+    requires outputs { length outputs.old ≡ length machine.now.flat.outputs }
     requires before { length before.old ≡ length state.old }
-    ensures outputs { outputs.new ≡ outputs_at ordered.now.flat row.now state.old }
+    ensures outputs { outputs.new ≡ outputs_at machine.now.flat row.now state.old }
     ensures before { before.new ≡ state.old }
-    ensures state { state.new ≡ next_state ordered.now.flat row.now state.old }
+    ensures state { state.new ≡ next_state machine.now.flat row.now state.old }
     ensures nets { length values.new ≡ length values.old }
 {
     copy_bits(state, before);
-    step(ordered, row, state, values);
-    pick(values, ordered.flat().outputs(), outputs);
+    machine.step(row, state, values);
+    pick(values, machine.flat().outputs(), outputs);
 }
 
 /// Clocks for some rows, written over as many lists of bits.
 fn record_clocks(
-    ordered: &Ordered,
+    machine: &Machine,
     rows: &[Bits],
     state: &mut Bits,
     values: &mut Bits,
     outputs: &mut [Bits],
     states: &mut [Bits],
 )
-    requires columns { All (λ row. length row ≡ ordered.now.flat.inputs) rows.now }
-    requires latches { length state.old ≡ latch_count ordered.now.flat.cells }
-    requires nets { length values.old ≡ ordered.now.flat.inputs + length ordered.now.flat.cells }
-    requires outputs { All (λ bits. length bits ≡ length ordered.now.flat.outputs) outputs.old }
-    requires states { All (λ bits. length bits ≡ latch_count ordered.now.flat.cells) states.old }
+    requires columns { All (λ row. length row ≡ machine.now.flat.inputs) rows.now }
+    requires latches { length state.old ≡ latch_count machine.now.flat.cells }
+    requires nets { length values.old ≡ machine.now.flat.inputs + length machine.now.flat.cells }
+    requires outputs { All (λ bits. length bits ≡ length machine.now.flat.outputs) outputs.old }
+    requires states { All (λ bits. length bits ≡ latch_count machine.now.flat.cells) states.old }
     requires count { (length outputs.old ≡ length rows.now) × (length states.old
         ≡ length rows.now) }
-    ensures outputs { outputs.new ≡ outputs_of ordered.now.flat state.old rows.now }
-    ensures states { states.new ≡ states_of ordered.now.flat state.old rows.now }
-    ensures state { state.new ≡ state_after ordered.now.flat state.old rows.now }
+    ensures outputs { outputs.new ≡ outputs_of machine.now.flat state.old rows.now }
+    ensures states { states.new ≡ states_of machine.now.flat state.old rows.now }
+    ensures state { state.new ≡ state_after machine.now.flat state.old rows.now }
     ensures nets { length values.new ≡ length values.old }
 {
     for (i, row) in rows.iter().enumerate() {
-        record_clock(ordered, row, state, values, &mut outputs[i], &mut states[i]);
+        record_clock(machine, row, state, values, &mut outputs[i], &mut states[i]);
     }
 }
 
 /// Clocks for some rows from a state on. All memory is taken before the first.
 pub fn run_batch(
     alloc: Global,
-    ordered: &Ordered,
+    machine: &Machine,
     rows: &[Bits],
     state: &mut Bits,
     values: &mut Bits,
 ) -> Result<Batch, AllocError>
-    requires columns { All (λ row. length row ≡ ordered.now.flat.inputs) rows.now }
-    requires latches { length state.old ≡ latch_count ordered.now.flat.cells }
-    requires nets { length values.old ≡ ordered.now.flat.inputs + length ordered.now.flat.cells }
+    requires columns { All (λ row. length row ≡ machine.now.flat.inputs) rows.now }
+    requires latches { length state.old ≡ latch_count machine.now.flat.cells }
+    requires nets { length values.old ≡ machine.now.flat.inputs + length machine.now.flat.cells }
     ensures outputs { IfOk result (λ batch. batch.outputs
-        ≡ outputs_of ordered.now.flat state.old rows.now) }
+        ≡ outputs_of machine.now.flat state.old rows.now) }
     ensures states { IfOk result (λ batch. batch.states
-        ≡ states_of ordered.now.flat state.old rows.now) }
-    ensures state { IfOk result (λ _. state.new ≡ state_after ordered.now.flat state.old rows.now) }
+        ≡ states_of machine.now.flat state.old rows.now) }
+    ensures state { IfOk result (λ _. state.new ≡ state_after machine.now.flat state.old rows.now) }
     ensures nets { length values.new ≡ length values.old }
 {
-    let mut outputs = blank_rows(alloc, rows.len(), ordered.flat().outputs().len())?;
+    let mut outputs = blank_rows(alloc, rows.len(), machine.flat().outputs().len())?;
     let mut states = blank_rows(alloc, rows.len(), state.len())?;
-    record_clocks(ordered, rows, state, values, &mut outputs, &mut states);
+    record_clocks(machine, rows, state, values, &mut outputs, &mut states);
     Ok(Batch {
         outputs: Rows::of(outputs),
         states: Rows::of(states),

@@ -5,7 +5,9 @@ ghost use Rattle.vw_top.specs.Course.{Follows, Answer, outside};
 ghost use Rattle.vw_top.specs.Endings.{Ends, EndsUnfinished};
 ghost use Rattle.vw_top.specs.Statuses.{Statuses};
 
+use crate::check::check;
 use crate::endings::Unfinished;
+use crate::plan::plan;
 use crate::reason::Reason;
 use crate::refusal::Refusal;
 use crate::sim::sim;
@@ -31,6 +33,12 @@ fn carry_out<S: Shelf, O: Sink>(
             stimulus,
             unknown,
         } => sim(alloc, design, stimulus, unknown, shelf, out),
+        Command::Check {
+            design,
+            board,
+            plan,
+        } => check(alloc, design, board, plan, shelf, out),
+        Command::Plan { design, board } => plan(alloc, design, board, shelf, out),
         Command::Nothing(place) => Err(Unfinished::Refused(Refusal::new(Reason::Usage(place)))),
     }
 }

@@ -7,8 +7,8 @@ ghost use Rattle.vw_design.specs.Limits.{cell_count};
 ghost use Rattle.vw_design.specs.Preorder.{cells};
 ghost use Rattle.vw_flat.specs.Printed.{printed_site};
 ghost use Rattle.vw_order.specs.Faults.{IsOrderFault};
-ghost use Rattle.vw_top.specs.Designs.{Spells, RefusesDesign};
-ghost use Rattle.vw_top.specs.Steps.Made.{IsMadeOf, IsOrderedOf, EndsLoop, RefusesLoop};
+ghost use Rattle.vw_top.specs.Designs.{Spells, IsNetlistOf, RefusesDesign};
+ghost use Rattle.vw_top.specs.Steps.Made.{IsOrderedOf, EndsLoop, RefusesLoop};
 ghost use Rattle.vw_top.specs.Steps.Stage.{JudgesText};
 
 use crate::endings::Unfinished;
@@ -93,7 +93,7 @@ fn ordered_of(alloc: Global, elaborated: &Elaborated) -> Result<Ordered, Unfinis
 
 /// The netlist of the design that a text spells, with an order of its gates.
 pub fn netlist_of_text(alloc: Global, text: &[u8]) -> Result<Ordered, Unfinished>
-    ensures { JudgesText (IsMadeOf text.now) (RefusesDesign text.now) result }
+    ensures { JudgesText (IsNetlistOf text.now) (RefusesDesign text.now) result }
 {
     let elaborated = elaborated_of_text(alloc, text)?;
     ordered_of(alloc, &elaborated)

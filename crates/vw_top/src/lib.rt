@@ -2,9 +2,12 @@
 #![tactic(auto)]
 
 mod batch;
+mod check;
 mod commands;
 mod design;
 mod endings;
+mod files;
+mod plan;
 mod reason;
 mod refusal;
 mod run;
@@ -17,7 +20,7 @@ pub use commands::virtual_wires;
 pub use endings::Unfinished;
 pub use reason::Reason;
 pub use refusal::Refusal;
-pub use statuses::{sim_statuses, usage_statuses};
+pub use statuses::{check_statuses, plan_statuses, sim_statuses, usage_statuses};
 pub use stop::{File, Stop};
 
 #[cfg(test)]

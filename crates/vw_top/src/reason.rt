@@ -2,9 +2,12 @@ ghost use Rattle.std.specs.Prelude.{◌≡◌, IfOk};
 
 use std::alloc::{AllocError, Global};
 use vw_blif::TextFault;
+use vw_board::BoardFault;
+use vw_check::PlanFault;
 use vw_elab::{DesignFault, line_of_names};
 use vw_net::Sequence;
 use vw_outside::Name;
+use vw_plantext::PlanTextFault;
 use vw_rows::StimFault;
 
 /// What is wrong with the words or the files of a command: a variant for each kind of fault, with the fault of the
@@ -19,8 +22,20 @@ pub enum Reason {
     Loop(Sequence<Name>),
     /// The words spell no command; the number of the first wrong word, from 1.
     Usage(u64),
+    /// The board text has this fault.
+    Board(BoardFault),
+    /// The plan text has this fault.
+    PlanText(PlanTextFault),
+    /// The plan has this fault.
+    Plan(PlanFault),
     /// The stimulus text has this fault.
     Stimulus(StimFault),
+    /// All chips have room for fewer cells than there are.
+    Fit {
+        cells: u64,
+        /// The number of cells that all chips have room for.
+        room: u64,
+    },
 }
 
 impl Reason {
@@ -33,7 +48,10 @@ impl Reason {
         match self {
             Reason::Design(_) | Reason::Elaboration(_) | Reason::Loop(_) => 1,
             Reason::Usage(_) => 2,
+            Reason::Board(_) => 3,
+            Reason::PlanText(_) | Reason::Plan(_) => 4,
             Reason::Stimulus(_) => 5,
+            Reason::Fit { .. } => 6,
         }
     }
 
@@ -49,7 +67,14 @@ impl Reason {
                 let line = format!(in alloc; "usage: word {place}\n")?;
                 Ok(line.into_bytes())
             }
+            Reason::Board(fault) => Ok(fault.text(alloc)?),
+            Reason::PlanText(fault) => Ok(fault.text(alloc)?),
+            Reason::Plan(fault) => Ok(fault.text(alloc)?),
             Reason::Stimulus(fault) => Ok(fault.text(alloc)?),
+            Reason::Fit { cells, room } => {
+                let line = format!(in alloc; "fit: {cells} cells, room for {room}\n")?;
+                Ok(line.into_bytes())
+            }
         }
     }
 }

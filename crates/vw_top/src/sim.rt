@@ -1,43 +1,20 @@
 //! The command `sim`.
 ghost use Rattle.std.specs.Prelude.{◌≡◌, length, map, IfOk};
 ghost use Rattle.std.specs.List.{All};
-ghost use Rattle.vw_top.specs.Designs.{RefusesDesign};
-ghost use Rattle.vw_top.specs.Steps.Made.{IsMadeOf};
 ghost use Rattle.vw_top.specs.Course.{Follows, outside};
 ghost use Rattle.vw_top.specs.Commands.{sim_course, IsRowsOf, RefusesRows};
 ghost use Rattle.vw_top.specs.Steps.Stage.{StageEnds};
 
-use crate::design::netlist_of_text;
 use crate::endings::Unfinished;
+use crate::files::read_design;
 use crate::reason::Reason;
 use crate::refusal::Refusal;
 use crate::run::write_trace;
 use crate::stop::{File, Stop};
 use std::alloc::Global;
-use vw_blif::TextFault;
 use vw_net::Ordered;
-use vw_outside::{Name, Shelf, Sink, TextRefused, read_text};
+use vw_outside::{Name, Shelf, Sink};
 use vw_rows::{RowRuns, StimFault, read_all};
-
-/// The most bytes that a design text has.
-const TEXT_LIMIT: u64 = 16_777_216;
-
-/// Reads the design.
-fn read_design<S: Shelf>(alloc: Global, shelf: &mut S, name: &Name) -> Result<Ordered, Unfinished>
-    ensures { StageEnds File.Design name.now
-        IsMadeOf RefusesDesign
-        (S.seen shelf.old) (S.seen shelf.new) result }
-{
-    match read_text(alloc, shelf, name, TEXT_LIMIT) {
-        Ok(text) => netlist_of_text(alloc, &text),
-        Err(TextRefused::TooLarge) => {
-            let fault = TextFault::TooLarge;
-            Err(Unfinished::Refused(Refusal::new(Reason::Design(fault))))
-        }
-        Err(TextRefused::ReadFault) => Err(Unfinished::Stopped(Stop::ReadFault(File::Design))),
-        Err(TextRefused::NoMemory) => Err(Unfinished::Stopped(Stop::NoMemory)),
-    }
-}
 
 /// Reads the rows of the stimulus, each with a bit for each input of a netlist.
 fn read_rows<S: Shelf>(

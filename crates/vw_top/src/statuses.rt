@@ -2,8 +2,10 @@
 ghost use Rattle.std.specs.Prelude.{ℕ, Bool, List};
 ghost use Rattle.vw_top.specs.Course.{Outside, refuses};
 ghost use Rattle.vw_top.specs.Statuses.{Statuses};
-ghost use Rattle.vw_top.specs.Commands.{sim_course};
+ghost use Rattle.vw_top.specs.Commands.{check_course, plan_course, sim_course};
 ghost use Rattle.vw_top.specs.CommandStatuses.{SimStatuses, UsageStatuses};
+ghost use Rattle.vw_top.specs.CheckStatuses.{CheckStatuses};
+ghost use Rattle.vw_top.specs.PlanStatuses.{PlanStatuses};
 ghost use Rattle.vw_top.specs.declared.reason.Reason.TheVariants.{Usage};
 
 /// What the table says of the files of `sim`.
@@ -11,6 +13,20 @@ pub fn sim_statuses()
     ensures { (design stimulus : List ℕ) (unknown : Bool) (before after : Outside) (status : ℕ)
         → Statuses (sim_course design stimulus unknown) before after status
         → SimStatuses design stimulus unknown before after status }
+{}
+
+/// What the table says of the files of `check`.
+pub fn check_statuses()
+    ensures { (design board plan : List ℕ) (before after : Outside) (status : ℕ)
+        → Statuses (check_course design board plan) before after status
+        → CheckStatuses design board plan before after status }
+{}
+
+/// What the table says of the files of `plan`.
+pub fn plan_statuses()
+    ensures { (design board : List ℕ) (before after : Outside) (status : ℕ)
+        → Statuses (plan_course design board) before after status
+        → PlanStatuses design board before after status }
 {}
 
 /// What the table says of words that spell no command.

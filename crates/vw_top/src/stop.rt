@@ -7,6 +7,8 @@ use vw_outside::Failed;
 #[derive(Clone, Copy, Debug, PartialEq, Eq)]
 pub enum File {
     Design,
+    Board,
+    Plan,
     Stimulus,
 }
 
@@ -40,6 +42,8 @@ impl Stop {
     {
         match self {
             Stop::ReadFault(File::Design) => b"read fault: design\n",
+            Stop::ReadFault(File::Board) => b"read fault: board\n",
+            Stop::ReadFault(File::Plan) => b"read fault: plan\n",
             Stop::ReadFault(File::Stimulus) => b"read fault: stimulus\n",
             Stop::WriteFault => b"write fault\n",
             Stop::NoMemory => b"out of memory\n",

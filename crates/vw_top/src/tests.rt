@@ -5,12 +5,14 @@ use std::alloc::{AllocError, Global};
 use std::test::Fail;
 use vw_outside::{Held, MemShelf, MemSink, Name};
 
+mod checks;
 mod claims;
 mod designs;
 mod hierarchy;
 mod hostile;
 mod limits;
 mod loops;
+mod plans;
 mod refusals;
 
 /// The design and the stimulus of the program's stored run.
@@ -45,11 +47,11 @@ const NO_FAULTS: Faults = Faults {
     message: 0,
 };
 
-fn run(
+/// A call over files with these names and texts.
+fn call(
     alloc: Global,
     words: &[&str],
-    design: &str,
-    stimulus: &str,
+    texts: &[(&str, &str)],
     faults: Faults,
 ) -> Result<Ran, AllocError> {
     let most = faults.most.max(1);
@@ -58,7 +60,7 @@ fn run(
         names.push(Name::of(word.as_bytes().to_vec(alloc)?))?;
     }
     let mut files = Vec::new(alloc);
-    for (name, text) in [("d", design), ("s", stimulus)] {
+    for (name, text) in texts {
         let name = Name::of(name.as_bytes().to_vec(alloc)?);
         files.push(Held::make(name, text.as_bytes().to_vec(alloc)?))?;
     }
@@ -71,6 +73,16 @@ fn run(
         out: out.bytes().to_vec(alloc)?,
         err: err.bytes().to_vec(alloc)?,
     })
+}
+
+fn run(
+    alloc: Global,
+    words: &[&str],
+    design: &str,
+    stimulus: &str,
+    faults: Faults,
+) -> Result<Ran, AllocError> {
+    call(alloc, words, &[("d", design), ("s", stimulus)], faults)
 }
 
 fn sim(alloc: Global, design: &str, stimulus: &str) -> Result<Ran, AllocError> {
@@ -194,6 +206,34 @@ fn rows_may_be_held_and_commented(rt: HostRuntime) -> Result<(), Fail> {
             ".model m\n.inputs\n.outputs q\n.names q d\n0 1\n.latch d q 0\n.end\n",
             "-\nhold 2\n",
             "trace 1 1 1\n0 0 0\n1 1 1\n2 0 0\nend 3 1\n",
+        ),
+        // a row of zeros first, and nothing for `hold 0`
+        (
+            TOGGLE,
+            "hold 1\n1\nhold 0\n",
+            "trace 1 1 1\n0 0 0\n1 0 0\nend 2 1\n",
+        ),
+        // no inputs, no outputs, no latches
+        (
+            ".model m\n",
+            "hold 3\n",
+            "trace 1 0 0\n0 - -\n1 - -\n2 - -\nend 3 -\n",
+        ),
+        // tables without inputs: without rows, with the row 1, and with the row 0
+        (
+            ".model m\n.outputs k\n.names k\n",
+            "hold 1\n",
+            "trace 1 1 0\n0 0 -\nend 1 -\n",
+        ),
+        (
+            ".model m\n.outputs k\n.names k\n1\n",
+            "hold 1\n",
+            "trace 1 1 0\n0 1 -\nend 1 -\n",
+        ),
+        (
+            ".model m\n.outputs k\n.names k\n0\n",
+            "hold 1\n",
+            "trace 1 1 0\n0 0 -\nend 1 -\n",
         ),
     ];
     for (design, stimulus, trace) in table {

@@ -1,4 +1,4 @@
-ghost use Rattle.std.specs.Prelude.{◌≡◌, ◌≤◌, [], length};
+ghost use Rattle.std.specs.Prelude.{◌≡◌, ◌≤◌, [], ◌∷◌, length, codes};
 ghost use Rattle.std.specs.List.{list_any};
 ghost use Rattle.vw_top.specs.Words.{gives, is_new_setting, matched_settings, unknown_in, spelled_by};
 ghost use Rattle.vw_top.specs.Steps.Commands.{command_view, setting_view, settings_view};
@@ -13,6 +13,17 @@ pub enum Command<'a> {
         stimulus: &'a Name,
         /// The value that free latches start at.
         unknown: bool,
+    },
+    /// Checks a plan of a design on a board, and writes its size.
+    Check {
+        design: &'a Name,
+        board: &'a Name,
+        plan: &'a Name,
+    },
+    /// Makes a plan of a design on a board, and writes its text.
+    Plan {
+        design: &'a Name,
+        board: &'a Name,
     },
     /// No command; the number of the first wrong word, from 1.
     Nothing(u64),
@@ -85,16 +96,10 @@ fn unknown_in(settings: &[Name]) -> bool
     false
 }
 
-/// The command that words spell.
-pub fn command_of(words: &[Name]) -> Command<'_>
-    ensures { spelled_by words.now ≡ command_view result }
+/// The command that words spell, where the first one is `sim` and these are the others.
+fn sim_of(rest: &[Name]) -> Command<'_>
+    ensures { spelled_by (codes "sim" ∷ rest.now) ≡ command_view result }
 {
-    let [verb, rest @ ..] = words else {
-        return Command::Nothing(1);
-    };
-    if verb.as_slice() != b"sim".as_slice() {
-        return Command::Nothing(1);
-    }
     match rest {
         [design, stimulus, settings @ ..] if !design.is_empty() && !stimulus.is_empty() => {
             let count = matched_settings(&[Setting::Unknown], settings);
@@ -110,4 +115,61 @@ pub fn command_of(words: &[Name]) -> Command<'_>
         [design, ..] if !design.is_empty() => Command::Nothing(3),
         _ => Command::Nothing(2),
     }
+}
+
+/// The command that words spell, where the first one is `check` and these are the others.
+fn check_of(rest: &[Name]) -> Command<'_>
+    ensures { spelled_by (codes "check" ∷ rest.now) ≡ command_view result }
+{
+    match rest {
+        [design, board, plan, more @ ..]
+            if !design.is_empty() && !board.is_empty() && !plan.is_empty() => {
+            if !more.is_empty() {
+                return Command::Nothing(5);
+            }
+            Command::Check {
+                design,
+                board,
+                plan,
+            }
+        }
+        [design, board, ..] if !design.is_empty() && !board.is_empty() => Command::Nothing(4),
+        [design, ..] if !design.is_empty() => Command::Nothing(3),
+        _ => Command::Nothing(2),
+    }
+}
+
+/// The command that words spell, where the first one is `plan` and these are the others.
+fn plan_of(rest: &[Name]) -> Command<'_>
+    ensures { spelled_by (codes "plan" ∷ rest.now) ≡ command_view result }
+{
+    match rest {
+        [design, board, more @ ..] if !design.is_empty() && !board.is_empty() => {
+            if !more.is_empty() {
+                return Command::Nothing(4);
+            }
+            Command::Plan { design, board }
+        }
+        [design, ..] if !design.is_empty() => Command::Nothing(3),
+        _ => Command::Nothing(2),
+    }
+}
+
+/// The command that words spell.
+pub fn command_of(words: &[Name]) -> Command<'_>
+    ensures { spelled_by words.now ≡ command_view result }
+{
+    let [verb, rest @ ..] = words else {
+        return Command::Nothing(1);
+    };
+    if verb.as_slice() == b"sim".as_slice() {
+        return sim_of(rest);
+    }
+    if verb.as_slice() == b"check".as_slice() {
+        return check_of(rest);
+    }
+    if verb.as_slice() == b"plan".as_slice() {
+        return plan_of(rest);
+    }
+    Command::Nothing(1)
 }

@@ -1,10 +1,11 @@
 -- Commands and settings of the code as those of the words.
 use Rattle.std.specs.Prelude.{List, map}
 use Rattle.vw_top.specs.declared.words.Command.{Command}
-use Rattle.vw_top.specs.declared.words.Command.TheVariants.{Sim, Nothing}
+use Rattle.vw_top.specs.declared.words.Command.TheVariants.{Sim, Check, Plan, Nothing}
 use Rattle.vw_top.specs.declared.words.Setting.{Setting as Held}
 use Rattle.vw_top.specs.declared.words.Setting.TheVariants.{Unknown}
-use Rattle.vw_top.specs.Words.{Setting, unknown_bit, Spelled, sim, nothing}
+use Rattle.vw_top.specs.Words.{Setting, unknown_bit, Spelled}
+use Rattle.vw_top.specs.Words as words
 
 abbrev pub setting_view : Held → Setting
 setting_view Unknown = unknown_bit
@@ -13,5 +14,7 @@ abbrev pub settings_view : List Held → List Setting
 settings_view settings = map setting_view settings
 
 abbrev pub command_view : Command → Spelled
-command_view (Sim design stimulus unknown) = sim design.now stimulus.now unknown
-command_view (Nothing place) = nothing place
+command_view (Sim design stimulus unknown) = words.sim design.now stimulus.now unknown
+command_view (Check design board plan) = words.check design.now board.now plan.now
+command_view (Plan design board) = words.plan design.now board.now
+command_view (Nothing place) = words.nothing place

@@ -8,7 +8,7 @@ use Rattle.vw_top.proofs.batch.record_clocks.Goals as goal
 
 pub loop-i-preserved : goal.loop-i-preserved
 loop-i-preserved c =
-    let flat = c.args.ordered.now.flat in
+    let flat = c.args.machine.now.flat in
     let kept = c.loop-i.invariant in
     let clock = c.record_clock.ensures in
     let i = c.loop-i.i in

@@ -7,8 +7,8 @@ use Rattle.vw_top.specs.declared.endings.Unfinished.TheVariants.{Stopped, Refuse
 use Rattle.vw_top.specs.declared.reason.Reason.{Reason}
 use Rattle.vw_top.specs.declared.reason.Reason.TheVariants as reasons
 use Rattle.vw_top.specs.declared.stop.Stop.TheVariants.{ReadFault, WriteFault, NoMemory}
-use Rattle.vw_top.specs.Designs.{Spells, RefusesDesign}
-use Rattle.vw_top.specs.Steps.Made.{IsMadeOf, IsOrderedOf, RefusesLoop}
+use Rattle.vw_top.specs.Designs.{Spells, RefusesDesign, IsNetlistOf}
+use Rattle.vw_top.specs.Steps.Made.{IsOrderedOf, RefusesLoop}
 use Rattle.vw_top.specs.Steps.Stage.{JudgesText}
 use Rattle.vw_top.proofs.design.netlist_of_text.Goals as goal
 
@@ -19,10 +19,14 @@ module _ (text : List ℕ) (design : Design) (spelled : Spells text design) (acc
   of_loop (reasons.Elaboration fault) refused = absurd refused
   of_loop (reasons.Loop names) refused = (design, spelled, accepted, refused)
   of_loop (reasons.Usage place) refused = absurd refused
+  of_loop (reasons.Board fault) refused = absurd refused
+  of_loop (reasons.PlanText fault) refused = absurd refused
+  of_loop (reasons.Plan fault) refused = absurd refused
   of_loop (reasons.Stimulus fault) refused = absurd refused
+  of_loop (reasons.Fit cells room) refused = absurd refused
 
   -- what is made of the design is made of its text
-  of_design : (result : Result Ordered Unfinished) → JudgesText (IsOrderedOf design) (RefusesLoop design) result → JudgesText (IsMadeOf text) (RefusesDesign text) result
+  of_design : (result : Result Ordered Unfinished) → JudgesText (IsOrderedOf design) (RefusesLoop design) result → JudgesText (IsNetlistOf text) (RefusesDesign text) result
   of_design (Ok ordered) is = record {
     design = design;
     is = record { spelled = spelled; accepted = accepted; loop_free = is.loop_free };

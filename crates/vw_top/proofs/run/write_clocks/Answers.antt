@@ -28,14 +28,14 @@ returns-in_err-lines-clause-writes g c =
 -- the rows of a batch are rows of the stimulus
 pub run_batch-requires-clause-columns : goal.run_batch-requires-clause-columns
 run_batch-requires-clause-columns g c =
-    let width = c.args.ordered.now.flat.inputs in
+    let width = c.args.machine.now.flat.inputs in
     let next : c.as_slice.result.now ≡ take 256 (drop c.loop-done.done c.args.rows) = c.as_slice.ensures ∙ c.in_ok-next.ensures.batch ∙ ap (take 256) c.loop-done.invariant.rest in
     subst (All (λ (row : List Bool). length row ≡ width)) (sym next) (All-take (λ (row : List Bool). length row ≡ width) 256 (drop c.loop-done.done c.args.rows) (All-drop (λ (row : List Bool). length row ≡ width) c.loop-done.done c.args.rows c.requires.columns))
 
 pub trace_rows-requires : goal.trace_rows-requires
 trace_rows-requires g c =
     let batch = c.as_slice.result.now in
-    let flat = c.args.ordered.now.flat in
+    let flat = c.args.machine.now.flat in
     let outputs = ap (λ (rows : List (List Bool)). length rows) c.in_ok-batch.ensures.outputs in
     let states = ap (λ (rows : List (List Bool)). length rows) c.in_ok-batch.ensures.states in
     omega (arith, outputs, states, length-outputs_of flat c.loop-done.state batch, length-states_of flat c.loop-done.state batch)
@@ -49,10 +49,10 @@ next_is g c =
 
 -- the lines of the batch are left, and then those of the rows behind it
 batch_left : (g : Over) (c : In_ok-lines g) (piece : List ℕ) → piece ≡ c.in_ok-lines.lines.items
-    → IsLeft (g.O.Sink.seen c.args.out.now) (clock_lines c.args.ordered.now.flat 0 c.args.state.now c.args.rows) (g.O.Sink.seen c.loop-done.out)
-    (piece ++ clock_lines c.args.ordered.now.flat (c.loop-done.done + c.len.result) c.run_batch.new.state (drop (c.loop-done.done + c.len.result) c.args.rows))
+    → IsLeft (g.O.Sink.seen c.args.out.now) (clock_lines c.args.machine.now.flat 0 c.args.state.now c.args.rows) (g.O.Sink.seen c.loop-done.out)
+    (piece ++ clock_lines c.args.machine.now.flat (c.loop-done.done + c.len.result) c.run_batch.new.state (drop (c.loop-done.done + c.len.result) c.args.rows))
 batch_left g c piece is =
-    let flat = c.args.ordered.now.flat in
+    let flat = c.args.machine.now.flat in
     let rows = c.args.rows in
     let done = c.loop-done.done in
     let end = c.loop-done.done + c.len.result in
@@ -72,7 +72,7 @@ returns-in_err-put_all-clause-writes g c =
 
 pub loop-done-preserved : goal.loop-done-preserved
 loop-done-preserved g c =
-    let flat = c.args.ordered.now.flat in
+    let flat = c.args.machine.now.flat in
     let rows = c.args.rows in
     let done = c.loop-done.done in
     let end = c.loop-done.done + c.len.result in

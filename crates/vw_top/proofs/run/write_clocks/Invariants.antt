@@ -8,7 +8,7 @@ use Rattle.vw_top.proofs.run.write_clocks.Given as goal
 
 abbrev pub invariant-loop-done : goal.invariant-loop-done
 invariant-loop-done g l =
-    let flat = l.ordered.flat in
+    let flat = l.machine.flat in
     record {
       within : l.done ≤ length l.fn.rows;
       rest : l.rows ≡ drop l.done l.fn.rows;

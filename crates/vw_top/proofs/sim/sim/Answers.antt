@@ -13,7 +13,7 @@ use Rattle.vw_top.specs.Designs.{IsDesignOf, RefusesDesign, design_apart}
 use Rattle.vw_top.specs.Course.{Course, writes, reads, judges, Outside, outside, Answer, Follows, EndsWriting}
 use Rattle.vw_top.specs.Commands.{sim_course, IsRowsOf, RefusesRows, rows_apart, trace_of}
 use Rattle.vw_top.specs.Steps.FlatTrace.{flat_trace}
-use Rattle.vw_top.specs.Steps.Made.{IsMadeOf}
+use Rattle.vw_top.specs.Designs.{IsNetlistOf}
 use Rattle.vw_top.specs.Steps.Stage.{StageEnds}
 use Rattle.vw_top.proofs.FlatTraces.{trace_same}
 use Rattle.vw_top.proofs.StageLaws.{stage_ends, stage_goes_on, writing_stops}
@@ -28,10 +28,10 @@ module _ (design stimulus : List ℕ) (unknown : Bool) (ordered : Ordered) where
   rows_course spelled = let width = length (columns spelled) in
       reads files.Stimulus stimulus (λ s. judges (List (List Bool)) (IsRowsOf width s) (RefusesRows width s) (rows_apart width s) (trace_course spelled s))
 
-  after_design : (before mid after : Outside) (answer : Answer) → mid.out ≡ before.out → StageEnds files.Design design IsMadeOf RefusesDesign before.shelf mid.shelf (Ok ordered)
+  after_design : (before mid after : Outside) (answer : Answer) → mid.out ≡ before.out → StageEnds files.Design design IsNetlistOf RefusesDesign before.shelf mid.shelf (Ok ordered)
       → ((spelled : Design) → IsFlatOf spelled ordered.flat → Follows (rows_course spelled) mid after answer) → Follows (sim_course design stimulus unknown) before after answer
   after_design before mid after answer out judged goes =
-      stage_goes_on files.Design design IsMadeOf IsDesignOf RefusesDesign design_apart (λ d spelled is. rows_course spelled) before mid after answer ordered out judged
+      stage_goes_on files.Design design IsNetlistOf IsDesignOf RefusesDesign design_apart (λ d spelled is. rows_course spelled) before mid after answer ordered out judged
       (λ text made. (made.design, made.is, goes made.design made.flat))
 
   rows_end : (before after : Outside) (unfinished : Unfinished) → after.out ≡ before.out → StageEnds files.Stimulus stimulus (IsRowsOf ordered.flat.inputs) (RefusesRows ordered.flat.inputs) before.shelf after.shelf (Err unfinished)

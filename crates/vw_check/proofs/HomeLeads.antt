@@ -1,0 +1,178 @@
+-- Leads of nets at their own nodes, as gates are gone over in their order.
+use Rattle.std.proofs.Common.{◌≡◌, ◌<◌, ◌≤◌, ◌+◌, ◌-◌, ◌^◌, ◌||◌, ℕ, Bool, true, false, List, [], length, take, replicate, get_or, set, slice_get, slice_index, slice_index_or, nat_lt, if◌then◌else◌, eqb, ap, ap₂, refl, sym, ◌∙◌, ⊎_elim, eq-eqb, ne_eqb, lt-ltb, le-ltb, eqb-true, true≢false, subst, Option, Some, None, All, arith}
+use Rattle.std.proofs.Math.Bool.{or-false}
+use Rattle.std.proofs.lemmas.Bool.{cases_Bool, cases_eq, cases_lt, or_cases, or_left, or_right}
+use Rattle.std.proofs.lemmas.Grind.{get_or-set_at}
+use Rattle.std.proofs.lemmas.List.{get_or_past, get_or-replicate, get_or-set_other, length-replicate, length-set, take_all}
+use Rattle.std.proofs.lemmas.List.Elements.{All-replicate, All-set, All-weaker}
+use Rattle.std.proofs.lemmas.List.Folds.{list_any_at, list_any_more}
+use Rattle.std.proofs.lemmas.List.Sums.{AllPass-from_list_all}
+use Rattle.vw_net.specs.declared.cell.Cell.{Cell}
+use Rattle.vw_net.specs.declared.cell.Cell.TheVariants.{Gate, Latch}
+use Rattle.vw_net.specs.Order.{is_among, is_gate, is_latch, is_ready, read_nets_at}
+use Rattle.vw_net.proofs.Orders.{gate_within, gate_or_latch}
+use Rattle.vw_plan.proofs.Leads.{map_agree}
+use Rattle.vw_plan.specs.Lead.{brought_at, driven_lead, greatest, lead}
+use Rattle.vw_plan.specs.Nets.{driver}
+use Rattle.vw_plan.specs.Setting.{Setting, home}
+use Rattle.vw_check.specs.Steps.Moments.{AreLeads, lead_by}
+
+-- two ways to give nets leads that agree on what a cell reads give its net one lead
+driven_agree : (one other : ℕ → ℕ) (cell : Option Cell) → All (λ net. one net ≡ other net) (read_nets_at cell) → driven_lead one cell ≡ driven_lead other cell
+driven_agree one other None agree = refl
+driven_agree one other (Some (Gate ins cover)) agree = ap greatest (map_agree one other ins agree)
+driven_agree one other (Some (Latch d init)) agree = refl
+
+-- a latch has lead 0
+driven_latch : (lead_at : ℕ → ℕ) (cell : Option Cell) → is_latch cell ≡ true → driven_lead lead_at cell ≡ 0
+driven_latch lead_at None latch = refl
+driven_latch lead_at (Some (Gate ins cover)) latch = absurd (true≢false (sym latch))
+driven_latch lead_at (Some (Latch d init)) latch = refl
+
+-- a list of zeros has 0 everywhere, and past its end
+zero_at : (count net : ℕ) → slice_index (replicate count 0) net ≡ 0
+zero_at count net = ⊎_elim (λ within. get_or-replicate count net 0 0 within) (λ past. get_or_past (replicate count 0) net 0 (let long : length (replicate {A = ℕ} count 0) ≡ count = length-replicate {A = ℕ} count 0 in omega arith)) (cases_lt net count)
+
+-- the law of leads
+abbrev pub Settles : Setting → Type 0
+Settles setting = (node net : ℕ) → lead setting node net ≡ (if eqb (home setting net) node then driven_lead (lead setting node) (driver setting.ordered.flat net) else brought_at setting node net)
+
+-- the lead of a cell, by a list of leads
+pub same_lead : (setting : Setting) (items leads : List ℕ) (other number : ℕ) → items ≡ leads → other ≡ number → driven_lead (lead_by setting items (slice_index setting.plan.chip_of other)) (slice_get setting.ordered.flat.cells other) ≡ driven_lead (lead_by setting leads (slice_index setting.plan.chip_of number)) (slice_get setting.ordered.flat.cells number)
+same_lead setting items leads other number same_items same_number = ap₂ (λ (list : List ℕ) (at : ℕ). driven_lead (lead_by setting list (slice_index setting.plan.chip_of at)) (slice_get setting.ordered.flat.cells at)) same_items same_number
+
+module _ (setting : Setting) where
+  abbrev inputs : ℕ
+  inputs = setting.ordered.flat.inputs
+
+  abbrev cells : List Cell
+  cells = setting.ordered.flat.cells
+
+  abbrev order : List ℕ
+  order = setting.ordered.order
+
+  order_gate : (place : ℕ) → place < length order → is_gate (slice_get cells (get_or order place 0)) ≡ true
+  order_gate place within =
+      let number = get_or order place 0 in
+      setting.ordered.is_order.each number ∙ list_any_at (λ other. eqb other number) order place 0 within (eq-eqb number number refl)
+
+  -- the number at a place of the order is below the number of cells
+  pub order_within : (place : ℕ) → place < length order → get_or order place 0 < length cells
+  order_within place within = gate_within cells (get_or order place 0) (order_gate place within)
+
+  -- a net that is ready when one more gate is done is ready before, or it is the gate's
+  ready_before : (place net : ℕ) → place < length order → (net ≡ inputs + get_or order place 0 → ⊥) → is_ready inputs cells (take (place + 1) order) net ≡ true → is_ready inputs cells (take place order) net ≡ true
+  ready_before place net within not_its ready =
+      let number = net - inputs in
+      let latch = is_latch (slice_get cells number) in
+      let if_input = λ (input : net < inputs). or_left (nat_lt net inputs) (latch || is_among (take place order) number) (lt-ltb net inputs input) in
+      let if_driven = λ (past : inputs ≤ net).
+      let not_here : eqb (get_or order place 0) number ≡ false = ne_eqb (get_or order place 0) number (λ same. not_its (omega arith)) in
+      let no_more : is_among (take (place + 1) order) number ≡ is_among (take place order) number =
+      list_any_more (λ other. eqb other number) order place 0 within ∙ ap (λ (here : Bool). is_among (take place order) number || here) not_here ∙ or-false (is_among (take place order) number) in
+      ap (λ (among : Bool). nat_lt net inputs || (latch || among)) (sym no_more) ∙ ready in
+      ⊎_elim if_input if_driven (cases_lt net inputs)
+
+  -- every net is ready when the whole order is done
+  all_ready : (net : ℕ) → net < inputs + length cells → is_ready inputs cells order net ≡ true
+  all_ready net within =
+      let number = net - inputs in
+      let latch = is_latch (slice_get cells number) in
+      let if_input = λ (input : net < inputs). or_left (nat_lt net inputs) (latch || is_among order number) (lt-ltb net inputs input) in
+      let if_driven = λ (past : inputs ≤ net). or_right (nat_lt net inputs) (latch || is_among order number) (ap (λ (gate : Bool). latch || gate) (sym (setting.ordered.is_order.each number)) ∙ gate_or_latch cells number (omega arith)) in
+      ⊎_elim if_input if_driven (cases_lt net inputs)
+
+  module _ (settles : Settles setting) where
+    abbrev home_lead : ℕ → ℕ
+    home_lead net = lead setting (home setting net) net
+
+    -- at its own node a net has the lead of what drives it
+    own_lead : (net : ℕ) → home_lead net ≡ driven_lead (lead setting (home setting net)) (driver setting.ordered.flat net)
+    own_lead net = settles (home setting net) net ∙ ap (λ (own : Bool). if own then driven_lead (lead setting (home setting net)) (driver setting.ordered.flat net) else brought_at setting (home setting net) net) (eq-eqb (home setting net) (home setting net) refl)
+
+    -- the nets that are ready have their leads in the list
+    abbrev pub AreRight : List ℕ → List ℕ → Type 0
+    AreRight done leads = (net : ℕ) → is_ready inputs cells done net ≡ true → slice_index_or leads net 0 ≡ home_lead net
+
+    -- before any gate, those of inputs and latches: they have lead 0
+    start_lead : (net : ℕ) → is_ready inputs cells [] net ≡ true → home_lead net ≡ 0
+    start_lead net ready =
+        let number = net - inputs in
+        let cell = slice_get cells number in
+        let lead_at = lead setting (home setting net) in
+        let if_input = λ (input : nat_lt net inputs ≡ true). own_lead net ∙ ap (λ (is : Bool). driven_lead lead_at (if is then None else cell)) input in
+        let if_latch = λ (latch : is_latch cell ≡ true). own_lead net ∙ (elim (nat_lt net inputs) as (λ is. driven_lead lead_at (if is then None else cell) ≡ 0) [ true ↦ refl | false ↦ driven_latch lead_at cell latch ]) in
+        let if_driven = λ (drives : (is_latch cell || false) ≡ true). if_latch (sym (or-false (is_latch cell)) ∙ drives) in
+        ⊎_elim if_input if_driven (or_cases (nat_lt net inputs) (is_latch cell || false) ready)
+
+    -- what a list of them gives a net at a node, where the net is right in it
+    right_lead : (leads : List ℕ) (node net : ℕ) → slice_index_or leads net 0 ≡ home_lead net → lead_by setting leads node net ≡ lead setting node net
+    right_lead leads node net right =
+        let if_home = λ (is : eqb (home setting net) node ≡ true).
+        let here : home setting net ≡ node = eqb-true (home setting net) node is in
+        ap (λ (own : Bool). if own then slice_index_or leads net 0 else brought_at setting node net) is ∙ right ∙ ap (λ (at : ℕ). lead setting at net) here in
+        let if_away = λ (is : eqb (home setting net) node ≡ false).
+        ap (λ (own : Bool). if own then slice_index_or leads net 0 else brought_at setting node net) is
+        ∙ sym (settles node net ∙ ap (λ (own : Bool). if own then driven_lead (lead setting node) (driver setting.ordered.flat net) else brought_at setting node net) is) in
+        ⊎_elim if_home if_away (cases_Bool (eqb (home setting net) node))
+
+    -- the lead of the gate at a place, by the list
+    abbrev here : ℕ → ℕ
+    here place = inputs + get_or order place 0
+
+    abbrev pub lead_at_place : ℕ → List ℕ → ℕ
+    lead_at_place place leads = driven_lead (lead_by setting leads (slice_index setting.plan.chip_of (get_or order place 0))) (slice_get cells (get_or order place 0))
+
+    gate_right : (place : ℕ) (leads : List ℕ) → place < length order → AreRight (take place order) leads → lead_at_place place leads ≡ home_lead (here place)
+    gate_right place leads within right =
+        let number = get_or order place 0 in
+        let node = slice_index setting.plan.chip_of number in
+        let net = here place in
+        let cell = slice_get cells number in
+        let is_done = is_ready inputs cells (take place order) in
+        let ready : All (λ read. is_done read ≡ true) (read_nets_at cell) = AllPass-from_list_all is_done (read_nets_at cell) (setting.ordered.is_order.after place within) in
+        let agree : All (λ read. lead_by setting leads node read ≡ lead setting node read) (read_nets_at cell) = All-weaker (λ read. is_done read ≡ true) (λ read. lead_by setting leads node read ≡ lead setting node read) (λ read done. right_lead leads node read (right read done)) (read_nets_at cell) ready in
+        let no_input : nat_lt net inputs ≡ false = le-ltb net inputs (omega arith) in
+        let its_number : net - inputs ≡ number = omega arith in
+        let its_driver : driver setting.ordered.flat net ≡ cell = ap (λ (input : Bool). if input then None else slice_get cells (net - inputs)) no_input ∙ ap (λ (at : ℕ). slice_get cells at) its_number in
+        let its_home : home setting net ≡ node = ap (λ (input : Bool). if input then 0 else slice_index setting.plan.chip_of (net - inputs)) no_input ∙ ap (λ (at : ℕ). slice_index setting.plan.chip_of at) its_number in
+        driven_agree (lead_by setting leads node) (lead setting node) cell agree
+        ∙ ap₂ (λ (at : ℕ) (drives : Option Cell). driven_lead (lead setting at) drives) (sym its_home) (sym its_driver)
+        ∙ sym (own_lead net)
+
+    more_right : (place : ℕ) (leads : List ℕ) → place < length order → inputs + length cells ≤ length leads → AreRight (take place order) leads → AreRight (take (place + 1) order) (set leads (here place) (lead_at_place place leads))
+    more_right place leads within long right net ready =
+        let value = lead_at_place place leads in
+        let inside : here place < length leads = omega (arith, order_within place within) in
+        let if_here = λ (same : net ≡ here place). get_or-set_at leads (here place) net value 0 same inside ∙ gate_right place leads within right ∙ ap home_lead (sym same) in
+        let if_other = λ (other : net ≡ here place → ⊥). get_or-set_other leads (here place) net value 0 other ∙ right net (ready_before place net within other ready) in
+        ⊎_elim if_here if_other (cases_eq net (here place))
+
+    -- what the list keeps: its length, that leads are low, and that what is ready is right
+    pub record AreKept (done leads : List ℕ) : Type 0 where
+      pub long : length leads ≡ inputs + length cells
+      pub low : All (λ number. number ≤ 2 ^ 62 + 1) leads
+      pub right : AreRight done leads
+
+    pub more_kept : (place : ℕ) (leads : List ℕ) (net value : ℕ) → place < length order → net ≡ here place → value ≡ lead_at_place place leads → value ≤ 2 ^ 62 + 1 → AreKept (take place order) leads → AreKept (take (place + 1) order) (set leads net value)
+    more_kept place leads net value within same_net same_value low_value kept = record {
+      long = length-set leads net value ∙ kept.long;
+      low = All-set (λ number. number ≤ 2 ^ 62 + 1) leads net value low_value kept.low;
+      right = λ at ready. ap₂ (λ (to written : ℕ). slice_index_or (set leads to written) at 0) same_net same_value ∙ more_right place leads within (omega (arith, kept.long)) kept.right at ready;
+    }
+
+    -- in the end all nets are right
+    pub all_leads : (place : ℕ) (leads : List ℕ) → length order ≤ place → AreKept (take place order) leads → AreLeads setting leads
+    all_leads place leads whole kept = record {
+      nets = kept.long;
+      low = kept.low;
+      leads_at = λ net within. kept.right net (rw (take_all place order whole) (all_ready net (omega (arith, kept.long))));
+    }
+
+    -- a list of zeros is right before any gate
+    pub start_kept : (leads : List ℕ) (count : ℕ) → leads ≡ replicate count 0 → count ≡ inputs + length cells → AreKept [] leads
+    start_kept leads count zeros all = record {
+      long = ap length zeros ∙ length-replicate count 0 ∙ all;
+      low = subst (All (λ number. number ≤ 2 ^ 62 + 1)) (sym zeros) (All-replicate (λ number. number ≤ 2 ^ 62 + 1) count 0 (omega arith));
+      right = λ net ready. ap (λ (list : List ℕ). slice_index_or list net 0) zeros ∙ zero_at count net ∙ sym (start_lead net ready);
+    }

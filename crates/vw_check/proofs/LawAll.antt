@@ -1,0 +1,108 @@
+-- All faults, and all points of a sound plan.
+use Rattle.std.proofs.Common.{◌≡◌, List, [], ◌∷◌, Option, Some, None, refl, sym}
+use Rattle.std.proofs.lemmas.Option.{none-some}
+use Rattle.vw_plan.specs.Setting.{Setting}
+use Rattle.vw_plan.specs.Sound.{IsSound}
+use Rattle.vw_plan.specs.Needs.{needed_pairs}
+use Rattle.vw_plan.proofs.NeededPairs.{any-needed_pairs}
+use Rattle.vw_check.specs.declared.fault.PlanFault.{PlanFault}
+use Rattle.vw_check.specs.Firsts.{first_found}
+use Rattle.vw_check.specs.CellFaults.{wrong_cells, zero_period, bad_chip, overfull}
+use Rattle.vw_check.specs.WireFaults.{missing_wire, extra_wire}
+use Rattle.vw_check.specs.HopFaults.{broken_route, bad_pin, out_of_order, past_period, pin_clash}
+use Rattle.vw_check.specs.MomentFaults.{too_early, late_latch}
+use Rattle.vw_check.specs.Faults.{plan_fault}
+use Rattle.vw_check.specs.Answers.{Breaks}
+use Rattle.vw_check.proofs.LawFirsts.{none_first, none_rest, none_both, some_is}
+use Rattle.vw_check.proofs.LawCells.{placed, a_period, no_wrong_cells, no_zero_period, no_bad_chip, no_overfull, wrong_cells_break, zero_period_breaks, bad_chip_breaks, overfull_breaks}
+use Rattle.vw_check.proofs.LawWires.{AreNeeds, has_wires, no_missing_wire, no_extra_wire, missing_wire_breaks, extra_wire_breaks}
+use Rattle.vw_check.proofs.LawRoutes.{routed, rising, no_broken_route, no_bad_pin, no_out_of_order, no_past_period, broken_route_breaks, bad_pin_breaks, out_of_order_breaks, past_period_breaks}
+use Rattle.vw_check.proofs.LawClashes.{none_shared, no_pin_clash, pin_clash_breaks}
+use Rattle.vw_check.proofs.LawMoments.{all_sent, latches_in_time, no_too_early, no_late_latch, too_early_breaks, late_latch_breaks}
+
+-- ---- what is found first in a list of searches
+
+abbrev EachNone : {Y : Type 0} → List (Option Y) → Type 0
+EachNone [] = Unit {0}
+EachNone (found ∷ others) = (found ≡ None) × EachNone others
+
+each_search : {Y : Type 0} (searches : List (Option Y)) → first_found searches ≡ None → EachNone searches
+each_search [] is = tt
+each_search (found ∷ others) is = (none_first found (first_found others) is, each_search others (none_rest found (first_found others) is))
+
+no_search : {Y : Type 0} (searches : List (Option Y)) → EachNone searches → first_found searches ≡ None
+no_search [] each = refl
+no_search (found ∷ others) each = none_both found (first_found others) each.0 (no_search others each.1)
+
+abbrev EachGives : {Y : Type 0} → (Y → Type 0) → List (Option Y) → Type 0
+EachGives P [] = Unit {0}
+EachGives {Y = Y} P (found ∷ others) = ((y : Y) → found ≡ Some y → P y) × EachGives P others
+
+some_search : {Y : Type 0} (P : Y → Type 0) (searches : List (Option Y)) (y : Y) → EachGives P searches → first_found searches ≡ Some y → P y
+some_search P [] y each is = absurd (none-some y is)
+some_search P (found ∷ others) y each is = some_is found (first_found others) y P is (each.0 y) (some_search P others y each.1)
+
+-- ---- a plan without a fault is sound
+
+module _ (setting : Setting) where
+  needs_are : AreNeeds setting.ordered.flat setting.plan.chip_of (needed_pairs setting.ordered.flat setting.plan.chip_of)
+  needs_are net node = sym (any-needed_pairs setting.ordered.flat setting.plan.chip_of net node)
+
+  abbrev cells : List (Option PlanFault)
+  cells = wrong_cells setting.ordered.flat setting.plan ∷ zero_period setting.plan ∷ bad_chip setting.board setting.plan ∷ overfull setting.board setting.plan ∷ []
+
+  abbrev wires : List (Option PlanFault)
+  wires = missing_wire setting.ordered.flat setting.plan ∷ extra_wire setting.ordered.flat setting.plan ∷ []
+
+  abbrev hops : List (Option PlanFault)
+  hops = broken_route setting ∷ bad_pin setting.board setting.plan ∷ out_of_order setting.board setting.plan ∷ past_period setting.board setting.plan ∷ pin_clash setting.plan ∷ []
+
+  abbrev moments : List (Option PlanFault)
+  moments = too_early setting ∷ late_latch setting ∷ []
+
+  abbrev groups : List (Option PlanFault)
+  groups = first_found cells ∷ first_found wires ∷ first_found hops ∷ first_found moments ∷ []
+
+  pub sound : plan_fault setting ≡ None → IsSound setting
+  unfolding plan_fault
+  sound none =
+      let each = each_search groups none in
+      let no_cell = each_search cells each.0 in
+      let no_wire = each_search wires each.1.0 in
+      let no_hop = each_search hops each.1.1.0 in
+      let no_moment = each_search moments each.1.1.1.0 in record {
+        one_chip_each = placed setting no_cell.0 no_cell.1.1.0 no_cell.1.1.1.0;
+        one_wire_for_each_need = has_wires setting needs_are no_wire.0 no_wire.1.0;
+        routes = routed setting no_hop.0 no_hop.1.0;
+        rising_microcycles = rising setting no_hop.1.1.0 no_hop.1.1.1.0;
+        one_hop_a_pin = none_shared setting.plan no_hop.1.1.1.1.0;
+        sent_when_usable = all_sent setting no_moment.0;
+        latches_in_time = latches_in_time setting no_moment.1.0;
+        a_period = a_period setting no_cell.1.0;
+      }
+
+  pub faultless : IsSound setting → plan_fault setting ≡ None
+  unfolding plan_fault
+  faultless is =
+      let no_cell = no_search cells (no_wrong_cells setting is.one_chip_each, (no_zero_period setting is.a_period, (no_bad_chip setting is.one_chip_each, (no_overfull setting is.one_chip_each, tt)))) in
+      let no_wire = no_search wires (no_missing_wire setting needs_are is.one_wire_for_each_need, (no_extra_wire setting needs_are is.one_wire_for_each_need, tt)) in
+      let no_hop = no_search hops (no_broken_route setting is.routes, (no_bad_pin setting is.routes, (no_out_of_order setting is.rising_microcycles, (no_past_period setting is.rising_microcycles, (no_pin_clash setting.plan is.one_hop_a_pin, tt))))) in
+      let no_moment = no_search moments (no_too_early setting is.sent_when_usable, (no_late_latch setting is.latches_in_time, tt)) in
+      no_search groups (no_cell, (no_wire, (no_hop, (no_moment, tt))))
+
+  pub breaks : (fault : PlanFault) → plan_fault setting ≡ Some fault → Breaks setting fault
+  unfolding plan_fault
+  breaks fault is =
+      some_search (Breaks setting) groups fault (
+        (λ one its. some_search (Breaks setting) cells one (wrong_cells_break setting, (zero_period_breaks setting, (bad_chip_breaks setting, (overfull_breaks setting, tt)))) its),
+        (
+          (λ one its. some_search (Breaks setting) wires one (missing_wire_breaks setting needs_are, (extra_wire_breaks setting needs_are, tt)) its),
+          (
+            (λ one its. some_search (Breaks setting) hops one (broken_route_breaks setting, (bad_pin_breaks setting, (out_of_order_breaks setting, (past_period_breaks setting, (pin_clash_breaks setting, tt))))) its),
+            (
+              (λ one its. some_search (Breaks setting) moments one (too_early_breaks setting, (late_latch_breaks setting, tt)) its),
+              tt,
+            ),
+          ),
+        ),
+      ) is

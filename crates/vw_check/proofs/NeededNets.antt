@@ -1,0 +1,97 @@
+-- Which nets are needed at all, and what a plan without some faults has.
+use Rattle.std.proofs.Common.{◌≡◌, ◌<◌, ◌≤◌, ◌+◌, ◌&&◌, ◌||◌, ℕ, zero, suc, Bool, true, false, not, List, [], ◌∷◌, length, take, get_or, eqb, Option, Some, None, refl, sym, subst, ⊎_elim, true≢false, eqb-true, All, arith}
+use Rattle.std.specs.Prelude.{nat_le}
+use Rattle.std.specs.List.{list_any, zip}
+use Rattle.std.specs.Option.{option_or}
+use Rattle.std.proofs.lemmas.Bool.{and_parts, or_cases, not-true}
+use Rattle.std.proofs.lemmas.List.Elements.{All-head, All-tail}
+use Rattle.vw_net.specs.declared.cell.Cell.{Cell}
+use Rattle.vw_net.specs.declared.flat.Flat.{Flat}
+use Rattle.vw_net.specs.Cells.{IsWellFormed, read_nets}
+use Rattle.vw_net.specs.Order.{is_among}
+use Rattle.vw_plan.specs.declared.board.Board.{Board}
+use Rattle.vw_plan.specs.declared.plan.Plan.{Plan}
+use Rattle.vw_plan.specs.declared.wire.Wire.{Wire}
+use Rattle.vw_plan.specs.Nets.{is_needed, is_read_at, node_of}
+use Rattle.vw_check.specs.declared.fault.PlanFault.{PlanFault}
+use Rattle.vw_check.specs.declared.fault.PlanFault.TheVariants.{BadChip, ExtraWire, WrongCells}
+use Rattle.vw_check.specs.Firsts.{first_at, found_unless}
+use Rattle.vw_check.specs.CellFaults.{bad_chip, is_chip, overfull, wrong_cells, zero_period}
+use Rattle.vw_check.specs.WireFaults.{extra_wire, is_brought, missing_wire}
+use Rattle.vw_check.specs.Faults.{cell_fault, wire_fault}
+
+-- ---- searches that find nothing
+
+or_parts : {Y : Type 0} (one other : Option Y) → option_or one other ≡ None → (one ≡ None) × (other ≡ None)
+or_parts None other none = (refl, none)
+or_parts (Some thing) other none = cc
+
+none_at : {X Y : Type 0} (found : ℕ → X → Option Y) (from : ℕ) (xs : List X) → first_at found from xs ≡ None → (place : ℕ) (default : X) → place < length xs → found (from + place) (get_or xs place default) ≡ None
+none_at found from [] none place default within = absurd (omega arith)
+none_at found from (x ∷ xs) none zero default within =
+    let here : from ≡ from + 0 = omega arith in
+    subst (λ (number : ℕ). found number x ≡ None) here (or_parts (found from x) (first_at found (suc from) xs) none).0
+none_at found from (x ∷ xs) none (suc place) default within =
+    let later : suc from + place ≡ from + suc place = omega arith in
+    subst (λ (number : ℕ). found number (get_or xs place default) ≡ None) later (none_at found (suc from) xs (or_parts (found from x) (first_at found (suc from) xs) none).1 place default (omega arith))
+
+passed : (test : Bool) (fault : PlanFault) → found_unless test fault ≡ None → test ≡ true
+passed true fault none = refl
+passed false fault none = cc
+
+-- ---- nets that are needed
+
+below_net : (nets : List ℕ) (net past : ℕ) → All (λ other. other < past) nets → is_among nets net ≡ true → net < past
+below_net [] net past below among = absurd (true≢false (sym among))
+below_net (first ∷ nets) net past below among =
+    let if_first = λ (is : eqb first net ≡ true). let same : first ≡ net = eqb-true first net is in let low : net < past = omega (arith, All-head (λ other. other < past) first nets below) in low in
+    let if_later = λ (later : is_among nets net ≡ true). below_net nets net past (All-tail (λ other. other < past) first nets below) later in
+    ⊎_elim if_first if_later (or_cases (eqb first net) (is_among nets net) among)
+
+read_net : (chips : List ℕ) (cells : List Cell) (net node past : ℕ) → All (IsWellFormed past) cells → list_any (λ (placed : ℕ × Cell). eqb placed.0 node && is_among (read_nets placed.1) net) (zip chips cells) ≡ true → net < past
+read_net [] cells net node past fit reads = absurd (true≢false (sym reads))
+read_net (chip ∷ chips) [] net node past fit reads = absurd (true≢false (sym reads))
+read_net (chip ∷ chips) (cell ∷ cells) net node past fit reads =
+    let rest = list_any (λ (placed : ℕ × Cell). eqb placed.0 node && is_among (read_nets placed.1) net) (zip chips cells) in
+    let if_here = λ (here : (eqb chip node && is_among (read_nets cell) net) ≡ true). below_net (read_nets cell) net past (All-head (IsWellFormed past) cell cells fit).1 (and_parts (eqb chip node) (is_among (read_nets cell) net) here).1 in
+    let if_later = λ (later : rest ≡ true). read_net chips cells net node past (All-tail (IsWellFormed past) cell cells fit) later in
+    ⊎_elim if_here if_later (or_cases (eqb chip node && is_among (read_nets cell) net) rest reads)
+
+-- a net that is needed is one of the nets
+pub needed_net : (flat : Flat) (chip_of : List ℕ) (net node : ℕ) → is_needed flat chip_of net node ≡ true → net < flat.inputs + length flat.cells
+needed_net flat chip_of net node needed =
+    let past = flat.inputs + length flat.cells in
+    let host = eqb node 0 && is_among flat.outputs net in
+    let if_read = λ (reads : is_read_at flat chip_of net node ≡ true). read_net chip_of flat.cells net node past flat.cells_fit reads in
+    let if_host = λ (at_host : host ≡ true). below_net flat.outputs net past flat.outputs_fit (and_parts (eqb node 0) (is_among flat.outputs net) at_host).1 in
+    ⊎_elim if_read if_host (or_cases (is_read_at flat chip_of net node) host (and_parts (not (eqb (node_of flat chip_of net) node)) (is_read_at flat chip_of net node || host) needed).1)
+
+-- ---- what a plan has
+
+-- without a fault of the cells, each cell has a chip
+pub chips_fine : (flat : Flat) (board : Board) (plan : Plan) → cell_fault flat board plan ≡ None → (length plan.chip_of ≡ length flat.cells) × All (λ chip. 1 ≤ chip) plan.chip_of
+chips_fine flat board plan none =
+    let counted = or_parts (wrong_cells flat plan) (option_or (zero_period plan) (option_or (bad_chip board plan) (option_or (overfull board plan) None))) none in
+    let timed = or_parts (zero_period plan) (option_or (bad_chip board plan) (option_or (overfull board plan) None)) counted.1 in
+    let placed = or_parts (bad_chip board plan) (option_or (overfull board plan) None) timed.1 in
+    let same = passed (eqb (length plan.chip_of) (length flat.cells)) (WrongCells (length plan.chip_of) (length flat.cells)) counted.0 in (
+      eqb-true (length plan.chip_of) (length flat.cells) same,
+      λ place default within.
+          let chip = get_or plan.chip_of place default in
+          let is = passed (is_chip board chip) (BadChip (0 + place)) (none_at (λ cell one. found_unless (is_chip board one) (BadChip cell)) 0 plan.chip_of placed.0 place default within) in
+          let some : eqb chip 0 ≡ false = not-true (eqb chip 0) (and_parts (not (eqb chip 0)) (nat_le chip board.chips) is).0 in
+          some_chip chip some,
+    ) where
+      some_chip : (chip : ℕ) → eqb chip 0 ≡ false → 1 ≤ chip
+      some_chip zero is = absurd (true≢false is)
+      some_chip (suc chip) is = omega arith
+
+-- without a fault of the wires, each wire brings one of the nets
+pub wires_fine : (flat : Flat) (plan : Plan) → wire_fault flat plan ≡ None → All (λ wire. wire.net < flat.inputs + length flat.cells) plan.wires
+wires_fine flat plan none = λ place default within.
+    let wires = or_parts (missing_wire flat plan) (option_or (extra_wire flat plan) None) none in
+    let extra = or_parts (extra_wire flat plan) None wires.1 in
+    let found = λ (number : ℕ) (wire : Wire). found_unless (is_needed flat plan.chip_of wire.net wire.to && not (is_brought (take number plan.wires) wire.net wire.to)) (ExtraWire number) in
+    let wire = get_or plan.wires place default in
+    let needed = passed (is_needed flat plan.chip_of wire.net wire.to && not (is_brought (take (0 + place) plan.wires) wire.net wire.to)) (ExtraWire (0 + place)) (none_at found 0 plan.wires extra.0 place default within) in
+    needed_net flat plan.chip_of wire.net wire.to (and_parts (is_needed flat plan.chip_of wire.net wire.to) (not (is_brought (take (0 + place) plan.wires) wire.net wire.to)) needed).0

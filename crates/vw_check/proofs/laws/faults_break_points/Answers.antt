@@ -1,0 +1,5 @@
+use Rattle.vw_check.proofs.LawAll.{breaks}
+use Rattle.vw_check.proofs.laws.faults_break_points.Goals as goal
+
+pub returns : goal.returns
+returns c = breaks

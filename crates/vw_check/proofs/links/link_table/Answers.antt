@@ -1,0 +1,11 @@
+use Rattle.std.proofs.Common.{◌∙◌, ℕ, List, subst, IfOk, arith, ap, length}
+use Rattle.vw_plan.specs.declared.link.Link.{Link}
+use Rattle.vw_check.specs.Steps.Tables.{HasPairs}
+use Rattle.vw_check.proofs.Pushed.{all_pushed}
+use Rattle.vw_check.proofs.links.link_table.Goals as goal
+
+-- the pairs are those of all of them
+pub returns : goal.returns
+returns c =
+    let all = all_pushed (λ (link : Link). (link.from, link.to)) c.args.board.now.links c.loop-link.link-index c.loop-link.pairs.items (omega (arith, ap length c.links-link-items.ensures)) c.loop-link.invariant in
+    subst (λ (pairs : List (ℕ × ℕ)). IfOk c.of.result (λ table. HasPairs pairs table.places)) (c.deref.ensures.value ∙ all) c.of.ensures

@@ -1,0 +1,11 @@
+use Rattle.std.proofs.Common.{◌∙◌, ℕ, List, subst, IfOk, arith}
+use Rattle.vw_plan.specs.declared.need.Need.{Need}
+use Rattle.vw_check.specs.Steps.Tables.{HasPairs}
+use Rattle.vw_check.proofs.Pushed.{all_pushed}
+use Rattle.vw_check.proofs.wires.need_table.Goals as goal
+
+-- the pairs are those of all of them
+pub returns : goal.returns
+returns c =
+    let all = all_pushed (λ (need : Need). (need.net, need.to)) c.args.needs.now c.loop-need.need-index c.loop-need.pairs.items (omega arith) c.loop-need.invariant in
+    subst (λ (pairs : List (ℕ × ℕ)). IfOk c.of.result (λ table. HasPairs pairs table.places)) (c.deref.ensures.value ∙ all) c.of.ensures

@@ -1,0 +1,11 @@
+use Rattle.std.proofs.Common.{◌∙◌, ℕ, List, subst, IfOk, arith, ap, length}
+use Rattle.vw_plan.specs.declared.wire.Wire.{Wire}
+use Rattle.vw_check.specs.Steps.Tables.{HasPairs}
+use Rattle.vw_check.proofs.Pushed.{all_pushed}
+use Rattle.vw_check.proofs.wires.wire_table.Goals as goal
+
+-- the pairs are those of all of them
+pub returns : goal.returns
+returns c =
+    let all = all_pushed (λ (wire : Wire). (wire.net, wire.to)) c.args.plan.now.wires c.loop-wire.wire-index c.loop-wire.pairs.items (omega (arith, ap length c.wires-wire-items.ensures)) c.loop-wire.invariant in
+    subst (λ (pairs : List (ℕ × ℕ)). IfOk c.of.result (λ table. HasPairs pairs table.places)) (c.deref.ensures.value ∙ all) c.of.ensures

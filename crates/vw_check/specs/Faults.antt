@@ -1,0 +1,42 @@
+-- The fault of a plan: the first that is there, in this order, each at its first place. A plan without one is sound.
+use Rattle.std.specs.Prelude.{[], ◌∷◌, Option}
+use Rattle.vw_net.specs.declared.flat.Flat.{Flat}
+use Rattle.vw_plan.specs.declared.board.Board.{Board}
+use Rattle.vw_plan.specs.declared.plan.Plan.{Plan}
+use Rattle.vw_plan.specs.Setting.{Setting}
+use Rattle.vw_check.specs.declared.fault.PlanFault.{PlanFault}
+use Rattle.vw_check.specs.Firsts.{first_found}
+use Rattle.vw_check.specs.CellFaults.{wrong_cells, zero_period, bad_chip, overfull}
+use Rattle.vw_check.specs.WireFaults.{missing_wire, extra_wire}
+use Rattle.vw_check.specs.HopFaults.{broken_route, bad_pin, out_of_order, past_period, pin_clash}
+use Rattle.vw_check.specs.MomentFaults.{too_early, late_latch}
+
+-- the chips of the cells, and the period
+abbrev pub cell_fault : Flat → Board → Plan → Option PlanFault
+cell_fault flat board plan = first_found (wrong_cells flat plan ∷ zero_period plan ∷ bad_chip board plan ∷ overfull board plan ∷ [])
+
+-- the wires as a whole
+abbrev pub wire_fault : Flat → Plan → Option PlanFault
+wire_fault flat plan = first_found (missing_wire flat plan ∷ extra_wire flat plan ∷ [])
+
+-- their hops
+abbrev pub hop_fault : Setting → Option PlanFault
+hop_fault setting = first_found (
+    broken_route setting
+    ∷ bad_pin setting.board setting.plan
+    ∷ out_of_order setting.board setting.plan
+    ∷ past_period setting.board setting.plan
+    ∷ pin_clash setting.plan
+    ∷ [])
+
+-- when nets are usable
+abbrev pub moment_fault : Setting → Option PlanFault
+moment_fault setting = first_found (too_early setting ∷ late_latch setting ∷ [])
+
+unfoldable pub plan_fault : Setting → Option PlanFault
+plan_fault setting = first_found (
+    cell_fault setting.ordered.flat setting.board setting.plan
+    ∷ wire_fault setting.ordered.flat setting.plan
+    ∷ hop_fault setting
+    ∷ moment_fault setting
+    ∷ [])

@@ -1,0 +1,9 @@
+pub mod Steps
+pub mod Firsts
+pub mod CellFaults
+pub mod WireFaults
+pub mod HopFaults
+pub mod MomentFaults
+pub mod Faults
+pub mod Answers
+pub mod Messages

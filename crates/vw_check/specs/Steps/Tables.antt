@@ -1,0 +1,51 @@
+-- Tables of what stands first in a list.
+use Rattle.std.specs.Prelude.{◌≡◌, ◌==◌, ℕ, Bool, ◌&&◌, List, map, Option, option_map}
+use Rattle.std.specs.HashMap as hash
+use Rattle.vw_plan.specs.declared.link.Link.{Link}
+use Rattle.vw_plan.specs.declared.need.Need.{Need}
+use Rattle.vw_plan.specs.declared.wire.Hop.{Hop}
+use Rattle.vw_plan.specs.declared.wire.Wire.{Wire}
+use Rattle.vw_check.specs.Firsts.{first_at, found_if}
+use Rattle.vw_check.specs.HopFaults.{PlacedHop, first_sharing}
+
+-- ---- pairs of numbers
+
+abbrev pub is_pair : ℕ → ℕ → ℕ × ℕ → Bool
+is_pair one other pair = one == pair.0 && other == pair.1
+
+-- the number of the first of these pairs, which are numbered from a number on, that has these two parts
+abbrev pub first_pair : ℕ → List (ℕ × ℕ) → ℕ → ℕ → Option ℕ
+first_pair number pairs one other = first_at (λ place pair. found_if (is_pair one other pair) place) number pairs
+
+abbrev pub pair_in : {S : Type 0} → hash.HashMap (ℕ × ℕ) ℕ S → ℕ → ℕ → Option ℕ
+pair_in table one other = hash.get_by (is_pair one other) table
+
+-- it has the first place of each pair
+abbrev pub HasPairs : {S : Type 0} → List (ℕ × ℕ) → hash.HashMap (ℕ × ℕ) ℕ S → Type 0
+HasPairs pairs table = (one other : ℕ) → pair_in table one other ≡ first_pair 0 pairs one other
+
+-- ---- what the pairs are
+
+abbrev pub wire_pairs : List Wire → List (ℕ × ℕ)
+wire_pairs wires = map (λ wire. (wire.net, wire.to)) wires
+
+abbrev pub need_pairs : List Need → List (ℕ × ℕ)
+need_pairs needs = map (λ need. (need.net, need.to)) needs
+
+abbrev pub link_pairs : List Link → List (ℕ × ℕ)
+link_pairs links = map (λ link. (link.from, link.to)) links
+
+-- ---- pins in use
+
+abbrev pub PinKey : Type 0
+PinKey = (ℕ × ℕ) × (ℕ × ℕ)
+
+abbrev pub is_pin : Hop → PinKey → Bool
+is_pin hop key = (hop.from == key.0.0 && hop.to == key.0.1) && (hop.pin == key.1.0 && hop.at == key.1.1)
+
+abbrev pub user_in : {S : Type 0} → hash.HashMap PinKey (ℕ × ℕ) S → Hop → Option (ℕ × ℕ)
+user_in table hop = hash.get_by (is_pin hop) table
+
+-- it has the wire and the number of the first of these hops that has each pin
+abbrev pub HasPins : {S : Type 0} → List PlacedHop → hash.HashMap PinKey (ℕ × ℕ) S → Type 0
+HasPins placed table = (hop : Hop) → user_in table hop ≡ option_map (λ earlier. (earlier.wire, earlier.number)) (first_sharing placed hop)

@@ -1,0 +1,132 @@
+//! The first fault of a plan.
+ghost use Rattle.std.specs.Prelude.{◌≡◌, ◌<◌, ◌+◌, length, IfOk, IfErr};
+ghost use Rattle.std.specs.List.{All};
+ghost use Rattle.vw_plan.specs.Setting.{setting_of};
+ghost use Rattle.vw_check.specs.Faults.{cell_fault, hop_fault, moment_fault, plan_fault};
+ghost use Rattle.vw_check.specs.Answers.{IsAccepted, IsRefused};
+ghost use Rattle.vw_check.specs.Steps.Tables.{HasPairs, wire_pairs};
+
+use crate::cells::{bad_chip, overfull, wrong_cells, zero_period};
+use crate::clash::pin_clash;
+use crate::fault::PlanFault;
+use crate::hops::{Rule, broken_route, first_breaking};
+use crate::laws::{faultless_plans_are_sound, faults_break_points};
+use crate::links::link_table;
+use crate::moments::{home_leads, late_latch, too_early};
+use crate::pairs::PairTable;
+use crate::refused::CheckRefused;
+use crate::wires::{wire_fault, wire_table};
+use std::alloc::{AllocError, Global};
+use vw_net::{Flat, Ordered};
+use vw_plan::{Board, Checked, Plan};
+
+/// The first fault of the chips of the cells, and of the period.
+fn cell_fault(flat: &Flat, board: &Board, plan: &Plan) -> Option<PlanFault>
+    ensures { result ≡ cell_fault flat.now board.now plan.now }
+{
+    wrong_cells(flat, plan)
+        .or(zero_period(plan))
+        .or(bad_chip(board, plan))
+        .or(overfull(board, plan))
+}
+
+/// The first fault of the hops.
+fn hop_fault(
+    alloc: Global,
+    ordered: &Ordered,
+    board: &Board,
+    plan: &Plan,
+) -> Result<Option<PlanFault>, AllocError>
+    requires each { length plan.now.chip_of ≡ length ordered.now.flat.cells }
+    requires nets { All (λ wire. wire.net < ordered.now.flat.inputs + length ordered.now.flat.cells) plan.now.wires }
+    ensures { IfOk result (λ found. found
+        ≡ hop_fault (setting_of ordered.now board.now plan.now)) }
+{
+    let links = link_table(alloc, board)?;
+    let found = broken_route(ordered, board, plan, &links)
+        .or(first_breaking(Rule::Pin, ordered, board, plan, &links))
+        .or(first_breaking(Rule::Order, ordered, board, plan, &links))
+        .or(first_breaking(Rule::Period, ordered, board, plan, &links));
+    if found.is_some() {
+        return Ok(found);
+    }
+    pin_clash(alloc, plan)
+}
+
+/// The first fault of the moments at which nets are usable.
+fn moment_fault(
+    alloc: Global,
+    ordered: &Ordered,
+    board: &Board,
+    plan: &Plan,
+    wires: &PairTable,
+) -> Result<Option<PlanFault>, AllocError>
+    requires each { length plan.now.chip_of ≡ length ordered.now.flat.cells }
+    requires nets { All (λ wire. wire.net < ordered.now.flat.inputs + length ordered.now.flat.cells) plan.now.wires }
+    requires wires { HasPairs (wire_pairs plan.now.wires) wires.now.places }
+    ensures { IfOk result (λ found. found
+        ≡ moment_fault (setting_of ordered.now board.now plan.now)) }
+{
+    let leads = home_leads(alloc, ordered, board, plan, wires)?;
+    let early = too_early(ordered, board, plan, wires, &leads);
+    Ok(early.or(late_latch(ordered, board, plan, wires, &leads)))
+}
+
+/// The first fault of a plan.
+fn plan_fault(
+    alloc: Global,
+    ordered: &Ordered,
+    board: &Board,
+    plan: &Plan,
+) -> Result<Option<PlanFault>, AllocError>
+    ensures { IfOk result (λ found. found
+        ≡ plan_fault (setting_of ordered.now board.now plan.now)) }
+{
+    let cells = cell_fault(ordered.flat(), board, plan);
+    if cells.is_some() {
+        return Ok(cells);
+    }
+    let table = wire_table(alloc, plan)?;
+    let wires = wire_fault(alloc, ordered, plan, &table)?;
+    if wires.is_some() {
+        return Ok(wires);
+    }
+    let hops = hop_fault(alloc, ordered, board, plan)?;
+    if hops.is_some() {
+        return Ok(hops);
+    }
+    moment_fault(alloc, ordered, board, plan, &table)
+}
+
+/// Checks a plan: it is sound, or this is its first fault. The faults are tried in the order of their variants, each over the
+/// whole plan, at its first place. On a refusal the three are handed back.
+pub fn check(
+    alloc: Global,
+    ordered: Ordered,
+    board: Board,
+    plan: Plan,
+) -> Result<Checked, CheckRefused>
+    // A plan that is accepted has no fault, and the three are as they were handed in.
+    ensures accepted { IfOk result (λ checked. IsAccepted (setting_of ordered board plan) checked) }
+
+    // Else it has this fault, which breaks a point of a sound plan, or memory ran out; the three are handed back.
+    ensures refused { IfErr result (λ refused. IsRefused (setting_of ordered board plan) refused) }
+{
+    faultless_plans_are_sound();
+    faults_break_points();
+    match plan_fault(alloc, &ordered, &board, &plan) {
+        Ok(None) => Ok(Checked::make(ordered, board, plan)),
+        Ok(Some(fault)) => Err(CheckRefused {
+            fault,
+            ordered,
+            board,
+            plan,
+        }),
+        Err(_) => Err(CheckRefused {
+            fault: PlanFault::NoMemory,
+            ordered,
+            board,
+            plan,
+        }),
+    }
+}

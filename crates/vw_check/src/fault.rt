@@ -1,0 +1,126 @@
+ghost use Rattle.std.specs.Prelude.{◌≡◌, IfOk};
+
+use std::alloc::{AllocError, AllocFailed, Global};
+
+/// Why a plan isn't sound. Cells, nets, wires and hops are numbered from 0, wires in the order of the plan and hops in that
+/// of their wire; node 0 is the host.
+#[derive(Clone, Copy, Debug, PartialEq, Eq)]
+pub enum PlanFault {
+    /// The number of entries that the plan has, and the number of cells.
+    WrongCells(u32, u32),
+    /// The period is 0.
+    ZeroPeriod,
+    /// The entry of this cell is no chip.
+    BadChip(u32),
+    /// The chip, and the number of its cells, which is more than it has room for.
+    Overfull(u32, u32),
+    /// The net, and the node where it is needed and no wire brings it.
+    MissingWire(u32, u32),
+    /// The wire brings a net to a node where it isn't needed, or where an earlier wire brings it.
+    ExtraWire(u32),
+    /// The wire, and the hop that doesn't go on where the one before it ended, goes over no link, or is the last and doesn't
+    /// end at the wire's node. A wire without hops breaks at hop 0.
+    BrokenRoute(u32, u32),
+    /// The wire, and the hop whose pin its link doesn't have.
+    BadPin(u32, u32),
+    /// The wire, and the hop that isn't later than the one before it.
+    OutOfOrder(u32, u32),
+    /// The wire, and the hop whose microcycle isn't below the period.
+    PastPeriod(u32, u32),
+    /// The wire and the hop that come first, and the wire and the hop that use the same pin of the same link in the same
+    /// microcycle.
+    PinClash(u32, u32, u32, u32),
+    /// The wire, the microcycle of its first hop, and the one from which on its net is usable.
+    TooEarly(u32, u64, u64),
+    /// The latch, by its cell, and the microcycle from which on what it reads is usable, which is after the period.
+    LateLatch(u32, u64),
+    NoMemory,
+}
+
+impl From<AllocError> for PlanFault {
+    ghost use Rattle.vw_check.specs.declared.fault.PlanFault.TheVariants.{NoMemory};
+
+    ghost from_gives = { λ _ e. e ≡ NoMemory };
+
+    fn from(_: AllocError) -> Self {
+        PlanFault::NoMemory
+    }
+}
+
+impl<T: Drop> From<AllocFailed<T>> for PlanFault {
+    ghost use Rattle.vw_check.specs.declared.fault.PlanFault.TheVariants.{NoMemory};
+
+    ghost from_gives = { λ _ e. e ≡ NoMemory };
+
+    fn from(_: AllocFailed<T>) -> Self {
+        PlanFault::NoMemory
+    }
+}
+
+impl PlanFault {
+    ghost use Rattle.vw_check.specs.Messages.{fault_text};
+
+    /// The message line, with the end of the line.
+    pub fn text(&self, alloc: Global) -> Result<Vec<u8>, AllocError>
+        ensures { IfOk result (λ line. line.items ≡ fault_text self.now) }
+    {
+        match *self {
+            PlanFault::WrongCells(found, wanted) => {
+                let line = format!(in alloc; "plan 3: {found} cells, wanted {wanted}\n")?;
+                Ok(line.into_bytes())
+            }
+            PlanFault::ZeroPeriod => Ok(b"plan 4: period 0\n".to_vec(alloc)?),
+            PlanFault::BadChip(cell) => {
+                let line = format!(in alloc; "plan 5: cell {cell} has no chip\n")?;
+                Ok(line.into_bytes())
+            }
+            PlanFault::Overfull(chip, count) => {
+                let line = format!(in alloc; "plan 6: chip {chip} has {count} cells\n")?;
+                Ok(line.into_bytes())
+            }
+            PlanFault::MissingWire(net, node) => {
+                let line = format!(in alloc; "plan 7: no wire of net {net} to node {node}\n")?;
+                Ok(line.into_bytes())
+            }
+            PlanFault::ExtraWire(wire) => {
+                let line = format!(in alloc; "plan 8: wire {wire} isn't needed\n")?;
+                Ok(line.into_bytes())
+            }
+            PlanFault::BrokenRoute(wire, hop) => {
+                let line = format!(in alloc; "plan 9: wire {wire} hop {hop} breaks the route\n")?;
+                Ok(line.into_bytes())
+            }
+            PlanFault::BadPin(wire, hop) => {
+                let line = format!(in alloc; "plan 10: wire {wire} hop {hop} has no pin\n")?;
+                Ok(line.into_bytes())
+            }
+            PlanFault::OutOfOrder(wire, hop) => {
+                let line = format!(in alloc; "plan 11: wire {wire} hop {hop} is out of order\n")?;
+                Ok(line.into_bytes())
+            }
+            PlanFault::PastPeriod(wire, hop) => {
+                let line = format!(in alloc;
+                    "plan 12: wire {wire} hop {hop} is past the period\n"
+                )?;
+                Ok(line.into_bytes())
+            }
+            PlanFault::PinClash(wire, hop, other, clash) => {
+                let line = format!(in alloc;
+                    "plan 13: wire {wire} hop {hop} and wire {other} hop {clash} share a pin\n"
+                )?;
+                Ok(line.into_bytes())
+            }
+            PlanFault::TooEarly(wire, sent, usable) => {
+                let line = format!(in alloc;
+                    "plan 14: wire {wire} sent at {sent}, usable at {usable}\n"
+                )?;
+                Ok(line.into_bytes())
+            }
+            PlanFault::LateLatch(cell, usable) => {
+                let line = format!(in alloc; "plan 15: latch {cell} usable at {usable}\n")?;
+                Ok(line.into_bytes())
+            }
+            PlanFault::NoMemory => Ok(b"out of memory\n".to_vec(alloc)?),
+        }
+    }
+}

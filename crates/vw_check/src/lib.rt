@@ -1,0 +1,23 @@
+//! Whether a plan is sound, or the first reason why it isn't.
+#![tactic(auto)]
+
+mod cells;
+mod checker;
+mod clash;
+mod fault;
+mod hops;
+mod laws;
+mod links;
+mod moments;
+mod pairs;
+mod refused;
+mod wires;
+
+pub use checker::check;
+pub use fault::PlanFault;
+pub use pairs::PairTable;
+pub use laws::{faultless_plans_are_sound, faults_break_points, sound_plans_are_faultless};
+pub use refused::CheckRefused;
+
+#[cfg(test)]
+mod tests;

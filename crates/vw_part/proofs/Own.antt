@@ -1,0 +1,121 @@
+-- The nets of a cell, sorted and each kept once; and those of all cells.
+use Rattle.std.proofs.Common.{◌≡◌, ◌<◌, ◌≤◌, ◌+◌, ◌||◌, ℕ, zero, suc, Bool, true, false, List, [], ◌∷◌, ◌++◌, length, get_or, eqb, ap, refl, sym, subst, ◌∙◌, ⊎_elim, eq-eqb, eqb-true, All, arith}
+use Rattle.std.specs.List.{AllPairs, Any, Contains, dedup, list_any}
+use Rattle.std.specs.List.Sorted.{IsPermutation, IsSorted}
+use Rattle.std.specs.Ordering.{nat_cmp}
+use Rattle.std.proofs.lemmas.Bool.{cases_eq, or_cases, or_left, or_right}
+use Rattle.std.proofs.lemmas.List.Elements.{All-cons, All-head, All-nil, All-tail}
+use Rattle.std.proofs.lemmas.List.Folds.{Any-from_list_any, list_any-append, list_any-from_Any}
+use Rattle.std.proofs.lemmas.List.Kept.{AllPairs-from_increasing, Contains-dedup_nat, Contains-from_dedup}
+use Rattle.std.proofs.lemmas.List.Sorted.{list_any-IsPermutation}
+use Rattle.std.proofs.lemmas.Map.Keys.{IsStrictlyIncreasing-dedup}
+use Rattle.vw_net.specs.declared.cell.Cell.{Cell}
+use Rattle.vw_net.specs.Cells.{IsWellFormed, read_nets}
+use Rattle.vw_net.specs.Order.{is_among}
+use Rattle.vw_part.specs.Pins.{AreNetsOf, ArePins, number_of}
+use Rattle.vw_part.proofs.Totals.{at_other, at_same}
+
+-- ---- numbers that rise
+
+rising_none : (first : ℕ) (numbers : List ℕ) (number : ℕ) → AllPairs (λ x y. x < y) (first ∷ numbers) → number ≤ first → number_of numbers number ≡ 0
+rising_none first [] number rise low = refl
+rising_none first (next ∷ numbers) number rise low =
+    let above : first < next = rise 0 1 0 (omega arith) (omega arith) in
+    let rest = rising_none next numbers number (λ i j default before within. rise (suc i) (suc j) default (omega arith) (omega arith)) (omega arith) in
+    omega (arith, at_other next 1 number (λ is. omega arith), rest)
+
+rising_once : (numbers : List ℕ) (number : ℕ) → AllPairs (λ x y. x < y) numbers → number_of numbers number ≤ 1
+rising_once [] number rise = omega arith
+rising_once (first ∷ numbers) number rise =
+    let if_here = λ (here : first ≡ number).
+    let unit : number_of (first ∷ []) number ≡ 1 = subst (λ (x : ℕ). number_of (first ∷ []) x ≡ 1) here (omega (arith, at_same first 1)) in
+    let sum : number_of (first ∷ numbers) number ≤ 1 = omega (arith, unit, rising_none first numbers number rise (omega arith)) in sum in
+    let if_not = λ (apart : first ≡ number → ⊥).
+    let sum : number_of (first ∷ numbers) number ≤ 1 = omega (arith, at_other first 1 number apart, rising_once numbers number (λ i j default before within. rise (suc i) (suc j) default (omega arith) (omega arith))) in sum in
+    ⊎_elim if_here if_not (cases_eq first number)
+
+-- ---- one cell
+
+both_ways : (one other : Bool) → (one ≡ true → other ≡ true) → (other ≡ true → one ≡ true) → one ≡ other
+both_ways true other to from = sym (to refl)
+both_ways false true to from = from refl
+both_ways false false to from = refl
+
+kept_same : (numbers : List ℕ) (number : ℕ) → is_among (dedup eqb numbers) number ≡ is_among numbers number
+kept_same numbers number =
+    let test = λ (other : ℕ). eqb other number in
+    let to = λ (listed : list_any test (dedup eqb numbers) ≡ true).
+    let any : Any (λ other. test other ≡ true) (dedup eqb numbers) = Any-from_list_any test (dedup eqb numbers) listed in
+    let there : Contains numbers any.1 = Contains-from_dedup eqb numbers any.1 (any.0, any.2, any.3) in
+    list_any-from_Any test numbers (there.0, any.1, there.1, there.2, any.4) in
+    let from = λ (listed : list_any test numbers ≡ true).
+    let any : Any (λ other. test other ≡ true) numbers = Any-from_list_any test numbers listed in
+    let there : Contains (dedup eqb numbers) any.1 = Contains-dedup_nat numbers any.1 (any.0, any.2, any.3) in
+    list_any-from_Any test (dedup eqb numbers) (there.0, any.1, there.1, there.2, any.4) in
+    both_ways (list_any test (dedup eqb numbers)) (list_any test numbers) to from
+
+turned : (one other : Bool) → (one || (other || false)) ≡ (other || one)
+turned true true = refl
+turned true false = refl
+turned false true = refl
+turned false false = refl
+
+pub kept_once : (own : ℕ) (cell : Cell) (reads listed sorted kept : List ℕ) → reads ≡ read_nets cell → listed ≡ reads ++ own ∷ [] → IsPermutation listed sorted → IsSorted nat_cmp sorted → kept ≡ dedup eqb sorted → AreNetsOf own cell kept
+kept_once own cell reads listed sorted kept read is moved in_order once = record {
+  same = λ net.
+      ap (λ (l : List ℕ). is_among l net) once
+      ∙ kept_same sorted net
+      ∙ sym (list_any-IsPermutation (λ (other : ℕ). eqb other net) listed sorted moved)
+      ∙ ap (λ (l : List ℕ). is_among l net) is
+      ∙ list_any-append (λ (other : ℕ). eqb other net) reads (own ∷ [])
+      ∙ turned (is_among reads net) (eqb own net)
+      ∙ ap (λ (l : List ℕ). eqb own net || is_among l net) read;
+  once = λ net. subst (λ (l : List ℕ). number_of l net ≤ 1) (sym once) (rising_once (dedup eqb sorted) net (AllPairs-from_increasing (dedup eqb sorted) (IsStrictlyIncreasing-dedup sorted in_order)));
+}
+
+-- ---- all cells
+
+pub pins_push : (own : ℕ) (cells : List Cell) (pins : List (List ℕ)) (cell : Cell) (nets : List ℕ) → ArePins own cells pins → AreNetsOf (own + length cells) cell nets → ArePins own (cells ++ cell ∷ []) (pins ++ nets ∷ [])
+pins_push own [] [] cell nets are next = (subst (λ (net : ℕ). AreNetsOf net cell nets) (omega arith) next, tt)
+pins_push own [] (other ∷ pins) cell nets are next = absurd are
+pins_push own (first ∷ cells) [] cell nets are next = absurd are
+pins_push own (first ∷ cells) (other ∷ pins) cell nets are next = (are.0, pins_push (own + 1) cells pins cell nets are.1 (subst (λ (net : ℕ). AreNetsOf net cell nets) (omega arith) next))
+
+pub pins_long : (own : ℕ) (cells : List Cell) (pins : List (List ℕ)) → ArePins own cells pins → length pins ≡ length cells
+pins_long own [] [] are = refl
+pins_long own [] (nets ∷ pins) are = absurd are
+pins_long own (cell ∷ cells) [] are = absurd are
+pins_long own (cell ∷ cells) (nets ∷ pins) are = omega (arith, pins_long (own + 1) cells pins are.1)
+
+pub pins_once : (own : ℕ) (cells : List Cell) (pins : List (List ℕ)) → ArePins own cells pins → All (λ nets. (net : ℕ) → number_of nets net ≤ 1) pins
+pins_once own [] [] are = All-nil (λ nets. (net : ℕ) → number_of nets net ≤ 1)
+pins_once own [] (nets ∷ pins) are = absurd are
+pins_once own (cell ∷ cells) [] are = absurd are
+pins_once own (cell ∷ cells) (nets ∷ pins) are = All-cons (λ nets. (net : ℕ) → number_of nets net ≤ 1) nets pins are.0.once (pins_once (own + 1) cells pins are.1)
+
+itself : (numbers : List ℕ) (place default : ℕ) → place < length numbers → is_among numbers (get_or numbers place default) ≡ true
+itself [] place default within = absurd (omega arith)
+itself (first ∷ numbers) zero default within = or_left (eqb first first) _ (eq-eqb first first refl)
+itself (first ∷ numbers) (suc place) default within = or_right (eqb first (get_or numbers place default)) _ (itself numbers place default (omega arith))
+
+below_among : (numbers : List ℕ) (bound number : ℕ) → All (λ net. net < bound) numbers → is_among numbers number ≡ true → number < bound
+below_among [] bound number all among = cc
+below_among (first ∷ numbers) bound number all among =
+    let if_here = λ (here : eqb first number ≡ true). let is : first ≡ number = eqb-true first number here in let low : number < bound = omega (arith, is, All-head (λ net. net < bound) first numbers all) in low in
+    let if_later = λ (later : is_among numbers number ≡ true). below_among numbers bound number (All-tail (λ net. net < bound) first numbers all) later in
+    ⊎_elim if_here if_later (or_cases (eqb first number) (is_among numbers number) among)
+
+within_one : (own bound : ℕ) (cell : Cell) (nets : List ℕ) → own < bound → All (λ net. net < bound) (read_nets cell) → AreNetsOf own cell nets → All (λ net. net < bound) nets
+within_one own bound cell nets low reads are place default within =
+    let net = get_or nets place default in
+    let among : (eqb own net || is_among (read_nets cell) net) ≡ true = sym (are.same net) ∙ itself nets place default within in
+    let if_own = λ (here : eqb own net ≡ true). let is : own ≡ net = eqb-true own net here in subst (λ (x : ℕ). x < bound) is low in
+    let if_read = λ (read : is_among (read_nets cell) net ≡ true). below_among (read_nets cell) bound net reads read in
+    ⊎_elim if_own if_read (or_cases (eqb own net) (is_among (read_nets cell) net) among)
+
+pub pins_within : (own bound : ℕ) (cells : List Cell) (pins : List (List ℕ)) → own + length cells ≤ bound → All (IsWellFormed bound) cells → ArePins own cells pins → All (λ nets. All (λ net. net < bound) nets) pins
+pins_within own bound [] [] low fit are = All-nil (λ nets. All (λ net. net < bound) nets)
+pins_within own bound [] (nets ∷ pins) low fit are = absurd are
+pins_within own bound (cell ∷ cells) [] low fit are = absurd are
+pins_within own bound (cell ∷ cells) (nets ∷ pins) low fit are =
+    All-cons (λ nets. All (λ net. net < bound) nets) nets pins (within_one own bound cell nets (omega arith) (All-head (IsWellFormed bound) cell cells fit).1 are.0) (pins_within (own + 1) bound cells pins (omega arith) (All-tail (IsWellFormed bound) cell cells fit) are.1)

@@ -1,0 +1,7 @@
+-- the chips so far are full
+use Rattle.std.proofs.Common.{◌≤◌, ◌<◌, ℕ}
+use Rattle.vw_plan.specs.Good.{cells_on}
+use Rattle.vw_part.proofs.deal.Deal.chip_with_room.Given as goal
+
+abbrev pub invariant-loop-chip : goal.invariant-loop-chip
+invariant-loop-chip l = (chip : ℕ) → 1 ≤ chip → chip < l.chip → l.board.cells ≤ cells_on l.self.chip_of.items chip

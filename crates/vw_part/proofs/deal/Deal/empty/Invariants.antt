@@ -1,0 +1,7 @@
+-- a chip with no cells for each number so far
+use Rattle.std.proofs.Common.{◌≡◌, [], length, All}
+use Rattle.vw_part.specs.Deals.{IsLoad}
+use Rattle.vw_part.proofs.deal.Deal.empty.Given as goal
+
+abbrev pub invariant-loop-chip : goal.invariant-loop-chip
+invariant-loop-chip l = All (IsLoad l.pins [] 0) l.loads.items × (length l.loads.items ≡ l._chip)

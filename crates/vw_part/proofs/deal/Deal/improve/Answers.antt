@@ -1,0 +1,14 @@
+use Rattle.std.proofs.Common.{ℕ, List, ap, arith}
+use Rattle.vw_part.specs.Deals.{IsGain, spread}
+use Rattle.vw_part.proofs.Gains.{spread_moved}
+use Rattle.vw_part.proofs.deal.Deal.improve.Goals as goal
+
+-- a gain lowers the spread
+pub returns-in-Some-clause-lower : goal.returns-in-Some-clause-lower
+returns-in-Some-clause-lower c = λ moved.
+    let board = c.args.board.now in
+    let pins = c.args.pins.now in
+    let chips = c.args.self.now.chip_of.items in
+    let gain : IsGain board pins chips c.args.cell c.in-Some.chip = c.in-Some.ensures in
+    let change = spread_moved board pins chips c.args.cell c.in-Some.chip c.requires.cell c.requires.deal.few c.requires.deal.chips gain.target.real gain.target.away in
+    omega (arith, change, gain.helps, ap (λ (l : List ℕ). spread board pins l) c.shift.ensures.chip_of)

@@ -1,0 +1,9 @@
+-- those so far, and those among the nets that are left
+use Rattle.std.proofs.Common.{◌≡◌, ◌≤◌, ◌+◌, ◌==◌, drop, get_or}
+use Rattle.vw_part.specs.Pins.{one_if, total}
+use Rattle.vw_part.proofs.load.Load.lone.Given as goal
+
+abbrev pub invariant-loop-net : goal.invariant-loop-net
+invariant-loop-net l =
+    (l.lone + total (λ net. one_if (get_or l.self.counts.items net 0 == 1)) (drop l.net-index l.nets) ≡ total (λ net. one_if (get_or l.self.counts.items net 0 == 1)) l.nets)
+    × (l.lone ≤ l.net-index)

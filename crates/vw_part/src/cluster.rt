@@ -1,0 +1,169 @@
+//! Clusters of vertices that share nets.
+use crate::level::Level;
+use crate::numbers::Numbers;
+use std::alloc::{AllocError, Global};
+
+/// The most vertices of a net that a vertex looks at.
+const WINDOW: u32 = 40;
+
+/// How much two vertices are drawn to each other by a net of so many.
+pub fn pull(size: usize) -> u32 {
+    let others = u32::try_from(size).unwrap_or(u32::MAX).saturating_sub(1);
+    if others == 0 {
+        return 0;
+    }
+    (2520 / others).max(1)
+}
+
+/// The clusters so far, each named by one of its vertices.
+#[derive(Drop)]
+struct Clusters {
+    /// The cluster of each vertex.
+    of: Numbers,
+    /// How many cells each cluster stands for.
+    weights: Numbers,
+    /// How much the vertex that is looked at is drawn to each cluster.
+    scores: Numbers,
+    /// The clusters with a score.
+    seen: Vec<u32>,
+    /// The last vertex that found no cluster.
+    lonely: Option<u32>,
+}
+
+impl Clusters {
+    /// Each vertex alone.
+    fn of(alloc: Global, level: &Level) -> Result<Self, AllocError> {
+        let vertices = level.vertices();
+        let mut weights = Numbers::zeros(alloc, vertices)?;
+        for vertex in 0..vertices {
+            weights.set(vertex, level.weights.at(vertex));
+        }
+        Ok(Clusters {
+            of: Numbers::below(alloc, vertices)?,
+            weights,
+            scores: Numbers::zeros(alloc, vertices)?,
+            seen: Vec::new(alloc),
+            lonely: None,
+        })
+    }
+
+    /// Whether a vertex is alone.
+    fn is_alone(&self, level: &Level, vertex: u32) -> bool {
+        self.of.at(vertex) == vertex && self.weights.at(vertex) == level.weights.at(vertex)
+    }
+
+    /// Adds the scores that a net gives; of a great net some vertices, which differ from vertex to vertex.
+    fn score(&mut self, net: &[u32], vertex: u32) -> Result<(), AllocError> {
+        let size = u32::try_from(net.len()).unwrap_or(u32::MAX);
+        let amount = pull(net.len());
+        for step in 0..size.min(WINDOW) {
+            let place = vertex.wrapping_add(step).checked_rem(size).unwrap_or(0);
+            if let Some(other) = net.get(place as usize) {
+                let cluster = self.of.at(*other);
+                if self.scores.at(cluster) == 0 {
+                    self.seen.push(cluster)?;
+                }
+                self.scores.add(cluster, amount);
+            }
+        }
+        Ok(())
+    }
+
+    /// The cluster that draws a vertex most for its weight, among those that have room. The scores are cleared.
+    fn take_best(&mut self, vertex: u32, most: u32) -> Option<u32> {
+        let own = self.weights.at(vertex);
+        let mut best = None;
+        let mut best_score = 0;
+        for cluster in self.seen.as_slice() {
+            let weight = self.weights.at(*cluster);
+            let score = u64::from(self.scores.at(*cluster)) * 64;
+            let score = score.checked_div(u64::from(weight)).unwrap_or(0);
+            self.scores.set(*cluster, 0);
+            if *cluster != vertex && weight.saturating_add(own) <= most && score > best_score {
+                best = Some(*cluster);
+                best_score = score;
+            }
+        }
+        self.seen.clear();
+        best
+    }
+
+    /// The last vertex that found no cluster, where it is still alone and has room; the vertex becomes the last one else.
+    fn take_lonely(&mut self, level: &Level, vertex: u32, most: u32) -> Option<u32> {
+        if let Some(other) = self.lonely {
+            let both = self
+                .weights
+                .at(other)
+                .saturating_add(self.weights.at(vertex));
+            if self.is_alone(level, other) && other != vertex && both <= most {
+                self.lonely = None;
+                return Some(other);
+            }
+        }
+        self.lonely = Some(vertex);
+        None
+    }
+
+    /// Puts a vertex that is alone into a cluster, where one is found.
+    fn place(&mut self, level: &Level, vertex: u32, most: u32) -> Result<(), AllocError> {
+        if !self.is_alone(level, vertex) {
+            return Ok(());
+        }
+        for net in level.of_vertex.row(vertex) {
+            self.score(level.of_net.row(*net), vertex)?;
+        }
+        let mut found = self.take_best(vertex, most);
+        if found.is_none() {
+            found = self.take_lonely(level, vertex, most);
+        }
+        if let Some(cluster) = found {
+            self.of.set(vertex, cluster);
+            self.weights.add(cluster, level.weights.at(vertex));
+        }
+        Ok(())
+    }
+}
+
+/// A vertex in an order that differs from run to run.
+fn nth(place: u32, run: u32, vertices: u32) -> u32 {
+    let step: u64 = match run {
+        0 => 1,
+        1 => 7919,
+        2 => 7907,
+        _ => 7901,
+    };
+    let many = u64::from(vertices);
+    if many.checked_rem(step) == Some(0) {
+        return place;
+    }
+    let product = u64::from(place) * step;
+    let number = product.checked_rem(many).unwrap_or(0);
+    u32::try_from(number).unwrap_or(0)
+}
+
+/// The cluster of each vertex by its number, and how many clusters there are; none weighs more than `most` unless a vertex
+/// does.
+pub fn clustered(
+    alloc: Global,
+    level: &Level,
+    most: u32,
+    run: u32,
+) -> Result<(Numbers, u32), AllocError> {
+    let mut found = Clusters::of(alloc, level)?;
+    for place in 0..level.vertices() {
+        found.place(level, nth(place, run, level.vertices()), most)?;
+    }
+    let mut numbers = Numbers::zeros(alloc, level.vertices())?;
+    let mut many: u32 = 0;
+    for vertex in 0..level.vertices() {
+        if found.of.at(vertex) == vertex {
+            numbers.set(vertex, many);
+            many = many.saturating_add(1);
+        }
+    }
+    let mut map = Numbers::zeros(alloc, level.vertices())?;
+    for vertex in 0..level.vertices() {
+        map.set(vertex, numbers.at(found.of.at(vertex)));
+    }
+    Ok((map, many))
+}

@@ -1,0 +1,180 @@
+//! Vertices on chips, and moves of single vertices.
+use crate::level::Level;
+use crate::numbers::Numbers;
+use std::alloc::{AllocError, Global};
+
+/// The chip of each vertex, from 0 on, and what the moves look up.
+#[derive(Drop)]
+pub struct Cut {
+    chips: u32,
+    /// How many cells a chip may have.
+    room: u32,
+    pub chip_of: Numbers,
+    /// How many cells each chip has.
+    sizes: Numbers,
+    /// For each net and then each chip, how many vertices of the net are on the chip.
+    counts: Numbers,
+    /// For each chip, how many nets of the vertex that is looked at have a vertex on it.
+    there: Numbers,
+}
+
+impl Cut {
+    /// The vertices of a level on these chips.
+    pub fn of(
+        alloc: Global,
+        level: &Level,
+        chips: u32,
+        room: u32,
+        chip_of: Numbers,
+    ) -> Result<Self, AllocError> {
+        let mut cut = Cut {
+            chips,
+            room,
+            chip_of,
+            sizes: Numbers::zeros(alloc, chips)?,
+            counts: Numbers::zeros(alloc, level.of_net.len().saturating_mul(chips))?,
+            there: Numbers::zeros(alloc, chips)?,
+        };
+        for vertex in 0..level.vertices() {
+            let chip = cut.chip_of.at(vertex);
+            cut.sizes.add(chip, level.weights.at(vertex));
+            for net in level.of_vertex.row(vertex) {
+                let place = cut.place(*net, chip);
+                cut.counts.add(place, 1);
+            }
+        }
+        Ok(cut)
+    }
+
+    /// Where the count of a net on a chip stands.
+    fn place(&self, net: u32, chip: u32) -> u32 {
+        net.wrapping_mul(self.chips).wrapping_add(chip)
+    }
+
+    /// How many nets of a vertex no other vertex of its chip has.
+    fn freed(&self, level: &Level, vertex: u32) -> u32 {
+        let own = self.chip_of.at(vertex);
+        let mut freed: u32 = 0;
+        for net in level.of_vertex.row(vertex) {
+            if self.counts.at(self.place(*net, own)) == 1 {
+                freed = freed.saturating_add(1);
+            }
+        }
+        freed
+    }
+
+    /// Counts the nets of a vertex on each chip.
+    fn look(&mut self, level: &Level, vertex: u32) {
+        for chip in 0..self.chips {
+            self.there.set(chip, 0);
+        }
+        for net in level.of_vertex.row(vertex) {
+            for chip in 0..self.chips {
+                if self.counts.at(self.place(*net, chip)) > 0 {
+                    self.there.add(chip, 1);
+                }
+            }
+        }
+    }
+
+    /// The other chip with room that has most nets of the vertex that is looked at; the emptiest of them.
+    fn best(&self, weight: u32, own: u32) -> Option<u32> {
+        let mut best: Option<u32> = None;
+        for chip in 0..self.chips {
+            let size = self.sizes.at(chip);
+            let (most, least) = match best {
+                Some(other) => (self.there.at(other), self.sizes.at(other)),
+                None => (0, u32::MAX),
+            };
+            let there = self.there.at(chip);
+            let better = there > most || (there == most && size < least);
+            if chip != own && size.saturating_add(weight) <= self.room && better {
+                best = Some(chip);
+            }
+        }
+        best
+    }
+
+    /// Moves a vertex.
+    fn shift(&mut self, level: &Level, vertex: u32, chip: u32) {
+        let own = self.chip_of.at(vertex);
+        for net in level.of_vertex.row(vertex) {
+            let left = self.place(*net, own);
+            let joined = self.place(*net, chip);
+            self.counts.subtract(left, 1);
+            self.counts.add(joined, 1);
+        }
+        self.sizes.subtract(own, level.weights.at(vertex));
+        self.sizes.add(chip, level.weights.at(vertex));
+        self.chip_of.set(vertex, chip);
+    }
+
+    /// Moves a vertex where that helps, or costs nothing and evens the chips, or costs little and its chip is overfull.
+    fn consider(&mut self, level: &Level, vertex: u32, loss: u32) -> bool {
+        let own = self.chip_of.at(vertex);
+        let is_over = self.sizes.at(own) > self.room;
+        let freed = self.freed(level, vertex);
+        if freed == 0 && !is_over {
+            return false;
+        }
+        self.look(level, vertex);
+        let weight = level.weights.at(vertex);
+        let Some(chip) = self.best(weight, own) else {
+            return false;
+        };
+        let degree = u32::try_from(level.of_vertex.row(vertex).len()).unwrap_or(u32::MAX);
+        let gain = freed.saturating_add(self.there.at(chip));
+        let is_even = gain == degree
+            && self.sizes.at(chip).saturating_add(weight) < self.sizes.at(own);
+        if gain > degree || is_even || (is_over && gain.saturating_add(loss) >= degree) {
+            self.shift(level, vertex, chip);
+            return true;
+        }
+        false
+    }
+
+    /// Whether a chip has more cells than it may.
+    fn is_overfull(&self) -> bool {
+        for chip in 0..self.chips {
+            if self.sizes.at(chip) > self.room {
+                return true;
+            }
+        }
+        false
+    }
+
+    /// Goes over all vertices once, and says whether one moved.
+    fn sweep(&mut self, level: &Level, loss: u32) -> bool {
+        let mut moved = false;
+        for vertex in 0..level.vertices() {
+            if self.consider(level, vertex, loss) {
+                moved = true;
+            }
+        }
+        moved
+    }
+
+    /// Goes over the vertices a few times, as long as that moves some.
+    pub fn sweeps(&mut self, level: &Level) {
+        for round in 0..6u32 {
+            if !self.sweep(level, round * round) && !self.is_overfull() {
+                return;
+            }
+        }
+    }
+
+    /// How bad it is: on how many chips the nets are, and much more for each cell too many on a chip.
+    pub fn cost(&self) -> u64 {
+        let mut cost: u64 = 0;
+        for place in 0..self.counts.len() {
+            if self.counts.at(place) > 0 {
+                cost = cost.saturating_add(1);
+            }
+        }
+        for chip in 0..self.chips {
+            let over = self.sizes.at(chip).saturating_sub(self.room);
+            cost = cost.saturating_add(u64::from(over) * 1000);
+        }
+        cost
+    }
+}

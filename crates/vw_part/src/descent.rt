@@ -1,0 +1,102 @@
+//! Moves of single cells, until none helps.
+ghost use Rattle.std.specs.Prelude.{◌≡◌, ◌<◌, ℕ, true, false, length, MatchOption};
+ghost use Rattle.vw_plan.specs.Good.{IsChip};
+ghost use Rattle.vw_part.specs.Deals.{IsDeal, IsGain, IsSettled, IsTarget, met, spread};
+
+use crate::deal::Deal;
+use crate::pins::Pins;
+use vw_plan::Board;
+
+impl Deal {
+    /// How many of a cell's nets a chip has cells of, where the cell may be moved to the chip; 0 where it may not.
+    fn reach(&self, board: &Board, pins: &Pins, cell: usize, chip: u32) -> usize
+        requires deal { IsDeal board.now pins.now self.now }
+        requires cell { cell < length self.now.chip_of.items }
+        requires chip { IsChip board.now chip }
+        ensures allowed { 0 < result → IsTarget board.now self.now.chip_of.items cell chip }
+        ensures met { IsTarget board.now self.now.chip_of.items cell chip
+            → result ≡ met pins.now self.now.chip_of.items cell chip }
+    {
+        let load = &self.loads[chip as usize];
+        if self.chip_of[cell] == chip || load.cells >= board.cells() {
+            return 0;
+        }
+        load.met(pins.at(cell))
+    }
+
+    /// The chip to which a cell's move lowers the number of needed pairs most, where some move does. A net of the cell
+    /// leaves its chip where no other cell there has it, and comes to a new chip where no cell there has it.
+    fn target(&self, board: &Board, pins: &Pins, cell: usize) -> Option<u32>
+        requires deal { IsDeal board.now pins.now self.now }
+        requires cell { cell < length self.now.chip_of.items }
+        ensures { MatchOption result (IsSettled board.now pins.now self.now.chip_of.items cell)
+            (IsGain board.now pins.now self.now.chip_of.items cell) }
+    {
+        let own = pins.at(cell);
+        let from = self.chip_of[cell];
+        let lone = self.loads[from as usize].lone(own);
+        if lone == 0 {
+            return None;
+        }
+        let mut most = own.len() - lone;
+        let mut best = None;
+        for chip in 1..board.chips() + 1 {
+            let reach = self.reach(board, pins, cell, chip);
+            if reach > most {
+                most = reach;
+                best = Some(chip);
+            }
+        }
+        best
+    }
+
+    /// Moves a cell where that lowers the number of needed pairs most, and says whether some move does.
+    fn improve(&mut self, board: &Board, pins: &Pins, cell: usize) -> bool
+        requires deal { IsDeal board.now pins.now self.old }
+        requires cell { cell < length self.old.chip_of.items }
+        ensures deal { IsDeal board.now pins.now self.new }
+        ensures each { length self.new.chip_of.items ≡ length self.old.chip_of.items }
+        ensures lower { result ≡ true → spread board.now pins.now self.new.chip_of.items
+            < spread board.now pins.now self.old.chip_of.items }
+        ensures same { result ≡ false → self.new.chip_of.items ≡ self.old.chip_of.items }
+        ensures settled { result ≡ false → IsSettled board.now pins.now self.new.chip_of.items cell }
+    {
+        match self.target(board, pins, cell) {
+            Some(chip) => {
+                self.shift(board, cell, chip, pins);
+                true
+            }
+            None => false,
+        }
+    }
+
+    /// Goes over all cells once, and says whether some move helped.
+    fn round(&mut self, board: &Board, pins: &Pins) -> bool
+        requires { IsDeal board.now pins.now self.old }
+        ensures deal { IsDeal board.now pins.now self.new }
+        ensures each { length self.new.chip_of.items ≡ length self.old.chip_of.items }
+        ensures lower { result ≡ true → spread board.now pins.now self.new.chip_of.items
+            < spread board.now pins.now self.old.chip_of.items }
+        ensures settled { result ≡ false → (cell : ℕ) → cell < length self.new.chip_of.items
+            → IsSettled board.now pins.now self.new.chip_of.items cell }
+    {
+        let mut moved = false;
+        for cell in 0..self.chip_of.len() {
+            if self.improve(board, pins, cell) {
+                moved = true;
+            }
+        }
+        moved
+    }
+
+    /// Goes over the cells until no move helps. Each round but the last lowers the number of needed pairs.
+    pub fn descend(&mut self, board: &Board, pins: &Pins)
+        requires { IsDeal board.now pins.now self.old }
+        ensures deal { IsDeal board.now pins.now self.new }
+        ensures each { length self.new.chip_of.items ≡ length self.old.chip_of.items }
+        ensures settled { (cell : ℕ) → cell < length self.new.chip_of.items
+            → IsSettled board.now pins.now self.new.chip_of.items cell }
+    {
+        while self.round(board, pins) {}
+    }
+}

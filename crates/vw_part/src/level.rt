@@ -1,0 +1,92 @@
+//! A netlist as nets over vertices, of which each stands for one or more cells.
+use crate::numbers::Numbers;
+use crate::pins::Pins;
+use crate::rows::Rows;
+use std::alloc::{AllocError, Global};
+
+/// Nets of at least two vertices.
+#[derive(Drop)]
+pub struct Level {
+    /// The vertices of each net.
+    pub of_net: Rows,
+    /// The nets of each vertex.
+    pub of_vertex: Rows,
+    /// How many cells each vertex stands for.
+    pub weights: Numbers,
+}
+
+impl Level {
+    /// The level at which each vertex is a cell.
+    pub fn of_pins(alloc: Global, pins: &Pins) -> Result<Self, AllocError> {
+        let mut of_cell = Rows::new(alloc)?;
+        let mut weights = Numbers::new(alloc);
+        for nets in pins.of_cells.as_slice() {
+            for net in nets.as_slice() {
+                of_cell.push(*net)?;
+            }
+            of_cell.end_row()?;
+            weights.push(1)?;
+        }
+        let nets = u32::try_from(pins.nets).unwrap_or(u32::MAX);
+        let of_net = of_cell.turned(alloc, nets)?;
+        let map = Numbers::below(alloc, weights.len())?;
+        merged(alloc, &of_net, &map, weights)
+    }
+
+    /// How many vertices there are.
+    pub fn vertices(&self) -> u32 {
+        self.weights.len()
+    }
+
+    /// How many cells all of them stand for.
+    pub fn weight(&self) -> u32 {
+        let mut sum: u32 = 0;
+        for vertex in 0..self.vertices() {
+            sum = sum.saturating_add(self.weights.at(vertex));
+        }
+        sum
+    }
+
+    /// The level of which each vertex is a cluster, given the cluster of each vertex and how many there are.
+    pub fn of_clusters(
+        &self,
+        alloc: Global,
+        map: &Numbers,
+        clusters: u32,
+    ) -> Result<Self, AllocError> {
+        let mut weights = Numbers::zeros(alloc, clusters)?;
+        for vertex in 0..self.vertices() {
+            weights.add(map.at(vertex), self.weights.at(vertex));
+        }
+        merged(alloc, &self.of_net, map, weights)
+    }
+}
+
+/// The level of these nets, with the new number of each vertex, and the new weights. A net that keeps a single vertex is
+/// left out.
+fn merged(
+    alloc: Global,
+    nets: &Rows,
+    map: &Numbers,
+    weights: Numbers,
+) -> Result<Level, AllocError> {
+    let mut of_net = Rows::new(alloc)?;
+    let mut seen = Numbers::zeros(alloc, weights.len())?;
+    for net in 0..nets.len() {
+        let mark = net.saturating_add(1);
+        for vertex in nets.row(net) {
+            let new = map.at(*vertex);
+            if seen.at(new) != mark {
+                seen.set(new, mark);
+                of_net.push(new)?;
+            }
+        }
+        of_net.end_row_of_two()?;
+    }
+    let of_vertex = of_net.turned(alloc, weights.len())?;
+    Ok(Level {
+        of_net,
+        of_vertex,
+        weights,
+    })
+}

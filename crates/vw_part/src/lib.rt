@@ -1,0 +1,22 @@
+//! Which chip each cell is put on.
+#![tactic(auto)]
+
+mod cluster;
+mod cut;
+mod deal;
+mod dealt;
+mod descent;
+mod fault;
+mod grow;
+mod hint;
+mod level;
+mod load;
+mod numbers;
+mod pins;
+mod rows;
+
+pub use dealt::partition;
+pub use fault::PartFault;
+
+#[cfg(test)]
+mod tests;

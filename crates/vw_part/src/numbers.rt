@@ -1,0 +1,83 @@
+//! Lists of numbers that may be read and written at any place.
+use std::alloc::{AllocError, Global};
+
+/// Numbers by their places. Past the end they are 0, and what is written there is lost.
+#[derive(Drop)]
+pub struct Numbers {
+    items: Vec<u32>,
+}
+
+impl Numbers {
+    /// No numbers.
+    pub fn new(alloc: Global) -> Self {
+        Numbers {
+            items: Vec::new(alloc),
+        }
+    }
+
+    /// So many zeros.
+    pub fn zeros(alloc: Global, many: u32) -> Result<Self, AllocError> {
+        Ok(Numbers {
+            items: vec![in alloc; 0; many as usize]?,
+        })
+    }
+
+    /// The numbers below a limit, in order.
+    pub fn below(alloc: Global, limit: u32) -> Result<Self, AllocError> {
+        let mut items = Vec::with_capacity(alloc, limit as usize)?;
+        for number in 0..limit {
+            items.push(number)?;
+        }
+        Ok(Numbers { items })
+    }
+
+    /// How many there are.
+    pub fn len(&self) -> u32 {
+        u32::try_from(self.items.len()).unwrap_or(u32::MAX)
+    }
+
+    /// The number at a place.
+    pub fn at(&self, place: u32) -> u32 {
+        match self.items.get(place as usize) {
+            Some(number) => *number,
+            None => 0,
+        }
+    }
+
+    /// Those between two places.
+    pub fn between(&self, from: u32, to: u32) -> &[u32] {
+        self.items.get(from as usize..to as usize).unwrap_or(&[])
+    }
+
+    /// Writes a number.
+    pub fn set(&mut self, place: u32, number: u32) {
+        if let Some(old) = self.items.get_mut(place as usize) {
+            *old = number;
+        }
+    }
+
+    /// Adds to a number; it wraps.
+    pub fn add(&mut self, place: u32, amount: u32) {
+        if let Some(old) = self.items.get_mut(place as usize) {
+            *old = old.wrapping_add(amount);
+        }
+    }
+
+    /// Subtracts from a number; it wraps.
+    pub fn subtract(&mut self, place: u32, amount: u32) {
+        if let Some(old) = self.items.get_mut(place as usize) {
+            *old = old.wrapping_sub(amount);
+        }
+    }
+
+    /// Puts a number at the end.
+    pub fn push(&mut self, number: u32) -> Result<(), AllocError> {
+        self.items.push(number)?;
+        Ok(())
+    }
+
+    /// Keeps only so many.
+    pub fn truncate(&mut self, many: u32) {
+        self.items.truncate(many as usize);
+    }
+}

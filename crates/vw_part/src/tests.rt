@@ -1,0 +1,284 @@
+ghost use Rattle.std.specs.Prelude.{◌≡◌, nat_le, nat_lt, IfOk, IfSome};
+ghost use Rattle.std.specs.List.{list_all};
+ghost use Rattle.vw_net.specs.Cells.{IsWellFormed};
+
+use super::*;
+use std::alloc::{AllocError, Global};
+use std::test::Fail;
+use vw_board::read;
+use vw_net::{Cell, Cover, Flat, Init, Ordered, Sequence};
+use vw_order::order;
+use vw_plan::Board;
+use vw_wires::needed;
+
+/// A cell of a test.
+#[derive(Clone, Copy)]
+enum Part<'a> {
+    /// A gate that reads these nets. Its value is always zero.
+    Gate(&'a [u32]),
+    /// A gate that reads these two nets. Its value is always zero.
+    Two(u32, u32),
+    /// A latch that reads this net.
+    Latch(u32),
+}
+
+/// Whether there are so many nets that each of these is one.
+fn are_below(ins: &[u32], nets: u32) -> bool
+    ensures { result ≡ list_all (λ net. nat_lt net nets) ins.now }
+{
+    for net in ins {
+        if *net >= nets {
+            return false;
+        }
+    }
+    true
+}
+
+/// Whether each of these may be the number of a chip.
+fn are_chips(chips: &[u32]) -> bool
+    ensures { result ≡ list_all (λ chip. nat_le 1 chip) chips.now }
+{
+    for chip in chips {
+        if *chip < 1 {
+            return false;
+        }
+    }
+    true
+}
+
+/// The cell of a part, in a netlist of so many nets.
+fn cell(alloc: Global, nets: u32, part: Part) -> Result<Option<Cell>, AllocError>
+    ensures { IfOk result (λ cell. IfSome cell (IsWellFormed nets)) }
+{
+    match part {
+        Part::Gate(ins) => {
+            if ins.len() > 128 || !are_below(ins, nets) {
+                return Ok(None);
+            }
+            let rows = Sequence::of(Vec::new(alloc));
+            Ok(Some(Cell::Gate {
+                ins: Sequence::of(ins.to_vec(alloc)?),
+                cover: Cover::make(ins.len() as u32, true, rows),
+            }))
+        }
+        Part::Two(one, other) => {
+            if one >= nets || other >= nets {
+                return Ok(None);
+            }
+            let ins = [one, other];
+            let rows = Sequence::of(Vec::new(alloc));
+            Ok(Some(Cell::Gate {
+                ins: Sequence::of(ins.as_slice().to_vec(alloc)?),
+                cover: Cover::make(2, true, rows),
+            }))
+        }
+        Part::Latch(d) => {
+            if d >= nets {
+                return Ok(None);
+            }
+            Ok(Some(Cell::Latch {
+                d,
+                init: Init::Zero,
+            }))
+        }
+    }
+}
+
+/// The netlist of these cells, behind so many inputs and with these outputs.
+fn netlist(
+    alloc: Global,
+    inputs: u32,
+    parts: &[Part],
+    outputs: &[u32],
+) -> Result<Option<Flat>, AllocError> {
+    if inputs > 4096 || parts.len() > 65536 || outputs.len() > 4096 {
+        return Ok(None);
+    }
+    let nets = inputs + parts.len() as u32;
+    if !are_below(outputs, nets) {
+        return Ok(None);
+    }
+    let mut cells = Vec::new(alloc);
+    for part in parts {
+        let Some(cell) = cell(alloc, nets, *part)? else {
+            return Ok(None);
+        };
+        cells.push(cell)?;
+    }
+    let outputs = Sequence::of(outputs.to_vec(alloc)?);
+    Ok(Some(Flat::make(inputs, Sequence::of(cells), outputs)))
+}
+
+/// The netlist in order.
+fn ordered(alloc: Global, inputs: u32, parts: &[Part], outputs: &[u32]) -> Result<Ordered, Fail> {
+    let flat = netlist(alloc, inputs, parts, outputs)?.ok_or("no netlist")?;
+    match order(alloc, flat) {
+        Ok(ordered) => Ok(ordered),
+        Err(_) => Err("no order".into()),
+    }
+}
+
+const TRIANGLE: &[u8] =
+    b"board 1\nchips 2\ncells 1\nsettle 0\npins 4\nlink 0 1 1\nlink 0 2 1\nlink 1 0 1\nlink 1 2 1\nlink 2 0 1\nlink 2 1 1\n";
+
+/// That with room for two cells on each chip.
+const TWO_EACH: &[u8] =
+    b"board 1\nchips 2\ncells 2\nsettle 0\npins 4\nlink 0 1 1\nlink 0 2 1\nlink 1 0 1\nlink 1 2 1\nlink 2 0 1\nlink 2 1 1\n";
+
+/// Four chips in a ring with the host, with room for 80 cells on each.
+const RING: &[u8] =
+    b"board 1\nchips 4\ncells 80\nsettle 0\npins 2\nlink 0 1 1\nlink 1 2 1\nlink 2 3 1\nlink 3 4 1\nlink 4 0 1\n";
+
+fn board(alloc: Global, text: &[u8]) -> Result<Board, Fail> {
+    match read(alloc, text) {
+        Ok(board) => Ok(board),
+        Err(_) => Err("no board".into()),
+    }
+}
+
+/// The chips that a netlist's cells are dealt to.
+fn chips_of(alloc: Global, ordered: &Ordered, text: &[u8]) -> Result<Vec<u32>, Fail> {
+    let board = board(alloc, text)?;
+    match partition(alloc, ordered, &board) {
+        Ok(chips) => Ok(chips.as_slice().to_vec(alloc)?),
+        Err(_) => Err("no partition".into()),
+    }
+}
+
+/// How many pairs are needed.
+fn pairs(alloc: Global, ordered: &Ordered, chips: &[u32]) -> Result<usize, Fail> {
+    if chips.len() != ordered.flat().cells().len() || !are_chips(chips) {
+        return Err("no placement".into());
+    }
+    Ok(needed(alloc, ordered, chips)?.len())
+}
+
+/// How many cells are on a chip.
+fn on_chip(chips: &[u32], chip: u32) -> usize {
+    chips.iter().filter(|other| **other == chip).count()
+}
+
+const TOGGLE: [Part; 2] = [Part::Gate(&[0, 2]), Part::Latch(1)];
+
+#[test]
+fn two_cells_of_which_each_fills_a_chip_are_apart(rt: HostRuntime) -> Result<(), Fail> {
+    let alloc = rt.alloc();
+    let toggle = ordered(alloc, 1, &TOGGLE, &[2])?;
+    let chips = chips_of(alloc, &toggle, TRIANGLE)?;
+    assert!(rt; chips.as_slice() == [1, 2].as_slice() || chips.as_slice() == [2, 1].as_slice());
+    assert_eq!(rt; pairs(alloc, &toggle, chips.as_slice())?, 4);
+    Ok(())
+}
+
+#[test]
+fn two_cells_that_read_each_other_are_together(rt: HostRuntime) -> Result<(), Fail> {
+    let alloc = rt.alloc();
+    let toggle = ordered(alloc, 1, &TOGGLE, &[2])?;
+    let chips = chips_of(alloc, &toggle, TWO_EACH)?;
+    assert!(rt; chips.as_slice() == [1, 1].as_slice() || chips.as_slice() == [2, 2].as_slice());
+    assert_eq!(rt; pairs(alloc, &toggle, chips.as_slice())?, 2);
+    Ok(())
+}
+
+#[test]
+fn five_cells_are_too_many_for_two_chips_of_two(rt: HostRuntime) -> Result<(), Fail> {
+    let alloc = rt.alloc();
+    let parts = [Part::Latch(0); 5];
+    let five = ordered(alloc, 1, &parts, &[])?;
+    let board = board(alloc, TWO_EACH)?;
+    match partition(alloc, &five, &board) {
+        Err(fault) => {
+            assert_eq!(rt; fault, PartFault::TooManyCells { cells: 5, room: 4 });
+        }
+        Ok(_) => return Err("a partition".into()),
+    }
+    Ok(())
+}
+
+#[test]
+fn as_many_cells_as_there_is_room_for_are_dealt(rt: HostRuntime) -> Result<(), Fail> {
+    let alloc = rt.alloc();
+    let parts = [Part::Latch(0); 4];
+    let four = ordered(alloc, 1, &parts, &[])?;
+    let chips = chips_of(alloc, &four, TWO_EACH)?;
+    assert_eq!(rt; on_chip(chips.as_slice(), 1), 2);
+    assert_eq!(rt; on_chip(chips.as_slice(), 2), 2);
+    Ok(())
+}
+
+/// 300 gates, each of which reads two nets before its own, behind 10 inputs.
+fn tangle(alloc: Global) -> Result<Ordered, Fail> {
+    let mut parts = Vec::new(alloc);
+    for number in 0..300u32 {
+        let nets = 10 + number;
+        parts.push(Part::Two(number * 7919 % nets, number * 31 / 32 + 3))?;
+    }
+    ordered(alloc, 10, parts.as_slice(), &[309, 100, 200])
+}
+
+#[test]
+fn no_move_lowers_the_pairs_of_a_tangle(rt: HostRuntime) -> Result<(), Fail> {
+    let alloc = rt.alloc();
+    let tangle = tangle(alloc)?;
+    let mut chips = chips_of(alloc, &tangle, RING)?;
+    let least = pairs(alloc, &tangle, chips.as_slice())?;
+    assert_eq!(rt; on_chip(chips.as_slice(), 0), 0);
+    for cell in 0..chips.len() {
+        let old = chips[cell];
+        for chip in 1..5u32 {
+            let load = on_chip(chips.as_slice(), chip);
+            assert!(rt; load <= 80);
+            if load < 80 {
+                chips[cell] = chip;
+                let moved = pairs(alloc, &tangle, chips.as_slice())?;
+                assert!(rt; least <= moved, "cell {cell} to chip {chip}");
+                chips[cell] = old;
+            }
+        }
+    }
+    Ok(())
+}
+
+/// Two chips in a ring with the host, with room for 100 cells on each.
+const TWO_HUNDRED: &[u8] =
+    b"board 1\nchips 2\ncells 100\nsettle 0\npins 2\nlink 0 1 1\nlink 1 2 1\nlink 2 0 1\n";
+
+#[test]
+fn two_chains_whose_cells_alternate_are_apart(rt: HostRuntime) -> Result<(), Fail> {
+    let alloc = rt.alloc();
+    let mut parts = Vec::new(alloc);
+    for number in 0..200u32 {
+        let before = number.saturating_sub(1);
+        let earlier = number.saturating_sub(3);
+        // nets of cells with the same parity; the first two cells read the input alone
+        let first = if number < 2 { 0 } else { before };
+        let second = if number < 4 { first } else { earlier };
+        parts.push(Part::Two(first, second))?;
+    }
+    let chains = ordered(alloc, 1, parts.as_slice(), &[])?;
+    let chips = chips_of(alloc, &chains, TWO_HUNDRED)?;
+    // the input at both chips
+    assert_eq!(rt; pairs(alloc, &chains, chips.as_slice())?, 2);
+    Ok(())
+}
+
+#[test]
+fn the_most_cells_and_chips_are_dealt(rt: HostRuntime) -> Result<(), Fail> {
+    let alloc = rt.alloc();
+    let mut parts = Vec::new(alloc);
+    for number in 0..65536u32 {
+        parts.push(Part::Two(number, number / 2))?;
+    }
+    let chain = ordered(alloc, 1, parts.as_slice(), &[65536])?;
+    let mut text = b"board 1\nchips 32\ncells 2048\nsettle 0\npins 2\nlink 32 0 1\n".to_vec(alloc)?;
+    for chip in 0..32u32 {
+        let next = chip + 1;
+        let line = format!(in alloc; "link {chip} {next} 1\n")?;
+        text.extend_from_slice(line.as_bytes())?;
+    }
+    let chips = chips_of(alloc, &chain, text.as_slice())?;
+    assert_eq!(rt; chips.len(), 65536);
+    assert_eq!(rt; on_chip(chips.as_slice(), 1), 2048);
+    assert_eq!(rt; on_chip(chips.as_slice(), 32), 2048);
+    Ok(())
+}

@@ -1,0 +1,107 @@
+-- What stays when leads and hops are added that nothing done rests on.
+use Rattle.std.proofs.Common.{◌≡◌, ◌<◌, ◌+◌, ◌∙◌, ◌∷◌, ◌&&◌, ℕ, suc, Bool, true, false, List, [], length, max, eqb, nat_lt, if◌then◌else◌, slice_get, slice_index, slice_index_or, Option, Some, None, ap, ap₂, refl, sym, ⊎_elim, true≢false, arith, eqb-true, eq-eqb}
+use Rattle.std.specs.List.{All}
+use Rattle.std.proofs.lemmas.Bool.{cases_Bool, cases_lt, le-ltb}
+use Rattle.vw_net.specs.declared.cell.Cell.{Cell}
+use Rattle.vw_net.specs.declared.cell.Cell.TheVariants.{Gate, Latch}
+use Rattle.vw_net.specs.declared.flat.Flat.{Flat}
+use Rattle.vw_net.specs.declared.ordered.Ordered.{Ordered}
+use Rattle.vw_net.specs.Order.{is_gate}
+use Rattle.vw_plan.specs.declared.board.Board.{Board}
+use Rattle.vw_plan.specs.declared.need.Route.{Route}
+use Rattle.vw_plan.specs.declared.wire.Hop.{Hop}
+use Rattle.vw_plan.specs.Lead.{after_last, driven_lead, greatest}
+use Rattle.vw_plan.specs.Needs.{depth}
+use Rattle.vw_plan.specs.Nets.{driver, node_of}
+use Rattle.vw_plan.specs.Ways.{gate_reads}
+use Rattle.vw_plan.proofs.Leads.{map_agree}
+use Rattle.vw_phase.specs.declared.task.Task.{Task}
+use Rattle.vw_phase.specs.Steps.Leads.{hops_to, lead_by, usable_by}
+use Rattle.vw_phase.specs.Steps.Underway.{is_done, lead_at_place, ready_by, start_by}
+
+-- the number of the first route that brings a net to a node; that of the routes where there is none
+abbrev pub route_place : List Route → ℕ → ℕ → ℕ
+route_place [] net node = 0
+route_place (route ∷ routes) net node = if eqb route.net net && eqb route.to node then 0 else suc (route_place routes net node)
+
+-- its hops are those that bring the net there
+pub hops_to-place : (routes : List Route) (hops : List (List Hop)) (node net : ℕ) → length hops ≡ length routes → hops_to routes hops node net ≡ slice_index_or hops (route_place routes net node) []
+hops_to-place [] [] node net long = refl
+hops_to-place [] (sent ∷ hops) node net long = absurd (omega (arith, long))
+hops_to-place (route ∷ routes) [] node net long = absurd (omega (arith, long))
+hops_to-place (route ∷ routes) (sent ∷ hops) node net long =
+    let rest = hops_to-place routes hops node net (omega (arith, long)) in
+    elim (eqb route.net net && eqb route.to node) as (λ here. (if here then sent else hops_to routes hops node net) ≡ slice_index_or (sent ∷ hops) (if here then 0 else suc (route_place routes net node)) []) [
+      | true ↦ refl
+      | false ↦ rest
+    ]
+
+-- two ways to give nets leads that agree on what a gate reads
+pub driven_same : (one other : ℕ → ℕ) (cell : Option Cell) → All (λ net. one net ≡ other net) (gate_reads cell) → driven_lead one cell ≡ driven_lead other cell
+driven_same one other None agree = refl
+driven_same one other (Some (Gate ins cover)) agree = ap greatest (map_agree one other ins agree)
+driven_same one other (Some (Latch d init)) agree = refl
+
+-- a phase begins at the same moment where the hops of lesser depth are the same
+pub start_same : (flat : Flat) (board : Board) (chip_of : List ℕ) (limit : ℕ) (routes : List Route) (hops more : List (List Hop)) → length hops ≡ length routes → length more ≡ length routes
+    → ((number : ℕ) (route : Route) → slice_get routes number ≡ Some route → depth flat chip_of route.net < limit → slice_index_or more number [] ≡ slice_index_or hops number [])
+    → start_by flat board chip_of limit routes more ≡ start_by flat board chip_of limit routes hops
+start_same flat board chip_of limit [] [] [] long long_more same = refl
+start_same flat board chip_of limit [] (sent ∷ hops) more long long_more same = absurd (omega (arith, long))
+start_same flat board chip_of limit [] [] (sent ∷ more) long long_more same = absurd (omega (arith, long_more))
+start_same flat board chip_of limit (route ∷ routes) [] more long long_more same = absurd (omega (arith, long))
+start_same flat board chip_of limit (route ∷ routes) (sent ∷ hops) [] long long_more same = absurd (omega (arith, long_more))
+start_same flat board chip_of limit (route ∷ routes) (sent ∷ hops) (later ∷ more) long long_more same =
+    let rest = start_same flat board chip_of limit routes hops more (omega (arith, long)) (omega (arith, long_more)) (λ number other at less. same (suc number) other at less) in
+    let own = depth flat chip_of route.net in
+    let here : (if nat_lt own limit then after_last board later else 0) ≡ (if nat_lt own limit then after_last board sent else 0) =
+    ⊎_elim (λ less. ap (λ (hops : List Hop). if nat_lt own limit then after_last board hops else 0) (same 0 route refl less)) (λ not. ap (λ (bit : Bool). if bit then after_last board later else 0) (le-ltb own limit not) ∙ sym (ap (λ (bit : Bool). if bit then after_last board sent else 0) (le-ltb own limit not))) (cases_lt own limit) in
+    ap₂ max here rest
+
+module _ (ordered : Ordered) (board : Board) (chip_of : List ℕ) (routes : List Route) (tasks : List Task) (count : ℕ) where
+  -- if a gate drives a net, its lead is worked out
+  abbrev pub IsHomeDone : ℕ → Type 0
+  IsHomeDone net = is_gate (driver ordered.flat net) ≡ true → (place : ℕ) × (place < length ordered.order) × (net ≡ ordered.flat.inputs + slice_index ordered.order place) × (is_done tasks count false place ≡ true)
+
+  -- the lead of a net at a node rests on what is done
+  abbrev pub IsSettled : ℕ → ℕ → Type 0
+  IsSettled node net = (node_of ordered.flat chip_of net ≡ node → IsHomeDone net) × ((node_of ordered.flat chip_of net ≡ node → ⊥) → is_done tasks count true (route_place routes net node) ≡ true)
+
+  -- hops and leads are the same where something is done
+  pub record AreKept (hops more : List (List Hop)) (leads later : List ℕ) : Type 0 where
+    pub long : length hops ≡ length routes
+    pub long_more : length more ≡ length routes
+    pub leads_same : (net : ℕ) → IsHomeDone net → slice_index later net ≡ slice_index leads net
+    pub hops_same : (number : ℕ) → is_done tasks count true number ≡ true → slice_index_or more number [] ≡ slice_index_or hops number []
+
+  module _ (hops more : List (List Hop)) (leads later : List ℕ) (kept : AreKept hops more leads later) where
+    pub lead_kept : (node net : ℕ) → IsSettled node net → lead_by ordered.flat board chip_of routes more later node net ≡ lead_by ordered.flat board chip_of routes hops leads node net
+    lead_kept node net settled =
+        let own = node_of ordered.flat chip_of net in
+        let if_home = λ (is : eqb own node ≡ true).
+        ap (λ (bit : Bool). if bit then slice_index later net else after_last board (hops_to routes more node net)) is
+        ∙ kept.leads_same net (settled.0 (eqb-true own node is))
+        ∙ sym (ap (λ (bit : Bool). if bit then slice_index leads net else after_last board (hops_to routes hops node net)) is) in
+        let if_away = λ (is : eqb own node ≡ false).
+        let apart : own ≡ node → ⊥ = λ same. true≢false (sym (eq-eqb own node same) ∙ is) in
+        ap (λ (bit : Bool). if bit then slice_index later net else after_last board (hops_to routes more node net)) is
+        ∙ ap (after_last board) (hops_to-place routes more node net kept.long_more ∙ kept.hops_same (route_place routes net node) (settled.1 apart) ∙ sym (hops_to-place routes hops node net kept.long))
+        ∙ sym (ap (λ (bit : Bool). if bit then slice_index leads net else after_last board (hops_to routes hops node net)) is) in
+        ⊎_elim if_home if_away (cases_Bool (eqb own node))
+
+    -- the lead of a gate that reads what is settled
+    pub place_kept : (place : ℕ) → All (IsSettled (slice_index chip_of (slice_index ordered.order place))) (gate_reads (slice_get ordered.flat.cells (slice_index ordered.order place)))
+        → lead_at_place ordered board chip_of routes more later place ≡ lead_at_place ordered board chip_of routes hops leads place
+    place_kept place settled =
+        let node = slice_index chip_of (slice_index ordered.order place) in
+        driven_same (lead_by ordered.flat board chip_of routes more later node) (lead_by ordered.flat board chip_of routes hops leads node) (slice_get ordered.flat.cells (slice_index ordered.order place)) (λ at default within. lead_kept node _ (settled at default within))
+
+    -- when a net is usable at home
+    pub usable_kept : (net : ℕ) → IsHomeDone net → usable_by ordered.flat board chip_of routes more later (node_of ordered.flat chip_of net) net ≡ usable_by ordered.flat board chip_of routes hops leads (node_of ordered.flat chip_of net) net
+    usable_kept net home =
+        let node = node_of ordered.flat chip_of net in
+        ap (λ (lead : ℕ). lead + (if is_gate (driver ordered.flat net) && eqb node node then board.settle else 0)) (lead_kept node net (λ _. home, λ apart. absurd (apart refl)))
+
+    pub ready_kept : (net : ℕ) → IsHomeDone net → ((number : ℕ) (route : Route) → slice_get routes number ≡ Some route → depth ordered.flat chip_of route.net < depth ordered.flat chip_of net → is_done tasks count true number ≡ true)
+        → ready_by ordered board chip_of routes more later net ≡ ready_by ordered board chip_of routes hops leads net
+    ready_kept net home before = ap₂ max (usable_kept net home) (start_same ordered.flat board chip_of (depth ordered.flat chip_of net) routes hops more kept.long kept.long_more (λ number route at less. kept.hops_same number (before number route at less)))

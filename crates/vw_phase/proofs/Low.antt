@@ -1,0 +1,43 @@
+-- How late leads can be.
+use Rattle.std.proofs.Common.{◌≡◌, ◌≤◌, ◌+◌, ◌∷◌, ℕ, true, false, List, [], length, map, eqb, if◌then◌else◌, slice_index, slice_index_or, Option, Some, None, sym, subst, ⊎_elim, arith}
+use Rattle.std.specs.List.{All}
+use Rattle.std.proofs.lemmas.Bool.{cases_lt}
+use Rattle.std.proofs.lemmas.List.{get_or_past}
+use Rattle.std.proofs.lemmas.List.Elements.{All-head, All-nil, All-tail}
+use Rattle.vw_net.specs.declared.cell.Cell.{Cell}
+use Rattle.vw_net.specs.declared.cell.Cell.TheVariants.{Gate, Latch}
+use Rattle.vw_net.specs.declared.flat.Flat.{Flat}
+use Rattle.vw_plan.specs.declared.board.Board.{Board}
+use Rattle.vw_plan.specs.declared.need.Route.{Route}
+use Rattle.vw_plan.specs.declared.wire.Hop.{Hop}
+use Rattle.vw_plan.specs.Lead.{after_last, driven_lead, greatest}
+use Rattle.vw_plan.specs.Nets.{node_of}
+use Rattle.vw_phase.specs.Steps.Leads.{hops_to, lead_by}
+use Rattle.vw_phase.proofs.Kept.{hops_to-place, route_place}
+
+pub last_low : (board : Board) (top : ℕ) (hops : List Hop) → All (λ hop. hop.at + 1 ≤ top) hops → after_last board hops ≤ top
+last_low board top [] low = omega arith
+last_low board top (hop ∷ []) low = omega (arith, All-head (λ (one : Hop). one.at + 1 ≤ top) hop [] low)
+last_low board top (hop ∷ next ∷ hops) low = last_low board top (next ∷ hops) (All-tail (λ (one : Hop). one.at + 1 ≤ top) hop (next ∷ hops) low)
+
+pub hops_low : (top : ℕ) (hops : List (List Hop)) (number : ℕ) → All (All (λ hop. hop.at + 1 ≤ top)) hops → All (λ hop. hop.at + 1 ≤ top) (slice_index_or hops number [])
+hops_low top hops number low = ⊎_elim (λ within. low number [] within) (λ past. subst (All (λ hop. hop.at + 1 ≤ top)) (sym (get_or_past hops number [] past)) (All-nil (λ (hop : Hop). hop.at + 1 ≤ top))) (cases_lt number (length hops))
+
+pub index_low : (top : ℕ) (leads : List ℕ) (net : ℕ) → All (λ lead. lead ≤ top) leads → slice_index leads net ≤ top
+index_low top leads net low = ⊎_elim (λ within. low net 0 within) (λ past. let none : slice_index leads net ≡ 0 = get_or_past leads net 0 past in let whole : slice_index leads net ≤ top = omega (arith, none) in whole) (cases_lt net (length leads))
+
+module _ (flat : Flat) (board : Board) (chip_of : List ℕ) (routes : List Route) (hops : List (List Hop)) (leads : List ℕ) (top : ℕ) (long : length hops ≡ length routes) (hops_are : All (All (λ hop. hop.at + 1 ≤ top)) hops) (leads_are : All (λ lead. lead ≤ top) leads) where
+  pub lead_low : (node net : ℕ) → lead_by flat board chip_of routes hops leads node net ≤ top
+  lead_low node net = elim (eqb (node_of flat chip_of net) node) as (λ own. (if own then slice_index leads net else after_last board (hops_to routes hops node net)) ≤ top) [
+    | true ↦ index_low top leads net leads_are
+    | false ↦ last_low board top (hops_to routes hops node net) (subst (All (λ hop. hop.at + 1 ≤ top)) (sym (hops_to-place routes hops node net long)) (hops_low top hops (route_place routes net node) hops_are))
+  ]
+
+  greatest_low : (node : ℕ) (nets : List ℕ) → greatest (map (lead_by flat board chip_of routes hops leads node) nets) ≤ top
+  greatest_low node [] = omega arith
+  greatest_low node (net ∷ nets) = omega (arith, lead_low node net, greatest_low node nets)
+
+  pub driven_low : (node : ℕ) (cell : Option Cell) → driven_lead (lead_by flat board chip_of routes hops leads node) cell ≤ top
+  driven_low node None = omega arith
+  driven_low node (Some (Gate ins cover)) = greatest_low node ins
+  driven_low node (Some (Latch d init)) = omega arith

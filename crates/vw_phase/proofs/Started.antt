@@ -1,0 +1,71 @@
+-- Nothing is done yet.
+use Rattle.std.proofs.Common.{◌≡◌, ◌≤◌, ◌+◌, ◌∙◌, ◌∷◌, ◌++◌, ℕ, Bool, List, [], length, map, max, replicate, get_or, if◌then◌else◌, ap, ap₂, refl, sym, subst, ⊎_elim, true≢false, arith}
+use Rattle.std.specs.List.{All}
+use Rattle.std.proofs.lemmas.Bool.{cases_lt, le-ltb}
+use Rattle.std.proofs.lemmas.List.{get_or_past, get_or-replicate, length-replicate}
+use Rattle.std.proofs.lemmas.List.Concat.{flat_map-cons}
+use Rattle.std.proofs.lemmas.List.Elements.{All-head, All-replicate, All-tail}
+use Rattle.vw_net.specs.declared.ordered.Ordered.{Ordered}
+use Rattle.vw_plan.specs.declared.board.Board.{Board}
+use Rattle.vw_plan.specs.declared.need.Route.{Route}
+use Rattle.vw_plan.specs.declared.wire.Hop.{Hop}
+use Rattle.vw_plan.specs.Lead.{after_last, greatest}
+use Rattle.vw_plan.specs.Needs.{depth}
+use Rattle.vw_phase.specs.declared.draft.Draft.{Draft}
+use Rattle.vw_phase.specs.declared.task.Task.{Task}
+use Rattle.vw_phase.specs.Steps.Done.{all_hops}
+use Rattle.vw_phase.specs.Steps.Drafts.{IsUntouched}
+use Rattle.vw_phase.specs.Steps.Underway.{IsUnderway, start_by}
+use Rattle.vw_net.specs.declared.flat.Flat.{Flat}
+
+-- hops of which there are none
+abbrev AreNone : List (List Hop) → Type 0
+AreNone hops = All (λ sent. sent ≡ []) hops
+
+none_in_all : (hops : List (List Hop)) → AreNone hops → all_hops hops ≡ []
+none_in_all [] none = refl
+none_in_all (sent ∷ hops) none = flat_map-cons (λ (one : List Hop). one) sent hops ∙ ap₂ (λ (a b : List Hop). a ++ b) (All-head (λ (one : List Hop). one ≡ []) sent hops none) (none_in_all hops (All-tail (λ (one : List Hop). one ≡ []) sent hops none))
+
+none_last : (board : Board) (hops : List (List Hop)) → AreNone hops → 0 ≡ greatest (map (after_last board) hops)
+none_last board [] none = refl
+none_last board (sent ∷ hops) none = ap₂ max (ap (after_last board) (sym (All-head (λ (one : List Hop). one ≡ []) sent hops none))) (none_last board hops (All-tail (λ (one : List Hop). one ≡ []) sent hops none))
+
+-- no net has depth below 0
+start_zero : (flat : Flat) (board : Board) (chip_of : List ℕ) (routes : List Route) (hops : List (List Hop)) → start_by flat board chip_of 0 routes hops ≡ 0
+start_zero flat board chip_of [] hops = refl
+start_zero flat board chip_of (route ∷ routes) [] = refl
+start_zero flat board chip_of (route ∷ routes) (sent ∷ hops) = ap₂ max (ap (λ (bit : Bool). if bit then after_last board sent else 0) (le-ltb (depth flat chip_of route.net) 0 (omega arith))) (start_zero flat board chip_of routes hops)
+
+-- a list of zeros has 0 everywhere, and past its end
+zero_at : (count net : ℕ) → ◌≡◌ {A = ℕ} (get_or (replicate count 0) net 0) 0
+zero_at count net = ⊎_elim (λ within. get_or-replicate count net 0 0 within) (λ past. get_or_past (replicate count 0) net 0 (let long : length (replicate {A = ℕ} count 0) ≡ count = length-replicate {A = ℕ} count 0 in omega arith)) (cases_lt net count)
+
+pub started : (ordered : Ordered) (board : Board) (chip_of : List ℕ) (routes : List Route) (tasks : List Task) (draft : Draft) → IsUntouched ordered board routes draft → IsUnderway ordered board chip_of routes tasks 0 draft 0 0
+started ordered board chip_of routes tasks draft untouched =
+    let nets : ℕ = ordered.flat.inputs + length ordered.flat.cells in
+    let no_slot : draft.table.taken ≡ [] = ap (λ table. table.taken) untouched.table in
+    let none_at : (number : ℕ) → get_or draft.hops.items number [] ≡ [] = λ number. ⊎_elim (λ within. untouched.none number [] within) (λ past. get_or_past draft.hops.items number [] past) (cases_lt number (length draft.hops.items)) in
+    record {
+      fit = record {
+        nets = ap length untouched.leads ∙ length-replicate nets 0;
+        long = untouched.long;
+        widths = ap (λ table. table.widths) untouched.table;
+        early = record {
+          few = rw no_slot (omega arith);
+          soon = rw no_slot (subst (All (λ lead. lead ≤ 0)) (sym untouched.leads) (All-replicate (λ lead. lead ≤ 0) nets 0 (omega arith)));
+          sent = λ number default within place hop inside. absurd (let none : length (get_or draft.hops.items number default) ≡ 0 = ap length (untouched.none number default within) in omega (arith, inside, none));
+          last = rw (no_slot, untouched.last) (omega arith);
+        };
+      };
+      none = λ number no. none_at number;
+      sent = λ number route at done. absurd (true≢false (sym done));
+      worked = λ place within done. absurd (true≢false (sym done));
+      zero = λ net no. ap (λ (list : List ℕ). get_or list net 0) untouched.leads ∙ zero_at nets net;
+      last = untouched.last ∙ none_last board draft.hops.items untouched.none;
+      size = ap length no_slot ∙ sym (ap length (none_in_all draft.hops.items untouched.none));
+      slots = λ hop. rw (none_in_all draft.hops.items untouched.none, no_slot) refl;
+      begin = sym (start_zero ordered.flat board chip_of routes draft.hops.items);
+      begun = omega arith;
+      shallow = λ place before. absurd (omega (arith, before));
+      deep = λ place late within. omega arith;
+    }

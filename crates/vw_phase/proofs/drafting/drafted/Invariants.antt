@@ -1,0 +1,9 @@
+-- the tasks so far are done
+use Rattle.vw_phase.specs.Steps.Underway.{AreTasks, IsUnderway}
+use Rattle.vw_phase.proofs.drafting.drafted.Given as goal
+
+abbrev pub invariant-loop-task : goal.invariant-loop-task
+invariant-loop-task l = record {
+  tasks : AreTasks l.ordered l.chip_of l.routes l.task-items;
+  way : IsUnderway l.ordered l.board l.chip_of l.routes l.task-items l.task-index l.draft l.depth l.start;
+}

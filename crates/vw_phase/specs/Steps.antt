@@ -1,0 +1,6 @@
+pub mod Along
+pub mod Leads
+pub mod Tasks
+pub mod Drafts
+pub mod Done
+pub mod Underway

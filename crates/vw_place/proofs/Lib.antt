@@ -1,0 +1,5 @@
+pub mod Sums
+pub mod Renumbered
+pub mod Exchanges
+pub mod Tables
+pub mod Travels

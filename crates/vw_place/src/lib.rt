@@ -1,0 +1,13 @@
+//! Which chip has which part of a placement: the parts stay, and the chips are numbered anew, so that what is needed has
+//! less far to go.
+#![tactic(auto)]
+
+mod exchange;
+mod placement;
+mod traffic;
+mod way;
+
+pub use placement::{PlaceRefused, place};
+
+#[cfg(test)]
+mod tests;

@@ -1,0 +1,57 @@
+-- Hops that are sent as early as they can be, and periods that are no longer than they have to be. Source: this project.
+use Rattle.std.specs.Prelude.{◌≡◌, ◌≤◌, ◌<◌, ◌+◌, ℕ, Bool, List, [], ◌∷◌, map, max, slice_get, IsTrue, nat_lt, if◌then◌else◌}
+use Rattle.std.specs.List.{All, list_any}
+use Rattle.std.specs.Option.{ForSome}
+use Rattle.vw_plan.specs.declared.board.Board.{Board}
+use Rattle.vw_plan.specs.declared.plan.Plan.{Plan}
+use Rattle.vw_plan.specs.declared.wire.Hop.{Hop}
+use Rattle.vw_plan.specs.declared.wire.Wire.{Wire}
+use Rattle.vw_plan.specs.Lead.{after_last, arrival, greatest, usable}
+use Rattle.vw_plan.specs.Needs.{depth}
+use Rattle.vw_plan.specs.Setting.{Setting, setting_of, home}
+use Rattle.vw_plan.specs.Sound.{IsSound, has_pin, hops_of, share_pin}
+
+-- whether a plan uses the pin and the microcycle of a hop
+abbrev pub is_in_use : Plan → Hop → Bool
+is_in_use plan hop = list_any (share_pin hop) (hops_of plan)
+
+-- in a microcycle, every pin of the link from a node to another is in use
+abbrev pub IsFull : Board → Plan → ℕ → ℕ → ℕ → Type 0
+IsFull board plan from to at = (pin : ℕ) → let hop : Hop = record { from = from; to = to; pin = pin; at = at } in
+    IsTrue (has_pin board.links hop) → IsTrue (is_in_use plan hop)
+
+-- a hop is earliest: from the moment at which it is ready up to the microcycle before its own, every pin of its link is in
+-- use
+abbrev pub IsEarliest : Board → Plan → ℕ → Hop → Type 0
+IsEarliest board plan ready hop = (at : ℕ) → ready ≤ at → at < hop.at → IsFull board plan hop.from hop.to at
+
+-- so are the hops of a wire, of which the first is ready at a moment, and each later one when the one before it has arrived
+abbrev pub AreEarliest : Board → Plan → ℕ → List Hop → Type 0
+AreEarliest board plan ready [] = Unit {0}
+AreEarliest board plan ready (hop ∷ hops) = IsEarliest board plan ready hop × AreEarliest board plan (arrival board hop + 1) hops
+
+-- ---- phases: the wires of one depth start only behind those of lesser depth
+
+-- how deep the net of a wire is
+abbrev pub wire_depth : Setting → Wire → ℕ
+wire_depth setting wire = depth setting.ordered.flat setting.plan.chip_of wire.net
+
+-- one past the arrival of the last hop of all wires of lesser depth; 0 where there is none
+abbrev pub phase_start : Setting → ℕ → ℕ
+phase_start setting limit = greatest (map (λ wire. if nat_lt (wire_depth setting wire) limit then after_last setting.board wire.hops else 0) setting.plan.wires)
+
+-- when the first hop of a wire is ready: its net is usable, and its phase has begun
+abbrev pub ready_in_phase : Setting → Wire → ℕ
+ready_in_phase setting wire = max (usable setting (home setting wire.net) wire.net) (phase_start setting (wire_depth setting wire))
+
+-- no wire begins before its phase, and each hop is earliest
+pub record IsPhased (setting : Setting) : Type 0 where
+  pub begun : All (λ wire. ForSome (slice_get wire.hops 0) (λ hop. phase_start setting (wire_depth setting wire) ≤ hop.at)) setting.plan.wires
+  pub earliest : All (λ wire. AreEarliest setting.board setting.plan (ready_in_phase setting wire) wire.hops) setting.plan.wires
+
+-- ---- periods
+
+-- the same plan with a smaller period isn't sound
+abbrev pub HasLeastPeriod : Setting → Type 0
+HasLeastPeriod setting = (other : Plan) → other.chip_of ≡ setting.plan.chip_of → other.wires ≡ setting.plan.wires → other.period < setting.plan.period
+    → ¬ (IsSound (setting_of setting.ordered setting.board other))

@@ -1,0 +1,9 @@
+//! Shortest walks between the nodes of a board.
+#![tactic(auto)]
+
+mod route;
+
+pub use route::walk;
+
+#[cfg(test)]
+mod tests;

@@ -1,0 +1,3 @@
+pub mod Routed
+pub mod Goods
+pub mod Fits

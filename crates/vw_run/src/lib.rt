@@ -1,0 +1,9 @@
+//! Plans of a design on a board.
+#![tactic(auto)]
+
+mod compiler;
+mod fault;
+mod routes;
+
+pub use compiler::compile;
+pub use fault::{CompileFault, CompileRefused};

@@ -1,0 +1,18 @@
+use mir.Val.{bool_byte}
+use Rattle.std.proofs.Common.{◌≤◌, ℕ, Bool, true, false, get_or, arith}
+use Rattle.vw_sim.proofs.Machines.{rest_place-below}
+use Rattle.vw_sim.proofs.machine.place_at.Goals as goal
+
+byte-le : (value : Bool) → bool_byte value ≤ 1
+byte-le true = omega arith
+byte-le false = omega arith
+
+-- a place is below 64
+pub overflow_mul-place : goal.overflow_mul-place
+overflow_mul-place c = omega (arith, rest_place-below (λ (net : ℕ). get_or c.as_slice-all.result.now net false) c.args.nets.now c.loop-i.i c.requires.few)
+
+pub overflow_add-place : goal.overflow_add-place
+overflow_add-place c = omega (arith, rest_place-below (λ (net : ℕ). get_or c.as_slice-all.result.now net false) c.args.nets.now c.loop-i.i c.requires.few, byte-le)
+
+pub returns-clause-below : goal.returns-clause-below
+returns-clause-below c = omega (arith, rest_place-below (λ (net : ℕ). get_or c.as_slice-all.result.now net false) c.args.nets.now c.loop-i.i c.requires.few)

@@ -1,0 +1,16 @@
+-- What a table of slots keeps, given the capacity of its list of taken slots. Source: this project.
+use Rattle.std.specs.Prelude.{◌≡◌, ◌≤◌, ◌+◌, ℕ, List, length, slice_index, nat_lt}
+use Rattle.std.specs.HashMap as hash
+use Rattle.vw_slots.specs.declared.slot.Taken.{Taken}
+use Rattle.vw_slots.specs.Slots.{is_taken}
+use Rattle.vw_slots.specs.Steps.Moments.{Moments, used_at, AreWide, IsChained}
+
+pub record IsTable (widths : List ℕ) (taken : List Taken) (capacity : ℕ) (moments : Moments) (spare : ℕ) : Type 0 where
+  pub wide : AreWide widths
+  pub chained : IsChained widths moments
+  -- the pins fill from the least on
+  pub used : (link pin at : ℕ) → is_taken taken link pin at ≡ nat_lt pin (used_at moments link at)
+  pub within : (link at : ℕ) → used_at moments link at ≤ slice_index widths link
+  -- each further slot lists one microcycle more at most
+  pub places : spare ≤ hash.spare moments
+  pub room : length taken + spare ≤ capacity

@@ -1,0 +1,12 @@
+//! Which pins of the links of a board are taken in which microcycle, and the earliest free one.
+#![tactic(auto)]
+
+mod moment;
+mod slot;
+mod slot_table;
+
+pub use slot::{Slot, Taken};
+pub use slot_table::SlotTable;
+
+#[cfg(test)]
+mod tests;

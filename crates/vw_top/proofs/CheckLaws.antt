@@ -1,0 +1,413 @@
+-- What the table of statuses says of the files of `check`.
+use Rattle.std.proofs.Common.{◌≡◌, ◌<◌, ◌⊎◌, ℕ, List, refl, sym, ◌∙◌, ap, ap₂, subst, inl, inr, ⊎_elim, arith}
+use Rattle.vw_net.specs.declared.ordered.Ordered.{Ordered}
+use Rattle.vw_design.specs.declared.design.Design.{Design as Spelled}
+use Rattle.vw_design.specs.Flattened.{IsFlatOf}
+use Rattle.vw_design.proofs.FlatOnce.{flat_once}
+use Rattle.vw_plan.specs.declared.board.Board.{Board}
+use Rattle.vw_plan.specs.declared.plan.Plan.{Plan}
+use Rattle.vw_plan.specs.Setting.{Setting, setting_of}
+use Rattle.vw_board.specs.BoardText.{Accepts as SpellsBoard}
+use Rattle.vw_board.proofs.Accepted.{accepted_once}
+use Rattle.vw_plantext.specs.PlanText.{Spells as SpellsPlan}
+use Rattle.vw_plantext.proofs.Accepted.{spelled_once}
+use Rattle.vw_check.specs.declared.fault.PlanFault.{PlanFault}
+use Rattle.vw_check.specs.Faults.{plan_fault}
+use Rattle.vw_check.proofs.LawAll.{sound, faultless}
+use Rattle.vw_check.proofs.SameNetlist.{fault_same}
+use Rattle.vw_outside.specs.Told.{Told, absent, held, IsTextOf}
+use Rattle.vw_outside.specs.Reads.{CountsFault}
+use Rattle.vw_outside.specs.Writes.{SeenSink, appended, WrotePart}
+use Rattle.vw_top.specs.declared.stop.File.{File}
+use Rattle.vw_top.specs.declared.reason.Reason.{Reason}
+use Rattle.vw_top.specs.declared.reason.Reason.TheVariants as reasons
+use Rattle.vw_top.specs.Reasons.{reason_status}
+use Rattle.vw_top.specs.Designs.{IsNetlistOf, RefusesDesign, IsNoDesign, netlist_apart, spells_once}
+use Rattle.vw_top.specs.Course.{Course, Outside, outside, MayWrite, MayRefuse, MayRead, writing, refusing, missing, ComesTo}
+use Rattle.vw_top.specs.Statuses.{Statuses, IsRefusal, IsWantOfMemory, LeavesPart}
+use Rattle.vw_top.specs.Commands.{RefusesBoard, RefusesPlanText, RefusesPlan, board_apart, plan_text_apart, check_course, sound_text}
+use Rattle.vw_top.specs.CommandStatuses.{Yields}
+use Rattle.vw_top.specs.CheckStatuses.{AreSpelled, IsNoBoard, IsNoPlanText, HasPlanFault, IsNoPlan, IsSoundPlan, HoldTexts, YieldsTwo, YieldsThree, CheckStatuses}
+use Rattle.vw_top.proofs.CourseLaws.{none_written}
+use Rattle.vw_top.proofs.SimLaws.{its_text, no_text, at_held, at_absent, status_one}
+
+-- ---- netlists, boards and plans of one text
+
+pub netlist_same : (d : List ℕ) (one other : Ordered) → IsNetlistOf d one → IsNetlistOf d other → one.flat ≡ other.flat
+netlist_same d one other is its =
+    let same = spells_once d is.design its.design is.is.spelled its.is.spelled in
+    flat_once its.design one.flat other.flat (subst (λ (design : Spelled). IsFlatOf design one.flat) same is.flat) its.flat
+
+setting_same : (d b p : List ℕ) (ordered other : Ordered) (board its_board : Board) (plan its_plan : Plan) → AreSpelled d b p ordered board plan → AreSpelled d b p other its_board its_plan
+    → plan_fault (setting_of ordered board plan) ≡ plan_fault (setting_of other its_board its_plan)
+setting_same d b p ordered other board its_board plan its_plan are its =
+    fault_same board plan ordered other (netlist_same d ordered other are.netlist its.netlist)
+    ∙ ap₂ (λ (one : Board) (two : Plan). plan_fault (setting_of other one two)) (accepted_once b board its_board are.board_is its.board_is) (spelled_once p plan its_plan are.plan_is its.plan_is)
+
+pub no_design_left : (d : List ℕ) (ordered : Ordered) → IsNetlistOf d ordered → IsNoDesign d → ⊥
+no_design_left d ordered is none = netlist_apart d ordered none.0 is none.1
+
+pub no_board_left : (b : List ℕ) (board : Board) → SpellsBoard b board → IsNoBoard b → ⊥
+no_board_left b board is none = board_apart b board none.0 is none.1
+
+no_text_left : (p : List ℕ) (plan : Plan) → SpellsPlan p plan → IsNoPlanText p → ⊥
+no_text_left p plan is none = plan_text_apart p plan none.0 is none.1
+
+pub board_status : (b : List ℕ) (reason : Reason) → RefusesBoard b reason → reason_status reason ≡ 3
+board_status b reason refused = ap reason_status refused.1
+
+text_status : (p : List ℕ) (reason : Reason) → RefusesPlanText p reason → reason_status reason ≡ 4
+text_status p reason refused = ap reason_status refused.1
+
+plan_status : (setting : Setting) (reason : Reason) → RefusesPlan setting reason → reason_status reason ≡ 4
+plan_status setting reason refused = ap reason_status refused.1
+
+module _ (design board plan : List ℕ) (told : List ℕ → Told) where
+  abbrev course : Course
+  course = check_course design board plan
+
+  -- why `check` refuses
+  data WhyRefused (reason : Reason) : Type 0 where
+    bad_design : (d : List ℕ) → IsTextOf (told design) d → RefusesDesign d reason → WhyRefused reason
+    bad_board : (d b : List ℕ) (ordered : Ordered) → IsTextOf (told design) d → IsNetlistOf d ordered → IsTextOf (told board) b → RefusesBoard b reason → WhyRefused reason
+    bad_text : (d b p : List ℕ) (ordered : Ordered) (its : Board) → IsTextOf (told design) d → IsNetlistOf d ordered → IsTextOf (told board) b → SpellsBoard b its → IsTextOf (told plan) p
+        → RefusesPlanText p reason → WhyRefused reason
+    unsound : (d b p : List ℕ) (ordered : Ordered) (its : Board) (content : Plan) → IsTextOf (told design) d → IsTextOf (told board) b → IsTextOf (told plan) p → AreSpelled d b p ordered its content
+        → RefusesPlan (setting_of ordered its content) reason → WhyRefused reason
+
+  why : (reason : Reason) → MayRefuse course told reason → WhyRefused reason
+  why reason (d, d_is, inl refused) = bad_design d d_is refused
+  why reason (d, d_is, inr (ordered, netlist, (b, b_is, inl refused))) = bad_board d b ordered d_is netlist b_is refused
+  why reason (d, d_is, inr (ordered, netlist, (b, b_is, inr (its, its_is, (p, p_is, inl refused))))) = bad_text d b p ordered its d_is netlist b_is its_is p_is refused
+  why reason (d, d_is, inr (ordered, netlist, (b, b_is, inr (its, its_is, (p, p_is, inr (content, content_is, inl refused)))))) =
+      unsound d b p ordered its content d_is b_is p_is (record { netlist = netlist; board_is = its_is; plan_is = content_is }) refused
+  why reason (d, d_is, inr (ordered, netlist, (b, b_is, inr (its, its_is, (p, p_is, inr (content, content_is, inr (done, is, more))))))) = absurd more
+
+  -- what `check` writes
+  record WhatWritten (text : List ℕ) : Type 0 where
+    d : List ℕ
+    b : List ℕ
+    p : List ℕ
+    content : Plan
+    d_is : IsTextOf (told design) d
+    b_is : IsTextOf (told board) b
+    p_is : IsTextOf (told plan) p
+    its_sound : IsSoundPlan d b p content
+    text_is : text ≡ sound_text content
+
+  what : (text : List ℕ) → MayWrite course told text → WhatWritten text
+  what text (d, d_is, (ordered, netlist, (b, b_is, (its, its_is, (p, p_is, (content, content_is, (done, is, written))))))) = record {
+    d = d;
+    b = b;
+    p = p;
+    content = content;
+    d_is = d_is;
+    b_is = b_is;
+    p_is = p_is;
+    its_sound = record { ordered = ordered; board = its; are = record { netlist = netlist; board_is = its_is; plan_is = content_is }; sound = is };
+    text_is = written;
+  }
+
+  -- what `check` reads
+  which : (file : File) (name : List ℕ) → MayRead course told file name → (name ≡ design) ⊎ ((name ≡ board) ⊎ (name ≡ plan))
+  which file name (inl (is, same)) = inl same
+  which file name (inr (d, d_is, (ordered, netlist, inl (is, same)))) = inr (inl same)
+  which file name (inr (d, d_is, (ordered, netlist, inr (b, b_is, (its, its_is, inl (is, same)))))) = inr (inr same)
+  which file name (inr (d, d_is, (ordered, netlist, inr (b, b_is, (its, its_is, inr (p, p_is, (content, content_is, (done, sound_is, more)))))))) = absurd more
+
+  -- ---- what it comes to
+
+  comes_to_no_design : (d : List ℕ) → told design ≡ held d → IsNoDesign d → ComesTo refusing course told
+  comes_to_no_design d is none = at_held (told design) d _ _ is (inl (refl, none.0, none.1))
+
+  comes_to_no_board : (d b : List ℕ) (ordered : Ordered) → told design ≡ held d → told board ≡ held b → IsNetlistOf d ordered → IsNoBoard b → ComesTo refusing course told
+  comes_to_no_board d b ordered d_is b_is netlist none =
+      at_held (told design) d _ _ d_is (inr ((ordered, netlist), λ other its. at_held (told board) b _ _ b_is (inl (refl, none.0, none.1))))
+
+  comes_to_no_text : (d b p : List ℕ) (ordered : Ordered) (its : Board) → told design ≡ held d → told board ≡ held b → told plan ≡ held p → IsNetlistOf d ordered → SpellsBoard b its → IsNoPlanText p → ComesTo refusing course told
+  comes_to_no_text d b p ordered its d_is b_is p_is netlist board_is none =
+      at_held (told design) d _ _ d_is (inr (
+        (ordered, netlist),
+        λ other other_is.
+            at_held (told board) b _ _ b_is (inr ((its, board_is), λ another another_is. at_held (told plan) p _ _ p_is (inl (refl, none.0, none.1)))),
+      ))
+
+  comes_to_unsound : (d b p : List ℕ) (fault : PlanFault) → told design ≡ held d → told board ≡ held b → told plan ≡ held p → HasPlanFault d b p fault → ComesTo refusing course told
+  comes_to_unsound d b p fault d_is b_is p_is has =
+      at_held (told design) d _ _ d_is (inr (
+        (has.ordered, has.are.netlist),
+        λ other other_is.
+            at_held (told board) b _ _ b_is (inr (
+              (has.board, has.are.board_is),
+              λ another another_is.
+                  at_held (told plan) p _ _ p_is (inr (
+                    (has.plan, has.are.plan_is),
+                    λ third third_is.
+                        let its : AreSpelled d b p other another third = record { netlist = other_is; board_is = another_is; plan_is = third_is } in
+                        inl (refl, reasons.Plan fault, (fault, refl, setting_same d b p other has.ordered another has.board third has.plan its has.are ∙ has.is)),
+                  )),
+            )),
+      ))
+
+  comes_to_sound : (d b p : List ℕ) (content : Plan) → told design ≡ held d → told board ≡ held b → told plan ≡ held p → IsSoundPlan d b p content → ComesTo writing course told
+  comes_to_sound d b p content d_is b_is p_is has =
+      at_held (told design) d _ _ d_is (inr (
+        (has.ordered, has.are.netlist),
+        λ other other_is.
+            at_held (told board) b _ _ b_is (inr (
+              (has.board, has.are.board_is),
+              λ another another_is.
+                  at_held (told plan) p _ _ p_is (inr (
+                    (content, has.are.plan_is),
+                    λ third third_is.
+                        let its : AreSpelled d b p other another third = record { netlist = other_is; board_is = another_is; plan_is = third_is } in
+                        let none = setting_same d b p other has.ordered another has.board third content its has.are ∙ faultless (setting_of has.ordered has.board content) has.sound in
+                        inr ((tt, sound (setting_of other another third) none), λ done is. refl),
+                  )),
+            )),
+      ))
+
+  comes_to_no_file : told design ≡ absent → ComesTo missing course told
+  comes_to_no_file is = at_absent (told design) _ _ is refl
+
+  comes_to_no_board_file : (d : List ℕ) (ordered : Ordered) → told design ≡ held d → IsNetlistOf d ordered → told board ≡ absent → ComesTo missing course told
+  comes_to_no_board_file d ordered d_is netlist is = at_held (told design) d _ _ d_is (inr ((ordered, netlist), λ other other_is. at_absent (told board) _ _ is refl))
+
+  comes_to_no_plan_file : (d b : List ℕ) (ordered : Ordered) (its : Board) → told design ≡ held d → told board ≡ held b → IsNetlistOf d ordered → SpellsBoard b its → told plan ≡ absent → ComesTo missing course told
+  comes_to_no_plan_file d b ordered its d_is b_is netlist board_is is =
+      at_held (told design) d _ _ d_is (inr (
+        (ordered, netlist),
+        λ other other_is.
+            at_held (told board) b _ _ b_is (inr ((its, board_is), λ another another_is. at_absent (told plan) _ _ is refl)),
+      ))
+
+module _ (design board plan : List ℕ) (before after : Outside) (status : ℕ) (table : Statuses (check_course design board plan) before after status) where
+  abbrev told : List ℕ → Told
+  told = before.shelf.told
+
+  abbrev Counts : List ℕ → Type 0
+  Counts name = CountsFault name before.shelf after.shelf
+
+  abbrev its_why : (refusal : IsRefusal (check_course design board plan) before after status) → WhyRefused design board plan told refusal.reason
+  its_why refusal = why design board plan told refusal.reason refusal.may
+
+  counts_at : (name other : List ℕ) → name ≡ other → Counts name → Counts other
+  counts_at name other same counted = subst Counts same counted
+
+  fault_at : (name : List ℕ) → Counts name → (name ≡ design) ⊎ ((name ≡ board) ⊎ (name ≡ plan)) → Counts design ⊎ (Counts board ⊎ Counts plan)
+  fault_at name counted (inl same) = inl (counts_at name design same counted)
+  fault_at name counted (inr (inl same)) = inr (inl (counts_at name board same counted))
+  fault_at name counted (inr (inr same)) = inr (inr (counts_at name plan same counted))
+
+  read_fault : status ≡ 7 → Counts design ⊎ (Counts board ⊎ Counts plan)
+  read_fault is = let fault = table.read_fault is in fault_at fault.name fault.counted (which design board plan told fault.file fault.name fault.may)
+
+  -- ---- stops
+
+  yields_of : status ≡ 7 → Counts design ⊎ (Counts board ⊎ Counts plan) → YieldsThree design board plan before after status
+  yields_of is (inl counted) = inl (inr (is, counted))
+  yields_of is (inr (inl counted)) = inr (inl (inr (is, counted)))
+  yields_of is (inr (inr counted)) = inr (inr (inr (is, counted)))
+
+  yields : (status ≡ 7) ⊎ (status ≡ 9) → YieldsThree design board plan before after status
+  yields (inl is) = yields_of is (read_fault is)
+  yields (inr is) = inl (inl is)
+
+  -- a text without a design stops the call in its own reading
+  at_design : (d : List ℕ) (file : File) (name : List ℕ) → told design ≡ held d → IsNoDesign d → MayRead (check_course design board plan) told file name → name ≡ design
+  at_design d file name held_d none (inl (is, same)) = same
+  at_design d file name held_d none (inr (text, text_is, (ordered, netlist, more))) =
+      absurd (no_design_left d ordered (subst (λ (t : List ℕ). IsNetlistOf t ordered) (its_text (told design) text d held_d text_is) netlist) none)
+
+  yields_at_design : (d : List ℕ) → told design ≡ held d → IsNoDesign d → (status ≡ 7) ⊎ (status ≡ 9) → Yields design before after status
+  yields_at_design d held_d none (inl is) =
+      let fault = table.read_fault is in
+      inr (is, counts_at fault.name design (at_design d fault.file fault.name held_d none fault.may) fault.counted)
+  yields_at_design d held_d none (inr is) = inl is
+
+  -- a text without a board stops it before the plan is read
+  at_board : (b : List ℕ) (file : File) (name : List ℕ) → told board ≡ held b → IsNoBoard b → MayRead (check_course design board plan) told file name → (name ≡ design) ⊎ (name ≡ board)
+  at_board b file name held_b none (inl (is, same)) = inl same
+  at_board b file name held_b none (inr (d, d_is, (ordered, netlist, inl (is, same)))) = inr same
+  at_board b file name held_b none (inr (d, d_is, (ordered, netlist, inr (text, text_is, (its, its_is, more))))) =
+      absurd (no_board_left b its (subst (λ (t : List ℕ). SpellsBoard t its) (its_text (told board) text b held_b text_is) its_is) none)
+
+  two_of : (name : List ℕ) → status ≡ 7 → Counts name → (name ≡ design) ⊎ (name ≡ board) → YieldsTwo design board before after status
+  two_of name is counted (inl same) = inl (inr (is, counts_at name design same counted))
+  two_of name is counted (inr same) = inr (inr (is, counts_at name board same counted))
+
+  yields_at_board : (b : List ℕ) → told board ≡ held b → IsNoBoard b → (status ≡ 7) ⊎ (status ≡ 9) → YieldsTwo design board before after status
+  yields_at_board b held_b none (inl is) = let fault = table.read_fault is in two_of fault.name is fault.counted (at_board b fault.file fault.name held_b none fault.may)
+  yields_at_board b held_b none (inr is) = inl (inl is)
+
+  -- ---- refusals
+
+  one_three_four : (reason : Reason) → WhyRefused design board plan told reason → status ≡ reason_status reason → (status ≡ 1) ⊎ ((status ≡ 3) ⊎ (status ≡ 4))
+  one_three_four reason (bad_design d d_is refused) its = inl (its ∙ status_one d reason refused)
+  one_three_four reason (bad_board d b ordered d_is netlist b_is refused) its = inr (inl (its ∙ board_status b reason refused))
+  one_three_four reason (bad_text d b p ordered content d_is netlist b_is board_is p_is refused) its = inr (inr (its ∙ text_status p reason refused))
+  one_three_four reason (unsound d b p ordered spelled content d_is b_is p_is are refused) its = inr (inr (its ∙ plan_status (setting_of ordered spelled content) reason refused))
+
+  no_other : (0 < status) → (status < 7) → (status ≡ 1) ⊎ ((status ≡ 3) ⊎ (status ≡ 4))
+  no_other some few = let refusal = table.refused some few in one_three_four refusal.reason (its_why refusal) refusal.its_status
+
+  why_one : (d : List ℕ) (reason : Reason) → told design ≡ held d → WhyRefused design board plan told reason → reason_status reason ≡ 1 → IsNoDesign d
+  why_one d reason held_d (bad_design text text_is refused) its = (reason, subst (λ (t : List ℕ). RefusesDesign t reason) (its_text (told design) text d held_d text_is) refused)
+  why_one d reason held_d (bad_board text b ordered d_is netlist b_is refused) its = absurd (let wrong : 1 ≡ 3 = sym its ∙ board_status b reason refused in omega arith)
+  why_one d reason held_d (bad_text text b p ordered content d_is netlist b_is board_is p_is refused) its = absurd (let wrong : 1 ≡ 4 = sym its ∙ text_status p reason refused in omega arith)
+  why_one d reason held_d (unsound text b p ordered spelled content d_is b_is p_is are refused) its = absurd (let wrong : 1 ≡ 4 = sym its ∙ plan_status (setting_of ordered spelled content) reason refused in omega arith)
+
+  why_three : (b : List ℕ) (reason : Reason) → told board ≡ held b → WhyRefused design board plan told reason → reason_status reason ≡ 3 → IsNoBoard b
+  why_three b reason held_b (bad_design d d_is refused) its = absurd (let wrong : 3 ≡ 1 = sym its ∙ status_one d reason refused in omega arith)
+  why_three b reason held_b (bad_board d text ordered d_is netlist b_is refused) its = (reason, subst (λ (t : List ℕ). RefusesBoard t reason) (its_text (told board) text b held_b b_is) refused)
+  why_three b reason held_b (bad_text d text p ordered content d_is netlist b_is board_is p_is refused) its = absurd (let wrong : 3 ≡ 4 = sym its ∙ text_status p reason refused in omega arith)
+  why_three b reason held_b (unsound d text p ordered spelled content d_is b_is p_is are refused) its = absurd (let wrong : 3 ≡ 4 = sym its ∙ plan_status (setting_of ordered spelled content) reason refused in omega arith)
+
+  spelled_here : (d b p text_d text_b text_p : List ℕ) (ordered : Ordered) (its : Board) (content : Plan) → told design ≡ held d → told board ≡ held b → told plan ≡ held p
+      → IsTextOf (told design) text_d → IsTextOf (told board) text_b → IsTextOf (told plan) text_p → AreSpelled text_d text_b text_p ordered its content → AreSpelled d b p ordered its content
+  spelled_here d b p text_d text_b text_p ordered its content held_d held_b held_p d_is b_is p_is are = record {
+    netlist = subst (λ (t : List ℕ). IsNetlistOf t ordered) (its_text (told design) text_d d held_d d_is) are.netlist;
+    board_is = subst (λ (t : List ℕ). SpellsBoard t its) (its_text (told board) text_b b held_b b_is) are.board_is;
+    plan_is = subst (λ (t : List ℕ). SpellsPlan t content) (its_text (told plan) text_p p held_p p_is) are.plan_is;
+  }
+
+  why_four : (d b p : List ℕ) (reason : Reason) → HoldTexts design board plan before d b p → WhyRefused design board plan told reason → reason_status reason ≡ 4 → IsNoPlan d b p
+  why_four d b p reason held_all (bad_design text text_is refused) its = absurd (let wrong : 4 ≡ 1 = sym its ∙ status_one text reason refused in omega arith)
+  why_four d b p reason held_all (bad_board text_d text ordered d_is netlist b_is refused) its = absurd (let wrong : 4 ≡ 3 = sym its ∙ board_status text reason refused in omega arith)
+  why_four d b p reason held_all (bad_text text_d text_b text ordered content d_is netlist b_is board_is p_is refused) its =
+      inl (reason, subst (λ (t : List ℕ). RefusesPlanText t reason) (its_text (told plan) text p held_all.plan_held p_is) refused)
+  why_four d b p reason held_all (unsound text_d text_b text_p ordered spelled content d_is b_is p_is are refused) its =
+      inr (
+        refused.0,
+        record {
+          ordered = ordered;
+          board = spelled;
+          plan = content;
+          are = spelled_here d b p text_d text_b text_p ordered spelled content held_all.design_held held_all.board_held held_all.plan_held d_is b_is p_is are;
+          is = refused.2;
+        },
+      )
+
+  -- where there is no design, the refusal is for it; and so on
+  one_comes : (d : List ℕ) (reason : Reason) → told design ≡ held d → IsNoDesign d → WhyRefused design board plan told reason → reason_status reason ≡ 1
+  one_comes d reason held_d none (bad_design text text_is refused) = status_one text reason refused
+  one_comes d reason held_d none (bad_board text b ordered d_is netlist b_is refused) =
+      absurd (no_design_left d ordered (subst (λ (t : List ℕ). IsNetlistOf t ordered) (its_text (told design) text d held_d d_is) netlist) none)
+  one_comes d reason held_d none (bad_text text b p ordered content d_is netlist b_is board_is p_is refused) =
+      absurd (no_design_left d ordered (subst (λ (t : List ℕ). IsNetlistOf t ordered) (its_text (told design) text d held_d d_is) netlist) none)
+  one_comes d reason held_d none (unsound text b p ordered spelled content d_is b_is p_is are refused) =
+      absurd (no_design_left d ordered (subst (λ (t : List ℕ). IsNetlistOf t ordered) (its_text (told design) text d held_d d_is) are.netlist) none)
+
+  no_refused_design : (d text : List ℕ) (ordered : Ordered) (reason : Reason) → told design ≡ held d → IsNetlistOf d ordered → IsTextOf (told design) text → RefusesDesign text reason → ⊥
+  no_refused_design d text ordered reason held_d netlist text_is refused =
+      netlist_apart d ordered reason netlist (subst (λ (t : List ℕ). RefusesDesign t reason) (its_text (told design) text d held_d text_is) refused)
+
+  no_refused_board : (b text : List ℕ) (its : Board) (reason : Reason) → told board ≡ held b → SpellsBoard b its → IsTextOf (told board) text → RefusesBoard text reason → ⊥
+  no_refused_board b text its reason held_b board_is text_is refused =
+      board_apart b its reason board_is (subst (λ (t : List ℕ). RefusesBoard t reason) (its_text (told board) text b held_b text_is) refused)
+
+  three_comes : (d b : List ℕ) (ordered : Ordered) (reason : Reason) → told design ≡ held d → told board ≡ held b → IsNetlistOf d ordered → IsNoBoard b → WhyRefused design board plan told reason → reason_status reason ≡ 3
+  three_comes d b ordered reason held_d held_b netlist none (bad_design text text_is refused) = absurd (no_refused_design d text ordered reason held_d netlist text_is refused)
+  three_comes d b ordered reason held_d held_b netlist none (bad_board text_d text other d_is its b_is refused) = board_status text reason refused
+  three_comes d b ordered reason held_d held_b netlist none (bad_text text_d text p other content d_is its b_is board_is p_is refused) =
+      absurd (no_board_left b content (subst (λ (t : List ℕ). SpellsBoard t content) (its_text (told board) text b held_b b_is) board_is) none)
+  three_comes d b ordered reason held_d held_b netlist none (unsound text_d text p other spelled content d_is b_is p_is are refused) =
+      absurd (no_board_left b spelled (subst (λ (t : List ℕ). SpellsBoard t spelled) (its_text (told board) text b held_b b_is) are.board_is) none)
+
+  four_comes : (d b : List ℕ) (ordered : Ordered) (its : Board) (reason : Reason) → told design ≡ held d → told board ≡ held b → IsNetlistOf d ordered → SpellsBoard b its → WhyRefused design board plan told reason → reason_status reason ≡ 4
+  four_comes d b ordered its reason held_d held_b netlist board_is (bad_design text text_is refused) = absurd (no_refused_design d text ordered reason held_d netlist text_is refused)
+  four_comes d b ordered its reason held_d held_b netlist board_is (bad_board text_d text other d_is other_is b_is refused) = absurd (no_refused_board b text its reason held_b board_is b_is refused)
+  four_comes d b ordered its reason held_d held_b netlist board_is (bad_text text_d text_b text other content d_is other_is b_is content_is p_is refused) = text_status text reason refused
+  four_comes d b ordered its reason held_d held_b netlist board_is (unsound text_d text_b text_p other spelled content d_is b_is p_is are refused) = plan_status (setting_of other spelled content) reason refused
+
+  -- ---- a file that is absent leaves out as it was
+
+  want_untouched : IsWantOfMemory (check_course design board plan) before after → ((text : List ℕ) → MayWrite (check_course design board plan) told text → ⊥) → after.out ≡ before.out
+  want_untouched want none =
+      ⊎_elim
+      (λ (same : after.out ≡ before.out). same)
+      (λ (some : (text : List ℕ) × MayWrite (check_course design board plan) told text × WrotePart text before.out after.out). absurd (none some.0 some.1))
+      want.part
+
+  missing_leaves : (status ≡ 7) ⊎ (status ≡ 9) → ((text : List ℕ) → MayWrite (check_course design board plan) told text → ⊥) → (after.out ≡ before.out) × ((status ≡ 7) ⊎ (status ≡ 9))
+  missing_leaves (inl is) none = ((table.read_fault is).leaves, inl is)
+  missing_leaves (inr is) none = (want_untouched (table.want_of_memory is) none, inr is)
+
+  ends_or_stops : (P Q : Type 0) → ((0 < status) → (status < 7) → P) → ((status ≡ 7) ⊎ (status ≡ 9) → Q) → ((0 < status) × (status < 7)) ⊎ ((status ≡ 7) ⊎ (status ≡ 9)) → P ⊎ Q
+  ends_or_stops P Q refused stopped (inl (some, few)) = inl (refused some few)
+  ends_or_stops P Q refused stopped (inr stops) = inr (stopped stops)
+
+  -- ---- what is written is of the one plan of the texts
+
+  abbrev Written : List ℕ → Type 0
+  Written text = WhatWritten design board plan told text
+
+  here : (d b p text : List ℕ) → HoldTexts design board plan before d b p → (w : Written text) → IsSoundPlan d b p w.content
+  here d b p text held_all w = record {
+    ordered = w.its_sound.ordered;
+    board = w.its_sound.board;
+    are = spelled_here d b p w.d w.b w.p w.its_sound.ordered w.its_sound.board w.content held_all.design_held held_all.board_held held_all.plan_held w.d_is w.b_is w.p_is w.its_sound.are;
+    sound = w.its_sound.sound;
+  }
+
+  text_here : (d b p text : List ℕ) (its : Plan) → HoldTexts design board plan before d b p → IsSoundPlan d b p its → (w : Written text) → text ≡ sound_text its
+  text_here d b p text its held_all is w = w.text_is ∙ ap sound_text (spelled_once p w.content its (here d b p text held_all w).are.plan_is is.are.plan_is)
+
+  complete_by : (Counts design → ⊥) → (Counts board → ⊥) → (Counts plan → ⊥) → (status ≡ 8 → ⊥) → (status ≡ 0) ⊎ ((status ≡ 7) ⊎ ((status ≡ 8) ⊎ (status ≡ 9))) → (status ≡ 0) ⊎ (status ≡ 9)
+  complete_by no_design no_board no_plan no_write (inl is) = inl is
+  complete_by no_design no_board no_plan no_write (inr (inl is)) =
+      absurd (⊎_elim no_design (λ (rest : Counts board ⊎ Counts plan). ⊎_elim no_board no_plan rest) (read_fault is))
+  complete_by no_design no_board no_plan no_write (inr (inr (inl is))) = absurd (no_write is)
+  complete_by no_design no_board no_plan no_write (inr (inr (inr is))) = inr is
+
+  pub check_table : CheckStatuses design board plan before after status
+  check_table = record {
+    done = λ d b p held_all is.
+        let done = table.done is in
+        let w = what design board plan told done.text done.may in
+        (w.content, here d b p done.text held_all w, done.leaves ∙ ap (λ (t : List ℕ). outside before.shelf (appended before.out t)) w.text_is);
+    no_design = λ d held_d is.
+        let refusal = table.refused (omega arith) (omega arith) in why_one d refusal.reason held_d (its_why refusal) (sym refusal.its_status ∙ is);
+    no_design_comes = λ d held_d none.
+        ends_or_stops (status ≡ 1) (Yields design before after status) (λ some few. let refusal = table.refused some few in refusal.its_status ∙ one_comes d refusal.reason held_d none (its_why refusal))
+        (yields_at_design d held_d none) (table.rejected (comes_to_no_design design board plan told d held_d none));
+    no_board = λ b held_b is.
+        let refusal = table.refused (omega arith) (omega arith) in why_three b refusal.reason held_b (its_why refusal) (sym refusal.its_status ∙ is);
+    no_board_comes = λ d b ordered held_d held_b netlist none.
+        ends_or_stops (status ≡ 3) (YieldsTwo design board before after status) (λ some few. let refusal = table.refused some few in refusal.its_status ∙ three_comes d b ordered refusal.reason held_d held_b netlist none (its_why refusal))
+        (yields_at_board b held_b none) (table.rejected (comes_to_no_board design board plan told d b ordered held_d held_b netlist none));
+    no_plan = λ d b p held_all is.
+        let refusal = table.refused (omega arith) (omega arith) in why_four d b p refusal.reason held_all (its_why refusal) (sym refusal.its_status ∙ is);
+    no_plan_text_comes = λ d b p ordered its held_all netlist board_is none.
+        ends_or_stops (status ≡ 4) (YieldsThree design board plan before after status)
+        (λ some few. let refusal = table.refused some few in refusal.its_status ∙ four_comes d b ordered its refusal.reason held_all.design_held held_all.board_held netlist board_is (its_why refusal))
+        yields (table.rejected (comes_to_no_text design board plan told d b p ordered its held_all.design_held held_all.board_held held_all.plan_held netlist board_is none));
+    unsound_comes = λ d b p fault held_all has.
+        ends_or_stops (status ≡ 4) (YieldsThree design board plan before after status)
+        (λ some few. let refusal = table.refused some few in refusal.its_status ∙ four_comes d b has.ordered has.board refusal.reason held_all.design_held held_all.board_held has.are.netlist has.are.board_is (its_why refusal))
+        yields (table.rejected (comes_to_unsound design board plan told d b p fault held_all.design_held held_all.board_held held_all.plan_held has));
+    read_fault = read_fault;
+    others = (
+      λ is. omega (arith, no_other (omega arith) (omega arith)),
+      λ is. omega (arith, no_other (omega arith) (omega arith)),
+      λ is. omega (arith, no_other (omega arith) (omega arith)),
+    );
+    part = λ d b p its held_all is.
+        ⊎_elim
+        (λ (same : after.out ≡ before.out). none_written (sound_text its) before.out after.out same)
+        (λ (some : (text : List ℕ) × MayWrite (check_course design board plan) told text × LeavesPart text before.out after.out).
+        subst (λ (t : List ℕ). LeavesPart t before.out after.out) (text_here d b p some.0 its held_all is (what design board plan told some.0 some.1)) some.2)
+        (table.part (comes_to_sound design board plan told d b p its held_all.design_held held_all.board_held held_all.plan_held is));
+    absent_design = λ gone.
+        missing_leaves (table.absent_file (comes_to_no_file design board plan told gone))
+        (λ text may. let w = what design board plan told text may in no_text (told design) w.d gone w.d_is);
+    absent_board = λ d ordered held_d netlist gone.
+        missing_leaves (table.absent_file (comes_to_no_board_file design board plan told d ordered held_d netlist gone))
+        (λ text may. let w = what design board plan told text may in no_text (told board) w.b gone w.b_is);
+    absent_plan = λ d b ordered its held_d held_b netlist board_is gone.
+        missing_leaves (table.absent_file (comes_to_no_plan_file design board plan told d b ordered its held_d held_b netlist board_is gone))
+        (λ text may. let w = what design board plan told text may in no_text (told plan) w.p gone w.p_is);
+    complete = λ d b p its held_all is no_design no_board no_plan no_write.
+        complete_by (λ c. no_design c.here) (λ c. no_board c.here) (λ c. no_plan c.here) (λ eight. no_write (ap (λ (o : SeenSink). o.faults) (table.write_fault eight).counted.2))
+        (table.accepted (comes_to_sound design board plan told d b p its held_all.design_held held_all.board_held held_all.plan_held is));
+  }

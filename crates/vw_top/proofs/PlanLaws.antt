@@ -1,0 +1,316 @@
+-- What the table of statuses says of the files of `plan`.
+use Rattle.std.proofs.Common.{◌≡◌, ◌<◌, ◌≤◌, ◌*◌, ◌⊎◌, ℕ, List, length, refl, sym, ◌∙◌, ap, subst, inl, inr, ⊎_elim, arith}
+use Rattle.vw_net.specs.declared.flat.Flat.{Flat}
+use Rattle.vw_net.specs.declared.ordered.Ordered.{Ordered}
+use Rattle.vw_plan.specs.declared.board.Board.{Board}
+use Rattle.vw_plan.specs.declared.plan.Plan.{Plan}
+use Rattle.vw_board.specs.BoardText.{Accepts as SpellsBoard}
+use Rattle.vw_board.proofs.Accepted.{accepted_once}
+use Rattle.vw_outside.specs.Told.{Told, absent, held, IsTextOf}
+use Rattle.vw_outside.specs.Reads.{CountsFault}
+use Rattle.vw_outside.specs.Writes.{SeenSink, appended, WrotePart}
+use Rattle.vw_top.specs.declared.stop.File.{File}
+use Rattle.vw_top.specs.declared.reason.Reason.{Reason}
+use Rattle.vw_top.specs.declared.reason.Reason.TheVariants.{Fit}
+use Rattle.vw_top.specs.Reasons.{reason_status}
+use Rattle.vw_top.specs.Designs.{IsNetlistOf, RefusesDesign, IsNoDesign, netlist_apart}
+use Rattle.vw_top.specs.Course.{Course, Outside, outside, MayWrite, MayRefuse, MayRead, writing, refusing, missing, ComesTo}
+use Rattle.vw_top.specs.Statuses.{Statuses, IsRefusal, IsWantOfMemory, LeavesPart}
+use Rattle.vw_top.specs.Commands.{RefusesBoard, RefusesFit, HasRoom, board_apart, plan_course, text_of_plan}
+use Rattle.vw_top.specs.CommandStatuses.{Yields}
+use Rattle.vw_top.specs.CheckStatuses.{IsNoBoard, YieldsTwo}
+use Rattle.vw_top.specs.PlanStatuses.{AreSpelledOn, IsGoodPlan, HaveRoom, HaveNoRoom, HoldTwo, PlanStatuses}
+use Rattle.vw_top.proofs.SimLaws.{its_text, no_text, at_held, at_absent, status_one}
+use Rattle.vw_top.proofs.CheckLaws.{netlist_same, no_design_left, no_board_left, board_status}
+
+fit_status : (ordered : Ordered) (board : Board) (reason : Reason) → RefusesFit ordered board reason → reason_status reason ≡ 6
+fit_status ordered board reason refused = ap reason_status refused.0
+
+-- the numbers of cells and of room are those of the texts
+module _ (d b : List ℕ) (ordered other : Ordered) (board its_board : Board) (are : AreSpelledOn d b ordered board) (its : AreSpelledOn d b other its_board) where
+  abbrev cell_count : Flat → ℕ
+  cell_count flat = length flat.cells
+
+  cells_same : length ordered.flat.cells ≡ length other.flat.cells
+  cells_same = ap cell_count (netlist_same d ordered other are.netlist its.netlist)
+
+  abbrev room_of : Board → ℕ
+  room_of one = one.chips * one.cells
+
+  room_same : board.chips * board.cells ≡ its_board.chips * its_board.cells
+  room_same = ap room_of (accepted_once b board its_board are.board_is its.board_is)
+
+  no_room_same : board.chips * board.cells < length ordered.flat.cells → its_board.chips * its_board.cells < length other.flat.cells
+  no_room_same none = subst (λ (cells : ℕ). its_board.chips * its_board.cells < cells) cells_same (subst (λ (room : ℕ). room < length ordered.flat.cells) room_same none)
+
+  has_room_same : HasRoom ordered board → HasRoom other its_board
+  has_room_same room = subst (λ (cells : ℕ). cells ≤ its_board.chips * its_board.cells) cells_same (subst (λ (all : ℕ). length ordered.flat.cells ≤ all) room_same room)
+
+module _ (design board : List ℕ) (told : List ℕ → Told) where
+  abbrev course : Course
+  course = plan_course design board
+
+  -- why `plan` refuses
+  data WhyRefused (reason : Reason) : Type 0 where
+    bad_design : (d : List ℕ) → IsTextOf (told design) d → RefusesDesign d reason → WhyRefused reason
+    bad_board : (d b : List ℕ) (ordered : Ordered) → IsTextOf (told design) d → IsNetlistOf d ordered → IsTextOf (told board) b → RefusesBoard b reason → WhyRefused reason
+    bad_fit : (d b : List ℕ) (ordered : Ordered) (its : Board) → IsTextOf (told design) d → IsTextOf (told board) b → AreSpelledOn d b ordered its → RefusesFit ordered its reason → WhyRefused reason
+
+  why : (reason : Reason) → MayRefuse course told reason → WhyRefused reason
+  why reason (d, d_is, inl refused) = bad_design d d_is refused
+  why reason (d, d_is, inr (ordered, netlist, (b, b_is, inl refused))) = bad_board d b ordered d_is netlist b_is refused
+  why reason (d, d_is, inr (ordered, netlist, (b, b_is, inr (its, its_is, inl refused)))) = bad_fit d b ordered its d_is b_is (record { netlist = netlist; board_is = its_is }) refused
+  why reason (d, d_is, inr (ordered, netlist, (b, b_is, inr (its, its_is, inr (plan, good, more))))) = absurd more
+
+  -- what `plan` writes
+  record WhatWritten (text : List ℕ) : Type 0 where
+    d : List ℕ
+    b : List ℕ
+    plan : Plan
+    d_is : IsTextOf (told design) d
+    b_is : IsTextOf (told board) b
+    its_good : IsGoodPlan d b plan
+    text_is : text ≡ text_of_plan plan
+
+  what : (text : List ℕ) → MayWrite course told text → WhatWritten text
+  what text (d, d_is, (ordered, netlist, (b, b_is, (its, its_is, (plan, good, written))))) = record {
+    d = d;
+    b = b;
+    plan = plan;
+    d_is = d_is;
+    b_is = b_is;
+    its_good = record { ordered = ordered; board = its; are = record { netlist = netlist; board_is = its_is }; good = good };
+    text_is = written;
+  }
+
+  -- what `plan` reads
+  which : (file : File) (name : List ℕ) → MayRead course told file name → (name ≡ design) ⊎ (name ≡ board)
+  which file name (inl (is, same)) = inl same
+  which file name (inr (d, d_is, (ordered, netlist, inl (is, same)))) = inr same
+  which file name (inr (d, d_is, (ordered, netlist, inr (b, b_is, (its, its_is, (plan, good, more)))))) = absurd more
+
+  -- ---- what it comes to
+
+  comes_to_no_design : (d : List ℕ) → told design ≡ held d → IsNoDesign d → ComesTo refusing course told
+  comes_to_no_design d is none = at_held (told design) d _ _ is (inl (refl, none.0, none.1))
+
+  comes_to_no_board : (d b : List ℕ) (ordered : Ordered) → told design ≡ held d → told board ≡ held b → IsNetlistOf d ordered → IsNoBoard b → ComesTo refusing course told
+  comes_to_no_board d b ordered d_is b_is netlist none =
+      at_held (told design) d _ _ d_is (inr ((ordered, netlist), λ other its. at_held (told board) b _ _ b_is (inl (refl, none.0, none.1))))
+
+  comes_to_no_room : (d b : List ℕ) → told design ≡ held d → told board ≡ held b → HaveNoRoom d b → ComesTo refusing course told
+  comes_to_no_room d b d_is b_is has =
+      at_held (told design) d _ _ d_is (inr (
+        (has.ordered, has.are.netlist),
+        λ other other_is.
+            at_held (told board) b _ _ b_is (inr (
+              (has.board, has.are.board_is),
+              λ another another_is.
+                  let its : AreSpelledOn d b other another = record { netlist = other_is; board_is = another_is } in
+                  inl (refl, Fit (length other.flat.cells) (another.chips * another.cells), (refl, no_room_same d b has.ordered other has.board another has.are its has.none)),
+            )),
+      ))
+
+  comes_to_room : (d b : List ℕ) → told design ≡ held d → told board ≡ held b → HaveRoom d b → ComesTo writing course told
+  comes_to_room d b d_is b_is has =
+      at_held (told design) d _ _ d_is (inr (
+        (has.ordered, has.are.netlist),
+        λ other other_is.
+            at_held (told board) b _ _ b_is (inr (
+              (has.board, has.are.board_is),
+              λ another another_is.
+                  let its : AreSpelledOn d b other another = record { netlist = other_is; board_is = another_is } in
+                  inr (has_room_same d b has.ordered other has.board another has.are its has.room, λ plan good. refl),
+            )),
+      ))
+
+  comes_to_no_file : told design ≡ absent → ComesTo missing course told
+  comes_to_no_file is = at_absent (told design) _ _ is refl
+
+  comes_to_no_board_file : (d : List ℕ) (ordered : Ordered) → told design ≡ held d → IsNetlistOf d ordered → told board ≡ absent → ComesTo missing course told
+  comes_to_no_board_file d ordered d_is netlist is = at_held (told design) d _ _ d_is (inr ((ordered, netlist), λ other other_is. at_absent (told board) _ _ is refl))
+
+module _ (design board : List ℕ) (before after : Outside) (status : ℕ) (table : Statuses (plan_course design board) before after status) where
+  abbrev told : List ℕ → Told
+  told = before.shelf.told
+
+  abbrev Counts : List ℕ → Type 0
+  Counts name = CountsFault name before.shelf after.shelf
+
+  abbrev its_why : (refusal : IsRefusal (plan_course design board) before after status) → WhyRefused design board told refusal.reason
+  its_why refusal = why design board told refusal.reason refusal.may
+
+  counts_at : (name other : List ℕ) → name ≡ other → Counts name → Counts other
+  counts_at name other same counted = subst Counts same counted
+
+  fault_at : (name : List ℕ) → Counts name → (name ≡ design) ⊎ (name ≡ board) → Counts design ⊎ Counts board
+  fault_at name counted (inl same) = inl (counts_at name design same counted)
+  fault_at name counted (inr same) = inr (counts_at name board same counted)
+
+  read_fault : status ≡ 7 → Counts design ⊎ Counts board
+  read_fault is = let fault = table.read_fault is in fault_at fault.name fault.counted (which design board told fault.file fault.name fault.may)
+
+  -- ---- stops
+
+  yields_of : status ≡ 7 → Counts design ⊎ Counts board → YieldsTwo design board before after status
+  yields_of is (inl counted) = inl (inr (is, counted))
+  yields_of is (inr counted) = inr (inr (is, counted))
+
+  yields : (status ≡ 7) ⊎ (status ≡ 9) → YieldsTwo design board before after status
+  yields (inl is) = yields_of is (read_fault is)
+  yields (inr is) = inl (inl is)
+
+  -- a text without a design stops the call in its own reading
+  at_design : (d : List ℕ) (file : File) (name : List ℕ) → told design ≡ held d → IsNoDesign d → MayRead (plan_course design board) told file name → name ≡ design
+  at_design d file name held_d none (inl (is, same)) = same
+  at_design d file name held_d none (inr (text, text_is, (ordered, netlist, more))) =
+      absurd (no_design_left d ordered (subst (λ (t : List ℕ). IsNetlistOf t ordered) (its_text (told design) text d held_d text_is) netlist) none)
+
+  yields_at_design : (d : List ℕ) → told design ≡ held d → IsNoDesign d → (status ≡ 7) ⊎ (status ≡ 9) → Yields design before after status
+  yields_at_design d held_d none (inl is) =
+      let fault = table.read_fault is in
+      inr (is, counts_at fault.name design (at_design d fault.file fault.name held_d none fault.may) fault.counted)
+  yields_at_design d held_d none (inr is) = inl is
+
+  -- ---- refusals
+
+  one_three_six : (reason : Reason) → WhyRefused design board told reason → status ≡ reason_status reason → (status ≡ 1) ⊎ ((status ≡ 3) ⊎ (status ≡ 6))
+  one_three_six reason (bad_design d d_is refused) its = inl (its ∙ status_one d reason refused)
+  one_three_six reason (bad_board d b ordered d_is netlist b_is refused) its = inr (inl (its ∙ board_status b reason refused))
+  one_three_six reason (bad_fit d b ordered its_board d_is b_is are refused) its = inr (inr (its ∙ fit_status ordered its_board reason refused))
+
+  no_other : (0 < status) → (status < 7) → (status ≡ 1) ⊎ ((status ≡ 3) ⊎ (status ≡ 6))
+  no_other some few = let refusal = table.refused some few in one_three_six refusal.reason (its_why refusal) refusal.its_status
+
+  why_one : (d : List ℕ) (reason : Reason) → told design ≡ held d → WhyRefused design board told reason → reason_status reason ≡ 1 → IsNoDesign d
+  why_one d reason held_d (bad_design text text_is refused) its = (reason, subst (λ (t : List ℕ). RefusesDesign t reason) (its_text (told design) text d held_d text_is) refused)
+  why_one d reason held_d (bad_board text b ordered d_is netlist b_is refused) its = absurd (let wrong : 1 ≡ 3 = sym its ∙ board_status b reason refused in omega arith)
+  why_one d reason held_d (bad_fit text b ordered its_board d_is b_is are refused) its = absurd (let wrong : 1 ≡ 6 = sym its ∙ fit_status ordered its_board reason refused in omega arith)
+
+  why_three : (b : List ℕ) (reason : Reason) → told board ≡ held b → WhyRefused design board told reason → reason_status reason ≡ 3 → IsNoBoard b
+  why_three b reason held_b (bad_design d d_is refused) its = absurd (let wrong : 3 ≡ 1 = sym its ∙ status_one d reason refused in omega arith)
+  why_three b reason held_b (bad_board d text ordered d_is netlist b_is refused) its = (reason, subst (λ (t : List ℕ). RefusesBoard t reason) (its_text (told board) text b held_b b_is) refused)
+  why_three b reason held_b (bad_fit d text ordered its_board d_is b_is are refused) its = absurd (let wrong : 3 ≡ 6 = sym its ∙ fit_status ordered its_board reason refused in omega arith)
+
+  spelled_here : (d b text_d text_b : List ℕ) (ordered : Ordered) (its : Board) → told design ≡ held d → told board ≡ held b
+      → IsTextOf (told design) text_d → IsTextOf (told board) text_b → AreSpelledOn text_d text_b ordered its → AreSpelledOn d b ordered its
+  spelled_here d b text_d text_b ordered its held_d held_b d_is b_is are = record {
+    netlist = subst (λ (t : List ℕ). IsNetlistOf t ordered) (its_text (told design) text_d d held_d d_is) are.netlist;
+    board_is = subst (λ (t : List ℕ). SpellsBoard t its) (its_text (told board) text_b b held_b b_is) are.board_is;
+  }
+
+  why_six : (d b : List ℕ) (reason : Reason) → told design ≡ held d → told board ≡ held b → WhyRefused design board told reason → reason_status reason ≡ 6 → HaveNoRoom d b
+  why_six d b reason held_d held_b (bad_design text text_is refused) its = absurd (let wrong : 6 ≡ 1 = sym its ∙ status_one text reason refused in omega arith)
+  why_six d b reason held_d held_b (bad_board text_d text ordered d_is netlist b_is refused) its = absurd (let wrong : 6 ≡ 3 = sym its ∙ board_status text reason refused in omega arith)
+  why_six d b reason held_d held_b (bad_fit text_d text_b ordered its_board d_is b_is are refused) its =
+      record { ordered = ordered; board = its_board; are = spelled_here d b text_d text_b ordered its_board held_d held_b d_is b_is are; none = refused.1 }
+
+  -- where there is no design, the refusal is for it; and so on
+  one_comes : (d : List ℕ) (reason : Reason) → told design ≡ held d → IsNoDesign d → WhyRefused design board told reason → reason_status reason ≡ 1
+  one_comes d reason held_d none (bad_design text text_is refused) = status_one text reason refused
+  one_comes d reason held_d none (bad_board text b ordered d_is netlist b_is refused) =
+      absurd (no_design_left d ordered (subst (λ (t : List ℕ). IsNetlistOf t ordered) (its_text (told design) text d held_d d_is) netlist) none)
+  one_comes d reason held_d none (bad_fit text b ordered its_board d_is b_is are refused) =
+      absurd (no_design_left d ordered (subst (λ (t : List ℕ). IsNetlistOf t ordered) (its_text (told design) text d held_d d_is) are.netlist) none)
+
+  no_refused_design : (d text : List ℕ) (ordered : Ordered) (reason : Reason) → told design ≡ held d → IsNetlistOf d ordered → IsTextOf (told design) text → RefusesDesign text reason → ⊥
+  no_refused_design d text ordered reason held_d netlist text_is refused =
+      netlist_apart d ordered reason netlist (subst (λ (t : List ℕ). RefusesDesign t reason) (its_text (told design) text d held_d text_is) refused)
+
+  no_refused_board : (b text : List ℕ) (its : Board) (reason : Reason) → told board ≡ held b → SpellsBoard b its → IsTextOf (told board) text → RefusesBoard text reason → ⊥
+  no_refused_board b text its reason held_b board_is text_is refused =
+      board_apart b its reason board_is (subst (λ (t : List ℕ). RefusesBoard t reason) (its_text (told board) text b held_b text_is) refused)
+
+  three_comes : (d b : List ℕ) (ordered : Ordered) (reason : Reason) → told design ≡ held d → told board ≡ held b → IsNetlistOf d ordered → IsNoBoard b → WhyRefused design board told reason → reason_status reason ≡ 3
+  three_comes d b ordered reason held_d held_b netlist none (bad_design text text_is refused) = absurd (no_refused_design d text ordered reason held_d netlist text_is refused)
+  three_comes d b ordered reason held_d held_b netlist none (bad_board text_d text other d_is its b_is refused) = board_status text reason refused
+  three_comes d b ordered reason held_d held_b netlist none (bad_fit text_d text other its_board d_is b_is are refused) =
+      absurd (no_board_left b its_board (subst (λ (t : List ℕ). SpellsBoard t its_board) (its_text (told board) text b held_b b_is) are.board_is) none)
+
+  six_comes : (d b : List ℕ) (ordered : Ordered) (its : Board) (reason : Reason) → told design ≡ held d → told board ≡ held b → AreSpelledOn d b ordered its → WhyRefused design board told reason → reason_status reason ≡ 6
+  six_comes d b ordered its reason held_d held_b are (bad_design text text_is refused) = absurd (no_refused_design d text ordered reason held_d are.netlist text_is refused)
+  six_comes d b ordered its reason held_d held_b are (bad_board text_d text other d_is other_is b_is refused) = absurd (no_refused_board b text its reason held_b are.board_is b_is refused)
+  six_comes d b ordered its reason held_d held_b are (bad_fit text_d text_b other its_board d_is b_is other_are refused) = fit_status other its_board reason refused
+
+  -- ---- a file that is absent leaves out as it was
+
+  abbrev Written : List ℕ → Type 0
+  Written text = MayWrite (plan_course design board) told text
+
+  want_untouched : IsWantOfMemory (plan_course design board) before after → ((text : List ℕ) → Written text → ⊥) → after.out ≡ before.out
+  want_untouched want none =
+      ⊎_elim
+      (λ (same : after.out ≡ before.out). same)
+      (λ (some : (text : List ℕ) × Written text × WrotePart text before.out after.out). absurd (none some.0 some.1))
+      want.part
+
+  missing_leaves : (status ≡ 7) ⊎ (status ≡ 9) → ((text : List ℕ) → Written text → ⊥) → (after.out ≡ before.out) × ((status ≡ 7) ⊎ (status ≡ 9))
+  missing_leaves (inl is) none = ((table.read_fault is).leaves, inl is)
+  missing_leaves (inr is) none = (want_untouched (table.want_of_memory is) none, inr is)
+
+  ends_or_stops : (P Q : Type 0) → ((0 < status) → (status < 7) → P) → ((status ≡ 7) ⊎ (status ≡ 9) → Q) → ((0 < status) × (status < 7)) ⊎ ((status ≡ 7) ⊎ (status ≡ 9)) → P ⊎ Q
+  ends_or_stops P Q refused stopped (inl (some, few)) = inl (refused some few)
+  ends_or_stops P Q refused stopped (inr stops) = inr (stopped stops)
+
+  -- ---- what is written is of the texts that are held
+
+  here : (d b text : List ℕ) → HoldTwo design board before d b → (w : WhatWritten design board told text) → IsGoodPlan d b w.plan
+  here d b text held_two w = record {
+    ordered = w.its_good.ordered;
+    board = w.its_good.board;
+    are = spelled_here d b w.d w.b w.its_good.ordered w.its_good.board held_two.design_held held_two.board_held w.d_is w.b_is w.its_good.are;
+    good = w.its_good.good;
+  }
+
+  complete_by : (Counts design → ⊥) → (Counts board → ⊥) → (status ≡ 8 → ⊥) → (status ≡ 0) ⊎ ((status ≡ 7) ⊎ ((status ≡ 8) ⊎ (status ≡ 9))) → (status ≡ 0) ⊎ (status ≡ 9)
+  complete_by no_design no_board no_write (inl is) = inl is
+  complete_by no_design no_board no_write (inr (inl is)) = absurd (⊎_elim no_design no_board (read_fault is))
+  complete_by no_design no_board no_write (inr (inr (inl is))) = absurd (no_write is)
+  complete_by no_design no_board no_write (inr (inr (inr is))) = inr is
+
+  pub plan_table : PlanStatuses design board before after status
+  plan_table = record {
+    done = λ d b held_two is.
+        let done = table.done is in
+        let w = what design board told done.text done.may in
+        (w.plan, here d b done.text held_two w, done.leaves ∙ ap (λ (t : List ℕ). outside before.shelf (appended before.out t)) w.text_is);
+    no_design = λ d held_d is.
+        let refusal = table.refused (omega arith) (omega arith) in why_one d refusal.reason held_d (its_why refusal) (sym refusal.its_status ∙ is);
+    no_design_comes = λ d held_d none.
+        ends_or_stops (status ≡ 1) (Yields design before after status) (λ some few. let refusal = table.refused some few in refusal.its_status ∙ one_comes d refusal.reason held_d none (its_why refusal))
+        (yields_at_design d held_d none) (table.rejected (comes_to_no_design design board told d held_d none));
+    no_board = λ b held_b is.
+        let refusal = table.refused (omega arith) (omega arith) in why_three b refusal.reason held_b (its_why refusal) (sym refusal.its_status ∙ is);
+    no_board_comes = λ d b ordered held_two netlist none.
+        ends_or_stops (status ≡ 3) (YieldsTwo design board before after status)
+        (λ some few. let refusal = table.refused some few in refusal.its_status ∙ three_comes d b ordered refusal.reason held_two.design_held held_two.board_held netlist none (its_why refusal))
+        yields (table.rejected (comes_to_no_board design board told d b ordered held_two.design_held held_two.board_held netlist none));
+    no_room = λ d b held_two is.
+        let refusal = table.refused (omega arith) (omega arith) in why_six d b refusal.reason held_two.design_held held_two.board_held (its_why refusal) (sym refusal.its_status ∙ is);
+    no_room_comes = λ d b held_two has.
+        ends_or_stops (status ≡ 6) (YieldsTwo design board before after status)
+        (λ some few. let refusal = table.refused some few in refusal.its_status ∙ six_comes d b has.ordered has.board refusal.reason held_two.design_held held_two.board_held has.are (its_why refusal))
+        yields (table.rejected (comes_to_no_room design board told d b held_two.design_held held_two.board_held has));
+    read_fault = read_fault;
+    others = (
+      λ is. omega (arith, no_other (omega arith) (omega arith)),
+      λ is. omega (arith, no_other (omega arith) (omega arith)),
+      λ is. omega (arith, no_other (omega arith) (omega arith)),
+    );
+    part = λ d b held_two has.
+        ⊎_elim
+        (λ (same : after.out ≡ before.out). inl same)
+        (λ (some : (text : List ℕ) × Written text × LeavesPart text before.out after.out).
+        let w = what design board told some.0 some.1 in
+        inr (w.plan, here d b some.0 held_two w, subst (λ (t : List ℕ). LeavesPart t before.out after.out) w.text_is some.2))
+        (table.part (comes_to_room design board told d b held_two.design_held held_two.board_held has));
+    absent_design = λ gone.
+        missing_leaves (table.absent_file (comes_to_no_file design board told gone))
+        (λ text may. let w = what design board told text may in no_text (told design) w.d gone w.d_is);
+    absent_board = λ d ordered held_d netlist gone.
+        missing_leaves (table.absent_file (comes_to_no_board_file design board told d ordered held_d netlist gone))
+        (λ text may. let w = what design board told text may in no_text (told board) w.b gone w.b_is);
+    complete = λ d b held_two has no_design no_board no_write.
+        complete_by (λ c. no_design c.here) (λ c. no_board c.here) (λ eight. no_write (ap (λ (o : SeenSink). o.faults) (table.write_fault eight).counted.2))
+        (table.accepted (comes_to_room design board told d b held_two.design_held held_two.board_held has));
+  }

@@ -1,0 +1,5 @@
+use Rattle.vw_top.proofs.CheckLaws.{check_table}
+use Rattle.vw_top.proofs.statuses.check_statuses.Goals as goal
+
+pub returns : goal.returns
+returns c = check_table

@@ -1,0 +1,3 @@
+pub mod Unique
+pub mod Listed
+pub mod Tables

@@ -1,0 +1,12 @@
+//! Which nets of a placement have to be sent where, and how many wires come one after the other.
+#![tactic(auto)]
+
+mod crossing;
+mod table;
+mod wires;
+
+pub use table::depth_table;
+pub use wires::{depths, needed};
+
+#[cfg(test)]
+mod tests;
