@@ -15,8 +15,8 @@ mod wires;
 
 pub use checker::check;
 pub use fault::PlanFault;
-pub use pairs::PairTable;
 pub use laws::{faultless_plans_are_sound, faults_break_points, sound_plans_are_faultless};
+pub use pairs::PairTable;
 pub use refused::CheckRefused;
 
 #[cfg(test)]

@@ -49,7 +49,7 @@ short_wires flat board chip_of (route ∷ routes) [] follows short = absurd foll
 short_wires flat board chip_of (route ∷ routes) (wire ∷ wires) follows short =
     let its = All-head (IsShortRoute flat board chip_of) route routes short in
     let here : length wire.hops ≡ distance board (node_of flat chip_of wire.net) wire.to =
-        sym (length_steps wire.hops) ∙ ap (λ (steps : List (ℕ × ℕ)). length steps) follows.0.steps ∙ its.short ∙ ap₂ (λ (net to : ℕ). distance board (node_of flat chip_of net) to) (sym follows.0.net) (sym follows.0.to) in
+    sym (length_steps wire.hops) ∙ ap (λ (steps : List (ℕ × ℕ)). length steps) follows.0.steps ∙ its.short ∙ ap₂ (λ (net to : ℕ). distance board (node_of flat chip_of net) to) (sym follows.0.net) (sym follows.0.to) in
     All-cons (λ (one : Wire). length one.hops ≡ distance board (node_of flat chip_of one.net) one.to) wire wires here
     (short_wires flat board chip_of routes wires follows.1 (All-tail (IsShortRoute flat board chip_of) route routes short))
 

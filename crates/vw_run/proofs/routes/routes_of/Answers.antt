@@ -29,7 +29,7 @@ loop-need-preserved c =
     let route : Route = c.in_ok-route_of.field-0 in
     let pushed = c.in_ok-push.ensures.items in record {
       pairs = subst (λ (routes : List Route). map need_of_route routes ++ drop (c.loop-need.need-index + 1) needs ≡ needs) (sym pushed)
-        (more_pairs needs c.loop-need.need-index _ before route c.loop-need-test.true c.in_ok-route_of.ensures.net c.in_ok-route_of.ensures.to c.loop-need.invariant.pairs);
+          (more_pairs needs c.loop-need.need-index _ before route c.loop-need-test.true c.in_ok-route_of.ensures.net c.in_ok-route_of.ensures.to c.loop-need.invariant.pairs);
       short = subst (All (IsShortRoute flat board chips)) (sym pushed) (more_short flat board chips before route c.loop-need.invariant.short c.in_ok-route_of.ensures.short);
       reachable = c.loop-need.invariant.reachable;
     }
