@@ -104,11 +104,13 @@ crowd_plan() {
     }
     printf "end\n" }'
 }
-# grid SIDE: cells in a square; each reads the ones left of it and above it, and every eighth column is latches
+# grid SIDE STEP: cells in a square; each reads the ones left of it and above it, and every eighth column is latches. They
+# are written row by row where the step is 1, and mixed where it is a prime that doesn't divide the side
 grid() {
-  awk -v side="$1" 'BEGIN {
+  awk -v side="$1" -v step="$2" 'BEGIN {
     printf ".model m\n.inputs a b\n.outputs x%dy%d\n", side - 1, side - 1
-    for (y = 0; y < side; y++) for (x = 0; x < side; x++) {
+    for (n = 0; n < side * side; n++) {
+      place = n * step % (side * side); x = place % side; y = int(place / side)
       left = x ? "x" (x - 1) "y" y : "a"; above = y ? "x" x "y" (y - 1) : "b"
       if (x % 8 == 7) printf ".latch %s x%dy%d 0\n", left, x, y
       else printf ".names %s %s x%dy%d\n10 1\n01 1\n", left, above, x, y
@@ -161,6 +163,27 @@ wires_in_blocks() {
     }
     $1 == ".outputs" && pass == 2 { for (k = 2; k <= NF; k++) reads($k, 0) }
     END { print wires + 0 }' "$1" "$1"
+}
+# halves COUNT STEP: each cell reads three others, each within the block of eight cells around it, or half as often within
+# the block twice as large, and so on; every fourth cell is a latch. Reads go to earlier cells or to latches. The count is a
+# multiple of 8, and the step is as for the grid
+halves() {
+  awk -v count="$1" -v step="$2" 'BEGIN {
+    seed = 7
+    for (n = 0; n < count; n++) for (k = 0; k < 3; k++) {
+      size = 8
+      do { seed = (75 * seed + 74) % 65537; if (seed % 2) break; size *= 2 } while (size < count)
+      seed = (75 * seed + 74) % 65537; other = int(n / size) * size + seed % size
+      if (other >= n) other = 4 * int(other / 4) + 3
+      read[n, k] = "n" other
+    }
+    printf ".model m\n.inputs\n.outputs n%d\n", count - 1
+    for (m = 0; m < count; m++) {
+      n = m * step % count
+      if (n % 4 == 3) printf ".latch %s n%d 0\n", read[n, 0], n
+      else printf ".names %s %s %s n%d\n11- 1\n--1 1\n", read[n, 0], read[n, 1], read[n, 2], n
+    }
+    printf ".end\n" }'
 }
 # least_period DESIGN PLAN WIDTH: a bound for the period of a plan by phases. A phase takes as many microcycles as the fullest
 # link has hops for each pin, and as its longest wire has hops. Each gate of the design stands behind what it reads
@@ -289,23 +312,27 @@ expect 4 "plan 2: line 3"
 echo
 echo "| design | chips | wires in blocks | wires of the plan | period | bound of the period | seconds | peak, MB |"
 echo "|---|---|---|---|---|---|---|---|"
-# planned NAME CELLS ROWS COLUMNS WIDTH: one line of the table of plans that are made, of design.blif, with room for 3 % more cells
+# planned NAME CELLS ROWS COLUMNS WIDTH: one line of the table of plans that are made, of design.blif, with room for 3 % more
+# cells. Of a mixed design no bound is worked out
 planned() {
-  local chips=$(($3 * $4)) wires period
+  local chips=$(($3 * $4)) wires period bound=-
   local room=$((($2 * 103 + 100 * chips - 1) / (100 * chips)))
   mesh "$3" "$4" $room "$5" >mesh.board
   measured plan design.blif mesh.board
   expect 0 ""
   read -r _ _ _ wires period <out
   mv out made.plan
-  echo "| $1 | $chips | $(wires_in_blocks design.blif $room) | $wires | $period | $(least_period design.blif made.plan "$5") | $seconds | $peak |"
+  case $1 in *mixed) ;; *) bound=$(least_period design.blif made.plan "$5") ;; esac
+  echo "| $1 | $chips | $(wires_in_blocks design.blif $room) | $wires | $period | $bound | $seconds | $peak |"
   measured check design.blif mesh.board made.plan
   expect 0 ""
 }
-grid 32 >design.blif
+grid 32 1 >design.blif
 planned "grid of 32 by 32" 1024 2 2 8
-grid 255 >design.blif
+grid 255 1 >design.blif
 planned "grid of 255 by 255" 65025 4 8 8
+grid 255 7919 >design.blif
+planned "the same, mixed" 65025 4 8 8
 tree 4095 >design.blif
 planned "tree of 4,095" 4095 4 4 8
 tree 65535 >design.blif
@@ -314,3 +341,7 @@ window 4000 64 >design.blif
 planned "4,000 cells, window of 64" 4000 4 4 8
 window 65000 1000 >design.blif
 planned "65,000 cells, window of 1,000" 65000 4 8 8
+halves 16384 7919 >design.blif
+planned "halves of halves, 16,384 cells, mixed" 16384 4 8 8
+halves 65536 7919 >design.blif
+planned "halves of halves, 65,536 cells, mixed" 65536 4 8 8

@@ -3,9 +3,6 @@ use crate::level::Level;
 use crate::numbers::Numbers;
 use std::alloc::{AllocError, Global};
 
-/// The most vertices of a net that a vertex looks at.
-const WINDOW: u32 = 40;
-
 /// How much two vertices are drawn to each other by a net of so many.
 pub fn pull(size: usize) -> u32 {
     let others = u32::try_from(size).unwrap_or(u32::MAX).saturating_sub(1);
@@ -13,6 +10,20 @@ pub fn pull(size: usize) -> u32 {
         return 0;
     }
     (2520 / others).max(1)
+}
+
+/// Which clusters are made.
+#[derive(Clone, Copy)]
+pub struct Limits {
+    /// The most cells of a cluster.
+    pub most: u32,
+    /// Whether a vertex waits for a cluster that it belongs to more than to all others. Parts of a design that belong
+    /// together then fill up before they meet others.
+    pub choosy: bool,
+    /// In which order the vertices are looked at, as a number.
+    pub order: u32,
+    /// The most vertices of a net that a vertex looks at.
+    pub window: u32,
 }
 
 /// The clusters so far, each named by one of its vertices.
@@ -52,11 +63,11 @@ impl Clusters {
         self.of.at(vertex) == vertex && self.weights.at(vertex) == level.weights.at(vertex)
     }
 
-    /// Adds the scores that a net gives; of a great net some vertices, which differ from vertex to vertex.
-    fn score(&mut self, net: &[u32], vertex: u32) -> Result<(), AllocError> {
+    /// Adds the scores that a net gives; of a great net so many vertices, which differ from vertex to vertex.
+    fn score(&mut self, net: &[u32], vertex: u32, window: u32) -> Result<(), AllocError> {
         let size = u32::try_from(net.len()).unwrap_or(u32::MAX);
         let amount = pull(net.len());
-        for step in 0..size.min(WINDOW) {
+        for step in 0..size.min(window) {
             let place = vertex.wrapping_add(step).checked_rem(size).unwrap_or(0);
             if let Some(other) = net.get(place as usize) {
                 let cluster = self.of.at(*other);
@@ -69,22 +80,33 @@ impl Clusters {
         Ok(())
     }
 
-    /// The cluster that draws a vertex most for its weight, among those that have room. The scores are cleared.
-    fn take_best(&mut self, vertex: u32, most: u32) -> Option<u32> {
+    /// The cluster that draws a vertex most for its weight, among those that have room. A choosy vertex wants one that draws
+    /// it as much as all others together. The scores are cleared.
+    fn take_best(&mut self, vertex: u32, limits: Limits) -> Option<u32> {
         let own = self.weights.at(vertex);
         let mut best = None;
         let mut best_score = 0;
+        let mut best_draw: u64 = 0;
+        let mut draws: u64 = 0;
         for cluster in self.seen.as_slice() {
-            let weight = self.weights.at(*cluster);
-            let score = u64::from(self.scores.at(*cluster)) * 64;
-            let score = score.checked_div(u64::from(weight)).unwrap_or(0);
+            let draw = u64::from(self.scores.at(*cluster));
             self.scores.set(*cluster, 0);
-            if *cluster != vertex && weight.saturating_add(own) <= most && score > best_score {
+            if *cluster == vertex {
+                continue;
+            }
+            draws = draws.saturating_add(draw);
+            let weight = self.weights.at(*cluster);
+            let score = (draw * 64).checked_div(u64::from(weight)).unwrap_or(0);
+            if weight.saturating_add(own) <= limits.most && score > best_score {
                 best = Some(*cluster);
                 best_score = score;
+                best_draw = draw;
             }
         }
         self.seen.clear();
+        if limits.choosy && best_draw.saturating_mul(2) < draws {
+            return None;
+        }
         best
     }
 
@@ -105,16 +127,17 @@ impl Clusters {
     }
 
     /// Puts a vertex that is alone into a cluster, where one is found.
-    fn place(&mut self, level: &Level, vertex: u32, most: u32) -> Result<(), AllocError> {
+    fn place(&mut self, level: &Level, vertex: u32, limits: Limits) -> Result<(), AllocError> {
         if !self.is_alone(level, vertex) {
             return Ok(());
         }
-        for net in level.of_vertex.row(vertex) {
-            self.score(level.of_net.row(*net), vertex)?;
+        let nets = level.of_vertex.row(vertex);
+        for net in nets {
+            self.score(level.of_net.row(*net), vertex, limits.window)?;
         }
-        let mut found = self.take_best(vertex, most);
-        if found.is_none() {
-            found = self.take_lonely(level, vertex, most);
+        let mut found = self.take_best(vertex, limits);
+        if found.is_none() && (nets.is_empty() || !limits.choosy) {
+            found = self.take_lonely(level, vertex, limits.most);
         }
         if let Some(cluster) = found {
             self.of.set(vertex, cluster);
@@ -124,9 +147,9 @@ impl Clusters {
     }
 }
 
-/// A vertex in an order that differs from run to run.
-fn nth(place: u32, run: u32, vertices: u32) -> u32 {
-    let step: u64 = match run {
+/// A vertex by its place in an order; the orders have numbers.
+fn nth(place: u32, order: u32, vertices: u32) -> u32 {
+    let step: u64 = match order {
         0 => 1,
         1 => 7919,
         2 => 7907,
@@ -141,17 +164,17 @@ fn nth(place: u32, run: u32, vertices: u32) -> u32 {
     u32::try_from(number).unwrap_or(0)
 }
 
-/// The cluster of each vertex by its number, and how many clusters there are; none weighs more than `most` unless a vertex
+/// The cluster of each vertex by its number, and how many clusters there are. None weighs more than it may unless a vertex
 /// does.
 pub fn clustered(
     alloc: Global,
     level: &Level,
-    most: u32,
-    run: u32,
+    limits: Limits,
 ) -> Result<(Numbers, u32), AllocError> {
     let mut found = Clusters::of(alloc, level)?;
     for place in 0..level.vertices() {
-        found.place(level, nth(place, run, level.vertices()), most)?;
+        let vertex = nth(place, limits.order, level.vertices());
+        found.place(level, vertex, limits)?;
     }
     let mut numbers = Numbers::zeros(alloc, level.vertices())?;
     let mut many: u32 = 0;

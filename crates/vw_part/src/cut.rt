@@ -7,8 +7,8 @@ use std::alloc::{AllocError, Global};
 #[derive(Drop)]
 pub struct Cut {
     chips: u32,
-    /// How many cells a chip may have.
-    room: u32,
+    /// How many cells each chip may have.
+    rooms: Numbers,
     pub chip_of: Numbers,
     /// How many cells each chip has.
     sizes: Numbers,
@@ -23,13 +23,13 @@ impl Cut {
     pub fn of(
         alloc: Global,
         level: &Level,
-        chips: u32,
-        room: u32,
+        rooms: &Numbers,
         chip_of: Numbers,
     ) -> Result<Self, AllocError> {
+        let chips = rooms.len();
         let mut cut = Cut {
             chips,
-            room,
+            rooms: rooms.copied(alloc)?,
             chip_of,
             sizes: Numbers::zeros(alloc, chips)?,
             counts: Numbers::zeros(alloc, level.of_net.len().saturating_mul(chips))?,
@@ -63,6 +63,32 @@ impl Cut {
         freed
     }
 
+    /// How many vertices of a net are on a chip.
+    pub fn count(&self, net: u32, chip: u32) -> u32 {
+        self.counts.at(self.place(net, chip))
+    }
+
+    /// Of two chips: how many nets of a vertex are on the other one or leave its own with it, each counted for both.
+    pub fn better_nets(&self, level: &Level, vertex: u32) -> u32 {
+        let own = self.chip_of.at(vertex);
+        let mut better = self.freed(level, vertex);
+        for net in level.of_vertex.row(vertex) {
+            if self.count(*net, 1u32.saturating_sub(own)) > 0 {
+                better = better.saturating_add(1);
+            }
+        }
+        better
+    }
+
+    /// Of two chips: whether the other one has room for a vertex.
+    pub fn may_cross(&self, level: &Level, vertex: u32) -> bool {
+        let other = 1u32.saturating_sub(self.chip_of.at(vertex));
+        self.sizes
+            .at(other)
+            .saturating_add(level.weights.at(vertex))
+            <= self.rooms.at(other)
+    }
+
     /// Counts the nets of a vertex on each chip.
     fn look(&mut self, level: &Level, vertex: u32) {
         for chip in 0..self.chips {
@@ -88,7 +114,7 @@ impl Cut {
             };
             let there = self.there.at(chip);
             let better = there > most || (there == most && size < least);
-            if chip != own && size.saturating_add(weight) <= self.room && better {
+            if chip != own && size.saturating_add(weight) <= self.rooms.at(chip) && better {
                 best = Some(chip);
             }
         }
@@ -96,7 +122,7 @@ impl Cut {
     }
 
     /// Moves a vertex.
-    fn shift(&mut self, level: &Level, vertex: u32, chip: u32) {
+    pub fn shift(&mut self, level: &Level, vertex: u32, chip: u32) {
         let own = self.chip_of.at(vertex);
         for net in level.of_vertex.row(vertex) {
             let left = self.place(*net, own);
@@ -112,7 +138,7 @@ impl Cut {
     /// Moves a vertex where that helps, or costs nothing and evens the chips, or costs little and its chip is overfull.
     fn consider(&mut self, level: &Level, vertex: u32, loss: u32) -> bool {
         let own = self.chip_of.at(vertex);
-        let is_over = self.sizes.at(own) > self.room;
+        let is_over = self.is_over(own);
         let freed = self.freed(level, vertex);
         if freed == 0 && !is_over {
             return false;
@@ -133,10 +159,15 @@ impl Cut {
         false
     }
 
-    /// Whether a chip has more cells than it may.
+    /// Whether this chip has more cells than it may.
+    fn is_over(&self, chip: u32) -> bool {
+        self.sizes.at(chip) > self.rooms.at(chip)
+    }
+
+    /// Whether some chip has more cells than it may.
     fn is_overfull(&self) -> bool {
         for chip in 0..self.chips {
-            if self.sizes.at(chip) > self.room {
+            if self.is_over(chip) {
                 return true;
             }
         }
@@ -172,9 +203,23 @@ impl Cut {
             }
         }
         for chip in 0..self.chips {
-            let over = self.sizes.at(chip).saturating_sub(self.room);
+            let over = self.sizes.at(chip).saturating_sub(self.rooms.at(chip));
             cost = cost.saturating_add(u64::from(over) * 1000);
         }
         cost
+    }
+
+    /// On how many chips the nets are, beyond one for each net.
+    pub fn extra(&self, level: &Level) -> u64 {
+        self.cost().saturating_sub(u64::from(level.of_net.len()))
+    }
+}
+
+/// The cut that costs less.
+pub fn better(one: Cut, other: Cut) -> Cut {
+    if other.cost() < one.cost() {
+        other
+    } else {
+        one
     }
 }

@@ -8,7 +8,8 @@ use std::alloc::{AllocError, Global};
 #[derive(Drop)]
 struct Growth {
     chips: u32,
-    room: u32,
+    /// How many cells each chip may have.
+    rooms: Numbers,
     /// The chip of each vertex; the number of chips for one that has none.
     chip_of: Numbers,
     sizes: Numbers,
@@ -20,15 +21,16 @@ struct Growth {
 
 impl Growth {
     /// No vertex has a chip.
-    fn of(alloc: Global, level: &Level, chips: u32, room: u32) -> Result<Self, AllocError> {
+    fn of(alloc: Global, level: &Level, rooms: &Numbers) -> Result<Self, AllocError> {
         let vertices = level.vertices();
+        let chips = rooms.len();
         let mut chip_of = Numbers::zeros(alloc, vertices)?;
         for vertex in 0..vertices {
             chip_of.set(vertex, chips);
         }
         Ok(Growth {
             chips,
-            room,
+            rooms: rooms.copied(alloc)?,
             chip_of,
             sizes: Numbers::zeros(alloc, chips)?,
             scores: Numbers::zeros(alloc, vertices)?,
@@ -40,8 +42,9 @@ impl Growth {
     fn next(&self, level: &Level, chip: u32) -> Option<u32> {
         let mut best: Option<u32> = None;
         let mut most = 0;
+        let room = self.rooms.at(chip);
         for vertex in 0..level.vertices() {
-            let fits = self.sizes.at(chip).saturating_add(level.weights.at(vertex)) <= self.room;
+            let fits = self.sizes.at(chip).saturating_add(level.weights.at(vertex)) <= room;
             let score = self.scores.at(vertex);
             if self.chip_of.at(vertex) == self.chips && fits && (best.is_none() || score > most) {
                 best = Some(vertex);
@@ -67,8 +70,16 @@ impl Growth {
         }
     }
 
-    /// Fills a chip with a share of the cells, from a first vertex on.
-    fn fill(&mut self, level: &Level, chip: u32, first: u32, share: u32) {
+    /// How many cells a chip gets of so many, where all chips are as full as each other.
+    fn share(&self, chip: u32, weight: u32) -> u32 {
+        let product = u64::from(weight) * u64::from(self.rooms.at(chip));
+        let whole = u64::from(self.rooms.sum()).max(1);
+        u32::try_from(product.div_ceil(whole)).unwrap_or(u32::MAX)
+    }
+
+    /// Fills a chip with its share of the cells, from a first vertex on.
+    fn fill(&mut self, level: &Level, chip: u32, first: u32) {
+        let share = self.share(chip, level.weight());
         for vertex in 0..level.vertices() {
             self.scores.set(vertex, 0);
         }
@@ -84,11 +95,16 @@ impl Growth {
         }
     }
 
-    /// The chip with the fewest cells.
+    /// How many more cells a chip may have.
+    fn left(&self, chip: u32) -> u32 {
+        self.rooms.at(chip).saturating_sub(self.sizes.at(chip))
+    }
+
+    /// The chip with most room left.
     fn emptiest(&self) -> u32 {
         let mut best = 0;
         for chip in 0..self.chips {
-            if self.sizes.at(chip) < self.sizes.at(best) {
+            if self.left(chip) > self.left(best) {
                 best = chip;
             }
         }
@@ -100,16 +116,15 @@ impl Growth {
 pub fn grown(
     alloc: Global,
     level: &Level,
-    chips: u32,
-    room: u32,
+    rooms: &Numbers,
     seed: u32,
 ) -> Result<Numbers, AllocError> {
-    let mut growth = Growth::of(alloc, level, chips, room)?;
-    let share = level.weight().div_ceil(chips.max(1));
-    growth.fill(level, 0, seed, share);
+    let mut growth = Growth::of(alloc, level, rooms)?;
+    let chips = rooms.len();
+    growth.fill(level, 0, seed);
     for chip in 1..chips {
         if let Some(first) = growth.next(level, chip) {
-            growth.fill(level, chip, first, share);
+            growth.fill(level, chip, first);
         }
     }
     for vertex in 0..level.vertices() {

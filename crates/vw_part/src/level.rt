@@ -40,11 +40,17 @@ impl Level {
 
     /// How many cells all of them stand for.
     pub fn weight(&self) -> u32 {
-        let mut sum: u32 = 0;
+        self.weights.sum()
+    }
+
+    /// The level of some of the vertices alone, given the new number of each one, in their order; the others have a number
+    /// that is too great.
+    pub fn of_some(&self, alloc: Global, map: &Numbers, many: u32) -> Result<Self, AllocError> {
+        let mut weights = Numbers::zeros(alloc, many)?;
         for vertex in 0..self.vertices() {
-            sum = sum.saturating_add(self.weights.at(vertex));
+            weights.set(map.at(vertex), self.weights.at(vertex));
         }
-        sum
+        merged(alloc, &self.of_net, map, weights)
     }
 
     /// The level of which each vertex is a cluster, given the cluster of each vertex and how many there are.
@@ -62,8 +68,8 @@ impl Level {
     }
 }
 
-/// The level of these nets, with the new number of each vertex, and the new weights. A net that keeps a single vertex is
-/// left out.
+/// The level of these nets, with the new number of each vertex, and the new weights. A vertex whose new number has no weight
+/// is left out, and so is a net that keeps a single vertex.
 fn merged(
     alloc: Global,
     nets: &Rows,
@@ -76,7 +82,7 @@ fn merged(
         let mark = net.saturating_add(1);
         for vertex in nets.row(net) {
             let new = map.at(*vertex);
-            if seen.at(new) != mark {
+            if new < weights.len() && seen.at(new) != mark {
                 seen.set(new, mark);
                 of_net.push(new)?;
             }

@@ -31,6 +31,15 @@ impl Numbers {
         Ok(Numbers { items })
     }
 
+    /// The same numbers once more.
+    pub fn copied(&self, alloc: Global) -> Result<Self, AllocError> {
+        let mut items = Vec::with_capacity(alloc, self.items.len())?;
+        for number in self.items.as_slice() {
+            items.push(*number)?;
+        }
+        Ok(Numbers { items })
+    }
+
     /// How many there are.
     pub fn len(&self) -> u32 {
         u32::try_from(self.items.len()).unwrap_or(u32::MAX)
@@ -42,6 +51,15 @@ impl Numbers {
             Some(number) => *number,
             None => 0,
         }
+    }
+
+    /// Their sum; it ends at the greatest number.
+    pub fn sum(&self) -> u32 {
+        let mut sum: u32 = 0;
+        for number in self.items.as_slice() {
+            sum = sum.saturating_add(*number);
+        }
+        sum
     }
 
     /// Those between two places.
