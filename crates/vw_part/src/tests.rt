@@ -263,6 +263,20 @@ fn two_chains_whose_cells_alternate_are_apart(rt: HostRuntime) -> Result<(), Fai
 }
 
 #[test]
+fn rings_whose_cells_are_mixed_stay_whole(rt: HostRuntime) -> Result<(), Fail> {
+    let alloc = rt.alloc();
+    // forty rings of eight latches, whose cells take turns; ten rings just fill a chip
+    let mut parts = Vec::new(alloc);
+    for number in 0..320u32 {
+        parts.push(Part::Latch((number + 40) % 320))?;
+    }
+    let rings = ordered(alloc, 0, parts.as_slice(), &[])?;
+    let chips = chips_of(alloc, &rings, RING)?;
+    assert_eq!(rt; pairs(alloc, &rings, chips.as_slice())?, 0);
+    Ok(())
+}
+
+#[test]
 fn the_most_cells_and_chips_are_dealt(rt: HostRuntime) -> Result<(), Fail> {
     let alloc = rt.alloc();
     let mut parts = Vec::new(alloc);
