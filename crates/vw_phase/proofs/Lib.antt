@@ -1,4 +1,5 @@
 pub mod FewLinks
+pub mod LinkNumbers
 pub mod HopsTo
 pub mod Sending
 pub mod Places

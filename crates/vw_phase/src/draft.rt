@@ -1,7 +1,7 @@
 //! Schedules in the making.
 ghost use Rattle.std.specs.Prelude.{◌≡◌, ◌≤◌, ◌<◌, ◌+◌, ◌^◌, ◌∷◌, ℕ, List, [], length, map, slice_index_or, OnOk};
 ghost use Rattle.vw_plan.specs.Routes.{steps_of};
-ghost use Rattle.vw_phase.specs.Steps.Along.{AreLinked};
+ghost use Rattle.vw_phase.specs.Steps.Along.{AreLinked, HasNumbers};
 ghost use Rattle.vw_phase.specs.Steps.Drafts.{IsSentMore};
 
 use crate::along::send_along;
@@ -28,11 +28,13 @@ pub struct Draft {
 pub fn send(
     alloc: Global,
     board: &Board,
+    numbers: &[u32],
     route: &Route,
     draft: &mut Draft,
     number: u32,
     ready: u64,
 ) -> Result<(), AllocError>
+    requires numbers { HasNumbers board.now.links numbers.now }
     requires number { number < length draft.old.hops.items }
     requires first { (first : ℕ) → (further : List ℕ) → route.now.nodes ≡ first ∷ further → AreLinked board.now.links first further }
     requires widths { draft.old.table.widths ≡ map (λ link. link.width) board.now.links }
@@ -42,7 +44,15 @@ pub fn send(
     ensures { OnOk result (IsSentMore board.now route.now number ready draft.old draft.new) }
 {
     if let Some((first, further)) = route.nodes().split_first() {
-        let hops = send_along(alloc, board, &mut draft.table, *first, further, ready)?;
+        let hops = send_along(
+            alloc,
+            board,
+            numbers,
+            &mut draft.table,
+            *first,
+            further,
+            ready,
+        )?;
         draft.after = draft.after.max(after_last(board, &hops));
         draft.hops[number as usize] = Sequence::of(hops);
     }

@@ -6,11 +6,13 @@ ghost use Rattle.vw_check.specs.Steps.Tables.{HasPairs};
 ghost use Rattle.vw_phase.specs.Steps.Leads.{lead_by, route_pairs, usable_by};
 ghost use Rattle.vw_plan.specs.Good.{IsChip};
 ghost use Rattle.vw_plan.specs.Routes.{AreRoutes};
+ghost use Rattle.vw_phase.specs.Steps.Along.{HasNumbers};
 ghost use Rattle.vw_phase.specs.Steps.Done.{IsDone};
 ghost use Rattle.vw_phase.specs.Steps.Drafts.{Does, IsReady, IsUntouched};
 
 use crate::draft::{Draft, send};
 use crate::leads::{lead_of_cell, usable_at};
+use crate::links::link_numbers;
 use crate::task::{Task, tasks_in_order};
 use std::alloc::{AllocError, Global};
 use vw_check::PairTable;
@@ -57,12 +59,14 @@ fn send_route(
     chip_of: &[u32],
     routes: &[Route],
     places: &PairTable,
+    numbers: &[u32],
     draft: &mut Draft,
     number: u32,
     start: u64,
 ) -> Result<(), AllocError>
     requires each { length chip_of.now ≡ length ordered.now.flat.cells }
     requires places { HasPairs (route_pairs routes.now) places.now.places }
+    requires numbers { HasNumbers board.now.links numbers.now }
     requires ready { IsReady ordered.now board.now chip_of.now routes.now true number start draft.old }
     ensures { OnOk result (Does ordered.now board.now chip_of.now routes.now true number start draft.old draft.new) }
 {
@@ -80,7 +84,15 @@ fn send_route(
         node,
         route.net(),
     );
-    send(alloc, board, route, draft, number, usable.max(start))
+    send(
+        alloc,
+        board,
+        numbers,
+        route,
+        draft,
+        number,
+        usable.max(start),
+    )
 }
 
 /// Does one task.
@@ -91,18 +103,20 @@ fn carry_out(
     chip_of: &[u32],
     routes: &[Route],
     places: &PairTable,
+    numbers: &[u32],
     draft: &mut Draft,
     task: &Task,
     start: u64,
 ) -> Result<(), AllocError>
     requires each { length chip_of.now ≡ length ordered.now.flat.cells }
     requires places { HasPairs (route_pairs routes.now) places.now.places }
+    requires numbers { HasNumbers board.now.links numbers.now }
     requires ready { IsReady ordered.now board.now chip_of.now routes.now task.now.sends task.now.place start draft.old }
     ensures { OnOk result (Does ordered.now board.now chip_of.now routes.now task.now.sends task.now.place start draft.old draft.new) }
 {
     if task.sends {
         return send_route(
-            alloc, ordered, board, chip_of, routes, places, draft, task.place, start,
+            alloc, ordered, board, chip_of, routes, places, numbers, draft, task.place, start,
         );
     }
     work_out(
@@ -160,6 +174,7 @@ pub fn drafted(
     ensures { IfOk result (IsDone ordered.now board.now chip_of.now routes.now) }
 {
     let tasks = tasks_in_order(alloc, ordered, chip_of, routes)?;
+    let numbers = link_numbers(alloc, board)?;
     let mut draft = untouched(alloc, ordered, board, routes)?;
     let mut depth = 0;
     let mut start = 0;
@@ -167,7 +182,16 @@ pub fn drafted(
         start = begin(task.depth == depth, start, draft.after);
         depth = task.depth;
         carry_out(
-            alloc, ordered, board, chip_of, routes, places, &mut draft, task, start,
+            alloc,
+            ordered,
+            board,
+            chip_of,
+            routes,
+            places,
+            numbers.as_slice(),
+            &mut draft,
+            task,
+            start,
         )?;
     }
     Ok(draft)

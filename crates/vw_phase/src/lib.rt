@@ -5,6 +5,7 @@ mod along;
 mod draft;
 mod drafting;
 mod leads;
+mod links;
 mod planning;
 mod refused;
 mod task;

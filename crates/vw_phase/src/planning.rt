@@ -137,8 +137,9 @@ fn plan_parts(
 }
 
 /// A sound plan whose wires follow routes: the wires of one depth start only behind the last hop of all lesser depths, each
-/// hop takes the earliest free slot, and the period is the least sound one. It takes memory for the hops and their slots, and
-/// for a few numbers for each net and each route; where there is none, it hands the chips and the routes back.
+/// hop takes the earliest free slot, and the period is the least sound one. It takes memory for the hops and their slots, for
+/// a few numbers for each net and each route, and for a number for each two of 33 nodes; where there is none, it hands the
+/// chips and the routes back.
 pub fn schedule(
     alloc: Global,
     ordered: &Ordered,

@@ -7,3 +7,6 @@ mod routes;
 
 pub use compiler::compile;
 pub use fault::{CompileFault, CompileRefused};
+
+#[cfg(test)]
+mod tests;

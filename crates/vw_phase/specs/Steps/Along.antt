@@ -1,5 +1,5 @@
 -- The hops of a route, each in the first free slot of its link. Source: this project.
-use Rattle.std.specs.Prelude.{◌≡◌, ◌+◌, ◌==◌, ◌&&◌, ◌++◌, ℕ, suc, List, [], ◌∷◌, map, if◌then◌else◌, IsTrue}
+use Rattle.std.specs.Prelude.{◌≡◌, ◌+◌, ◌*◌, ◌==◌, ◌&&◌, ◌++◌, ℕ, suc, List, [], ◌∷◌, map, slice_index, if◌then◌else◌, IsTrue}
 use Rattle.vw_plan.specs.declared.board.Board.{Board}
 use Rattle.vw_plan.specs.declared.link.Link.{Link}
 use Rattle.vw_plan.specs.declared.wire.Hop.{Hop}
@@ -17,6 +17,10 @@ AreLinked links from (to ∷ further) = IsTrue (has_link links from to) × AreLi
 abbrev pub link_place : List Link → ℕ → ℕ → ℕ
 link_place [] from to = 0
 link_place (link ∷ links) from to = if link.from == from && link.to == to then 0 else suc (link_place links from to)
+
+-- a table has the number of each link: its row for the node that a link leads from has a place for each of 33 nodes
+abbrev pub HasNumbers : List Link → List ℕ → Type 0
+HasNumbers links numbers = (from to : ℕ) → IsTrue (has_link links from to) → slice_index numbers (from * 33 + to) ≡ link_place links from to
 
 -- the slots of a board of which these are taken
 abbrev pub slots_of : Board → List Taken → Slots
