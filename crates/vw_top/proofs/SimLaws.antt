@@ -10,7 +10,6 @@ use Rattle.vw_rows.specs.Stimulus.{stimulus_rows}
 use Rattle.vw_top.specs.declared.stop.File.{File}
 use Rattle.vw_top.specs.declared.reason.Reason.{Reason}
 use Rattle.vw_top.specs.declared.reason.Reason.TheVariants.{Usage, Stimulus}
-use Rattle.vw_top.specs.declared.reason.Reason.TheVariants as reasons
 use Rattle.vw_top.specs.Reasons.{reason_status}
 use Rattle.vw_top.specs.Designs.{IsDesignOf, RefusesDesign, IsNoDesign, spells_once, design_apart}
 use Rattle.vw_top.specs.Course.{Course, refuses, Outside, outside, MayWrite, MayRefuse, MayRead, AtFile, writing, refusing, missing, ComesTo}
@@ -37,15 +36,9 @@ at_absent told Absent Held is here = subst (λ (t : Told). AtFile t Absent Held)
 
 -- a text without a design is refused, with status 1
 pub status_one : (d : List ℕ) (reason : Reason) → RefusesDesign d reason → reason_status reason ≡ 1
-status_one d (reasons.Design fault) refused = refl
-status_one d (reasons.Elaboration fault) refused = refl
-status_one d (reasons.Loop names) refused = refl
-status_one d (reasons.Usage place) refused = absurd refused
-status_one d (reasons.Board fault) refused = absurd refused
-status_one d (reasons.PlanText fault) refused = absurd refused
-status_one d (reasons.Plan fault) refused = absurd refused
-status_one d (reasons.Stimulus fault) refused = absurd refused
-status_one d (reasons.Fit cells room) refused = absurd refused
+status_one d reason (inl refused) = ap reason_status refused.1
+status_one d reason (inr (design, spelled, inl refused)) = ap reason_status refused.1
+status_one d reason (inr (design, spelled, inr (accepted, refused))) = ap reason_status refused.1
 
 no_both : (d : List ℕ) (spelled : Spelled) → IsDesignOf d spelled → IsNoDesign d → ⊥
 no_both d spelled is none = design_apart d spelled none.0 is none.1

@@ -1,6 +1,6 @@
 -- The design of a text, and why a text has none that runs.
-use Rattle.std.specs.Prelude.{◌≡◌, ◌<◌, ◌≤◌, ◌==◌, ℕ, List, map, length, slice_get, slice_index, Some, IsTrue, Result, Ok, Err}
-use Rattle.std.proofs.Common.{refl, sym, subst}
+use Rattle.std.specs.Prelude.{◌≡◌, ◌<◌, ◌≤◌, ◌==◌, ◌⊎◌, ℕ, List, map, length, slice_get, slice_index, Some, IsTrue, Result, Ok, Err}
+use Rattle.std.proofs.Common.{refl, sym, subst, inl, inr}
 use Rattle.std.specs.List.{AllZip, IsDistinct}
 use Rattle.vw_net.specs.declared.ordered.Ordered.{Ordered}
 use Rattle.vw_design.specs.declared.design.Design.{Design}
@@ -13,6 +13,7 @@ use Rattle.vw_blif.specs.declared.fault.TextFault.{TextFault}
 use Rattle.vw_blif.specs.Spelled.{SpelledModel, spelled_model}
 use Rattle.vw_blif.specs.Read.{design_of}
 use Rattle.vw_blif.proofs.SpelledOnce.{spelled_once}
+use Rattle.vw_elab.specs.declared.fault.DesignFault.{DesignFault}
 use Rattle.vw_elab.specs.Refusals.{IsRefusal, is_design_fault}
 use Rattle.vw_elab.proofs.RefusedDesigns.{accepted_unrefused}
 use Rattle.vw_flat.specs.Printed.{printed_site}
@@ -46,17 +47,24 @@ pub record IsLoopOf (design : Design) (names : List Word) : Type 0 where
   pub least : (i : ℕ) → i < length numbers → slice_index numbers 0 ≤ slice_index numbers i
   pub named : names ≡ map printed_site gates
 
--- the text has a fault, or its design has one, or its design has a loop
+-- the text has this fault
+abbrev pub RefusesText : List ℕ → Reason → Type 0
+RefusesText text reason = (fault : TextFault) × (reason ≡ reasons.Design fault) × (design_of text ≡ Err fault)
+
+-- the design has this fault
+abbrev pub RefusesElaboration : Design → Reason → Type 0
+RefusesElaboration design reason =
+    (fault : DesignFault) × (reason ≡ reasons.Elaboration fault) × IsTrue (is_design_fault fault) × IsRefusal design fault
+
+-- the design has this loop
+abbrev pub RefusesLoop : Design → Reason → Type 0
+RefusesLoop design reason = (names : List Word) × (reason ≡ reasons.Loop names) × IsLoopOf design names
+
+-- the text has a fault, or it spells a design that has a fault, or an accepted one that has a loop
 abbrev pub RefusesDesign : List ℕ → Reason → Type 0
-RefusesDesign text (reasons.Design fault) = design_of text ≡ Err fault
-RefusesDesign text (reasons.Elaboration fault) = IsTrue (is_design_fault fault) × (design : Design) × Spells text design × IsRefusal design fault
-RefusesDesign text (reasons.Loop names) = (design : Design) × Spells text design × IsAccepted design × IsLoopOf design names
-RefusesDesign text (reasons.Usage place) = ⊥
-RefusesDesign text (reasons.Board fault) = ⊥
-RefusesDesign text (reasons.PlanText fault) = ⊥
-RefusesDesign text (reasons.Plan fault) = ⊥
-RefusesDesign text (reasons.Stimulus fault) = ⊥
-RefusesDesign text (reasons.Fit cells room) = ⊥
+RefusesDesign text reason =
+    RefusesText text reason
+    ⊎ ((design : Design) × Spells text design × (RefusesElaboration design reason ⊎ (IsAccepted design × RefusesLoop design reason)))
 
 -- there is such a reason
 abbrev pub IsNoDesign : List ℕ → Type 0
@@ -75,21 +83,15 @@ abbrev pub spells_once : (text : List ℕ) (one other : Design) → Spells text 
 spells_once text one other is its = spelled_once one other (subst (HasModels (map spelled_model one.models)) its (models_said text one is))
 
 abbrev pub design_apart : (text : List ℕ) (design : Design) (reason : Reason) → IsDesignOf text design → RefusesDesign text reason → ⊥
-design_apart text design (reasons.Design fault) is refused =
-    subst (HasModels (map spelled_model design.models)) refused (models_said text design is.spelled)
-design_apart text design (reasons.Elaboration fault) is refused =
-    let same = spells_once text refused.1 design refused.2 is.spelled in
-    accepted_unrefused design is.accepted fault refused.0 (subst (λ (d : Design). IsRefusal d fault) same refused.3)
-design_apart text design (reasons.Loop names) is refused =
-    let same = spells_once text refused.0 design refused.1 is.spelled in
-    let gates = map gate_at refused.3.gates in
-    is.loop_free gates (subst (λ (d : Design). IsLoop d gates) same refused.3.loop)
-design_apart text design (reasons.Usage place) is refused = refused
-design_apart text design (reasons.Board fault) is refused = refused
-design_apart text design (reasons.PlanText fault) is refused = refused
-design_apart text design (reasons.Plan fault) is refused = refused
-design_apart text design (reasons.Stimulus fault) is refused = refused
-design_apart text design (reasons.Fit cells room) is refused = refused
+design_apart text design reason is (inl refused) =
+    subst (HasModels (map spelled_model design.models)) refused.2 (models_said text design is.spelled)
+design_apart text design reason is (inr (other, spelled, inl refused)) =
+    let same = spells_once text other design spelled is.spelled in
+    accepted_unrefused design is.accepted refused.0 refused.2 (subst (λ (d : Design). IsRefusal d refused.0) same refused.3)
+design_apart text design reason is (inr (other, spelled, inr (accepted, refused))) =
+    let same = spells_once text other design spelled is.spelled in
+    let gates = map gate_at refused.2.gates in
+    is.loop_free gates (subst (λ (d : Design). IsLoop d gates) same refused.2.loop)
 
 abbrev pub netlist_apart : (text : List ℕ) (ordered : Ordered) (reason : Reason) → IsNetlistOf text ordered → RefusesDesign text reason → ⊥
 netlist_apart text ordered reason is refused = design_apart text is.design reason is.is refused

@@ -7,8 +7,8 @@ ghost use Rattle.vw_design.specs.Limits.{cell_count};
 ghost use Rattle.vw_design.specs.Preorder.{cells};
 ghost use Rattle.vw_flat.specs.Printed.{printed_site};
 ghost use Rattle.vw_order.specs.Faults.{IsOrderFault};
-ghost use Rattle.vw_top.specs.Designs.{Spells, IsNetlistOf, RefusesDesign};
-ghost use Rattle.vw_top.specs.Steps.Made.{IsOrderedOf, EndsLoop, RefusesLoop};
+ghost use Rattle.vw_top.specs.Designs.{Spells, IsNetlistOf, RefusesDesign, RefusesLoop};
+ghost use Rattle.vw_top.specs.Steps.Made.{IsOrderedOf, EndsLoop};
 ghost use Rattle.vw_top.specs.Steps.Stage.{JudgesText};
 
 use crate::endings::Unfinished;

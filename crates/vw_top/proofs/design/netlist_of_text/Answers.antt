@@ -1,30 +1,16 @@
-use Rattle.std.proofs.Common.{ℕ, List, Result, Ok, Err}
+use Rattle.std.proofs.Common.{ℕ, List, Result, Ok, Err, inr}
 use Rattle.vw_net.specs.declared.ordered.Ordered.{Ordered}
 use Rattle.vw_design.specs.declared.design.Design.{Design}
 use Rattle.vw_design.specs.Accepted.{IsAccepted}
 use Rattle.vw_top.specs.declared.endings.Unfinished.{Unfinished}
 use Rattle.vw_top.specs.declared.endings.Unfinished.TheVariants.{Stopped, Refused}
-use Rattle.vw_top.specs.declared.reason.Reason.{Reason}
-use Rattle.vw_top.specs.declared.reason.Reason.TheVariants as reasons
 use Rattle.vw_top.specs.declared.stop.Stop.TheVariants.{ReadFault, WriteFault, NoMemory}
-use Rattle.vw_top.specs.Designs.{Spells, RefusesDesign, IsNetlistOf}
-use Rattle.vw_top.specs.Steps.Made.{IsOrderedOf, RefusesLoop}
+use Rattle.vw_top.specs.Designs.{Spells, IsNetlistOf, RefusesDesign, RefusesLoop}
+use Rattle.vw_top.specs.Steps.Made.{IsOrderedOf}
 use Rattle.vw_top.specs.Steps.Stage.{JudgesText}
 use Rattle.vw_top.proofs.design.netlist_of_text.Goals as goal
 
 module _ (text : List ℕ) (design : Design) (spelled : Spells text design) (accepted : IsAccepted design) where
-  -- a loop of the design refuses its text
-  of_loop : (reason : Reason) → RefusesLoop design reason → RefusesDesign text reason
-  of_loop (reasons.Design fault) refused = absurd refused
-  of_loop (reasons.Elaboration fault) refused = absurd refused
-  of_loop (reasons.Loop names) refused = (design, spelled, accepted, refused)
-  of_loop (reasons.Usage place) refused = absurd refused
-  of_loop (reasons.Board fault) refused = absurd refused
-  of_loop (reasons.PlanText fault) refused = absurd refused
-  of_loop (reasons.Plan fault) refused = absurd refused
-  of_loop (reasons.Stimulus fault) refused = absurd refused
-  of_loop (reasons.Fit cells room) refused = absurd refused
-
   -- what is made of the design is made of its text
   of_design : (result : Result Ordered Unfinished) → JudgesText (IsOrderedOf design) (RefusesLoop design) result → JudgesText (IsNetlistOf text) (RefusesDesign text) result
   of_design (Ok ordered) is = record {
@@ -32,7 +18,7 @@ module _ (text : List ℕ) (design : Design) (spelled : Spells text design) (acc
     is = record { spelled = spelled; accepted = accepted; loop_free = is.loop_free };
     flat = is.flat;
   }
-  of_design (Err (Refused refusal)) is = of_loop refusal.reason is
+  of_design (Err (Refused refusal)) is = inr (design, spelled, inr (accepted, is))
   of_design (Err (Stopped NoMemory)) is = is
   of_design (Err (Stopped WriteFault)) is = is
   of_design (Err (Stopped (ReadFault file))) is = is

@@ -6,7 +6,6 @@ use Rattle.vw_design.specs.Preorder.{cells}
 use Rattle.vw_flat.specs.Printed.{printed_site}
 use Rattle.vw_order.specs.Faults.{IsOrderFault}
 use Rattle.vw_order.specs.Loops.{IsLoop}
-use Rattle.vw_top.specs.Steps.Made.{RefusesLoop}
 use Rattle.vw_top.proofs.Gates.{within_cells, loop_named}
 use Rattle.vw_top.proofs.design.refuse_loop.Goals as goal
 
@@ -25,4 +24,4 @@ returns-in-Ok c =
     let Named = λ (numbers : List ℕ) (names : List Word). AllZip (λ (number : ℕ) (name : Word). option_map printed_site (slice_get (cells design) number) ≡ Some name) numbers names in
     let names : Named c.in-Loop.numbers c.in-Ok.names.items = subst (λ (numbers : List ℕ). Named numbers c.in-Ok.names.items) c.as_slice.ensures c.in-Ok.ensures in
     let of = loop_named design c.args.flat.now c.requires.flat c.in-Loop.numbers loop c.of.result (subst (Named c.in-Loop.numbers) (sym c.of.ensures) names) in
-    subst (RefusesLoop design) (sym c.new.ensures) of
+    (c.of.result, c.new.ensures, of)
