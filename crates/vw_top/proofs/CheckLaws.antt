@@ -1,5 +1,5 @@
 -- What the table of statuses says of the files of `check`.
-use Rattle.std.proofs.Common.{◌≡◌, ◌<◌, ◌⊎◌, ℕ, List, refl, sym, ◌∙◌, ap, ap₂, subst, inl, inr, ⊎_elim, arith}
+use Rattle.std.proofs.Common.{◌≡◌, ◌<◌, ◌⊎◌, ℕ, List, refl, sym, ◌∙◌, ap, ap₂, subst, inl, inr, ⊎_elim, lit<, arith}
 use Rattle.vw_net.specs.declared.ordered.Ordered.{Ordered}
 use Rattle.vw_design.specs.declared.design.Design.{Design as Spelled}
 use Rattle.vw_design.specs.Flattened.{IsFlatOf}
@@ -17,18 +17,18 @@ use Rattle.vw_check.proofs.LawAll.{sound, faultless}
 use Rattle.vw_check.proofs.SameNetlist.{fault_same}
 use Rattle.vw_outside.specs.Told.{Told, absent, held, IsTextOf}
 use Rattle.vw_outside.specs.Reads.{CountsFault}
-use Rattle.vw_outside.specs.Writes.{SeenSink, appended, WrotePart}
+use Rattle.vw_outside.specs.Writes.{appended}
 use Rattle.vw_top.specs.declared.stop.File.{File}
 use Rattle.vw_top.specs.declared.reason.Reason.{Reason}
 use Rattle.vw_top.specs.declared.reason.Reason.TheVariants as reasons
 use Rattle.vw_top.specs.Reasons.{reason_status}
 use Rattle.vw_top.specs.Designs.{IsNetlistOf, RefusesDesign, IsNoDesign, netlist_apart, spells_once}
 use Rattle.vw_top.specs.Course.{Course, Outside, outside, MayWrite, MayRefuse, MayRead, writing, refusing, missing, ComesTo}
-use Rattle.vw_top.specs.Statuses.{Statuses, IsRefusal, IsWantOfMemory, LeavesPart}
+use Rattle.vw_top.specs.Statuses.{Statuses}
 use Rattle.vw_top.specs.Commands.{RefusesBoard, RefusesPlanText, RefusesPlan, board_apart, plan_text_apart, check_course, sound_text}
 use Rattle.vw_top.specs.CommandStatuses.{Yields}
 use Rattle.vw_top.specs.CheckStatuses.{AreSpelled, IsNoBoard, IsNoPlanText, HasPlanFault, IsNoPlan, IsSoundPlan, HoldTexts, YieldsTwo, YieldsThree, CheckStatuses}
-use Rattle.vw_top.proofs.CourseLaws.{none_written}
+use Rattle.vw_top.proofs.CourseEnds.{refused_with, refused_or_stopped, yields_one, yields_two, fault_of_three, yields_three, absent_leaves, part_of, carried_out}
 use Rattle.vw_top.proofs.SimLaws.{its_text, no_text, at_held, at_absent, status_one}
 
 -- ---- netlists, boards and plans of one text
@@ -61,6 +61,15 @@ text_status p reason refused = ap reason_status refused.1
 
 plan_status : (setting : Setting) (reason : Reason) → RefusesPlan setting reason → reason_status reason ≡ 4
 plan_status setting reason refused = ap reason_status refused.1
+
+-- a text with a netlist isn't refused, nor one with a board
+pub no_refused_design : (told : Told) (d text : List ℕ) (ordered : Ordered) (reason : Reason) → told ≡ held d → IsNetlistOf d ordered → IsTextOf told text → RefusesDesign text reason → ⊥
+no_refused_design told d text ordered reason held_d netlist text_is refused =
+    netlist_apart d ordered reason netlist (subst (λ (t : List ℕ). RefusesDesign t reason) (its_text told text d held_d text_is) refused)
+
+pub no_refused_board : (told : Told) (b text : List ℕ) (its : Board) (reason : Reason) → told ≡ held b → SpellsBoard b its → IsTextOf told text → RefusesBoard text reason → ⊥
+no_refused_board told b text its reason held_b board_is text_is refused =
+    board_apart b its reason board_is (subst (λ (t : List ℕ). RefusesBoard t reason) (its_text told text b held_b text_is) refused)
 
 module _ (design board plan : List ℕ) (told : List ℕ → Told) where
   abbrev course : Course
@@ -188,30 +197,14 @@ module _ (design board plan : List ℕ) (before after : Outside) (status : ℕ) 
   abbrev Counts : List ℕ → Type 0
   Counts name = CountsFault name before.shelf after.shelf
 
-  abbrev its_why : (refusal : IsRefusal (check_course design board plan) before after status) → WhyRefused design board plan told refusal.reason
-  its_why refusal = why design board plan told refusal.reason refusal.may
-
-  counts_at : (name other : List ℕ) → name ≡ other → Counts name → Counts other
-  counts_at name other same counted = subst Counts same counted
-
-  fault_at : (name : List ℕ) → Counts name → (name ≡ design) ⊎ ((name ≡ board) ⊎ (name ≡ plan)) → Counts design ⊎ (Counts board ⊎ Counts plan)
-  fault_at name counted (inl same) = inl (counts_at name design same counted)
-  fault_at name counted (inr (inl same)) = inr (inl (counts_at name board same counted))
-  fault_at name counted (inr (inr same)) = inr (inr (counts_at name plan same counted))
+  its_why : (reason : Reason) → MayRefuse (check_course design board plan) told reason → WhyRefused design board plan told reason
+  its_why = why design board plan told
 
   read_fault : status ≡ 7 → Counts design ⊎ (Counts board ⊎ Counts plan)
-  read_fault is = let fault = table.read_fault is in fault_at fault.name fault.counted (which design board plan told fault.file fault.name fault.may)
-
-  -- ---- stops
-
-  yields_of : status ≡ 7 → Counts design ⊎ (Counts board ⊎ Counts plan) → YieldsThree design board plan before after status
-  yields_of is (inl counted) = inl (inr (is, counted))
-  yields_of is (inr (inl counted)) = inr (inl (inr (is, counted)))
-  yields_of is (inr (inr counted)) = inr (inr (inr (is, counted)))
+  read_fault = fault_of_three table design board plan (which design board plan told)
 
   yields : (status ≡ 7) ⊎ (status ≡ 9) → YieldsThree design board plan before after status
-  yields (inl is) = yields_of is (read_fault is)
-  yields (inr is) = inl (inl is)
+  yields = yields_three table design board plan (which design board plan told)
 
   -- a text without a design stops the call in its own reading
   at_design : (d : List ℕ) (file : File) (name : List ℕ) → told design ≡ held d → IsNoDesign d → MayRead (check_course design board plan) told file name → name ≡ design
@@ -219,26 +212,12 @@ module _ (design board plan : List ℕ) (before after : Outside) (status : ℕ) 
   at_design d file name held_d none (inr (text, text_is, (ordered, netlist, more))) =
       absurd (no_design_left d ordered (subst (λ (t : List ℕ). IsNetlistOf t ordered) (its_text (told design) text d held_d text_is) netlist) none)
 
-  yields_at_design : (d : List ℕ) → told design ≡ held d → IsNoDesign d → (status ≡ 7) ⊎ (status ≡ 9) → Yields design before after status
-  yields_at_design d held_d none (inl is) =
-      let fault = table.read_fault is in
-      inr (is, counts_at fault.name design (at_design d fault.file fault.name held_d none fault.may) fault.counted)
-  yields_at_design d held_d none (inr is) = inl is
-
   -- a text without a board stops it before the plan is read
   at_board : (b : List ℕ) (file : File) (name : List ℕ) → told board ≡ held b → IsNoBoard b → MayRead (check_course design board plan) told file name → (name ≡ design) ⊎ (name ≡ board)
   at_board b file name held_b none (inl (is, same)) = inl same
   at_board b file name held_b none (inr (d, d_is, (ordered, netlist, inl (is, same)))) = inr same
   at_board b file name held_b none (inr (d, d_is, (ordered, netlist, inr (text, text_is, (its, its_is, more))))) =
       absurd (no_board_left b its (subst (λ (t : List ℕ). SpellsBoard t its) (its_text (told board) text b held_b text_is) its_is) none)
-
-  two_of : (name : List ℕ) → status ≡ 7 → Counts name → (name ≡ design) ⊎ (name ≡ board) → YieldsTwo design board before after status
-  two_of name is counted (inl same) = inl (inr (is, counts_at name design same counted))
-  two_of name is counted (inr same) = inr (inr (is, counts_at name board same counted))
-
-  yields_at_board : (b : List ℕ) → told board ≡ held b → IsNoBoard b → (status ≡ 7) ⊎ (status ≡ 9) → YieldsTwo design board before after status
-  yields_at_board b held_b none (inl is) = let fault = table.read_fault is in two_of fault.name is fault.counted (at_board b fault.file fault.name held_b none fault.may)
-  yields_at_board b held_b none (inr is) = inl (inl is)
 
   -- ---- refusals
 
@@ -249,7 +228,7 @@ module _ (design board plan : List ℕ) (before after : Outside) (status : ℕ) 
   one_three_four reason (unsound d b p ordered spelled content d_is b_is p_is are refused) its = inr (inr (its ∙ plan_status (setting_of ordered spelled content) reason refused))
 
   no_other : (0 < status) → (status < 7) → (status ≡ 1) ⊎ ((status ≡ 3) ⊎ (status ≡ 4))
-  no_other some few = let refusal = table.refused some few in one_three_four refusal.reason (its_why refusal) refusal.its_status
+  no_other some few = let refusal = table.refused some few in one_three_four refusal.reason (its_why refusal.reason refusal.may) refusal.its_status
 
   why_one : (d : List ℕ) (reason : Reason) → told design ≡ held d → WhyRefused design board plan told reason → reason_status reason ≡ 1 → IsNoDesign d
   why_one d reason held_d (bad_design text text_is refused) its = (reason, subst (λ (t : List ℕ). RefusesDesign t reason) (its_text (told design) text d held_d text_is) refused)
@@ -298,16 +277,8 @@ module _ (design board plan : List ℕ) (before after : Outside) (status : ℕ) 
   one_comes d reason held_d none (unsound text b p ordered spelled content d_is b_is p_is are refused) =
       absurd (no_design_left d ordered (subst (λ (t : List ℕ). IsNetlistOf t ordered) (its_text (told design) text d held_d d_is) are.netlist) none)
 
-  no_refused_design : (d text : List ℕ) (ordered : Ordered) (reason : Reason) → told design ≡ held d → IsNetlistOf d ordered → IsTextOf (told design) text → RefusesDesign text reason → ⊥
-  no_refused_design d text ordered reason held_d netlist text_is refused =
-      netlist_apart d ordered reason netlist (subst (λ (t : List ℕ). RefusesDesign t reason) (its_text (told design) text d held_d text_is) refused)
-
-  no_refused_board : (b text : List ℕ) (its : Board) (reason : Reason) → told board ≡ held b → SpellsBoard b its → IsTextOf (told board) text → RefusesBoard text reason → ⊥
-  no_refused_board b text its reason held_b board_is text_is refused =
-      board_apart b its reason board_is (subst (λ (t : List ℕ). RefusesBoard t reason) (its_text (told board) text b held_b text_is) refused)
-
   three_comes : (d b : List ℕ) (ordered : Ordered) (reason : Reason) → told design ≡ held d → told board ≡ held b → IsNetlistOf d ordered → IsNoBoard b → WhyRefused design board plan told reason → reason_status reason ≡ 3
-  three_comes d b ordered reason held_d held_b netlist none (bad_design text text_is refused) = absurd (no_refused_design d text ordered reason held_d netlist text_is refused)
+  three_comes d b ordered reason held_d held_b netlist none (bad_design text text_is refused) = absurd (no_refused_design (told design) d text ordered reason held_d netlist text_is refused)
   three_comes d b ordered reason held_d held_b netlist none (bad_board text_d text other d_is its b_is refused) = board_status text reason refused
   three_comes d b ordered reason held_d held_b netlist none (bad_text text_d text p other content d_is its b_is board_is p_is refused) =
       absurd (no_board_left b content (subst (λ (t : List ℕ). SpellsBoard t content) (its_text (told board) text b held_b b_is) board_is) none)
@@ -315,27 +286,10 @@ module _ (design board plan : List ℕ) (before after : Outside) (status : ℕ) 
       absurd (no_board_left b spelled (subst (λ (t : List ℕ). SpellsBoard t spelled) (its_text (told board) text b held_b b_is) are.board_is) none)
 
   four_comes : (d b : List ℕ) (ordered : Ordered) (its : Board) (reason : Reason) → told design ≡ held d → told board ≡ held b → IsNetlistOf d ordered → SpellsBoard b its → WhyRefused design board plan told reason → reason_status reason ≡ 4
-  four_comes d b ordered its reason held_d held_b netlist board_is (bad_design text text_is refused) = absurd (no_refused_design d text ordered reason held_d netlist text_is refused)
-  four_comes d b ordered its reason held_d held_b netlist board_is (bad_board text_d text other d_is other_is b_is refused) = absurd (no_refused_board b text its reason held_b board_is b_is refused)
+  four_comes d b ordered its reason held_d held_b netlist board_is (bad_design text text_is refused) = absurd (no_refused_design (told design) d text ordered reason held_d netlist text_is refused)
+  four_comes d b ordered its reason held_d held_b netlist board_is (bad_board text_d text other d_is other_is b_is refused) = absurd (no_refused_board (told board) b text its reason held_b board_is b_is refused)
   four_comes d b ordered its reason held_d held_b netlist board_is (bad_text text_d text_b text other content d_is other_is b_is content_is p_is refused) = text_status text reason refused
   four_comes d b ordered its reason held_d held_b netlist board_is (unsound text_d text_b text_p other spelled content d_is b_is p_is are refused) = plan_status (setting_of other spelled content) reason refused
-
-  -- ---- a file that is absent leaves out as it was
-
-  want_untouched : IsWantOfMemory (check_course design board plan) before after → ((text : List ℕ) → MayWrite (check_course design board plan) told text → ⊥) → after.out ≡ before.out
-  want_untouched want none =
-      ⊎_elim
-      (λ (same : after.out ≡ before.out). same)
-      (λ (some : (text : List ℕ) × MayWrite (check_course design board plan) told text × WrotePart text before.out after.out). absurd (none some.0 some.1))
-      want.part
-
-  missing_leaves : (status ≡ 7) ⊎ (status ≡ 9) → ((text : List ℕ) → MayWrite (check_course design board plan) told text → ⊥) → (after.out ≡ before.out) × ((status ≡ 7) ⊎ (status ≡ 9))
-  missing_leaves (inl is) none = ((table.read_fault is).leaves, inl is)
-  missing_leaves (inr is) none = (want_untouched (table.want_of_memory is) none, inr is)
-
-  ends_or_stops : (P Q : Type 0) → ((0 < status) → (status < 7) → P) → ((status ≡ 7) ⊎ (status ≡ 9) → Q) → ((0 < status) × (status < 7)) ⊎ ((status ≡ 7) ⊎ (status ≡ 9)) → P ⊎ Q
-  ends_or_stops P Q refused stopped (inl (some, few)) = inl (refused some few)
-  ends_or_stops P Q refused stopped (inr stops) = inr (stopped stops)
 
   -- ---- what is written is of the one plan of the texts
 
@@ -353,39 +307,32 @@ module _ (design board plan : List ℕ) (before after : Outside) (status : ℕ) 
   text_here : (d b p text : List ℕ) (its : Plan) → HoldTexts design board plan before d b p → IsSoundPlan d b p its → (w : Written text) → text ≡ sound_text its
   text_here d b p text its held_all is w = w.text_is ∙ ap sound_text (spelled_once p w.content its (here d b p text held_all w).are.plan_is is.are.plan_is)
 
-  complete_by : (Counts design → ⊥) → (Counts board → ⊥) → (Counts plan → ⊥) → (status ≡ 8 → ⊥) → (status ≡ 0) ⊎ ((status ≡ 7) ⊎ ((status ≡ 8) ⊎ (status ≡ 9))) → (status ≡ 0) ⊎ (status ≡ 9)
-  complete_by no_design no_board no_plan no_write (inl is) = inl is
-  complete_by no_design no_board no_plan no_write (inr (inl is)) =
-      absurd (⊎_elim no_design (λ (rest : Counts board ⊎ Counts plan). ⊎_elim no_board no_plan rest) (read_fault is))
-  complete_by no_design no_board no_plan no_write (inr (inr (inl is))) = absurd (no_write is)
-  complete_by no_design no_board no_plan no_write (inr (inr (inr is))) = inr is
-
   pub check_table : CheckStatuses design board plan before after status
   check_table = record {
     done = λ d b p held_all is.
         let done = table.done is in
         let w = what design board plan told done.text done.may in
         (w.content, here d b p done.text held_all w, done.leaves ∙ ap (λ (t : List ℕ). outside before.shelf (appended before.out t)) w.text_is);
-    no_design = λ d held_d is.
-        let refusal = table.refused (omega arith) (omega arith) in why_one d refusal.reason held_d (its_why refusal) (sym refusal.its_status ∙ is);
+    no_design = λ d held_d.
+        refused_with table 1 (IsNoDesign d) (lit< tt) (lit< tt) (λ reason may. why_one d reason held_d (its_why reason may));
     no_design_comes = λ d held_d none.
-        ends_or_stops (status ≡ 1) (Yields design before after status) (λ some few. let refusal = table.refused some few in refusal.its_status ∙ one_comes d refusal.reason held_d none (its_why refusal))
-        (yields_at_design d held_d none) (table.rejected (comes_to_no_design design board plan told d held_d none));
-    no_board = λ b held_b is.
-        let refusal = table.refused (omega arith) (omega arith) in why_three b refusal.reason held_b (its_why refusal) (sym refusal.its_status ∙ is);
+        refused_or_stopped table 1 (Yields design before after status) (λ reason may. one_comes d reason held_d none (its_why reason may))
+        (yields_one table design (λ file name. at_design d file name held_d none)) (comes_to_no_design design board plan told d held_d none);
+    no_board = λ b held_b.
+        refused_with table 3 (IsNoBoard b) (lit< tt) (lit< tt) (λ reason may. why_three b reason held_b (its_why reason may));
     no_board_comes = λ d b ordered held_d held_b netlist none.
-        ends_or_stops (status ≡ 3) (YieldsTwo design board before after status) (λ some few. let refusal = table.refused some few in refusal.its_status ∙ three_comes d b ordered refusal.reason held_d held_b netlist none (its_why refusal))
-        (yields_at_board b held_b none) (table.rejected (comes_to_no_board design board plan told d b ordered held_d held_b netlist none));
-    no_plan = λ d b p held_all is.
-        let refusal = table.refused (omega arith) (omega arith) in why_four d b p refusal.reason held_all (its_why refusal) (sym refusal.its_status ∙ is);
+        refused_or_stopped table 3 (YieldsTwo design board before after status) (λ reason may. three_comes d b ordered reason held_d held_b netlist none (its_why reason may))
+        (yields_two table design board (λ file name. at_board b file name held_b none)) (comes_to_no_board design board plan told d b ordered held_d held_b netlist none);
+    no_plan = λ d b p held_all.
+        refused_with table 4 (IsNoPlan d b p) (lit< tt) (lit< tt) (λ reason may. why_four d b p reason held_all (its_why reason may));
     no_plan_text_comes = λ d b p ordered its held_all netlist board_is none.
-        ends_or_stops (status ≡ 4) (YieldsThree design board plan before after status)
-        (λ some few. let refusal = table.refused some few in refusal.its_status ∙ four_comes d b ordered its refusal.reason held_all.design_held held_all.board_held netlist board_is (its_why refusal))
-        yields (table.rejected (comes_to_no_text design board plan told d b p ordered its held_all.design_held held_all.board_held held_all.plan_held netlist board_is none));
+        refused_or_stopped table 4 (YieldsThree design board plan before after status)
+        (λ reason may. four_comes d b ordered its reason held_all.design_held held_all.board_held netlist board_is (its_why reason may))
+        yields (comes_to_no_text design board plan told d b p ordered its held_all.design_held held_all.board_held held_all.plan_held netlist board_is none);
     unsound_comes = λ d b p fault held_all has.
-        ends_or_stops (status ≡ 4) (YieldsThree design board plan before after status)
-        (λ some few. let refusal = table.refused some few in refusal.its_status ∙ four_comes d b has.ordered has.board refusal.reason held_all.design_held held_all.board_held has.are.netlist has.are.board_is (its_why refusal))
-        yields (table.rejected (comes_to_unsound design board plan told d b p fault held_all.design_held held_all.board_held held_all.plan_held has));
+        refused_or_stopped table 4 (YieldsThree design board plan before after status)
+        (λ reason may. four_comes d b has.ordered has.board reason held_all.design_held held_all.board_held has.are.netlist has.are.board_is (its_why reason may))
+        yields (comes_to_unsound design board plan told d b p fault held_all.design_held held_all.board_held held_all.plan_held has);
     read_fault = read_fault;
     others = (
       λ is. omega (arith, no_other (omega arith) (omega arith)),
@@ -393,21 +340,19 @@ module _ (design board plan : List ℕ) (before after : Outside) (status : ℕ) 
       λ is. omega (arith, no_other (omega arith) (omega arith)),
     );
     part = λ d b p its held_all is.
-        ⊎_elim
-        (λ (same : after.out ≡ before.out). none_written (sound_text its) before.out after.out same)
-        (λ (some : (text : List ℕ) × MayWrite (check_course design board plan) told text × LeavesPart text before.out after.out).
-        subst (λ (t : List ℕ). LeavesPart t before.out after.out) (text_here d b p some.0 its held_all is (what design board plan told some.0 some.1)) some.2)
-        (table.part (comes_to_sound design board plan told d b p its held_all.design_held held_all.board_held held_all.plan_held is));
+        part_of table (sound_text its) (λ text may. text_here d b p text its held_all is (what design board plan told text may))
+        (comes_to_sound design board plan told d b p its held_all.design_held held_all.board_held held_all.plan_held is);
     absent_design = λ gone.
-        missing_leaves (table.absent_file (comes_to_no_file design board plan told gone))
-        (λ text may. let w = what design board plan told text may in no_text (told design) w.d gone w.d_is);
+        absent_leaves table (λ text may. let w = what design board plan told text may in no_text (told design) w.d gone w.d_is)
+        (comes_to_no_file design board plan told gone);
     absent_board = λ d ordered held_d netlist gone.
-        missing_leaves (table.absent_file (comes_to_no_board_file design board plan told d ordered held_d netlist gone))
-        (λ text may. let w = what design board plan told text may in no_text (told board) w.b gone w.b_is);
+        absent_leaves table (λ text may. let w = what design board plan told text may in no_text (told board) w.b gone w.b_is)
+        (comes_to_no_board_file design board plan told d ordered held_d netlist gone);
     absent_plan = λ d b ordered its held_d held_b netlist board_is gone.
-        missing_leaves (table.absent_file (comes_to_no_plan_file design board plan told d b ordered its held_d held_b netlist board_is gone))
-        (λ text may. let w = what design board plan told text may in no_text (told plan) w.p gone w.p_is);
+        absent_leaves table (λ text may. let w = what design board plan told text may in no_text (told plan) w.p gone w.p_is)
+        (comes_to_no_plan_file design board plan told d b ordered its held_d held_b netlist board_is gone);
     complete = λ d b p its held_all is no_design no_board no_plan no_write.
-        complete_by (λ c. no_design c.here) (λ c. no_board c.here) (λ c. no_plan c.here) (λ eight. no_write (ap (λ (o : SeenSink). o.faults) (table.write_fault eight).counted.2))
-        (table.accepted (comes_to_sound design board plan told d b p its held_all.design_held held_all.board_held held_all.plan_held is));
+        let no_later : Counts board ⊎ Counts plan → ⊥ = ⊎_elim (λ (c : Counts board). no_board c.here) (λ (c : Counts plan). no_plan c.here) in
+        carried_out table (λ seven. ⊎_elim (λ (c : Counts design). no_design c.here) no_later (read_fault seven)) no_write
+        (comes_to_sound design board plan told d b p its held_all.design_held held_all.board_held held_all.plan_held is);
   }

@@ -1,6 +1,7 @@
 pub mod Clocks
 pub mod TraceLines
 pub mod CourseLaws
+pub mod CourseEnds
 pub mod StageLaws
 pub mod SimLaws
 pub mod Gates

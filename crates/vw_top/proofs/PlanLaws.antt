@@ -1,5 +1,5 @@
 -- What the table of statuses says of the files of `plan`.
-use Rattle.std.proofs.Common.{◌≡◌, ◌<◌, ◌≤◌, ◌*◌, ◌⊎◌, ℕ, List, length, refl, sym, ◌∙◌, ap, subst, inl, inr, ⊎_elim, arith}
+use Rattle.std.proofs.Common.{◌≡◌, ◌<◌, ◌≤◌, ◌*◌, ◌⊎◌, ℕ, List, length, refl, sym, ◌∙◌, ap, subst, inl, inr, ⊎_elim, lit<, arith}
 use Rattle.vw_net.specs.declared.flat.Flat.{Flat}
 use Rattle.vw_net.specs.declared.ordered.Ordered.{Ordered}
 use Rattle.vw_plan.specs.declared.board.Board.{Board}
@@ -8,20 +8,21 @@ use Rattle.vw_board.specs.BoardText.{Accepts as SpellsBoard}
 use Rattle.vw_board.proofs.Accepted.{accepted_once}
 use Rattle.vw_outside.specs.Told.{Told, absent, held, IsTextOf}
 use Rattle.vw_outside.specs.Reads.{CountsFault}
-use Rattle.vw_outside.specs.Writes.{SeenSink, appended, WrotePart}
+use Rattle.vw_outside.specs.Writes.{appended}
 use Rattle.vw_top.specs.declared.stop.File.{File}
 use Rattle.vw_top.specs.declared.reason.Reason.{Reason}
 use Rattle.vw_top.specs.declared.reason.Reason.TheVariants.{Fit}
 use Rattle.vw_top.specs.Reasons.{reason_status}
-use Rattle.vw_top.specs.Designs.{IsNetlistOf, RefusesDesign, IsNoDesign, netlist_apart}
+use Rattle.vw_top.specs.Designs.{IsNetlistOf, RefusesDesign, IsNoDesign}
 use Rattle.vw_top.specs.Course.{Course, Outside, outside, MayWrite, MayRefuse, MayRead, writing, refusing, missing, ComesTo}
-use Rattle.vw_top.specs.Statuses.{Statuses, IsRefusal, IsWantOfMemory, LeavesPart}
-use Rattle.vw_top.specs.Commands.{RefusesBoard, RefusesFit, HasRoom, board_apart, plan_course, text_of_plan}
+use Rattle.vw_top.specs.Statuses.{Statuses, LeavesPart}
+use Rattle.vw_top.specs.Commands.{RefusesBoard, RefusesFit, HasRoom, plan_course, text_of_plan}
 use Rattle.vw_top.specs.CommandStatuses.{Yields}
 use Rattle.vw_top.specs.CheckStatuses.{IsNoBoard, YieldsTwo}
 use Rattle.vw_top.specs.PlanStatuses.{AreSpelledOn, IsGoodPlan, HaveRoom, HaveNoRoom, HoldTwo, PlanStatuses}
 use Rattle.vw_top.proofs.SimLaws.{its_text, no_text, at_held, at_absent, status_one}
-use Rattle.vw_top.proofs.CheckLaws.{netlist_same, no_design_left, no_board_left, board_status}
+use Rattle.vw_top.proofs.CourseEnds.{refused_with, refused_or_stopped, yields_one, fault_of_two, yields_two, absent_leaves, carried_out}
+use Rattle.vw_top.proofs.CheckLaws.{netlist_same, no_design_left, no_board_left, board_status, no_refused_design, no_refused_board}
 
 fit_status : (ordered : Ordered) (board : Board) (reason : Reason) → RefusesFit ordered board reason → reason_status reason ≡ 6
 fit_status ordered board reason refused = ap reason_status refused.0
@@ -137,40 +138,20 @@ module _ (design board : List ℕ) (before after : Outside) (status : ℕ) (tabl
   abbrev Counts : List ℕ → Type 0
   Counts name = CountsFault name before.shelf after.shelf
 
-  abbrev its_why : (refusal : IsRefusal (plan_course design board) before after status) → WhyRefused design board told refusal.reason
-  its_why refusal = why design board told refusal.reason refusal.may
-
-  counts_at : (name other : List ℕ) → name ≡ other → Counts name → Counts other
-  counts_at name other same counted = subst Counts same counted
-
-  fault_at : (name : List ℕ) → Counts name → (name ≡ design) ⊎ (name ≡ board) → Counts design ⊎ Counts board
-  fault_at name counted (inl same) = inl (counts_at name design same counted)
-  fault_at name counted (inr same) = inr (counts_at name board same counted)
+  its_why : (reason : Reason) → MayRefuse (plan_course design board) told reason → WhyRefused design board told reason
+  its_why = why design board told
 
   read_fault : status ≡ 7 → Counts design ⊎ Counts board
-  read_fault is = let fault = table.read_fault is in fault_at fault.name fault.counted (which design board told fault.file fault.name fault.may)
-
-  -- ---- stops
-
-  yields_of : status ≡ 7 → Counts design ⊎ Counts board → YieldsTwo design board before after status
-  yields_of is (inl counted) = inl (inr (is, counted))
-  yields_of is (inr counted) = inr (inr (is, counted))
+  read_fault = fault_of_two table design board (which design board told)
 
   yields : (status ≡ 7) ⊎ (status ≡ 9) → YieldsTwo design board before after status
-  yields (inl is) = yields_of is (read_fault is)
-  yields (inr is) = inl (inl is)
+  yields = yields_two table design board (which design board told)
 
   -- a text without a design stops the call in its own reading
   at_design : (d : List ℕ) (file : File) (name : List ℕ) → told design ≡ held d → IsNoDesign d → MayRead (plan_course design board) told file name → name ≡ design
   at_design d file name held_d none (inl (is, same)) = same
   at_design d file name held_d none (inr (text, text_is, (ordered, netlist, more))) =
       absurd (no_design_left d ordered (subst (λ (t : List ℕ). IsNetlistOf t ordered) (its_text (told design) text d held_d text_is) netlist) none)
-
-  yields_at_design : (d : List ℕ) → told design ≡ held d → IsNoDesign d → (status ≡ 7) ⊎ (status ≡ 9) → Yields design before after status
-  yields_at_design d held_d none (inl is) =
-      let fault = table.read_fault is in
-      inr (is, counts_at fault.name design (at_design d fault.file fault.name held_d none fault.may) fault.counted)
-  yields_at_design d held_d none (inr is) = inl is
 
   -- ---- refusals
 
@@ -180,7 +161,7 @@ module _ (design board : List ℕ) (before after : Outside) (status : ℕ) (tabl
   one_three_six reason (bad_fit d b ordered its_board d_is b_is are refused) its = inr (inr (its ∙ fit_status ordered its_board reason refused))
 
   no_other : (0 < status) → (status < 7) → (status ≡ 1) ⊎ ((status ≡ 3) ⊎ (status ≡ 6))
-  no_other some few = let refusal = table.refused some few in one_three_six refusal.reason (its_why refusal) refusal.its_status
+  no_other some few = let refusal = table.refused some few in one_three_six refusal.reason (its_why refusal.reason refusal.may) refusal.its_status
 
   why_one : (d : List ℕ) (reason : Reason) → told design ≡ held d → WhyRefused design board told reason → reason_status reason ≡ 1 → IsNoDesign d
   why_one d reason held_d (bad_design text text_is refused) its = (reason, subst (λ (t : List ℕ). RefusesDesign t reason) (its_text (told design) text d held_d text_is) refused)
@@ -213,44 +194,16 @@ module _ (design board : List ℕ) (before after : Outside) (status : ℕ) (tabl
   one_comes d reason held_d none (bad_fit text b ordered its_board d_is b_is are refused) =
       absurd (no_design_left d ordered (subst (λ (t : List ℕ). IsNetlistOf t ordered) (its_text (told design) text d held_d d_is) are.netlist) none)
 
-  no_refused_design : (d text : List ℕ) (ordered : Ordered) (reason : Reason) → told design ≡ held d → IsNetlistOf d ordered → IsTextOf (told design) text → RefusesDesign text reason → ⊥
-  no_refused_design d text ordered reason held_d netlist text_is refused =
-      netlist_apart d ordered reason netlist (subst (λ (t : List ℕ). RefusesDesign t reason) (its_text (told design) text d held_d text_is) refused)
-
-  no_refused_board : (b text : List ℕ) (its : Board) (reason : Reason) → told board ≡ held b → SpellsBoard b its → IsTextOf (told board) text → RefusesBoard text reason → ⊥
-  no_refused_board b text its reason held_b board_is text_is refused =
-      board_apart b its reason board_is (subst (λ (t : List ℕ). RefusesBoard t reason) (its_text (told board) text b held_b text_is) refused)
-
   three_comes : (d b : List ℕ) (ordered : Ordered) (reason : Reason) → told design ≡ held d → told board ≡ held b → IsNetlistOf d ordered → IsNoBoard b → WhyRefused design board told reason → reason_status reason ≡ 3
-  three_comes d b ordered reason held_d held_b netlist none (bad_design text text_is refused) = absurd (no_refused_design d text ordered reason held_d netlist text_is refused)
+  three_comes d b ordered reason held_d held_b netlist none (bad_design text text_is refused) = absurd (no_refused_design (told design) d text ordered reason held_d netlist text_is refused)
   three_comes d b ordered reason held_d held_b netlist none (bad_board text_d text other d_is its b_is refused) = board_status text reason refused
   three_comes d b ordered reason held_d held_b netlist none (bad_fit text_d text other its_board d_is b_is are refused) =
       absurd (no_board_left b its_board (subst (λ (t : List ℕ). SpellsBoard t its_board) (its_text (told board) text b held_b b_is) are.board_is) none)
 
   six_comes : (d b : List ℕ) (ordered : Ordered) (its : Board) (reason : Reason) → told design ≡ held d → told board ≡ held b → AreSpelledOn d b ordered its → WhyRefused design board told reason → reason_status reason ≡ 6
-  six_comes d b ordered its reason held_d held_b are (bad_design text text_is refused) = absurd (no_refused_design d text ordered reason held_d are.netlist text_is refused)
-  six_comes d b ordered its reason held_d held_b are (bad_board text_d text other d_is other_is b_is refused) = absurd (no_refused_board b text its reason held_b are.board_is b_is refused)
+  six_comes d b ordered its reason held_d held_b are (bad_design text text_is refused) = absurd (no_refused_design (told design) d text ordered reason held_d are.netlist text_is refused)
+  six_comes d b ordered its reason held_d held_b are (bad_board text_d text other d_is other_is b_is refused) = absurd (no_refused_board (told board) b text its reason held_b are.board_is b_is refused)
   six_comes d b ordered its reason held_d held_b are (bad_fit text_d text_b other its_board d_is b_is other_are refused) = fit_status other its_board reason refused
-
-  -- ---- a file that is absent leaves out as it was
-
-  abbrev Written : List ℕ → Type 0
-  Written text = MayWrite (plan_course design board) told text
-
-  want_untouched : IsWantOfMemory (plan_course design board) before after → ((text : List ℕ) → Written text → ⊥) → after.out ≡ before.out
-  want_untouched want none =
-      ⊎_elim
-      (λ (same : after.out ≡ before.out). same)
-      (λ (some : (text : List ℕ) × Written text × WrotePart text before.out after.out). absurd (none some.0 some.1))
-      want.part
-
-  missing_leaves : (status ≡ 7) ⊎ (status ≡ 9) → ((text : List ℕ) → Written text → ⊥) → (after.out ≡ before.out) × ((status ≡ 7) ⊎ (status ≡ 9))
-  missing_leaves (inl is) none = ((table.read_fault is).leaves, inl is)
-  missing_leaves (inr is) none = (want_untouched (table.want_of_memory is) none, inr is)
-
-  ends_or_stops : (P Q : Type 0) → ((0 < status) → (status < 7) → P) → ((status ≡ 7) ⊎ (status ≡ 9) → Q) → ((0 < status) × (status < 7)) ⊎ ((status ≡ 7) ⊎ (status ≡ 9)) → P ⊎ Q
-  ends_or_stops P Q refused stopped (inl (some, few)) = inl (refused some few)
-  ends_or_stops P Q refused stopped (inr stops) = inr (stopped stops)
 
   -- ---- what is written is of the texts that are held
 
@@ -262,35 +215,29 @@ module _ (design board : List ℕ) (before after : Outside) (status : ℕ) (tabl
     good = w.its_good.good;
   }
 
-  complete_by : (Counts design → ⊥) → (Counts board → ⊥) → (status ≡ 8 → ⊥) → (status ≡ 0) ⊎ ((status ≡ 7) ⊎ ((status ≡ 8) ⊎ (status ≡ 9))) → (status ≡ 0) ⊎ (status ≡ 9)
-  complete_by no_design no_board no_write (inl is) = inl is
-  complete_by no_design no_board no_write (inr (inl is)) = absurd (⊎_elim no_design no_board (read_fault is))
-  complete_by no_design no_board no_write (inr (inr (inl is))) = absurd (no_write is)
-  complete_by no_design no_board no_write (inr (inr (inr is))) = inr is
-
   pub plan_table : PlanStatuses design board before after status
   plan_table = record {
     done = λ d b held_two is.
         let done = table.done is in
         let w = what design board told done.text done.may in
         (w.plan, here d b done.text held_two w, done.leaves ∙ ap (λ (t : List ℕ). outside before.shelf (appended before.out t)) w.text_is);
-    no_design = λ d held_d is.
-        let refusal = table.refused (omega arith) (omega arith) in why_one d refusal.reason held_d (its_why refusal) (sym refusal.its_status ∙ is);
+    no_design = λ d held_d.
+        refused_with table 1 (IsNoDesign d) (lit< tt) (lit< tt) (λ reason may. why_one d reason held_d (its_why reason may));
     no_design_comes = λ d held_d none.
-        ends_or_stops (status ≡ 1) (Yields design before after status) (λ some few. let refusal = table.refused some few in refusal.its_status ∙ one_comes d refusal.reason held_d none (its_why refusal))
-        (yields_at_design d held_d none) (table.rejected (comes_to_no_design design board told d held_d none));
-    no_board = λ b held_b is.
-        let refusal = table.refused (omega arith) (omega arith) in why_three b refusal.reason held_b (its_why refusal) (sym refusal.its_status ∙ is);
+        refused_or_stopped table 1 (Yields design before after status) (λ reason may. one_comes d reason held_d none (its_why reason may))
+        (yields_one table design (λ file name. at_design d file name held_d none)) (comes_to_no_design design board told d held_d none);
+    no_board = λ b held_b.
+        refused_with table 3 (IsNoBoard b) (lit< tt) (lit< tt) (λ reason may. why_three b reason held_b (its_why reason may));
     no_board_comes = λ d b ordered held_two netlist none.
-        ends_or_stops (status ≡ 3) (YieldsTwo design board before after status)
-        (λ some few. let refusal = table.refused some few in refusal.its_status ∙ three_comes d b ordered refusal.reason held_two.design_held held_two.board_held netlist none (its_why refusal))
-        yields (table.rejected (comes_to_no_board design board told d b ordered held_two.design_held held_two.board_held netlist none));
-    no_room = λ d b held_two is.
-        let refusal = table.refused (omega arith) (omega arith) in why_six d b refusal.reason held_two.design_held held_two.board_held (its_why refusal) (sym refusal.its_status ∙ is);
+        refused_or_stopped table 3 (YieldsTwo design board before after status)
+        (λ reason may. three_comes d b ordered reason held_two.design_held held_two.board_held netlist none (its_why reason may))
+        yields (comes_to_no_board design board told d b ordered held_two.design_held held_two.board_held netlist none);
+    no_room = λ d b held_two.
+        refused_with table 6 (HaveNoRoom d b) (lit< tt) (lit< tt) (λ reason may. why_six d b reason held_two.design_held held_two.board_held (its_why reason may));
     no_room_comes = λ d b held_two has.
-        ends_or_stops (status ≡ 6) (YieldsTwo design board before after status)
-        (λ some few. let refusal = table.refused some few in refusal.its_status ∙ six_comes d b has.ordered has.board refusal.reason held_two.design_held held_two.board_held has.are (its_why refusal))
-        yields (table.rejected (comes_to_no_room design board told d b held_two.design_held held_two.board_held has));
+        refused_or_stopped table 6 (YieldsTwo design board before after status)
+        (λ reason may. six_comes d b has.ordered has.board reason held_two.design_held held_two.board_held has.are (its_why reason may))
+        yields (comes_to_no_room design board told d b held_two.design_held held_two.board_held has);
     read_fault = read_fault;
     others = (
       λ is. omega (arith, no_other (omega arith) (omega arith)),
@@ -300,17 +247,17 @@ module _ (design board : List ℕ) (before after : Outside) (status : ℕ) (tabl
     part = λ d b held_two has.
         ⊎_elim
         (λ (same : after.out ≡ before.out). inl same)
-        (λ (some : (text : List ℕ) × Written text × LeavesPart text before.out after.out).
+        (λ (some : (text : List ℕ) × MayWrite (plan_course design board) told text × LeavesPart text before.out after.out).
         let w = what design board told some.0 some.1 in
         inr (w.plan, here d b some.0 held_two w, subst (λ (t : List ℕ). LeavesPart t before.out after.out) w.text_is some.2))
         (table.part (comes_to_room design board told d b held_two.design_held held_two.board_held has));
     absent_design = λ gone.
-        missing_leaves (table.absent_file (comes_to_no_file design board told gone))
-        (λ text may. let w = what design board told text may in no_text (told design) w.d gone w.d_is);
+        absent_leaves table (λ text may. let w = what design board told text may in no_text (told design) w.d gone w.d_is)
+        (comes_to_no_file design board told gone);
     absent_board = λ d ordered held_d netlist gone.
-        missing_leaves (table.absent_file (comes_to_no_board_file design board told d ordered held_d netlist gone))
-        (λ text may. let w = what design board told text may in no_text (told board) w.b gone w.b_is);
+        absent_leaves table (λ text may. let w = what design board told text may in no_text (told board) w.b gone w.b_is)
+        (comes_to_no_board_file design board told d ordered held_d netlist gone);
     complete = λ d b held_two has no_design no_board no_write.
-        complete_by (λ c. no_design c.here) (λ c. no_board c.here) (λ eight. no_write (ap (λ (o : SeenSink). o.faults) (table.write_fault eight).counted.2))
-        (table.accepted (comes_to_room design board told d b held_two.design_held held_two.board_held has));
+        carried_out table (λ seven. ⊎_elim (λ (c : Counts design). no_design c.here) (λ (c : Counts board). no_board c.here) (read_fault seven)) no_write
+        (comes_to_room design board told d b held_two.design_held held_two.board_held has);
   }

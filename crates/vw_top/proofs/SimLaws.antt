@@ -1,10 +1,10 @@
 -- What the table of statuses says of the files of `sim`, and of words that spell no command.
-use Rattle.std.proofs.Common.{◌≡◌, ◌<◌, ◌⊎◌, ℕ, Bool, List, length, Ok, Err, refl, sym, ◌∙◌, ap, ap₂, subst, inl, inr, ⊎_elim, arith}
+use Rattle.std.proofs.Common.{◌≡◌, ◌<◌, ◌⊎◌, ℕ, Bool, List, length, Ok, Err, refl, sym, ◌∙◌, ap, ap₂, subst, inl, inr, ⊎_elim, lit<, arith}
 use Rattle.vw_design.specs.declared.design.Design.{Design as Spelled}
 use Rattle.vw_design.specs.Clocks.{columns}
 use Rattle.vw_outside.specs.Told.{Told, absent, held, IsTextOf}
 use Rattle.vw_outside.specs.Reads.{CountsFault}
-use Rattle.vw_outside.specs.Writes.{SeenSink, appended, WrotePart}
+use Rattle.vw_outside.specs.Writes.{appended}
 use Rattle.vw_rows.specs.declared.stimulus.StimFault.{StimFault}
 use Rattle.vw_rows.specs.Stimulus.{stimulus_rows}
 use Rattle.vw_top.specs.declared.stop.File.{File}
@@ -13,11 +13,12 @@ use Rattle.vw_top.specs.declared.reason.Reason.TheVariants.{Usage, Stimulus}
 use Rattle.vw_top.specs.Reasons.{reason_status}
 use Rattle.vw_top.specs.Designs.{IsDesignOf, RefusesDesign, IsNoDesign, spells_once, design_apart}
 use Rattle.vw_top.specs.Course.{Course, refuses, Outside, outside, MayWrite, MayRefuse, MayRead, AtFile, writing, refusing, missing, ComesTo}
-use Rattle.vw_top.specs.Statuses.{Statuses, IsRefusal, IsWantOfMemory, LeavesPart}
-use Rattle.vw_top.proofs.CourseLaws.{none_written}
+use Rattle.vw_top.specs.Statuses.{Statuses, IsRefusal, IsWantOfMemory}
 use Rattle.vw_top.specs.Commands.{sim_course, trace_of}
 use Rattle.vw_top.specs.CommandStatuses.{IsAccepted, SimStatuses, UsageStatuses, Yields}
+use Rattle.vw_top.specs.CheckStatuses.{YieldsTwo}
 use Rattle.vw_top.proofs.StageLaws.{same_outside}
+use Rattle.vw_top.proofs.CourseEnds.{refused_with, refused_or_stopped, yields_one, fault_of_two, yields_two, want_untouched, absent_leaves, part_of, carried_out}
 
 -- ---- what is told of a file
 
@@ -113,22 +114,11 @@ module _ (design stimulus : List ℕ) (unknown : Bool) (before after : Outside) 
   abbrev told : List ℕ → Told
   told = before.shelf.told
 
-  abbrev its_why : (refusal : IsRefusal (sim_course design stimulus unknown) before after status) → WhyRefused design stimulus unknown told refusal.reason
-  its_why refusal = why design stimulus unknown told refusal.reason refusal.may
-
-  fault_at : (name : List ℕ) → CountsFault name before.shelf after.shelf → (name ≡ design) ⊎ (name ≡ stimulus)
-      → CountsFault design before.shelf after.shelf ⊎ CountsFault stimulus before.shelf after.shelf
-  fault_at name counted (inl same) = inl (subst (λ (n : List ℕ). CountsFault n before.shelf after.shelf) same counted)
-  fault_at name counted (inr same) = inr (subst (λ (n : List ℕ). CountsFault n before.shelf after.shelf) same counted)
+  its_why : (reason : Reason) → MayRefuse (sim_course design stimulus unknown) told reason → WhyRefused design stimulus unknown told reason
+  its_why = why design stimulus unknown told
 
   read_fault : status ≡ 7 → CountsFault design before.shelf after.shelf ⊎ CountsFault stimulus before.shelf after.shelf
-  read_fault is = let fault = table.read_fault is in fault_at fault.name fault.counted (which design stimulus unknown told fault.file fault.name fault.may)
-
-  -- a stop in the reading of either file
-  yields : (status ≡ 7) ⊎ (status ≡ 9) → Yields design before after status ⊎ Yields stimulus before after status
-  yields (inl is) =
-      ⊎_elim (λ (counted : CountsFault design before.shelf after.shelf). inl (inr (is, counted))) (λ (counted : CountsFault stimulus before.shelf after.shelf). inr (inr (is, counted))) (read_fault is)
-  yields (inr is) = inl (inl is)
+  read_fault = fault_of_two table design stimulus (which design stimulus unknown told)
 
   -- a text without a design stops the call in its own reading
   at_design : (d : List ℕ) (file : File) (name : List ℕ) → told design ≡ held d → IsNoDesign d → MayRead (sim_course design stimulus unknown) told file name → name ≡ design
@@ -137,28 +127,22 @@ module _ (design stimulus : List ℕ) (unknown : Bool) (before after : Outside) 
       let design_is : IsDesignOf d spelled = subst (λ (t : List ℕ). IsDesignOf t spelled) (its_text (told design) text d held_d text_is) its_design in
       absurd (no_both d spelled design_is none)
 
-  yields_at_design : (d : List ℕ) → told design ≡ held d → IsNoDesign d → (status ≡ 7) ⊎ (status ≡ 9) → Yields design before after status
-  yields_at_design d held_d none (inl is) =
-      let fault = table.read_fault is in
-      inr (is, subst (λ (n : List ℕ). CountsFault n before.shelf after.shelf) (at_design d fault.file fault.name held_d none fault.may) fault.counted)
-  yields_at_design d held_d none (inr is) = inl is
-
   -- a refusal is status 1 or 5
   one_or_five : (reason : Reason) → WhyRefused design stimulus unknown told reason → status ≡ reason_status reason → (status ≡ 1) ⊎ (status ≡ 5)
   one_or_five reason (bad_design d d_is is none) its = inl (its ∙ is)
   one_or_five reason (bad_rows d s spelled fault d_is its_design s_is is said) its = inr (its ∙ ap reason_status is)
 
   no_other : (0 < status) → (status < 7) → (status ≡ 1) ⊎ (status ≡ 5)
-  no_other some few = let refusal = table.refused some few in one_or_five refusal.reason (its_why refusal) refusal.its_status
+  no_other some few = let refusal = table.refused some few in one_or_five refusal.reason (its_why refusal.reason refusal.may) refusal.its_status
 
-  why_one : (d : List ℕ) (reason : Reason) → told design ≡ held d → WhyRefused design stimulus unknown told reason → 1 ≡ reason_status reason → IsNoDesign d
+  why_one : (d : List ℕ) (reason : Reason) → told design ≡ held d → WhyRefused design stimulus unknown told reason → reason_status reason ≡ 1 → IsNoDesign d
   why_one d reason held_d (bad_design text text_is is none) its = subst IsNoDesign (its_text (told design) text d held_d text_is) none
-  why_one d reason held_d (bad_rows text s spelled fault text_is its_design s_is is said) its = absurd (let wrong : 1 ≡ 5 = its ∙ ap reason_status is in omega arith)
+  why_one d reason held_d (bad_rows text s spelled fault text_is its_design s_is is said) its = absurd (let wrong : 1 ≡ 5 = sym its ∙ ap reason_status is in omega arith)
 
   -- a text without a design gives status 1
-  one_comes : (d : List ℕ) (reason : Reason) → told design ≡ held d → IsNoDesign d → WhyRefused design stimulus unknown told reason → status ≡ reason_status reason → status ≡ 1
-  one_comes d reason held_d none (bad_design text text_is is gone) its = its ∙ is
-  one_comes d reason held_d none (bad_rows text s spelled fault text_is its_design s_is is said) its =
+  one_comes : (d : List ℕ) (reason : Reason) → told design ≡ held d → IsNoDesign d → WhyRefused design stimulus unknown told reason → reason_status reason ≡ 1
+  one_comes d reason held_d none (bad_design text text_is is gone) = is
+  one_comes d reason held_d none (bad_rows text s spelled fault text_is its_design s_is is said) =
       let design_is : IsDesignOf d spelled = subst (λ (t : List ℕ). IsDesignOf t spelled) (its_text (told design) text d held_d text_is) its_design in
       absurd (no_both d spelled design_is none)
 
@@ -168,8 +152,8 @@ module _ (design stimulus : List ℕ) (unknown : Bool) (before after : Outside) 
     its_design : IsDesignOf d spelled
     said : stimulus_rows (length (columns spelled)) s ≡ Err fault
 
-  why_five : (d s : List ℕ) (reason : Reason) → told design ≡ held d → told stimulus ≡ held s → WhyRefused design stimulus unknown told reason → 5 ≡ reason_status reason → HasFault d s
-  why_five d s reason held_d held_s (bad_design text text_is is none) its = absurd (let wrong : 5 ≡ 1 = its ∙ is in omega arith)
+  why_five : (d s : List ℕ) (reason : Reason) → told design ≡ held d → told stimulus ≡ held s → WhyRefused design stimulus unknown told reason → reason_status reason ≡ 5 → HasFault d s
+  why_five d s reason held_d held_s (bad_design text text_is is none) its = absurd (let wrong : 5 ≡ 1 = sym its ∙ is in omega arith)
   why_five d s reason held_d held_s (bad_rows text rest spelled fault text_is its_design rest_is is said) its = record {
     spelled = spelled;
     fault = fault;
@@ -178,26 +162,10 @@ module _ (design stimulus : List ℕ) (unknown : Bool) (before after : Outside) 
   }
 
   -- a fault of the rows gives status 5
-  five_comes : (d : List ℕ) (spelled : Spelled) (reason : Reason) → told design ≡ held d → IsDesignOf d spelled → WhyRefused design stimulus unknown told reason → status ≡ reason_status reason → status ≡ 5
-  five_comes d spelled reason held_d its_design (bad_design text text_is is none) its =
+  five_comes : (d : List ℕ) (spelled : Spelled) (reason : Reason) → told design ≡ held d → IsDesignOf d spelled → WhyRefused design stimulus unknown told reason → reason_status reason ≡ 5
+  five_comes d spelled reason held_d its_design (bad_design text text_is is none) =
       let gone : IsNoDesign d = subst IsNoDesign (its_text (told design) text d held_d text_is) none in absurd (no_both d spelled its_design gone)
-  five_comes d spelled reason held_d its_design (bad_rows text rest other fault text_is its_netlist rest_is is said) its = its ∙ ap reason_status is
-
-  -- a file that is absent leaves out as it was
-  want_untouched : IsWantOfMemory (sim_course design stimulus unknown) before after → ((text : List ℕ) → MayWrite (sim_course design stimulus unknown) told text → ⊥) → after.out ≡ before.out
-  want_untouched want none =
-      ⊎_elim
-      (λ (same : after.out ≡ before.out). same)
-      (λ (some : (text : List ℕ) × MayWrite (sim_course design stimulus unknown) told text × WrotePart text before.out after.out). absurd (none some.0 some.1))
-      want.part
-
-  missing_leaves : (status ≡ 7) ⊎ (status ≡ 9) → ((text : List ℕ) → MayWrite (sim_course design stimulus unknown) told text → ⊥) → (after.out ≡ before.out) × ((status ≡ 7) ⊎ (status ≡ 9))
-  missing_leaves (inl is) none = ((table.read_fault is).leaves, inl is)
-  missing_leaves (inr is) none = (want_untouched (table.want_of_memory is) none, inr is)
-
-  ends_or_stops : (P Q : Type 0) → ((0 < status) → (status < 7) → P) → ((status ≡ 7) ⊎ (status ≡ 9) → Q) → ((0 < status) × (status < 7)) ⊎ ((status ≡ 7) ⊎ (status ≡ 9)) → P ⊎ Q
-  ends_or_stops P Q refused stopped (inl (some, few)) = inl (refused some few)
-  ends_or_stops P Q refused stopped (inr stops) = inr (stopped stops)
+  five_comes d spelled reason held_d its_design (bad_rows text rest other fault text_is its_netlist rest_is is said) = ap reason_status is
 
   -- what `sim` writes is the trace of the design and the rows that its files have
   text_of : (spelled : Spelled) (rows : List (List Bool)) (text : List ℕ) (accepted : IsAccepted design stimulus before spelled rows) → MayWrite (sim_course design stimulus unknown) told text → text ≡ trace_of unknown spelled rows
@@ -222,21 +190,19 @@ module _ (design stimulus : List ℕ) (unknown : Bool) (before after : Outside) 
           subst (λ (t : List ℕ). stimulus_rows (length (columns w.spelled)) t ≡ Ok w.rows) (its_text (told stimulus) w.s s held_s w.s_is) w.are,
           done.leaves ∙ ap (λ (t : List ℕ). outside before.shelf (appended before.out t)) w.text_is,
         );
-    no_design = λ d held_d is.
-        let refusal = table.refused (omega arith) (omega arith) in
-        why_one d refusal.reason held_d (its_why refusal) (sym is ∙ refusal.its_status);
+    no_design = λ d held_d.
+        refused_with table 1 (IsNoDesign d) (lit< tt) (lit< tt) (λ reason may. why_one d reason held_d (its_why reason may));
     no_design_comes = λ d held_d none.
-        ends_or_stops (status ≡ 1) (Yields design before after status) (λ some few. let refusal = table.refused some few in one_comes d refusal.reason held_d none (its_why refusal) refusal.its_status)
-        (yields_at_design d held_d none)
-        (table.rejected (comes_to_no_design design stimulus unknown told d held_d none));
+        refused_or_stopped table 1 (Yields design before after status) (λ reason may. one_comes d reason held_d none (its_why reason may))
+        (yields_one table design (λ file name. at_design d file name held_d none))
+        (comes_to_no_design design stimulus unknown told d held_d none);
     no_rows = λ d s held_d held_s is.
-        let refusal = table.refused (omega arith) (omega arith) in
-        let fault = why_five d s refusal.reason held_d held_s (its_why refusal) (sym is ∙ refusal.its_status) in
+        let fault = refused_with table 5 (HasFault d s) (lit< tt) (lit< tt) (λ reason may. why_five d s reason held_d held_s (its_why reason may)) is in
         (fault.spelled, fault.fault, fault.its_design, fault.said);
     no_rows_comes = λ d s spelled fault held_d held_s its_design said.
-        ends_or_stops (status ≡ 5) (Yields design before after status ⊎ Yields stimulus before after status)
-        (λ some few. let refusal = table.refused some few in five_comes d spelled refusal.reason held_d its_design (its_why refusal) refusal.its_status) yields
-        (table.rejected (comes_to_no_rows design stimulus unknown told d s spelled fault held_d held_s its_design said));
+        refused_or_stopped table 5 (YieldsTwo design stimulus before after status) (λ reason may. five_comes d spelled reason held_d its_design (its_why reason may))
+        (yields_two table design stimulus (which design stimulus unknown told))
+        (comes_to_no_rows design stimulus unknown told d s spelled fault held_d held_s its_design said);
     read_fault = read_fault;
     others = (
       λ is. omega (arith, no_other (omega arith) (omega arith)),
@@ -245,26 +211,19 @@ module _ (design stimulus : List ℕ) (unknown : Bool) (before after : Outside) 
       λ is. omega (arith, no_other (omega arith) (omega arith)),
     );
     part = λ spelled rows accepted.
-        ⊎_elim
-        (λ (same : after.out ≡ before.out). none_written (trace_of unknown spelled rows) before.out after.out same)
-        (λ (some : (text : List ℕ) × MayWrite (sim_course design stimulus unknown) told text × LeavesPart text before.out after.out).
-        subst (λ (t : List ℕ). LeavesPart t before.out after.out) (text_of spelled rows some.0 accepted some.1) some.2)
-        (table.part (comes_to_trace design stimulus unknown told accepted.design_text accepted.stimulus_text spelled rows accepted.design_held accepted.stimulus_held accepted.is accepted.read));
+        part_of table (trace_of unknown spelled rows) (λ text. text_of spelled rows text accepted)
+        (comes_to_trace design stimulus unknown told accepted.design_text accepted.stimulus_text spelled rows accepted.design_held accepted.stimulus_held accepted.is accepted.read);
     absent_design = λ gone.
-        missing_leaves (table.absent_file (comes_to_no_file design stimulus unknown told gone))
-        (λ text may. let w = what design stimulus unknown told text may in no_text (told design) w.d gone w.d_is);
+        absent_leaves table (λ text may. let w = what design stimulus unknown told text may in no_text (told design) w.d gone w.d_is)
+        (comes_to_no_file design stimulus unknown told gone);
     absent_stimulus = λ d spelled held_d its_design gone.
-        missing_leaves (table.absent_file (comes_to_no_stimulus design stimulus unknown told d spelled held_d its_design gone))
-        (λ text may. let w = what design stimulus unknown told text may in no_text (told stimulus) w.s gone w.s_is);
+        absent_leaves table (λ text may. let w = what design stimulus unknown told text may in no_text (told stimulus) w.s gone w.s_is)
+        (comes_to_no_stimulus design stimulus unknown told d spelled held_d its_design gone);
     complete = λ spelled rows accepted no_design no_stimulus no_write.
-        ⊎_elim
-        (λ (is : status ≡ 0). inl is)
-        (λ (stops : (status ≡ 7) ⊎ ((status ≡ 8) ⊎ (status ≡ 9))). ⊎_elim
-        (λ (is : status ≡ 7). absurd (⊎_elim (λ (c : CountsFault design before.shelf after.shelf). no_design c.here) (λ (c : CountsFault stimulus before.shelf after.shelf). no_stimulus c.here) (read_fault is)))
-        (λ (more : (status ≡ 8) ⊎ (status ≡ 9)). ⊎_elim
-        (λ (is : status ≡ 8). absurd (no_write (ap (λ (o : SeenSink). o.faults) (table.write_fault is).counted.2)))
-        (λ (is : status ≡ 9). inr is) more) stops)
-        (table.accepted (comes_to_trace design stimulus unknown told accepted.design_text accepted.stimulus_text spelled rows accepted.design_held accepted.stimulus_held accepted.is accepted.read));
+        carried_out table
+        (λ seven. ⊎_elim (λ (c : CountsFault design before.shelf after.shelf). no_design c.here) (λ (c : CountsFault stimulus before.shelf after.shelf). no_stimulus c.here) (read_fault seven))
+        no_write
+        (comes_to_trace design stimulus unknown told accepted.design_text accepted.stimulus_text spelled rows accepted.design_held accepted.stimulus_held accepted.is accepted.read);
   }
 
 -- words that spell no command
@@ -274,8 +233,7 @@ module _ (place : ℕ) (before after : Outside) (status : ℕ) (table : Statuses
 
   want_ends : IsWantOfMemory (refuses (Usage place)) before after → status ≡ 9 → UsageStatuses before after status
   want_ends want is =
-      let out : after.out ≡ before.out = ⊎_elim (λ (same : after.out ≡ before.out). same) (λ (some : (text : List ℕ) × ⊥ × WrotePart text before.out after.out). absurd some.1) want.part in
-      record { comes = inr is; leaves = same_outside before after want.leaves out }
+      record { comes = inr is; leaves = same_outside before after want.leaves (want_untouched table want (λ text may. may)) }
 
   pub usage_table : UsageStatuses before after status
   usage_table =

@@ -1,0 +1,116 @@
+-- What the table of statuses says of the end of a call, whichever its course.
+use Rattle.std.proofs.Common.{◌≡◌, ◌<◌, ◌⊎◌, ℕ, List, sym, ◌∙◌, ap, subst, inl, inr, ⊎_elim}
+use Rattle.vw_outside.specs.Reads.{CountsFault, SeenShelf}
+use Rattle.vw_outside.specs.Writes.{SeenSink, WrotePart}
+use Rattle.vw_top.specs.declared.stop.File.{File}
+use Rattle.vw_top.specs.declared.reason.Reason.{Reason}
+use Rattle.vw_top.specs.Reasons.{reason_status}
+use Rattle.vw_top.specs.Course.{Course, Outside, MayWrite, MayRefuse, MayRead, writing, refusing, missing, ComesTo}
+use Rattle.vw_top.specs.Statuses.{Statuses, IsWantOfMemory, LeavesPart}
+use Rattle.vw_top.specs.CommandStatuses.{IsOneMore, Yields}
+use Rattle.vw_top.specs.CheckStatuses.{YieldsTwo, YieldsThree}
+use Rattle.vw_top.proofs.CourseLaws.{none_written}
+
+-- ---- a fault was counted at one of some files
+
+module _ (before after : SeenShelf) (name : List ℕ) (counted : CountsFault name before after) where
+  counted_at : (one : List ℕ) → name ≡ one → CountsFault one before after
+  counted_at one same = subst (λ (n : List ℕ). CountsFault n before after) same counted
+
+  among_two : (one two : List ℕ) → (name ≡ one) ⊎ (name ≡ two) → CountsFault one before after ⊎ CountsFault two before after
+  among_two one two (inl same) = inl (counted_at one same)
+  among_two one two (inr same) = inr (counted_at two same)
+
+  among_three : (one two three : List ℕ) → (name ≡ one) ⊎ ((name ≡ two) ⊎ (name ≡ three)) → CountsFault one before after ⊎ (CountsFault two before after ⊎ CountsFault three before after)
+  among_three one two three (inl same) = inl (counted_at one same)
+  among_three one two three (inr same) = inr (among_two two three same)
+
+module _ (before after : Outside) (status : ℕ) (is : status ≡ 7) where
+  stopped_in_two : (one two : List ℕ) → CountsFault one before.shelf after.shelf ⊎ CountsFault two before.shelf after.shelf → YieldsTwo one two before after status
+  stopped_in_two one two (inl counted) = inl (inr (is, counted))
+  stopped_in_two one two (inr counted) = inr (inr (is, counted))
+
+  stopped_in_three : (one two three : List ℕ) → CountsFault one before.shelf after.shelf ⊎ (CountsFault two before.shelf after.shelf ⊎ CountsFault three before.shelf after.shelf)
+      → YieldsThree one two three before after status
+  stopped_in_three one two three (inl counted) = inl (inr (is, counted))
+  stopped_in_three one two three (inr counted) = inr (stopped_in_two two three counted)
+
+-- ---- what the table says
+
+module _ {course : Course} {before after : Outside} {status : ℕ} (table : Statuses course before after status) where
+  -- what every reason with this status says, where the call ended with it
+  pub refused_with : (number : ℕ) (P : Type 0) → 0 < number → number < 7 → ((reason : Reason) → MayRefuse course before.shelf.told reason → reason_status reason ≡ number → P)
+      → status ≡ number → P
+  refused_with number P some few says is =
+      let refusal = table.refused (subst (λ (n : ℕ). 0 < n) (sym is) some) (subst (λ (n : ℕ). n < 7) (sym is) few) in
+      says refusal.reason refusal.may (sym refusal.its_status ∙ is)
+
+  -- a call that is to be refused, and whose reasons have this status, ends with it, or with a stop
+  pub refused_or_stopped : (number : ℕ) (Q : Type 0) → ((reason : Reason) → MayRefuse course before.shelf.told reason → reason_status reason ≡ number)
+      → ((status ≡ 7) ⊎ (status ≡ 9) → Q) → ComesTo refusing course before.shelf.told → (status ≡ number) ⊎ Q
+  refused_or_stopped number Q says stopped comes =
+      ⊎_elim
+      (λ (ends : (0 < status) × (status < 7)). let refusal = table.refused ends.0 ends.1 in inl (refusal.its_status ∙ says refusal.reason refusal.may))
+      (λ (stops : (status ≡ 7) ⊎ (status ≡ 9)). inr (stopped stops))
+      (table.rejected comes)
+
+  -- a stop in the reading of one file, of two, or of three
+  pub yields_one : (one : List ℕ) → ((file : File) (name : List ℕ) → MayRead course before.shelf.told file name → name ≡ one) → (status ≡ 7) ⊎ (status ≡ 9) → Yields one before after status
+  yields_one one which (inl is) =
+      let fault = table.read_fault is in inr (is, counted_at before.shelf after.shelf fault.name fault.counted one (which fault.file fault.name fault.may))
+  yields_one one which (inr is) = inl is
+
+  pub fault_of_two : (one two : List ℕ) → ((file : File) (name : List ℕ) → MayRead course before.shelf.told file name → (name ≡ one) ⊎ (name ≡ two))
+      → status ≡ 7 → CountsFault one before.shelf after.shelf ⊎ CountsFault two before.shelf after.shelf
+  fault_of_two one two which is =
+      let fault = table.read_fault is in among_two before.shelf after.shelf fault.name fault.counted one two (which fault.file fault.name fault.may)
+
+  pub yields_two : (one two : List ℕ) → ((file : File) (name : List ℕ) → MayRead course before.shelf.told file name → (name ≡ one) ⊎ (name ≡ two))
+      → (status ≡ 7) ⊎ (status ≡ 9) → YieldsTwo one two before after status
+  yields_two one two which (inl is) = stopped_in_two before after status is one two (fault_of_two one two which is)
+  yields_two one two which (inr is) = inl (inl is)
+
+  pub fault_of_three : (one two three : List ℕ) → ((file : File) (name : List ℕ) → MayRead course before.shelf.told file name → (name ≡ one) ⊎ ((name ≡ two) ⊎ (name ≡ three)))
+      → status ≡ 7 → CountsFault one before.shelf after.shelf ⊎ (CountsFault two before.shelf after.shelf ⊎ CountsFault three before.shelf after.shelf)
+  fault_of_three one two three which is =
+      let fault = table.read_fault is in among_three before.shelf after.shelf fault.name fault.counted one two three (which fault.file fault.name fault.may)
+
+  pub yields_three : (one two three : List ℕ) → ((file : File) (name : List ℕ) → MayRead course before.shelf.told file name → (name ≡ one) ⊎ ((name ≡ two) ⊎ (name ≡ three)))
+      → (status ≡ 7) ⊎ (status ≡ 9) → YieldsThree one two three before after status
+  yields_three one two three which (inl is) = stopped_in_three before after status is one two three (fault_of_three one two three which is)
+  yields_three one two three which (inr is) = inl (inl is)
+
+  -- want of memory leaves out as it was, where nothing can be written
+  pub want_untouched : IsWantOfMemory course before after → ((text : List ℕ) → MayWrite course before.shelf.told text → ⊥) → after.out ≡ before.out
+  want_untouched want none =
+      ⊎_elim
+      (λ (same : after.out ≡ before.out). same)
+      (λ (some : (text : List ℕ) × MayWrite course before.shelf.told text × WrotePart text before.out after.out). absurd (none some.0 some.1))
+      want.part
+
+  missing_leaves : ((text : List ℕ) → MayWrite course before.shelf.told text → ⊥) → (status ≡ 7) ⊎ (status ≡ 9) → (after.out ≡ before.out) × ((status ≡ 7) ⊎ (status ≡ 9))
+  missing_leaves none (inl is) = ((table.read_fault is).leaves, inl is)
+  missing_leaves none (inr is) = (want_untouched (table.want_of_memory is) none, inr is)
+
+  -- a file that is absent leaves out as it was
+  pub absent_leaves : ((text : List ℕ) → MayWrite course before.shelf.told text → ⊥) → ComesTo missing course before.shelf.told → (after.out ≡ before.out) × ((status ≡ 7) ⊎ (status ≡ 9))
+  absent_leaves none comes = missing_leaves none (table.absent_file comes)
+
+  -- out has a part of the one text that can be written
+  pub part_of : (text : List ℕ) → ((other : List ℕ) → MayWrite course before.shelf.told other → other ≡ text) → ComesTo writing course before.shelf.told → LeavesPart text before.out after.out
+  part_of text same comes =
+      ⊎_elim
+      (λ (kept : after.out ≡ before.out). none_written text before.out after.out kept)
+      (λ (some : (other : List ℕ) × MayWrite course before.shelf.told other × LeavesPart other before.out after.out).
+      subst (λ (t : List ℕ). LeavesPart t before.out after.out) (same some.0 some.1) some.2)
+      (table.part comes)
+
+  completes : (status ≡ 7 → ⊥) → (IsOneMore before.out.faults after.out.faults → ⊥) → (status ≡ 0) ⊎ ((status ≡ 7) ⊎ ((status ≡ 8) ⊎ (status ≡ 9))) → (status ≡ 0) ⊎ (status ≡ 9)
+  completes no_read no_write (inl is) = inl is
+  completes no_read no_write (inr (inl is)) = absurd (no_read is)
+  completes no_read no_write (inr (inr (inl is))) = absurd (no_write (ap (λ (o : SeenSink). o.faults) (table.write_fault is).counted.2))
+  completes no_read no_write (inr (inr (inr is))) = inr is
+
+  -- where no count rose, the command is carried out, unless memory runs out
+  pub carried_out : (status ≡ 7 → ⊥) → (IsOneMore before.out.faults after.out.faults → ⊥) → ComesTo writing course before.shelf.told → (status ≡ 0) ⊎ (status ≡ 9)
+  carried_out no_read no_write comes = completes no_read no_write (table.accepted comes)
