@@ -17,12 +17,11 @@ on_ok (Err e) leads is = tt
 pub some_same : (one other : Route) → Some one ≡ Some other → one ≡ other
 some_same one other same = cc
 
-pub same_usable : (flat own : Flat) (board : Board) (chip_of : List ℕ) (routes : List Route) (hops other_hops : List (List Hop)) (leads other_leads : List ℕ) (node one_net other_net net : ℕ) → own ≡ flat → other_hops ≡ hops → other_leads ≡ leads → node ≡ node_of own chip_of one_net → one_net ≡ net → other_net ≡ net
-    → usable_by own board chip_of routes other_hops other_leads node other_net ≡ usable_by flat board chip_of routes hops leads (node_of flat chip_of net) net
-same_usable flat own board chip_of routes hops other_hops leads other_leads node one_net other_net net own_is hops_is leads_is node_is one_is other_is =
-    ap₂ (λ (at read : ℕ). usable_by own board chip_of routes other_hops other_leads at read) (node_is ∙ ap (node_of own chip_of) one_is) other_is
-    ∙ ap₂ (λ (h : List (List Hop)) (l : List ℕ). usable_by own board chip_of routes h l (node_of own chip_of net) net) hops_is leads_is
-    ∙ ap (λ (f : Flat). usable_by f board chip_of routes hops leads (node_of f chip_of net) net) own_is
+pub same_usable : (flat : Flat) (board : Board) (chip_of : List ℕ) (routes : List Route) (hops other_hops : List (List Hop)) (leads other_leads : List ℕ) (node one_net other_net net : ℕ) → other_hops ≡ hops → other_leads ≡ leads → node ≡ node_of flat chip_of one_net → one_net ≡ net → other_net ≡ net
+    → usable_by flat board chip_of routes other_hops other_leads node other_net ≡ usable_by flat board chip_of routes hops leads (node_of flat chip_of net) net
+same_usable flat board chip_of routes hops other_hops leads other_leads node one_net other_net net hops_is leads_is node_is one_is other_is =
+    ap₂ (λ (at read : ℕ). usable_by flat board chip_of routes other_hops other_leads at read) (node_is ∙ ap (node_of flat chip_of) one_is) other_is
+    ∙ ap₂ (λ (h : List (List Hop)) (l : List ℕ). usable_by flat board chip_of routes h l (node_of flat chip_of net) net) hops_is leads_is
 
 pub same_sent : (board : Board) (one route : Route) (number ready moment : ℕ) (old new : Draft) → one ≡ route → ready ≡ moment → IsSentMore board one number ready old new → IsSentMore board route number moment old new
 same_sent board one route number ready moment old new same_route same_moment sent = subst (λ (r : Route). IsSentMore board r number moment old new) same_route (subst (λ (m : ℕ). IsSentMore board one number m old new) same_moment sent)

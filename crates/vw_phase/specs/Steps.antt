@@ -4,3 +4,4 @@ pub mod Tasks
 pub mod Drafts
 pub mod Done
 pub mod Underway
+pub mod Given

@@ -2,32 +2,31 @@
 ghost use Rattle.std.specs.Prelude.{◌≡◌, ◌≤◌, ◌<◌, ◌+◌, ◌*◌, ◌^◌, ◌++◌, ◌∷◌, length, map, IfOk};
 ghost use Rattle.std.specs.List.{All};
 ghost use Rattle.vw_plan.specs.Routes.{steps_of};
-ghost use Rattle.vw_phase.specs.Steps.Along.{AreLinked, AreSent, HasNumbers, taken_by};
+ghost use Rattle.vw_phase.specs.Steps.Along.{AreLinked, AreSent, taken_by};
 
+use crate::given::Given;
 use crate::links::link_between;
 use std::alloc::{AllocError, Global};
-use vw_plan::{Board, Hop};
+use vw_plan::Hop;
 use vw_slots::SlotTable;
 
 /// Sends a bit from a node through others, from a moment on: each hop takes the first free slot of its link, not before
 /// the one before it has arrived.
 pub fn send_along(
     alloc: Global,
-    board: &Board,
-    numbers: &[u32],
+    given: &Given,
     table: &mut SlotTable,
     first: u32,
     further: &[u32],
     ready: u64,
 ) -> Result<Vec<Hop>, AllocError>
-    requires numbers { HasNumbers board.now.links numbers.now }
-    requires linked { AreLinked board.now.links first further.now }
-    requires widths { table.old.widths ≡ map (λ link. link.width) board.now.links }
+    requires linked { AreLinked given.now.board.now.links first further.now }
+    requires widths { table.old.widths ≡ map (λ link. link.width) given.now.board.now.links }
     requires few { length table.old.taken + length further.now < 2 ^ 30 }
     requires early { ready ≤ 2 ^ 61 }
     ensures soon { IfOk result (λ hops. All (λ hop. hop.at + 1 ≤ ready + length further.now * 2 ^ 30) hops.items) }
-    ensures ok { IfOk result (λ hops. AreSent board.now table.old.taken ready (steps_of (first ∷ further.now)) hops.items
-        × (table.new.taken ≡ table.old.taken ++ map (taken_by board.now) hops.items)
+    ensures ok { IfOk result (λ hops. AreSent given.now.board.now table.old.taken ready (steps_of (first ∷ further.now)) hops.items
+        × (table.new.taken ≡ table.old.taken ++ map (taken_by given.now.board.now) hops.items)
         × (table.new.widths ≡ table.old.widths)) }
 {
     table.reserve(further.len() as u64)?;
@@ -35,7 +34,7 @@ pub fn send_along(
     let mut from = first;
     let mut moment = ready;
     for to in further {
-        let link = link_between(board, numbers, from, *to);
+        let link = link_between(given, from, *to);
         let slot = table.take_first(link, moment);
         hops.push(Hop::make(from, *to, slot.pin(), slot.at()))?;
         from = *to;

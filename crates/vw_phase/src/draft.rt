@@ -1,14 +1,15 @@
 //! Schedules in the making.
 ghost use Rattle.std.specs.Prelude.{◌≡◌, ◌≤◌, ◌<◌, ◌+◌, ◌^◌, ◌∷◌, ℕ, List, [], length, map, slice_index_or, OnOk};
 ghost use Rattle.vw_plan.specs.Routes.{steps_of};
-ghost use Rattle.vw_phase.specs.Steps.Along.{AreLinked, HasNumbers};
+ghost use Rattle.vw_phase.specs.Steps.Along.{AreLinked};
 ghost use Rattle.vw_phase.specs.Steps.Drafts.{IsSentMore};
 
 use crate::along::send_along;
+use crate::given::Given;
 use crate::leads::after_last;
 use std::alloc::{AllocError, Global};
 use vw_net::Sequence;
-use vw_plan::{Board, Hop, Route};
+use vw_plan::{Hop, Route};
 use vw_slots::SlotTable;
 
 /// A schedule in the making.
@@ -27,33 +28,23 @@ pub struct Draft {
 /// Sends a net along its route, from a moment on.
 pub fn send(
     alloc: Global,
-    board: &Board,
-    numbers: &[u32],
+    given: &Given,
     route: &Route,
     draft: &mut Draft,
     number: u32,
     ready: u64,
 ) -> Result<(), AllocError>
-    requires numbers { HasNumbers board.now.links numbers.now }
     requires number { number < length draft.old.hops.items }
-    requires first { (first : ℕ) → (further : List ℕ) → route.now.nodes ≡ first ∷ further → AreLinked board.now.links first further }
-    requires widths { draft.old.table.widths ≡ map (λ link. link.width) board.now.links }
+    requires first { (first : ℕ) → (further : List ℕ) → route.now.nodes ≡ first ∷ further → AreLinked given.now.board.now.links first further }
+    requires widths { draft.old.table.widths ≡ map (λ link. link.width) given.now.board.now.links }
     requires few { length draft.old.table.taken + length (steps_of route.now.nodes) < 2 ^ 30 }
     requires early { ready ≤ 2 ^ 61 }
     requires none { slice_index_or draft.old.hops.items number [] ≡ [] }
-    ensures { OnOk result (IsSentMore board.now route.now number ready draft.old draft.new) }
+    ensures { OnOk result (IsSentMore given.now.board.now route.now number ready draft.old draft.new) }
 {
     if let Some((first, further)) = route.nodes().split_first() {
-        let hops = send_along(
-            alloc,
-            board,
-            numbers,
-            &mut draft.table,
-            *first,
-            further,
-            ready,
-        )?;
-        draft.after = draft.after.max(after_last(board, &hops));
+        let hops = send_along(alloc, given, &mut draft.table, *first, further, ready)?;
+        draft.after = draft.after.max(after_last(given.board, &hops));
         draft.hops[number as usize] = Sequence::of(hops);
     }
     Ok(())

@@ -1,147 +1,82 @@
 //! Schedules in the making, task by task.
-ghost use Rattle.std.specs.Prelude.{◌≡◌, ◌≤◌, ◌<◌, ◌+◌, ◌^◌, ℕ, List, [], false, true, length, max, slice_get, slice_index, slice_set, IfOk, OnOk, if◌then◌else◌};
+ghost use Rattle.std.specs.Prelude.{◌≡◌, ◌<◌, ◌^◌, false, true, length, IfOk, OnOk, if◌then◌else◌};
 ghost use Rattle.std.specs.List.{All};
-ghost use Rattle.vw_plan.specs.Lead.{driven_lead};
-ghost use Rattle.vw_check.specs.Steps.Tables.{HasPairs};
-ghost use Rattle.vw_phase.specs.Steps.Leads.{lead_by, route_pairs, usable_by};
 ghost use Rattle.vw_plan.specs.Good.{IsChip};
 ghost use Rattle.vw_plan.specs.Routes.{AreRoutes};
-ghost use Rattle.vw_phase.specs.Steps.Along.{HasNumbers};
-ghost use Rattle.vw_phase.specs.Steps.Done.{IsDone};
-ghost use Rattle.vw_phase.specs.Steps.Drafts.{Does, IsReady, IsUntouched};
+ghost use Rattle.vw_phase.specs.Steps.Given.{DoesFor, IsDoneFor, IsReadyFor, IsUntouchedFor};
 
 use crate::draft::{Draft, send};
+use crate::given::Given;
 use crate::leads::{lead_of_cell, usable_at};
-use crate::links::link_numbers;
 use crate::task::{Task, tasks_in_order};
 use std::alloc::{AllocError, Global};
-use vw_check::PairTable;
-use vw_net::{Ordered, Sequence};
-use vw_plan::{Board, Route, node_of};
+use vw_net::Sequence;
+use vw_plan::node_of;
 use vw_slots::SlotTable;
 
 /// Works out the lead of the gate at a place of the order.
-fn work_out(
-    ordered: &Ordered,
-    board: &Board,
-    chip_of: &[u32],
-    routes: &[Route],
-    places: &PairTable,
-    draft: &mut Draft,
-    place: u32,
-    start: u64,
-)
-    requires each { length chip_of.now ≡ length ordered.now.flat.cells }
-    requires places { HasPairs (route_pairs routes.now) places.now.places }
-    requires ready { IsReady ordered.now board.now chip_of.now routes.now false place start draft.old }
-    ensures { Does ordered.now board.now chip_of.now routes.now false place start draft.old draft.new }
+fn work_out(given: &Given, draft: &mut Draft, place: u32, start: u64)
+    requires { IsReadyFor given.now false place start draft.old }
+    ensures { DoesFor given.now false place start draft.old draft.new }
 {
-    let flat = ordered.flat();
-    let number = ordered.order()[place as usize];
-    let lead = lead_of_cell(
-        flat,
-        board,
-        chip_of,
-        routes,
-        places,
-        draft.hops.as_slice(),
-        draft.leads.as_slice(),
-        number,
-    );
-    draft.leads[(flat.inputs() + number) as usize] = lead;
+    let number = given.ordered.order()[place as usize];
+    let lead = lead_of_cell(given, draft.hops.as_slice(), draft.leads.as_slice(), number);
+    draft.leads[(given.ordered.flat().inputs() + number) as usize] = lead;
 }
 
 /// Sends the net of a route, once it is usable and its phase has begun.
 fn send_route(
     alloc: Global,
-    ordered: &Ordered,
-    board: &Board,
-    chip_of: &[u32],
-    routes: &[Route],
-    places: &PairTable,
-    numbers: &[u32],
+    given: &Given,
     draft: &mut Draft,
     number: u32,
     start: u64,
 ) -> Result<(), AllocError>
-    requires each { length chip_of.now ≡ length ordered.now.flat.cells }
-    requires places { HasPairs (route_pairs routes.now) places.now.places }
-    requires numbers { HasNumbers board.now.links numbers.now }
-    requires ready { IsReady ordered.now board.now chip_of.now routes.now true number start draft.old }
-    ensures { OnOk result (Does ordered.now board.now chip_of.now routes.now true number start draft.old draft.new) }
+    requires { IsReadyFor given.now true number start draft.old }
+    ensures { OnOk result (DoesFor given.now true number start draft.old draft.new) }
 {
-    let route = &routes[number as usize];
-    let flat = ordered.flat();
-    let node = node_of(flat, chip_of, route.net());
+    let route = &given.routes[number as usize];
+    let node = node_of(given.ordered.flat(), given.chip_of, route.net());
     let usable = usable_at(
-        flat,
-        board,
-        chip_of,
-        routes,
-        places,
+        given,
         draft.hops.as_slice(),
         draft.leads.as_slice(),
         node,
         route.net(),
     );
-    send(
-        alloc,
-        board,
-        numbers,
-        route,
-        draft,
-        number,
-        usable.max(start),
-    )
+    send(alloc, given, route, draft, number, usable.max(start))
 }
 
 /// Does one task.
 fn carry_out(
     alloc: Global,
-    ordered: &Ordered,
-    board: &Board,
-    chip_of: &[u32],
-    routes: &[Route],
-    places: &PairTable,
-    numbers: &[u32],
+    given: &Given,
     draft: &mut Draft,
     task: &Task,
     start: u64,
 ) -> Result<(), AllocError>
-    requires each { length chip_of.now ≡ length ordered.now.flat.cells }
-    requires places { HasPairs (route_pairs routes.now) places.now.places }
-    requires numbers { HasNumbers board.now.links numbers.now }
-    requires ready { IsReady ordered.now board.now chip_of.now routes.now task.now.sends task.now.place start draft.old }
-    ensures { OnOk result (Does ordered.now board.now chip_of.now routes.now task.now.sends task.now.place start draft.old draft.new) }
+    requires { IsReadyFor given.now task.now.sends task.now.place start draft.old }
+    ensures { OnOk result (DoesFor given.now task.now.sends task.now.place start draft.old draft.new) }
 {
     if task.sends {
-        return send_route(
-            alloc, ordered, board, chip_of, routes, places, numbers, draft, task.place, start,
-        );
+        return send_route(alloc, given, draft, task.place, start);
     }
-    work_out(
-        ordered, board, chip_of, routes, places, draft, task.place, start,
-    );
+    work_out(given, draft, task.place, start);
     Ok(())
 }
 
 /// A schedule in which nothing is done yet.
-fn untouched(
-    alloc: Global,
-    ordered: &Ordered,
-    board: &Board,
-    routes: &[Route],
-) -> Result<Draft, AllocError>
-    ensures { IfOk result (λ draft. IsUntouched ordered.now board.now routes.now draft) }
+fn untouched(alloc: Global, given: &Given) -> Result<Draft, AllocError>
+    ensures { IfOk result (λ draft. IsUntouchedFor given.now draft) }
 {
-    let flat = ordered.flat();
+    let flat = given.ordered.flat();
     let nets = flat.inputs() as usize + flat.cells().len();
     let leads = vec![in alloc; 0; nets]?;
-    let mut hops = Vec::with_capacity(alloc, routes.len())?;
-    for _ in 0..routes.len() {
+    let mut hops = Vec::with_capacity(alloc, given.routes.len())?;
+    for _ in 0..given.routes.len() {
         hops.push(Sequence::of(Vec::new(alloc)))?;
     }
-    let table = SlotTable::make(alloc, board)?;
+    let table = SlotTable::make(alloc, given.board)?;
     Ok(Draft {
         leads,
         hops,
@@ -158,41 +93,20 @@ fn begin(goes_on: bool, start: u64, after: u64) -> u64
 }
 
 /// The leads of all nets, and the hops of all routes.
-pub fn drafted(
-    alloc: Global,
-    ordered: &Ordered,
-    board: &Board,
-    chip_of: &[u32],
-    routes: &[Route],
-    places: &PairTable,
-) -> Result<Draft, AllocError>
-    requires each { length chip_of.now ≡ length ordered.now.flat.cells }
-    requires chips { All (IsChip board.now) chip_of.now }
-    requires routes { AreRoutes ordered.now.flat board.now chip_of.now routes.now }
-    requires few { length routes.now < 2 ^ 32 }
-    requires places { HasPairs (route_pairs routes.now) places.now.places }
-    ensures { IfOk result (IsDone ordered.now board.now chip_of.now routes.now) }
+pub fn drafted(alloc: Global, given: &Given) -> Result<Draft, AllocError>
+    requires chips { All (IsChip given.now.board.now) given.now.chip_of.now }
+    requires routes { AreRoutes given.now.ordered.now.flat given.now.board.now given.now.chip_of.now given.now.routes.now }
+    requires few { length given.now.routes.now < 2 ^ 32 }
+    ensures { IfOk result (IsDoneFor given.now) }
 {
-    let tasks = tasks_in_order(alloc, ordered, chip_of, routes)?;
-    let numbers = link_numbers(alloc, board)?;
-    let mut draft = untouched(alloc, ordered, board, routes)?;
+    let tasks = tasks_in_order(alloc, given.ordered, given.chip_of, given.routes)?;
+    let mut draft = untouched(alloc, given)?;
     let mut depth = 0;
     let mut start = 0;
     for task in tasks.as_slice() {
         start = begin(task.depth == depth, start, draft.after);
         depth = task.depth;
-        carry_out(
-            alloc,
-            ordered,
-            board,
-            chip_of,
-            routes,
-            places,
-            numbers.as_slice(),
-            &mut draft,
-            task,
-            start,
-        )?;
+        carry_out(alloc, given, &mut draft, task, start)?;
     }
     Ok(draft)
 }

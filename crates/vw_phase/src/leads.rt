@@ -2,14 +2,14 @@
 ghost use Rattle.std.specs.Prelude.{◌≡◌, ◌≤◌, ◌<◌, ◌+◌, ◌^◌, length, map, slice_get, slice_index};
 ghost use Rattle.std.specs.List.{All};
 ghost use Rattle.vw_plan.specs.Lead.{after_last, driven_lead, greatest};
-ghost use Rattle.vw_plan.specs.Nets.{driver, node_of};
+ghost use Rattle.vw_plan.specs.Nets.{driver};
 ghost use Rattle.vw_net.specs.Order.{is_gate};
-ghost use Rattle.vw_check.specs.Steps.Tables.{HasPairs};
-ghost use Rattle.vw_phase.specs.Steps.Leads.{hops_to, lead_by, route_pairs, usable_by};
+ghost use Rattle.vw_phase.specs.Steps.Given.{lead_for, net_count, usable_for};
+ghost use Rattle.vw_phase.specs.Steps.Leads.{hops_to};
 
-use vw_check::PairTable;
+use crate::given::Given;
 use vw_net::{Cell, Flat, Sequence};
-use vw_plan::{Board, Hop, Route, node_of};
+use vw_plan::{Board, Hop, node_of};
 
 /// One past the arrival of the last of some hops; 0 where there is none.
 pub fn after_last(board: &Board, hops: &[Hop]) -> u64
@@ -23,76 +23,48 @@ pub fn after_last(board: &Board, hops: &[Hop]) -> u64
 }
 
 /// One past the arrival of a net at a node, by the hops so far; 0 where there is none.
-fn arrival(
-    board: &Board,
-    routes: &[Route],
-    places: &PairTable,
-    hops: &[Sequence<Hop>],
-    node: u32,
-    net: u32,
-) -> u64
-    requires places { HasPairs (route_pairs routes.now) places.now.places }
-    requires hops { length hops.now ≡ length routes.now }
+fn arrival(given: &Given, hops: &[Sequence<Hop>], node: u32, net: u32) -> u64
+    requires hops { length hops.now ≡ length given.now.routes.now }
     requires early { All (All (λ hop. hop.at ≤ 2 ^ 61)) hops.now }
-    ensures { result ≡ after_last board.now (hops_to routes.now hops.now node net) }
+    ensures { result ≡ after_last given.now.board.now (hops_to given.now.routes.now hops.now node net) }
 {
-    match places.first(net, node) {
-        Some(place) => after_last(board, hops[place].as_slice()),
+    match given.places.first(net, node) {
+        Some(place) => after_last(given.board, hops[place].as_slice()),
         None => 0,
     }
 }
 
 /// The lead of a net at a node, from leads at their own nodes and the hops so far.
-fn lead_at(
-    flat: &Flat,
-    board: &Board,
-    chip_of: &[u32],
-    routes: &[Route],
-    places: &PairTable,
-    hops: &[Sequence<Hop>],
-    leads: &[u64],
-    node: u32,
-    net: u32,
-) -> u64
-    requires each { length chip_of.now ≡ length flat.now.cells }
-    requires net { net < flat.now.inputs + length flat.now.cells }
-    requires nets { length leads.now ≡ flat.now.inputs + length flat.now.cells }
-    requires places { HasPairs (route_pairs routes.now) places.now.places }
-    requires hops { length hops.now ≡ length routes.now }
+fn lead_at(given: &Given, hops: &[Sequence<Hop>], leads: &[u64], node: u32, net: u32) -> u64
+    requires net { net < net_count given.now }
+    requires nets { length leads.now ≡ net_count given.now }
+    requires hops { length hops.now ≡ length given.now.routes.now }
     requires early { All (All (λ hop. hop.at ≤ 2 ^ 61)) hops.now }
-    ensures { result ≡ lead_by flat.now board.now chip_of.now routes.now hops.now leads.now node net }
+    ensures { result ≡ lead_for given.now hops.now leads.now node net }
 {
-    if node_of(flat, chip_of, net) == node {
+    if node_of(given.ordered.flat(), given.chip_of, net) == node {
         return leads[net as usize];
     }
-    arrival(board, routes, places, hops, node, net)
+    arrival(given, hops, node, net)
 }
 
 /// The greatest lead at a node of some nets.
 fn greatest_lead(
-    flat: &Flat,
-    board: &Board,
-    chip_of: &[u32],
-    routes: &[Route],
-    places: &PairTable,
+    given: &Given,
     hops: &[Sequence<Hop>],
     leads: &[u64],
     node: u32,
     nets: &[u32],
 ) -> u64
-    requires each { length chip_of.now ≡ length flat.now.cells }
-    requires within { All (λ net. net < flat.now.inputs + length flat.now.cells) nets.now }
-    requires nets { length leads.now ≡ flat.now.inputs + length flat.now.cells }
-    requires places { HasPairs (route_pairs routes.now) places.now.places }
-    requires hops { length hops.now ≡ length routes.now }
+    requires within { All (λ net. net < net_count given.now) nets.now }
+    requires nets { length leads.now ≡ net_count given.now }
+    requires hops { length hops.now ≡ length given.now.routes.now }
     requires early { All (All (λ hop. hop.at ≤ 2 ^ 61)) hops.now }
-    ensures { result ≡ greatest (map (lead_by flat.now board.now chip_of.now routes.now hops.now leads.now node) nets.now) }
+    ensures { result ≡ greatest (map (lead_for given.now hops.now leads.now node) nets.now) }
 {
     let mut greatest = 0;
     for net in nets {
-        let lead = lead_at(
-            flat, board, chip_of, routes, places, hops, leads, node, *net,
-        );
+        let lead = lead_at(given, hops, leads, node, *net);
         if greatest < lead {
             greatest = lead;
         }
@@ -101,41 +73,18 @@ fn greatest_lead(
 }
 
 /// The lead of the net of a cell on the cell's chip, from leads at their own nodes and the hops so far: 0 for a latch.
-pub fn lead_of_cell(
-    flat: &Flat,
-    board: &Board,
-    chip_of: &[u32],
-    routes: &[Route],
-    places: &PairTable,
-    hops: &[Sequence<Hop>],
-    leads: &[u64],
-    number: u32,
-) -> u64
-    requires each { length chip_of.now ≡ length flat.now.cells }
-    requires number { number < length flat.now.cells }
-    requires nets { length leads.now ≡ flat.now.inputs + length flat.now.cells }
-    requires places { HasPairs (route_pairs routes.now) places.now.places }
-    requires hops { length hops.now ≡ length routes.now }
+pub fn lead_of_cell(given: &Given, hops: &[Sequence<Hop>], leads: &[u64], number: u32) -> u64
+    requires number { number < length given.now.ordered.now.flat.cells }
+    requires nets { length leads.now ≡ net_count given.now }
+    requires hops { length hops.now ≡ length given.now.routes.now }
     requires early { All (All (λ hop. hop.at ≤ 2 ^ 61)) hops.now }
     ensures { result ≡ driven_lead
-        (lead_by flat.now board.now chip_of.now routes.now hops.now leads.now (slice_index chip_of.now number))
-        (slice_get flat.now.cells number) }
+        (lead_for given.now hops.now leads.now (slice_index given.now.chip_of.now number))
+        (slice_get given.now.ordered.now.flat.cells number) }
 {
-    let node = chip_of[number as usize];
-    match &flat.cells()[number as usize] {
-        Cell::Gate { ins, .. } => {
-            greatest_lead(
-                flat,
-                board,
-                chip_of,
-                routes,
-                places,
-                hops,
-                leads,
-                node,
-                ins.as_slice(),
-            )
-        },
+    let node = given.chip_of[number as usize];
+    match &given.ordered.flat().cells()[number as usize] {
+        Cell::Gate { ins, .. } => greatest_lead(given, hops, leads, node, ins.as_slice()),
         Cell::Latch { .. } => 0,
     }
 }
@@ -155,29 +104,18 @@ fn is_gate(flat: &Flat, net: u32) -> bool
 }
 
 /// The microcycle from which on a node can use a net, from leads at their own nodes and the hops so far.
-pub fn usable_at(
-    flat: &Flat,
-    board: &Board,
-    chip_of: &[u32],
-    routes: &[Route],
-    places: &PairTable,
-    hops: &[Sequence<Hop>],
-    leads: &[u64],
-    node: u32,
-    net: u32,
-) -> u64
-    requires each { length chip_of.now ≡ length flat.now.cells }
-    requires net { net < flat.now.inputs + length flat.now.cells }
-    requires nets { length leads.now ≡ flat.now.inputs + length flat.now.cells }
-    requires places { HasPairs (route_pairs routes.now) places.now.places }
-    requires hops { length hops.now ≡ length routes.now }
+pub fn usable_at(given: &Given, hops: &[Sequence<Hop>], leads: &[u64], node: u32, net: u32) -> u64
+    requires net { net < net_count given.now }
+    requires nets { length leads.now ≡ net_count given.now }
+    requires hops { length hops.now ≡ length given.now.routes.now }
     requires early { All (All (λ hop. hop.at ≤ 2 ^ 61)) hops.now }
     requires soon { All (λ lead. lead ≤ 2 ^ 61) leads.now }
-    ensures { result ≡ usable_by flat.now board.now chip_of.now routes.now hops.now leads.now node net }
+    ensures { result ≡ usable_for given.now hops.now leads.now node net }
 {
-    let lead = lead_at(flat, board, chip_of, routes, places, hops, leads, node, net);
-    if is_gate(flat, net) && node_of(flat, chip_of, net) == node {
-        return lead + u64::from(board.settle());
+    let flat = given.ordered.flat();
+    let lead = lead_at(given, hops, leads, node, net);
+    if is_gate(flat, net) && node_of(flat, given.chip_of, net) == node {
+        return lead + u64::from(given.board.settle());
     }
     lead
 }

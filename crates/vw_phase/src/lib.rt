@@ -4,6 +4,7 @@
 mod along;
 mod draft;
 mod drafting;
+mod given;
 mod leads;
 mod links;
 mod planning;

@@ -3,6 +3,7 @@ ghost use Rattle.std.specs.Prelude.{◌≡◌, IfOk, IsTrue};
 ghost use Rattle.vw_plan.specs.Walks.{has_link};
 ghost use Rattle.vw_phase.specs.Steps.Along.{HasNumbers, link_place};
 
+use crate::given::Given;
 use std::alloc::{AllocError, Global};
 use vw_plan::Board;
 
@@ -21,12 +22,11 @@ pub fn link_numbers(alloc: Global, board: &Board) -> Result<Vec<u32>, AllocError
 }
 
 /// The number of the link from a node to another.
-pub fn link_between(board: &Board, numbers: &[u32], from: u32, to: u32) -> u32
-    requires there { IsTrue (has_link board.now.links from to) }
-    requires numbers { HasNumbers board.now.links numbers.now }
-    ensures { result ≡ link_place board.now.links from to }
+pub fn link_between(given: &Given, from: u32, to: u32) -> u32
+    requires { IsTrue (has_link given.now.board.now.links from to) }
+    ensures { result ≡ link_place given.now.board.now.links from to }
 {
-    match numbers.get(from as usize * 33 + to as usize) {
+    match given.numbers.get(from as usize * 33 + to as usize) {
         Some(number) => *number,
         None => 0,
     }

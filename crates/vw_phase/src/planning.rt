@@ -1,19 +1,21 @@
 //! Schedules.
-ghost use Rattle.std.specs.Prelude.{◌≡◌, ◌≤◌, ◌<◌, ◌+◌, ◌^◌, ℕ, length, max, sum_by, IfOk, IfErr};
+ghost use Rattle.std.specs.Prelude.{◌≡◌, ◌≤◌, ◌<◌, ◌^◌, ℕ, length, max, sum_by, IfOk, IfErr};
 ghost use Rattle.std.specs.List.{All};
 ghost use Rattle.vw_plan.specs.declared.plan.Plan.{Plan};
 ghost use Rattle.vw_plan.specs.Good.{IsChip, cells_on};
 ghost use Rattle.vw_plan.specs.Routes.{AreRoutes};
 ghost use Rattle.vw_check.specs.Steps.Tables.{HasPairs};
 ghost use Rattle.vw_phase.specs.Schedules.{IsSchedule};
-ghost use Rattle.vw_phase.specs.Steps.Done.{latch_moment, latest};
-ghost use Rattle.vw_phase.specs.Steps.Drafts.{IsFit};
+ghost use Rattle.vw_phase.specs.Steps.Done.{latest};
+ghost use Rattle.vw_phase.specs.Steps.Given.{IsFitFor, latch_moment_for, net_count};
 ghost use Rattle.vw_net.specs.Cells.{read_nets};
 ghost use Rattle.vw_phase.specs.Steps.Leads.{route_pairs, wires_of};
 
 use crate::draft::Draft;
 use crate::drafting::drafted;
+use crate::given::Given;
 use crate::leads::usable_at;
+use crate::links::link_numbers;
 use crate::refused::ScheduleRefused;
 use std::alloc::{AllocError, Global};
 use vw_check::PairTable;
@@ -32,59 +34,33 @@ fn route_table(alloc: Global, routes: &[Route]) -> Result<PairTable, AllocError>
 }
 
 /// The moment at which what a latch reads is usable on the latch's chip; 0 for a gate.
-fn latch_moment(
-    ordered: &Ordered,
-    board: &Board,
-    chip_of: &[u32],
-    routes: &[Route],
-    places: &PairTable,
-    draft: &Draft,
-    number: usize,
-    cell: &Cell,
-) -> u64
-    requires each { length chip_of.now ≡ length ordered.now.flat.cells }
-    requires number { number < length ordered.now.flat.cells }
-    requires fits { All (λ net. net < ordered.now.flat.inputs + length ordered.now.flat.cells) (read_nets cell.now) }
-    requires places { HasPairs (route_pairs routes.now) places.now.places }
-    requires fit { IsFit ordered.now board.now routes.now draft.now }
-    ensures { result ≡ latch_moment ordered.now.flat board.now chip_of.now routes.now
-        draft.now.hops.items draft.now.leads.items number cell.now }
+fn latch_moment(given: &Given, draft: &Draft, number: usize, cell: &Cell) -> u64
+    requires number { number < length given.now.ordered.now.flat.cells }
+    requires fits { All (λ net. net < net_count given.now) (read_nets cell.now) }
+    requires fit { IsFitFor given.now draft.now }
+    ensures { result ≡ latch_moment_for given.now draft.now number cell.now }
 {
     match cell {
         Cell::Gate { .. } => 0,
         Cell::Latch { d, .. } => usable_at(
-            ordered.flat(),
-            board,
-            chip_of,
-            routes,
-            places,
+            given,
             draft.hops.as_slice(),
             draft.leads.as_slice(),
-            chip_of[number],
+            given.chip_of[number],
             *d,
         ),
     }
 }
 
 /// The least period that is long enough: for one microcycle, for the last hop, and for each latch.
-fn period_of(
-    ordered: &Ordered,
-    board: &Board,
-    chip_of: &[u32],
-    routes: &[Route],
-    places: &PairTable,
-    draft: &Draft,
-) -> u64
-    requires each { length chip_of.now ≡ length ordered.now.flat.cells }
-    requires places { HasPairs (route_pairs routes.now) places.now.places }
-    requires fit { IsFit ordered.now board.now routes.now draft.now }
+fn period_of(given: &Given, draft: &Draft) -> u64
+    requires { IsFitFor given.now draft.now }
     ensures { result ≡ max (max draft.now.after 1)
-        (latest (latch_moment ordered.now.flat board.now chip_of.now routes.now
-        draft.now.hops.items draft.now.leads.items) 0 ordered.now.flat.cells) }
+        (latest (latch_moment_for given.now draft.now) 0 given.now.ordered.now.flat.cells) }
 {
     let mut period = draft.after.max(1);
-    for (number, cell) in ordered.flat().cells().iter().enumerate() {
-        let moment = latch_moment(ordered, board, chip_of, routes, places, draft, number, cell);
+    for (number, cell) in given.ordered.flat().cells().iter().enumerate() {
+        let moment = latch_moment(given, draft, number, cell);
         period = period.max(moment);
     }
     period
@@ -130,8 +106,17 @@ fn plan_parts(
     leads_settle();
     needed_pairs_are_needed();
     let places = route_table(alloc, routes)?;
-    let draft = drafted(alloc, ordered, board, chip_of, routes, &places)?;
-    let period = period_of(ordered, board, chip_of, routes, &places, &draft);
+    let numbers = link_numbers(alloc, board)?;
+    let given = Given {
+        ordered,
+        board,
+        chip_of,
+        routes,
+        places: &places,
+        numbers: numbers.as_slice(),
+    };
+    let draft = drafted(alloc, &given)?;
+    let period = period_of(&given, &draft);
     let wires = wires_of(alloc, routes, draft.hops)?;
     Ok((wires, period))
 }

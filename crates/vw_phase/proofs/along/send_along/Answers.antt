@@ -12,14 +12,14 @@ pub take_first-slot-requires-clause-link : goal.take_first-slot-requires-clause-
 take_first-slot-requires-clause-link c =
     let further = c.args.further.now in
     let place = c.loop-to.to-index in
-    let links = c.args.board.now.links in
+    let links = c.args.given.now.board.now.links in
     let linked : AreLinked links c.loop-to.from (get_or further place 0 ∷ drop (place + 1) further) = subst (λ (left : List ℕ). AreLinked links c.loop-to.from left) (cut_at further place c.loop-to-test.true) c.loop-to.invariant.linked in
     let long : length c.loop-to.table.widths ≡ length links = ap length c.loop-to.invariant.widths ∙ length-map links (λ (link : Link). link.width) in
     omega (arith, c.link_between-link.ensures, long, place_within links c.loop-to.from (get_or further place 0) linked.0)
 
 pub loop-to-preserved : goal.loop-to-preserved
 loop-to-preserved c =
-    further_on c.args.board.now c.args.table.now.taken c.args.ready c.args.first c.args.further.now c.loop-to.table c.loop-to.hops.items c.loop-to.from c.loop-to.moment c.loop-to.to-index c.loop-to.invariant c.loop-to-test.true c.requires.few
+    further_on c.args.given.now.board.now c.args.table.now.taken c.args.ready c.args.first c.args.further.now c.loop-to.table c.loop-to.hops.items c.loop-to.from c.loop-to.moment c.loop-to.to-index c.loop-to.invariant c.loop-to-test.true c.requires.few
     c.make.result c.link_between-link.result c.take_first-slot.result c.take_first-slot.new.self c.push.new.self.items (c.at-moment.result + 1) (ap (λ (at : ℕ). at + 1) c.at-moment.ensures) c.make.ensures.from c.make.ensures.to (c.make.ensures.pin ∙ c.pin.ensures) (c.make.ensures.at ∙ c.at.ensures) c.link_between-link.ensures c.take_first-slot.ensures.first c.take_first-slot.ensures.soon c.take_first-slot.ensures.slots c.in_ok-push.ensures.items
 
 pub returns : goal.returns
@@ -27,7 +27,7 @@ returns c =
     let way = c.loop-to.invariant in
     let further = c.args.further.now in
     let place = c.loop-to.to-index in
-    let board = c.args.board.now in
+    let board = c.args.given.now.board.now in
     let whole : length further ≤ place = omega arith in
     let none : drop place further ≡ [] = drop_of_length-le further whole in
     let end : AreSent board c.loop-to.table.taken c.loop-to.moment (steps_of (c.loop-to.from ∷ drop place further)) [] = rw none tt in

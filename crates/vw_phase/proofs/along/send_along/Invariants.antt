@@ -4,4 +4,4 @@ use Rattle.vw_phase.proofs.along.send_along.Given as goal
 
 abbrev pub invariant-loop-to : goal.invariant-loop-to
 invariant-loop-to l =
-    IsUnderWay l.board l.fn.table.taken l.fn.ready l.fn.first l.further l.table l.hops.items l.from l.moment l.to-index
+    IsUnderWay l.given.board.now l.fn.table.taken l.fn.ready l.fn.first l.further l.table l.hops.items l.from l.moment l.to-index

@@ -11,7 +11,7 @@ use Rattle.vw_phase.proofs.draft.send.Goals as goal
 pub returns-in_ok-hops : goal.returns-in_ok-hops
 returns-in_ok-hops c =
     let old = c.args.draft.now in
-    let board = c.args.board.now in
+    let board = c.args.given.now.board.now in
     let sent = c.in_ok-hops.hops.items in
     let nodes : c.args.route.now.nodes ≡ c.in-Some.first.now ∷ c.in-Some.further.now = sym c.nodes.ensures ∙ c.in-Some.ensures.cases.0 in
     let at : get_or (set old.hops.items c.args.number c.of.result) c.args.number [] ≡ sent = get_or-set_at old.hops.items c.args.number c.args.number c.of.result [] refl c.requires.number ∙ c.of.ensures in

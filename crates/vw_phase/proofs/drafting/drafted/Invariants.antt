@@ -4,6 +4,6 @@ use Rattle.vw_phase.proofs.drafting.drafted.Given as goal
 
 abbrev pub invariant-loop-task : goal.invariant-loop-task
 invariant-loop-task l = record {
-  tasks : AreTasks l.ordered l.chip_of l.routes l.task-items;
-  way : IsUnderway l.ordered l.board l.chip_of l.routes l.task-items l.task-index l.draft l.depth l.start;
+  tasks : AreTasks l.given.ordered.now l.given.chip_of.now l.given.routes.now l.task-items;
+  way : IsUnderway l.given.ordered.now l.given.board.now l.given.chip_of.now l.given.routes.now l.task-items l.task-index l.draft l.depth l.start;
 }

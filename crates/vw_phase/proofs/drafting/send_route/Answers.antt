@@ -1,41 +1,45 @@
-use Rattle.std.proofs.Common.{◌≡◌, ◌<◌, ◌+◌, ◌∙◌, ℕ, length, sym, ap, refl, arith, Some, max, subst}
+use Rattle.std.proofs.Common.{◌≡◌, ◌<◌, ◌+◌, ◌∙◌, ℕ, List, length, get_or, sym, ap, refl, arith, Some, max, subst}
 use Rattle.std.specs.Prelude.{slice_get}
 use Rattle.std.proofs.lemmas.Option.{slice_get_read}
 use Rattle.vw_net.specs.declared.flat.Flat.{Flat}
 use Rattle.vw_plan.specs.declared.need.Route.{Route}
+use Rattle.vw_plan.specs.Nets.{node_of}
 use Rattle.vw_phase.proofs.Sent.{on_ok, same_sent, same_usable, some_same}
 use Rattle.vw_phase.proofs.drafting.send_route.Goals as goal
 
-module _ (c : goal.After-net) where
-  read : slice_get c.args.routes.now c.args.number ≡ Some c.index-routes-number.result
-  read = slice_get_read c.args.routes.now (length c.args.routes.now) c.args.number c.index-routes-number.result refl c.requires.ready.its.0 c.index-routes-number.is
-
-  within : c.index-routes-number.result.net < c.args.ordered.now.flat.inputs + length c.args.ordered.now.flat.cells
-  within = (c.requires.ready.its.2 c.index-routes-number.result read).0
+-- the route at a number
+module _ (routes : List Route) (number : ℕ) (route : Route) (within : number < length routes) (is : route ≡ get_or routes number route) where
+  there : slice_get routes number ≡ Some (get_or routes number route)
+  there = slice_get_read routes (length routes) number route refl within is ∙ ap Some is
 
 pub node_of-node-requires-clause-net : goal.node_of-node-requires-clause-net
-node_of-node-requires-clause-net c = subst (λ (flat : Flat). c.net.result < flat.inputs + length flat.cells) (sym c.flat-flat.ensures) (omega (arith, c.net.ensures, within c))
+node_of-node-requires-clause-net c =
+    let route = there c.args.given.now.routes.now c.args.number c.index-given-number.result c.requires.its.0 c.index-given-number.is in
+    let its = c.requires.its.2 _ route in
+    subst (λ (flat : Flat). c.net.result < flat.inputs + length flat.cells) (sym c.flat.ensures) (omega (arith, c.net.ensures, its.0))
 
 pub usable_at-usable-requires-clause-net : goal.usable_at-usable-requires-clause-net
 usable_at-usable-requires-clause-net c =
-    let read_here : slice_get c.args.routes.now c.args.number ≡ Some c.index-routes-number.result = slice_get_read c.args.routes.now (length c.args.routes.now) c.args.number c.index-routes-number.result refl c.requires.ready.its.0 c.index-routes-number.is in
-    let inside = (c.requires.ready.its.2 c.index-routes-number.result read_here).0 in
-    subst (λ (flat : Flat). c.net-2.result < flat.inputs + length flat.cells) (sym c.flat-flat.ensures) (omega (arith, c.net-2.ensures, inside))
+    let route = there c.args.given.now.routes.now c.args.number c.index-given-number.result c.requires.its.0 c.index-given-number.is in
+    let its = c.requires.its.2 _ route in
+    omega (arith, c.net-2.ensures, its.0)
 
 pub send-requires-clause-first : goal.send-requires-clause-first
 send-requires-clause-first c =
-    let read_here : slice_get c.args.routes.now c.args.number ≡ Some c.index-routes-number.result = slice_get_read c.args.routes.now (length c.args.routes.now) c.args.number c.index-routes-number.result refl c.requires.ready.its.0 c.index-routes-number.is in
-    (c.requires.ready.its.2 c.index-routes-number.result read_here).2
+    let route = there c.args.given.now.routes.now c.args.number c.index-given-number.result c.requires.its.0 c.index-given-number.is in
+    (c.requires.its.2 _ route).2
 
 pub send-requires-clause-few : goal.send-requires-clause-few
 send-requires-clause-few c =
-    let read_here : slice_get c.args.routes.now c.args.number ≡ Some c.index-routes-number.result = slice_get_read c.args.routes.now (length c.args.routes.now) c.args.number c.index-routes-number.result refl c.requires.ready.its.0 c.index-routes-number.is in
-    (c.requires.ready.its.2 c.index-routes-number.result read_here).1
+    let route = there c.args.given.now.routes.now c.args.number c.index-given-number.result c.requires.its.0 c.index-given-number.is in
+    (c.requires.its.2 _ route).1
 
 pub returns : goal.returns
 returns c = on_ok c.send.result (λ sent route at.
-    let read_here : slice_get c.args.routes.now c.args.number ≡ Some c.index-routes-number.result = slice_get_read c.args.routes.now (length c.args.routes.now) c.args.number c.index-routes-number.result refl c.requires.ready.its.0 c.index-routes-number.is in
-    let same : c.index-routes-number.result ≡ route = some_same c.index-routes-number.result route (sym read_here ∙ at) in
-    let usable = c.usable_at-usable.ensures ∙ same_usable c.args.ordered.now.flat c.flat-flat.result.now c.args.board.now c.args.chip_of.now c.args.routes.now c.args.draft.now.hops.items c.as_slice.result.now c.args.draft.now.leads.items c.as_slice-2.result.now c.node_of-node.result c.net.result c.net-2.result route.net c.flat-flat.ensures c.as_slice.ensures.value c.as_slice-2.ensures.value c.node_of-node.ensures (c.net.ensures ∙ ap (λ (one : Route). one.net) same) (c.net-2.ensures ∙ ap (λ (one : Route). one.net) same) in
+    let given = c.args.given.now in
+    let here = get_or given.routes.now c.args.number c.index-given-number.result in
+    let same : here ≡ route = some_same here route (sym (there given.routes.now c.args.number c.index-given-number.result c.requires.its.0 c.index-given-number.is) ∙ at) in
+    let node = c.node_of-node.ensures ∙ ap (λ (flat : Flat). node_of flat given.chip_of.now c.net.result) c.flat.ensures in
+    let usable = c.usable_at-usable.ensures ∙ same_usable given.ordered.now.flat given.board.now given.chip_of.now given.routes.now c.args.draft.now.hops.items c.as_slice.result.now c.args.draft.now.leads.items c.as_slice-2.result.now c.node_of-node.result c.net.result c.net-2.result route.net c.as_slice.ensures.value c.as_slice-2.ensures.value node (c.net.ensures ∙ ap (λ (one : Route). one.net) same) (c.net-2.ensures ∙ ap (λ (one : Route). one.net) same) in
     let ready = c.max.ensures ∙ ap (λ (moment : ℕ). max moment c.args.start) usable in
-    same_sent c.args.board.now c.index-routes-number.result route c.args.number c.max.result _ c.args.draft.now c.send.new.draft same ready sent) c.send.ensures
+    same_sent given.board.now here route c.args.number c.max.result _ c.args.draft.now c.send.new.draft same ready sent) c.send.ensures

@@ -7,9 +7,9 @@ use Rattle.vw_phase.proofs.planning.period_of.Goals as goal
 
 pub loop-number-preserved : goal.loop-number-preserved
 loop-number-preserved c =
-    let flat = c.args.ordered.now.flat in
+    let flat = c.args.given.now.ordered.now.flat in
     let draft = c.args.draft.now in
     let place = c.loop-number.number in
     let cells : c.cells-cell-items.result.now ≡ flat.cells = c.cells-cell-items.ensures ∙ ap (λ (f : Flat). f.cells) c.flat.ensures in
     let within : place < length flat.cells = omega (arith, ap length cells, c.loop-number-test.true) in
-    latest_step (latch_moment flat c.args.board.now c.args.chip_of.now c.args.routes.now draft.hops.items draft.leads.items) c.loop-number.period c.latch_moment-moment.result c.max-period-in-loop-number.result _ flat.cells place c.cell-item.result within (c.cell-item.is ∙ ap (λ (list : List Cell). get_or list place c.cell-item.result) cells) c.latch_moment-moment.ensures c.max-period-in-loop-number.ensures c.loop-number.invariant
+    latest_step (latch_moment flat c.args.given.now.board.now c.args.given.now.chip_of.now c.args.given.now.routes.now draft.hops.items draft.leads.items) c.loop-number.period c.latch_moment-moment.result c.max-period-in-loop-number.result _ flat.cells place c.cell-item.result within (c.cell-item.is ∙ ap (λ (list : List Cell). get_or list place c.cell-item.result) cells) c.latch_moment-moment.ensures c.max-period-in-loop-number.ensures c.loop-number.invariant

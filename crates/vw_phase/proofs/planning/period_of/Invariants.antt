@@ -5,6 +5,6 @@ use Rattle.vw_phase.proofs.planning.period_of.Given as goal
 
 abbrev pub invariant-loop-number : goal.invariant-loop-number
 invariant-loop-number l =
-    let flat = l.ordered.flat in
-    let moment_of = latch_moment flat l.board l.chip_of l.routes l.draft.hops.items l.draft.leads.items in
+    let flat = l.given.ordered.now.flat in
+    let moment_of = latch_moment flat l.given.board.now l.given.chip_of.now l.given.routes.now l.draft.hops.items l.draft.leads.items in
     max l.period (latest moment_of l.number (drop l.number flat.cells)) ≡ max (max l.draft.after 1) (latest moment_of 0 flat.cells)
