@@ -18,7 +18,8 @@ use vw_outside::Name;
 /// them is empty.
 fn sides(word: &[u8]) -> Option<(&[u8], &[u8])>
     ensures { MatchOption result (is_no_bind word.now ≡ true)
-        (λ sides. (is_no_bind word.now ≡ false) × (sides.0.now ≡ formal_of word.now) × (sides.1.now ≡ actual_of word.now)) }
+        (λ sides. (is_no_bind word.now ≡ false) × (sides.0.now ≡ formal_of word.now)
+        × (sides.1.now ≡ actual_of word.now)) }
 {
     let Some(cut) = word.find_byte(b'=') else {
         return None;

@@ -16,8 +16,10 @@ const TEXT_LIMIT: usize = 16_777_216;
 
 /// Reads the design that a text spells, or says what is wrong with the text: the fault of the first line at fault.
 pub fn read(alloc: Global, text: &[u8]) -> Result<Design, TextFault>
-    ensures design { IfOk result (λ design. design_of text.now ≡ Ok (map spelled_model design.models)) }
-    ensures fault { IfErr result (λ fault. is_text_fault fault ≡ true → design_of text.now ≡ Err fault) }
+    ensures design { IfOk result
+        (λ design. design_of text.now ≡ Ok (map spelled_model design.models)) }
+    ensures fault { IfErr result
+        (λ fault. is_text_fault fault ≡ true → design_of text.now ≡ Err fault) }
 {
     if text.len() > TEXT_LIMIT {
         return Err(TextFault::TooLarge);

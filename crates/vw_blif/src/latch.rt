@@ -114,7 +114,8 @@ pub fn latch_of(alloc: Global, line: u64, words: &[Name]) -> Result<Item, TextFa
     requires few { length words.now ≤ 5 }
     requires some { 1 < length words.now }
     ensures item { IfOk result (λ item. spelled_item item ≡ latch_of line words.now) }
-    ensures fine { IfOk result (λ _. (has_bad_type words.now ≡ false) × (has_bad_init words.now ≡ false)) }
+    ensures fine { IfOk result
+        (λ _. (has_bad_type words.now ≡ false) × (has_bad_init words.now ≡ false)) }
     ensures fault { IfErr result (SaysLatch line words.now) }
 {
     let [d, q, rest @ ..] = words else {

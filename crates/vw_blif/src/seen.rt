@@ -30,7 +30,8 @@ impl<'a> Seen<'a> {
     pub fn insert(&mut self, word: &'a [u8]) -> Result<bool, AllocError>
         ensures is_new { IfOk result (λ is_new. is_new ≡ not (has_seen self.old.words word.now)) }
         ensures words { OnOk result ((other : List ℕ)
-            → has_seen self.new.words other ≡ (bytes_eq word.now other || has_seen self.old.words other)) }
+            → has_seen self.new.words other
+            ≡ (bytes_eq word.now other || has_seen self.old.words other)) }
     {
         let old = self.words.insert(word, ())?;
         Ok(old.is_none())
@@ -40,7 +41,8 @@ impl<'a> Seen<'a> {
     pub fn keep(&mut self, arena: &'a Bump, word: &[u8]) -> Result<bool, AllocError>
         ensures is_new { IfOk result (λ is_new. is_new ≡ not (has_seen self.old.words word.now)) }
         ensures words { OnOk result ((other : List ℕ)
-            → has_seen self.new.words other ≡ (bytes_eq word.now other || has_seen self.old.words other)) }
+            → has_seen self.new.words other
+            ≡ (bytes_eq word.now other || has_seen self.old.words other)) }
     {
         let kept = arena.try_alloc_slice_copy(word)?;
         self.insert(kept)

@@ -38,7 +38,8 @@ fn hop_fault(
     plan: &Plan,
 ) -> Result<Option<PlanFault>, AllocError>
     requires each { length plan.now.chip_of ≡ length ordered.now.flat.cells }
-    requires nets { All (λ wire. wire.net < ordered.now.flat.inputs + length ordered.now.flat.cells) plan.now.wires }
+    requires nets { All (λ wire. wire.net
+        < ordered.now.flat.inputs + length ordered.now.flat.cells) plan.now.wires }
     ensures { IfOk result (λ found. found
         ≡ hop_fault (setting_of ordered.now board.now plan.now)) }
 {
@@ -62,7 +63,8 @@ fn moment_fault(
     wires: &PairTable,
 ) -> Result<Option<PlanFault>, AllocError>
     requires each { length plan.now.chip_of ≡ length ordered.now.flat.cells }
-    requires nets { All (λ wire. wire.net < ordered.now.flat.inputs + length ordered.now.flat.cells) plan.now.wires }
+    requires nets { All (λ wire. wire.net
+        < ordered.now.flat.inputs + length ordered.now.flat.cells) plan.now.wires }
     requires wires { HasPairs (wire_pairs plan.now.wires) wires.now.places }
     ensures { IfOk result (λ found. found
         ≡ moment_fault (setting_of ordered.now board.now plan.now)) }

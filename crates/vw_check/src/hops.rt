@@ -137,7 +137,8 @@ pub fn first_breaking(
     links: &PairTable,
 ) -> Option<PlanFault>
     requires each { length plan.now.chip_of ≡ length ordered.now.flat.cells }
-    requires nets { All (λ wire. wire.net < ordered.now.flat.inputs + length ordered.now.flat.cells) plan.now.wires }
+    requires nets { All (λ wire. wire.net
+        < ordered.now.flat.inputs + length ordered.now.flat.cells) plan.now.wires }
     requires links { HasPairs (link_pairs board.now.links) links.now.places }
     ensures { result ≡ first_breaking rule (setting_of ordered.now board.now plan.now) }
 {
@@ -181,7 +182,8 @@ pub fn broken_route(
     links: &PairTable,
 ) -> Option<PlanFault>
     requires each { length plan.now.chip_of ≡ length ordered.now.flat.cells }
-    requires nets { All (λ wire. wire.net < ordered.now.flat.inputs + length ordered.now.flat.cells) plan.now.wires }
+    requires nets { All (λ wire. wire.net
+        < ordered.now.flat.inputs + length ordered.now.flat.cells) plan.now.wires }
     requires links { HasPairs (link_pairs board.now.links) links.now.places }
     ensures { result ≡ broken_route (setting_of ordered.now board.now plan.now) }
 {

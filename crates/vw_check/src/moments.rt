@@ -59,7 +59,8 @@ fn lead_at(
     requires nets { length leads.now ≡ ordered.now.flat.inputs + length ordered.now.flat.cells }
     requires low { All (λ lead. lead ≤ 2 ^ 62 + 1) leads.now }
     requires wires { HasPairs (wire_pairs plan.now.wires) wires.now.places }
-    ensures value { result ≡ lead_by (setting_of ordered.now board.now plan.now) leads.now node net }
+    ensures value { result
+        ≡ lead_by (setting_of ordered.now board.now plan.now) leads.now node net }
     ensures few { result ≤ 2 ^ 62 + 1 }
 {
     if node_of(ordered.flat(), plan.chip_of(), net) == node {
@@ -79,11 +80,13 @@ fn greatest_lead(
     nets: &[u32],
 ) -> u64
     requires each { length plan.now.chip_of ≡ length ordered.now.flat.cells }
-    requires within { All (λ net. net < ordered.now.flat.inputs + length ordered.now.flat.cells) nets.now }
+    requires within { All
+        (λ net. net < ordered.now.flat.inputs + length ordered.now.flat.cells) nets.now }
     requires nets { length leads.now ≡ ordered.now.flat.inputs + length ordered.now.flat.cells }
     requires low { All (λ lead. lead ≤ 2 ^ 62 + 1) leads.now }
     requires wires { HasPairs (wire_pairs plan.now.wires) wires.now.places }
-    ensures value { result ≡ greatest (map (lead_by (setting_of ordered.now board.now plan.now) leads.now node) nets.now) }
+    ensures value { result ≡ greatest (map (lead_by
+        (setting_of ordered.now board.now plan.now) leads.now node) nets.now) }
     ensures few { result ≤ 2 ^ 62 + 1 }
 {
     let mut greatest = 0;
@@ -111,7 +114,8 @@ fn lead_of_cell(
     requires low { All (λ lead. lead ≤ 2 ^ 62 + 1) leads.now }
     requires wires { HasPairs (wire_pairs plan.now.wires) wires.now.places }
     ensures value { result ≡ driven_lead
-        (lead_by (setting_of ordered.now board.now plan.now) leads.now (slice_index plan.now.chip_of number))
+        (lead_by (setting_of ordered.now board.now plan.now) leads.now
+        (slice_index plan.now.chip_of number))
         (slice_get ordered.now.flat.cells number) }
     ensures few { result ≤ 2 ^ 62 + 1 }
 {
@@ -134,7 +138,8 @@ pub fn home_leads(
 ) -> Result<Vec<u64>, AllocError>
     requires each { length plan.now.chip_of ≡ length ordered.now.flat.cells }
     requires wires { HasPairs (wire_pairs plan.now.wires) wires.now.places }
-    ensures { IfOk result (λ leads. AreLeads (setting_of ordered.now board.now plan.now) leads.items) }
+    ensures { IfOk result
+        (λ leads. AreLeads (setting_of ordered.now board.now plan.now) leads.items) }
 {
     leads_settle();
     let flat = ordered.flat();
@@ -196,7 +201,8 @@ pub fn too_early(
     leads: &[u64],
 ) -> Option<PlanFault>
     requires each { length plan.now.chip_of ≡ length ordered.now.flat.cells }
-    requires nets { All (λ wire. wire.net < ordered.now.flat.inputs + length ordered.now.flat.cells) plan.now.wires }
+    requires nets { All (λ wire. wire.net
+        < ordered.now.flat.inputs + length ordered.now.flat.cells) plan.now.wires }
     requires leads { AreLeads (setting_of ordered.now board.now plan.now) leads.now }
     requires wires { HasPairs (wire_pairs plan.now.wires) wires.now.places }
     ensures { result ≡ too_early (setting_of ordered.now board.now plan.now) }

@@ -22,7 +22,8 @@ impl Model for Firsts {
 
     ghost Value = { List First };
 
-    ghost view = { λ firsts. map (λ entry. record { name = entry.0.items; claim = entry.1 }) firsts.claims.entries };
+    ghost view = { λ firsts. map
+        (λ entry. record { name = entry.0.items; claim = entry.1 }) firsts.claims.entries };
 
     ghost invariant = { λ firsts. length firsts.claims.entries ≤ 2 ^ 32 };
 }

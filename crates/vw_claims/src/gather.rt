@@ -108,7 +108,8 @@ impl ModelClaims {
     ) -> Result<(), AllocError>
         requires { IfSome target (λ model. model < length outputs.now) }
         ensures { OnOk result (self.new
-            ≡ with_all item (binds_made (outputs_at outputs.now target) place 0 binds.now) self.old) }
+            ≡ with_all item (binds_made
+            (outputs_at outputs.now target) place 0 binds.now) self.old) }
     {
         match target {
             Some(model) => self.add_binds(alloc, item, place, binds, &outputs[model as usize]),

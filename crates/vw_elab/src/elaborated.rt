@@ -52,7 +52,8 @@ impl Model for Elaborated {
 
     ghost view = { λ elaborated. elaborated.design };
 
-    ghost invariant = { λ elaborated. IsElaborated elaborated.design elaborated.parts elaborated.columns };
+    ghost invariant = { λ elaborated.
+        IsElaborated elaborated.design elaborated.parts elaborated.columns };
 }
 
 /// What drives a net, by the columns of ports.

@@ -32,7 +32,8 @@ fn order_of_models(
 ) -> Result<Sequence<u32>, DesignFault>
     requires targets { AreTargets design.now targets.now }
     requires marks { AreMarks design.now marks.now }
-    ensures order { Judges design.now (λ order. IsModelOrder design.now order × HasModels design.now) result }
+    ensures order { Judges design.now
+        (λ order. IsModelOrder design.now order × HasModels design.now) result }
 {
     if let Some(line) = unknown_model(design, targets, marks) {
         return Err(DesignFault::UnknownModel(line));

@@ -33,7 +33,8 @@ fn numbers_read(
     requires { length (numbers_at elaborated.now (slice_get (cells elaborated.now) cell)) ≡ count }
     ensures numbers { IfOk result (λ numbers. map (λ number. Some number) numbers.items
         ≡ numbers_at elaborated.now (slice_get (cells elaborated.now) cell)) }
-    ensures fit { IfOk result (λ numbers. All (λ number. number < nets elaborated.now) numbers.items) }
+    ensures fit { IfOk result
+        (λ numbers. All (λ number. number < nets elaborated.now) numbers.items) }
 {
     let mut numbers = Vec::with_capacity(alloc, count as usize)?;
     for input in 0..count {

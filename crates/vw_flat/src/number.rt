@@ -24,7 +24,8 @@ fn number(columns: u32, driver: Option<Driver>) -> u32
 /// only one.
 pub fn number_read(elaborated: &Elaborated, cell: u32, input: u32) -> u32
     requires { input < length (numbers_at elaborated.now (slice_get (cells elaborated.now) cell)) }
-    ensures number { slice_get (numbers_at elaborated.now (slice_get (cells elaborated.now) cell)) input
+    ensures number { slice_get (numbers_at elaborated.now (slice_get
+        (cells elaborated.now) cell)) input
         ≡ Some (Some result) }
     ensures fits { result < nets elaborated.now }
 {

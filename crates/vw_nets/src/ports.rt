@@ -42,7 +42,8 @@ impl<'a> Nets<'a> {
         ensures { (path : Path) (item : Item)
             → slice_get (instances self.now.design.now) cell.instance ≡ Some path
             → item_at self.now.design.now path cell.item ≡ Some item
-            → map (number_named (root_firsts self.now.tables.now)) (ports_of self.now.design.now path item)
+            → map (number_named (root_firsts self.now.tables.now))
+            (ports_of self.now.design.now path item)
             ≡ map (λ (number : ℕ). Some number) (option_to_list result) }
     {
         let item = self.item_of(cell)?;

@@ -91,7 +91,8 @@ impl<'a> Nets<'a> {
         requires nets { AreNets self.now }
         requires marks { HasMarks self.now.design.now (root_firsts self.now.tables.now) wanted.now }
         ensures { (path : Path) → slice_get (instances self.now.design.now) instance ≡ Some path
-            → AreNumbersOf (instance_firsts self.now.tables.now instance) (reads_of item.now) numbers.now
+            → AreNumbersOf (instance_firsts self.now.tables.now instance)
+            (reads_of item.now) numbers.now
             → lent result ≡ wanted_among self.now.design.now wanted.now path (data_of item.now) }
     {
         match item {
@@ -112,8 +113,10 @@ impl<'a> Nets<'a> {
         requires nets { AreNets self.now }
         requires marks { HasMarks self.now.design.now (root_firsts self.now.tables.now) wanted.now }
         ensures { (path : Path) → slice_get (instances self.now.design.now) instance ≡ Some path
-            → AreNumbersOf (instance_firsts self.now.tables.now instance) (reads_of item.now) numbers.now
-            → lent result ≡ wanted_among self.now.design.now wanted.now path (controls_of item.now) }
+            → AreNumbersOf (instance_firsts self.now.tables.now instance)
+            (reads_of item.now) numbers.now
+            → lent result
+            ≡ wanted_among self.now.design.now wanted.now path (controls_of item.now) }
     {
         match control_of(item) {
             Some(control) => self.only(instance, control, number_at(numbers, 1), wanted),
@@ -132,7 +135,8 @@ impl<'a> Nets<'a> {
         requires nets { AreNets self.now }
         requires marks { HasMarks self.now.design.now (root_firsts self.now.tables.now) wanted.now }
         ensures { (path : Path) → slice_get (instances self.now.design.now) instance ≡ Some path
-            → AreNumbersOf (instance_firsts self.now.tables.now instance) (reads_of item.now) numbers.now
+            → AreNumbersOf (instance_firsts self.now.tables.now instance)
+            (reads_of item.now) numbers.now
             → lent result
             ≡ wanted_among self.now.design.now wanted.now path (wanted_names wanted.now item.now) }
     {
@@ -153,7 +157,8 @@ impl<'a> Nets<'a> {
         ensures { (path : Path) (item : Item)
             → slice_get (instances self.now.design.now) cell.instance ≡ Some path
             → item_at self.now.design.now path cell.item ≡ Some item
-            → lent result ≡ wanted_among self.now.design.now wanted.now path (wanted_names wanted.now item) }
+            → lent result
+            ≡ wanted_among self.now.design.now wanted.now path (wanted_names wanted.now item) }
     {
         let item = self.item_of(cell)?;
         let numbers = self.numbers_of(cell)?;

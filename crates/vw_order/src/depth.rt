@@ -54,7 +54,8 @@ impl Depth {
     /// The gate that drives a net, where it isn't done.
     fn undone(&self, flat: &Flat, net: u32) -> Option<u32>
         requires { vec_len self.now.marks ≡ length flat.now.cells }
-        ensures { result ≡ undone self.now.marks.items (gate_of flat.now.inputs flat.now.cells net) }
+        ensures { result
+            ≡ undone self.now.marks.items (gate_of flat.now.inputs flat.now.cells net) }
     {
         let number = gate_of(flat, net)?;
         match self.marks[number as usize] {

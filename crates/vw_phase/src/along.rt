@@ -24,8 +24,10 @@ pub fn send_along(
     requires widths { table.old.widths ≡ map (λ link. link.width) given.now.board.now.links }
     requires few { length table.old.taken + length further.now < 2 ^ 30 }
     requires early { ready ≤ 2 ^ 61 }
-    ensures soon { IfOk result (λ hops. All (λ hop. hop.at + 1 ≤ ready + length further.now * 2 ^ 30) hops.items) }
-    ensures ok { IfOk result (λ hops. AreSent given.now.board.now table.old.taken ready (steps_of (first ∷ further.now)) hops.items
+    ensures soon { IfOk result
+        (λ hops. All (λ hop. hop.at + 1 ≤ ready + length further.now * 2 ^ 30) hops.items) }
+    ensures ok { IfOk result (λ hops. AreSent given.now.board.now table.old.taken ready (steps_of
+        (first ∷ further.now)) hops.items
         × (table.new.taken ≡ table.old.taken ++ map (taken_by given.now.board.now) hops.items)
         × (table.new.widths ≡ table.old.widths)) }
 {

@@ -35,12 +35,14 @@ pub fn send(
     ready: u64,
 ) -> Result<(), AllocError>
     requires number { number < length draft.old.hops.items }
-    requires first { (first : ℕ) → (further : List ℕ) → route.now.nodes ≡ first ∷ further → AreLinked given.now.board.now.links first further }
+    requires first { (first : ℕ) → (further : List ℕ) → route.now.nodes ≡ first ∷ further
+        → AreLinked given.now.board.now.links first further }
     requires widths { draft.old.table.widths ≡ map (λ link. link.width) given.now.board.now.links }
     requires few { length draft.old.table.taken + length (steps_of route.now.nodes) < 2 ^ 30 }
     requires early { ready ≤ 2 ^ 61 }
     requires none { slice_index_or draft.old.hops.items number [] ≡ [] }
-    ensures { OnOk result (IsSentMore given.now.board.now route.now number ready draft.old draft.new) }
+    ensures { OnOk result
+        (IsSentMore given.now.board.now route.now number ready draft.old draft.new) }
 {
     if let Some((first, further)) = route.nodes().split_first() {
         let hops = send_along(alloc, given, &mut draft.table, *first, further, ready)?;

@@ -56,7 +56,8 @@ fn carry_out(
     start: u64,
 ) -> Result<(), AllocError>
     requires { IsReadyFor given.now task.now.sends task.now.place start draft.old }
-    ensures { OnOk result (DoesFor given.now task.now.sends task.now.place start draft.old draft.new) }
+    ensures { OnOk result
+        (DoesFor given.now task.now.sends task.now.place start draft.old draft.new) }
 {
     if task.sends {
         return send_route(alloc, given, draft, task.place, start);
@@ -95,7 +96,8 @@ fn begin(goes_on: bool, start: u64, after: u64) -> u64
 /// The leads of all nets, and the hops of all routes.
 pub fn drafted(alloc: Global, given: &Given) -> Result<Draft, AllocError>
     requires chips { All (IsChip given.now.board.now) given.now.chip_of.now }
-    requires routes { AreRoutes given.now.ordered.now.flat given.now.board.now given.now.chip_of.now given.now.routes.now }
+    requires routes { AreRoutes given.now.ordered.now.flat given.now.board.now given.now.chip_of.now
+        given.now.routes.now }
     requires few { length given.now.routes.now < 2 ^ 32 }
     ensures { IfOk result (IsDoneFor given.now) }
 {

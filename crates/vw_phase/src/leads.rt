@@ -26,7 +26,8 @@ pub fn after_last(board: &Board, hops: &[Hop]) -> u64
 fn arrival(given: &Given, hops: &[Sequence<Hop>], node: u32, net: u32) -> u64
     requires hops { length hops.now ≡ length given.now.routes.now }
     requires early { All (All (λ hop. hop.at ≤ 2 ^ 61)) hops.now }
-    ensures { result ≡ after_last given.now.board.now (hops_to given.now.routes.now hops.now node net) }
+    ensures { result
+        ≡ after_last given.now.board.now (hops_to given.now.routes.now hops.now node net) }
 {
     match given.places.first(net, node) {
         Some(place) => after_last(given.board, hops[place].as_slice()),

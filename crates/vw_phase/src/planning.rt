@@ -97,10 +97,13 @@ fn plan_parts(
     requires routes { AreRoutes ordered.now.flat board.now chip_of.now routes.now }
     requires few { length routes.now < 2 ^ 32 }
     ensures few_wires { IfOk result (λ parts. length parts.0.items < 2 ^ 32) }
-    ensures few_hops { IfOk result (λ parts. sum_by (λ wire. length wire.hops) parts.0.items < 2 ^ 30) }
-    ensures early { IfOk result (λ parts. All (λ wire. All (λ hop. hop.at ≤ 2 ^ 62) wire.hops) parts.0.items) }
+    ensures few_hops { IfOk result
+        (λ parts. sum_by (λ wire. length wire.hops) parts.0.items < 2 ^ 30) }
+    ensures early { IfOk result
+        (λ parts. All (λ wire. All (λ hop. hop.at ≤ 2 ^ 62) wire.hops) parts.0.items) }
     ensures short { IfOk result (λ parts. parts.1 ≤ 2 ^ 62) }
-    ensures schedule { IfOk result (λ parts. (plan : Plan) → plan.chip_of ≡ chip_of.now → plan.wires ≡ parts.0.items
+    ensures schedule { IfOk result
+        (λ parts. (plan : Plan) → plan.chip_of ≡ chip_of.now → plan.wires ≡ parts.0.items
         → plan.period ≡ parts.1 → IsSchedule ordered.now board.now chip_of.now routes.now plan) }
 {
     leads_settle();
@@ -137,7 +140,8 @@ pub fn schedule(
     requires room { (chip : ℕ) → cells_on chip_of chip ≤ board.now.cells }
     requires routes { AreRoutes ordered.now.flat board.now chip_of routes }
     ensures schedule { IfOk result (IsSchedule ordered.now board.now chip_of routes) }
-    ensures refused { IfErr result (λ refused. (refused.chip_of ≡ chip_of) × (refused.routes ≡ routes)) }
+    ensures refused { IfErr result
+        (λ refused. (refused.chip_of ≡ chip_of) × (refused.routes ≡ routes)) }
 {
     needed_pairs_are_needed();
     match plan_parts(alloc, ordered, board, chip_of.as_slice(), routes.as_slice()) {

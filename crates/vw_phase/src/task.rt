@@ -32,7 +32,8 @@ fn depth_in(depths: &[u32], net: u32) -> u32
 /// Lists the task of each gate.
 fn list_leads(ordered: &Ordered, depths: &[u32], tasks: &mut Vec<Task>) -> Result<(), AllocError>
     ensures { OnOk result (tasks.new.items ≡ tasks.old.items
-        ++ tasks_from (λ number. slice_index depths.now (ordered.now.flat.inputs + number)) false 0 ordered.now.order) }
+        ++ tasks_from (λ number. slice_index depths.now
+        (ordered.now.flat.inputs + number)) false 0 ordered.now.order) }
 {
     let inputs = ordered.flat().inputs();
     for (place, number) in ordered.order().iter().enumerate() {
@@ -70,7 +71,8 @@ pub fn tasks_in_order(
 ) -> Result<Vec<Task>, AllocError>
     requires { length routes.now < 2 ^ 32 }
     ensures { IfOk result (λ tasks.
-        IsPermutation (all_tasks ordered.now chip_of.now routes.now) tasks.items × AreRising tasks.items) }
+        IsPermutation (all_tasks ordered.now chip_of.now routes.now) tasks.items
+        × AreRising tasks.items) }
 {
     let depths = depth_table(alloc, ordered, chip_of)?;
     let mut tasks = Vec::with_capacity(alloc, ordered.order().len() + routes.len())?;

@@ -111,7 +111,8 @@ fn row_of_word(alloc: Global, word: &[u8], width: u32, number: u64) -> Result<As
 /// What `hold` and a number ask for.
 fn hold_of_words(verb: &[u8], count: &[u8], number: u64) -> Result<Asked, StimFault>
     ensures hold { (before : List Bool) →
-        Answers (repeated number before (held_times verb.now count.now)) (rows_asked before) result }
+        Answers (repeated number before (held_times verb.now count.now))
+        (rows_asked before) result }
     ensures fits { (width : ℕ) → IfOk result (FitsRun width) }
     ensures reads_nothing { result ≢ Err StimFault.ReadFault }
 {

@@ -21,7 +21,8 @@ fn add_asked(alloc: Global, rows: &mut RowRuns, asked: Asked, width: u32) -> Res
     requires fits { FitsRun width asked }
     requires widths { All (λ row. length row ≡ width) rows.old }
     requires clocks { length rows.old ≤ 4294967295 }
-    ensures rows { AnswersNew (joined_rows rows.old (Ok (rows_asked (row_before width rows.old) asked)))
+    ensures rows { AnswersNew (joined_rows rows.old (Ok (rows_asked
+        (row_before width rows.old) asked)))
         rows.new result }
     ensures widths { OnOk result (All (λ row. length row ≡ width) rows.new) }
     ensures clocks { OnOk result (length rows.new ≤ 4294967295) }

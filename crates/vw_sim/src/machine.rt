@@ -48,7 +48,8 @@ impl<'a> Model for Machine<'a> {
 
     ghost view = { λ machine. machine.ordered.now };
 
-    ghost invariant = { λ machine. IsReady machine.ordered.now machine.gates.items machine.reads.items
+    ghost invariant = { λ machine.
+        IsReady machine.ordered.now machine.gates.items machine.reads.items
         machine.latches.items machine.taken.items };
 }
 

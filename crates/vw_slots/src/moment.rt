@@ -52,7 +52,8 @@ pub fn first_free(moments: &Moments, widths: &[u32], link: u32, not_before: u64)
 fn set_next(moments: &mut Moments, link: u32, at: u64, next: u64) -> u64
     requires { IsSome (moment_at moments.old link at) }
     ensures next { result ≡ next_at moments.old link at }
-    ensures used { (one : ℕ) (other : ℕ) → used_at moments.new one other ≡ used_at moments.old one other }
+    ensures used { (one : ℕ) (other : ℕ)
+        → used_at moments.new one other ≡ used_at moments.old one other }
     ensures nexts { (one : ℕ) (other : ℕ) → next_at moments.new one other ≡
         (if link == one && at == other then next else next_at moments.old one other) }
     ensures spare { spare moments.new ≡ spare moments.old }
@@ -70,7 +71,8 @@ pub fn shorten(moments: &mut Moments, widths: &[u32], link: u32, from: u64, to: 
     requires wide { AreWide widths.now }
     requires chained { IsChained widths.now moments.old }
     requires busy { AreBusy widths.now moments.old link from to }
-    ensures used { (one : ℕ) (other : ℕ) → used_at moments.new one other ≡ used_at moments.old one other }
+    ensures used { (one : ℕ) (other : ℕ)
+        → used_at moments.new one other ≡ used_at moments.old one other }
     ensures chained { IsChained widths.now moments.new }
     ensures spare { spare moments.new ≡ spare moments.old }
 {
@@ -102,8 +104,10 @@ pub fn take_pin(moments: &mut Moments, link: u32, at: u64) -> u32
     requires early { at < 2 ^ 62 }
     ensures pin { result ≡ used_at moments.old link at }
     ensures used { (one : ℕ) (other : ℕ) → used_at moments.new one other ≡
-        (if link == one && at == other then used_at moments.old link at + 1 else used_at moments.old one other) }
-    ensures nexts { (one : ℕ) (other : ℕ) → next_at moments.new one other ≡ next_at moments.old one other }
+        (if link == one && at == other then used_at moments.old link at + 1
+        else used_at moments.old one other) }
+    ensures nexts { (one : ℕ) (other : ℕ)
+        → next_at moments.new one other ≡ next_at moments.old one other }
     ensures spare { spare moments.old ≤ spare moments.new + 1 }
 {
     let mut moment = moment_of(moments, link, at);

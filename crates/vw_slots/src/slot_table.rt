@@ -34,7 +34,8 @@ impl Model for SlotTable {
 
     ghost view = { λ t. record { widths = t.widths; taken = t.taken.items; spare = t.spare } };
 
-    ghost invariant = { λ t. IsTable t.widths t.taken.items (vec_capacity t.taken) t.moments t.spare };
+    ghost invariant = { λ t. IsTable t.widths t.taken.items
+        (vec_capacity t.taken) t.moments t.spare };
 }
 
 impl SlotTable {

@@ -59,7 +59,8 @@ fn run_machine<O: Sink>(
     out: &mut O,
 ) -> Result<(), Stop>
     requires { All (λ row. length row ≡ machine.now.flat.inputs) rows.now }
-    ensures { WritesOut (flat_trace unknown machine.now.flat rows.now) (O.seen out.old) (O.seen out.new)
+    ensures { WritesOut (flat_trace unknown machine.now.flat rows.now) (O.seen out.old)
+        (O.seen out.new)
         result }
 {
     let flat = machine.flat();
@@ -85,7 +86,8 @@ pub fn write_trace<O: Sink>(
     out: &mut O,
 ) -> Result<(), Stop>
     requires { All (λ row. length row ≡ ordered.now.flat.inputs) rows.now }
-    ensures { WritesOut (flat_trace unknown ordered.now.flat rows.now) (O.seen out.old) (O.seen out.new)
+    ensures { WritesOut (flat_trace unknown ordered.now.flat rows.now) (O.seen out.old)
+        (O.seen out.new)
         result }
 {
     let machine = Machine::make(alloc, ordered)?;

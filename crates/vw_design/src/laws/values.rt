@@ -29,7 +29,8 @@ pub fn values_agree()
         → level_value level flat row state net ≡ path_level level design row state path name }
     ensures values { (design : Design) (flat : Flat) → IsFlatOf design flat
         → (row state : List Bool) (path : Path) (name : Word) (net : ℕ)
-        → number_of design path name ≡ Some net → net_value flat row state net ≡ path_value design row state path name }
+        → number_of design path name ≡ Some net
+        → net_value flat row state net ≡ path_value design row state path name }
 {}
 
 /// The history of a design's netlist, from the start values of its latches, is the history of the design by its paths,
