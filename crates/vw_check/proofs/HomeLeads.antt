@@ -10,7 +10,7 @@ use Rattle.std.proofs.lemmas.List.Sums.{AllPass-from_list_all}
 use Rattle.vw_net.specs.declared.cell.Cell.{Cell}
 use Rattle.vw_net.specs.declared.cell.Cell.TheVariants.{Gate, Latch}
 use Rattle.vw_net.specs.Order.{is_among, is_gate, is_latch, is_ready, read_nets_at}
-use Rattle.vw_net.proofs.Orders.{gate_within, gate_or_latch}
+use Rattle.vw_net.proofs.Ready.{order_within, ready_before, all_ready}
 use Rattle.vw_plan.proofs.Leads.{map_agree}
 use Rattle.vw_plan.specs.Lead.{brought_at, driven_lead, greatest, lead}
 use Rattle.vw_plan.specs.Nets.{driver}
@@ -50,37 +50,6 @@ module _ (setting : Setting) where
 
   abbrev order : List ℕ
   order = setting.ordered.order
-
-  order_gate : (place : ℕ) → place < length order → is_gate (slice_get cells (get_or order place 0)) ≡ true
-  order_gate place within =
-      let number = get_or order place 0 in
-      setting.ordered.is_order.each number ∙ list_any_at (λ other. eqb other number) order place 0 within (eq-eqb number number refl)
-
-  -- the number at a place of the order is below the number of cells
-  pub order_within : (place : ℕ) → place < length order → get_or order place 0 < length cells
-  order_within place within = gate_within cells (get_or order place 0) (order_gate place within)
-
-  -- a net that is ready when one more gate is done is ready before, or it is the gate's
-  ready_before : (place net : ℕ) → place < length order → (net ≡ inputs + get_or order place 0 → ⊥) → is_ready inputs cells (take (place + 1) order) net ≡ true → is_ready inputs cells (take place order) net ≡ true
-  ready_before place net within not_its ready =
-      let number = net - inputs in
-      let latch = is_latch (slice_get cells number) in
-      let if_input = λ (input : net < inputs). or_left (nat_lt net inputs) (latch || is_among (take place order) number) (lt-ltb net inputs input) in
-      let if_driven = λ (past : inputs ≤ net).
-      let not_here : eqb (get_or order place 0) number ≡ false = ne_eqb (get_or order place 0) number (λ same. not_its (omega arith)) in
-      let no_more : is_among (take (place + 1) order) number ≡ is_among (take place order) number =
-      list_any_more (λ other. eqb other number) order place 0 within ∙ ap (λ (here : Bool). is_among (take place order) number || here) not_here ∙ or-false (is_among (take place order) number) in
-      ap (λ (among : Bool). nat_lt net inputs || (latch || among)) (sym no_more) ∙ ready in
-      ⊎_elim if_input if_driven (cases_lt net inputs)
-
-  -- every net is ready when the whole order is done
-  all_ready : (net : ℕ) → net < inputs + length cells → is_ready inputs cells order net ≡ true
-  all_ready net within =
-      let number = net - inputs in
-      let latch = is_latch (slice_get cells number) in
-      let if_input = λ (input : net < inputs). or_left (nat_lt net inputs) (latch || is_among order number) (lt-ltb net inputs input) in
-      let if_driven = λ (past : inputs ≤ net). or_right (nat_lt net inputs) (latch || is_among order number) (ap (λ (gate : Bool). latch || gate) (sym (setting.ordered.is_order.each number)) ∙ gate_or_latch cells number (omega arith)) in
-      ⊎_elim if_input if_driven (cases_lt net inputs)
 
   module _ (settles : Settles setting) where
     abbrev home_lead : ℕ → ℕ
@@ -143,9 +112,9 @@ module _ (setting : Setting) where
     more_right : (place : ℕ) (leads : List ℕ) → place < length order → inputs + length cells ≤ length leads → AreRight (take place order) leads → AreRight (take (place + 1) order) (set leads (here place) (lead_at_place place leads))
     more_right place leads within long right net ready =
         let value = lead_at_place place leads in
-        let inside : here place < length leads = omega (arith, order_within place within) in
+        let inside : here place < length leads = omega (arith, order_within setting.ordered.is_order place within) in
         let if_here = λ (same : net ≡ here place). get_or-set_at leads (here place) net value 0 same inside ∙ gate_right place leads within right ∙ ap home_lead (sym same) in
-        let if_other = λ (other : net ≡ here place → ⊥). get_or-set_other leads (here place) net value 0 other ∙ right net (ready_before place net within other ready) in
+        let if_other = λ (other : net ≡ here place → ⊥). get_or-set_other leads (here place) net value 0 other ∙ right net (ready_before setting.ordered.is_order place net within other ready) in
         ⊎_elim if_here if_other (cases_eq net (here place))
 
     -- what the list keeps: its length, that leads are low, and that what is ready is right
@@ -166,7 +135,7 @@ module _ (setting : Setting) where
     all_leads place leads whole kept = record {
       nets = kept.long;
       low = kept.low;
-      leads_at = λ net within. kept.right net (rw (take_all place order whole) (all_ready net (omega (arith, kept.long))));
+      leads_at = λ net within. kept.right net (rw (take_all place order whole) (all_ready setting.ordered.is_order net (omega (arith, kept.long))));
     }
 
     -- a list of zeros is right before any gate

@@ -21,7 +21,7 @@ use Rattle.vw_phase.specs.Steps.Underway.{AreTasks, IsSentOff, IsUnderway, is_do
 use Rattle.vw_phase.proofs.DoneTasks.{done_at, is_done-more, is_task-true, kind_at, not_done_before}
 use Rattle.vw_phase.proofs.Kept.{AreKept, IsHomeDone, IsSettled, place_kept, ready_kept}
 use Rattle.vw_phase.proofs.Low.{driven_low}
-use Rattle.vw_phase.proofs.Places.{order_within}
+use Rattle.vw_net.proofs.Ready.{order_within}
 use Rattle.vw_phase.proofs.SettledReads.{done_by, home_before, home_later, settled_before, settled_later, shallow_before}
 use Rattle.vw_plan.specs.Needs.{depth}
 
@@ -87,7 +87,7 @@ module _ (ordered : Ordered) (board : Board) (chip_of : List ℕ) (routes : List
     own_not_done = subst (λ (kind : Bool). is_done tasks count kind own ≡ false) leads (are.once count within)
 
     own_inside : own_net < length draft.leads.items
-    own_inside = omega (arith, order_within ordered own own_within, way.fit.nets)
+    own_inside = omega (arith, order_within ordered.is_order own own_within, way.fit.nets)
 
     other_lead : (net : ℕ) → (net ≡ own_net → ⊥) → slice_index new.leads.items net ≡ slice_index draft.leads.items net
     other_lead net apart = ap (λ (list : List ℕ). slice_index list net) has.leads ∙ get_or-set_other draft.leads.items own_net net _ 0 apart

@@ -15,7 +15,7 @@ use Rattle.vw_net.specs.declared.cover.Cover.{Cover}
 use Rattle.vw_net.specs.Cells.{IsWellFormed}
 use Rattle.vw_net.specs.Cover.{cover_value}
 use Rattle.vw_net.specs.Order.{IsOrder, is_gate, is_latch, is_among, is_ready, read_nets_at}
-use Rattle.vw_net.proofs.Orders.{gate_within, gate_or_latch}
+use Rattle.vw_net.proofs.Ready.{order_within, ready_before}
 use Rattle.vw_net.proofs.Levels.{map_agree}
 
 -- a well formed gate reads as many nets as its table has inputs, each of them below this number of nets
@@ -25,44 +25,10 @@ gate_fits nets cells number ins cover fit here =
     rw (get_or_from_slice_get cells number (Gate ins cover) (Gate ins cover) here) at (fit number (Gate ins cover) within)
 
 module _ {inputs : ℕ} {cells : List Cell} {order : List ℕ} (is_order : IsOrder inputs cells order) where
-  -- what the order lists is a gate
-  pub order_gate : (place : ℕ) → place < length order → is_gate (slice_get cells (get_or order place 0)) ≡ true
-  order_gate place within =
-      let number = get_or order place 0 in
-      is_order.each number ∙ list_any_at (λ other. eqb other number) order place 0 within (eq-eqb number number refl)
-
-  -- and so its number is below the number of cells
-  pub order_within : (place : ℕ) → place < length order → get_or order place 0 < length cells
-  order_within place within = gate_within cells (get_or order place 0) (order_gate place within)
-
   -- what is read at the number at a place of the order is the cell of that number
   pub order_cell : (place : ℕ) (items : List ℕ) (list : List Cell) (cell : Cell) → place < length order → items ≡ order → list ≡ cells → cell ≡ get_or list (get_or items place 0) cell → slice_get cells (get_or order place 0) ≡ Some cell
   order_cell place items list cell within same_items same_list is =
-      slice_get_read cells (length cells) (get_or order place 0) cell refl (order_within place within) (is ∙ ap₂ (λ (from : List Cell) (numbers : List ℕ). get_or from (get_or numbers place 0) cell) same_list same_items)
-
-  -- every net is ready when the whole order is done
-  pub all_ready : (net : ℕ) → net < inputs + length cells → is_ready inputs cells order net ≡ true
-  all_ready net within =
-      let number = net - inputs in
-      let latch = is_latch (slice_get cells number) in
-      let if_input = λ (input : net < inputs). or_left (nat_lt net inputs) (latch || is_among order number) (lt-ltb net inputs input) in
-      let if_driven = λ (past : inputs ≤ net). or_right (nat_lt net inputs) (latch || is_among order number) (ap (λ (gate : Bool). latch || gate) (sym (is_order.each number)) ∙ gate_or_latch cells number (omega arith)) in
-      ⊎_elim if_input if_driven (cases_lt net inputs)
-
-  -- one more gate that is done is no other net's
-  is_among-more : (place net : ℕ) → place < length order → inputs ≤ net → (net ≡ inputs + get_or order place 0 → ⊥) → is_among (take (place + 1) order) (net - inputs) ≡ is_among (take place order) (net - inputs)
-  is_among-more place net within past not_its =
-      let number = net - inputs in
-      let not_here : eqb (get_or order place 0) number ≡ false = ne_eqb (get_or order place 0) number (λ same. not_its (omega arith)) in
-      list_any_more (λ other. eqb other number) order place 0 within ∙ ap (λ (here : Bool). is_among (take place order) number || here) not_here ∙ or-false (is_among (take place order) number)
-
-  -- a net that is ready when one more gate is done is ready before, or it is the gate's
-  ready_before : (place net : ℕ) → place < length order → (net ≡ inputs + get_or order place 0 → ⊥) → is_ready inputs cells (take (place + 1) order) net ≡ true → is_ready inputs cells (take place order) net ≡ true
-  ready_before place net within not_its ready =
-      let latch = is_latch (slice_get cells (net - inputs)) in
-      let if_input = λ (input : net < inputs). or_left (nat_lt net inputs) (latch || is_among (take place order) (net - inputs)) (lt-ltb net inputs input) in
-      let if_driven = λ (past : inputs ≤ net). ap (λ (among : Bool). nat_lt net inputs || (latch || among)) (sym (is_among-more place net within past not_its)) ∙ ready in
-      ⊎_elim if_input if_driven (cases_lt net inputs)
+      slice_get_read cells (length cells) (get_or order place 0) cell refl (order_within is_order place within) (is ∙ ap₂ (λ (from : List Cell) (numbers : List ℕ). get_or from (get_or numbers place 0) cell) same_list same_items)
 
   module _ (place : ℕ) (within : place < length order) (ins : List ℕ) (cover : Cover) (here : slice_get cells (get_or order place 0) ≡ Some (Gate ins cover)) where
     -- the nets that the gate at a place reads are ready when those before it are done
@@ -82,5 +48,5 @@ module _ {inputs : ℕ} {cells : List Cell} {order : List ℕ} (is_order : IsOrd
         let bit = cover_value cover (map (λ (at : ℕ). slice_index_or values at false) ins) in
         let inside : inputs + number < length values = omega (arith, slice_get_within cells number (Gate ins cover) here) in
         let if_here = λ (same : net ≡ inputs + number). get_or-set_at values (inputs + number) net bit false same inside ∙ cover_value-gate value (λ at. slice_index_or values at false) its have ∙ ap value (sym same) in
-        let if_other = λ (other : net ≡ inputs + number → ⊥). get_or-set_other values (inputs + number) net bit false other ∙ have net (ready_before place net within other ready) in
+        let if_other = λ (other : net ≡ inputs + number → ⊥). get_or-set_other values (inputs + number) net bit false other ∙ have net (ready_before is_order place net within other ready) in
         ap (λ (all : List Bool). slice_index_or all net false) written ∙ ⊎_elim if_here if_other (cases_eq net (inputs + number))

@@ -11,7 +11,8 @@ use Rattle.vw_net.specs.Word.{place_of}
 use Rattle.vw_net.proofs.Words.{place_of-below}
 use Rattle.vw_sim.specs.declared.machine.GateStep.{GateStep}
 use Rattle.vw_sim.specs.Machine.{step_of, gate_nets, steps_of, reads_of}
-use Rattle.vw_sim.proofs.Gates.{gate_fits, order_gate}
+use Rattle.vw_sim.proofs.Gates.{gate_fits}
+use Rattle.vw_net.proofs.Ready.{order_gate}
 
 module _ (cells : List Cell) (order : List ℕ) (place : ℕ) (within : place < length order) where
   -- one more gate is kept

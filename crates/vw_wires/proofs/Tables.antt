@@ -12,7 +12,7 @@ use Rattle.vw_net.specs.declared.cell.Cell.{Cell}
 use Rattle.vw_net.specs.declared.flat.Flat.{Flat}
 use Rattle.vw_net.specs.declared.ordered.Ordered.{Ordered}
 use Rattle.vw_net.specs.Order.{is_among, is_gate, is_latch, is_ready, read_nets_at}
-use Rattle.vw_net.proofs.Orders.{gate_within, gate_or_latch}
+use Rattle.vw_net.proofs.Ready.{order_within, ready_before, all_ready}
 use Rattle.vw_plan.specs.Needs.{crossing, depth, driven_depth}
 use Rattle.vw_plan.specs.Nets.{driver}
 use Rattle.vw_plan.proofs.Along.{All-gate_reads}
@@ -42,37 +42,6 @@ module _ (ordered : Ordered) where
 
   abbrev order : List ℕ
   order = ordered.order
-
-  -- the number at a place of the order is a gate's, so below the number of cells
-  order_gate : (place : ℕ) → place < length order → is_gate (slice_get cells (get_or order place 0)) ≡ true
-  order_gate place within =
-      let number = get_or order place 0 in
-      ordered.is_order.each number ∙ list_any_at (λ other. eqb other number) order place 0 within (eq-eqb number number refl)
-
-  pub order_within : (place : ℕ) → place < length order → get_or order place 0 < length cells
-  order_within place within = gate_within cells (get_or order place 0) (order_gate place within)
-
-  -- a net that is ready when one more gate is done is ready before, or it is the gate's
-  ready_before : (place net : ℕ) → place < length order → (net ≡ inputs + get_or order place 0 → ⊥) → is_ready inputs cells (take (place + 1) order) net ≡ true → is_ready inputs cells (take place order) net ≡ true
-  ready_before place net within not_its ready =
-      let number = net - inputs in
-      let latch = is_latch (slice_get cells number) in
-      let if_input = λ (input : net < inputs). or_left (nat_lt net inputs) (latch || is_among (take place order) number) (lt-ltb net inputs input) in
-      let if_driven = λ (past : inputs ≤ net).
-      let not_here : eqb (get_or order place 0) number ≡ false = ne_eqb (get_or order place 0) number (λ same. not_its (omega arith)) in
-      let no_more : is_among (take (place + 1) order) number ≡ is_among (take place order) number =
-      list_any_more (λ other. eqb other number) order place 0 within ∙ ap (λ (here : Bool). is_among (take place order) number || here) not_here ∙ or-false (is_among (take place order) number) in
-      ap (λ (among : Bool). nat_lt net inputs || (latch || among)) (sym no_more) ∙ ready in
-      ⊎_elim if_input if_driven (cases_lt net inputs)
-
-  -- every net is ready when the whole order is done
-  all_ready : (net : ℕ) → net < inputs + length cells → is_ready inputs cells order net ≡ true
-  all_ready net within =
-      let number = net - inputs in
-      let latch = is_latch (slice_get cells number) in
-      let if_input = λ (input : net < inputs). or_left (nat_lt net inputs) (latch || is_among order number) (lt-ltb net inputs input) in
-      let if_driven = λ (past : inputs ≤ net). or_right (nat_lt net inputs) (latch || is_among order number) (ap (λ (gate : Bool). latch || gate) (sym (ordered.is_order.each number)) ∙ gate_or_latch cells number (omega arith)) in
-      ⊎_elim if_input if_driven (cases_lt net inputs)
 
   module _ (chip_of : List ℕ) (settles : Settles flat chip_of) where
     -- the depth of a net of a table, as it counts where another one's driver reads it
@@ -108,9 +77,9 @@ module _ (ordered : Ordered) where
     pub more_right : (place : ℕ) (table : List ℕ) → place < length order → inputs + length cells ≤ length table → AreRight (take place order) table → AreRight (take (place + 1) order) (set table (here place) (gate_depth place table))
     more_right place table within long right net ready =
         let value = gate_depth place table in
-        let inside : here place < length table = omega (arith, order_within place within) in
+        let inside : here place < length table = omega (arith, order_within ordered.is_order place within) in
         let if_here = λ (same : net ≡ here place). get_or-set_at table (here place) net value 0 same inside ∙ gate_right place table within right ∙ ap (depth flat chip_of) (sym same) in
-        let if_other = λ (other : net ≡ here place → ⊥). get_or-set_other table (here place) net value 0 other ∙ right net (ready_before place net within other ready) in
+        let if_other = λ (other : net ≡ here place → ⊥). get_or-set_other table (here place) net value 0 other ∙ right net (ready_before ordered.is_order place net within other ready) in
         ⊎_elim if_here if_other (cases_eq net (here place))
 
     -- what a table keeps: its length, small depths, and that what is ready is right
@@ -137,4 +106,4 @@ module _ (ordered : Ordered) where
         let no_input : nat_lt net inputs ≡ false = le-ltb net inputs (omega arith) in
         let no_driver : driver flat net ≡ None = ap (λ (input : Bool). if input then None else slice_get cells (net - inputs)) no_input ∙ slice_get_past cells (net - inputs) (omega arith) in
         get_or_past table net 0 (omega arith) ∙ sym (settles net ∙ ap (driven_depth at) no_driver) in
-        ⊎_elim (λ there. right net (rw (take_all place order whole) (all_ready net there))) if_past (cases_lt net (inputs + length cells))
+        ⊎_elim (λ there. right net (rw (take_all place order whole) (all_ready ordered.is_order net there))) if_past (cases_lt net (inputs + length cells))

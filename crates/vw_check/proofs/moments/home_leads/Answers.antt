@@ -1,7 +1,8 @@
 use Rattle.std.proofs.Common.{◌≡◌, ◌<◌, ◌≤◌, ◌+◌, ◌∙◌, ℕ, [], length, take, get_or, ap, ap₂, arith}
 use Rattle.vw_net.specs.declared.flat.Flat.{Flat}
 use Rattle.vw_plan.specs.Setting.{setting_of}
-use Rattle.vw_check.proofs.HomeLeads.{AreKept, all_leads, more_kept, order_within, same_lead, start_kept}
+use Rattle.vw_check.proofs.HomeLeads.{AreKept, all_leads, more_kept, same_lead, start_kept}
+use Rattle.vw_net.proofs.Ready.{order_within}
 use Rattle.vw_check.proofs.moments.home_leads.Goals as goal
 
 -- before any gate all leads are 0
@@ -18,7 +19,7 @@ lead_of_cell-lead-requires-clause-number c =
     let place = c.loop-number.number-index in
     let within : place < length setting.ordered.order = omega (arith, ap length c.order-number-items.ensures) in
     let number : get_or c.order-number-items.result.now place 0 ≡ get_or setting.ordered.order place 0 = cc in
-    omega (arith, order_within setting place within)
+    omega (arith, order_within setting.ordered.is_order place within)
 
 -- and the list has a place for its net
 pub index_mut-requires : goal.index_mut-requires
@@ -28,7 +29,7 @@ index_mut-requires c =
     let within : place < length setting.ordered.order = omega (arith, ap length c.order-number-items.ensures) in
     let number : get_or c.order-number-items.result.now place 0 ≡ get_or setting.ordered.order place 0 = cc in
     let inputs : c.inputs-inputs.result ≡ setting.ordered.flat.inputs = cc in
-    omega (arith, order_within setting place within, c.loop-number.invariant.long)
+    omega (arith, order_within setting.ordered.is_order place within, c.loop-number.invariant.long)
 
 -- the gate's net has its lead, since those that it reads have theirs
 pub loop-number-preserved : goal.loop-number-preserved

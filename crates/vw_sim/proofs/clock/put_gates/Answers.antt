@@ -4,7 +4,8 @@ use Rattle.std.proofs.lemmas.List.Elements.{All-same, All-weaker}
 use Rattle.vw_net.specs.declared.cell.Cell.TheVariants.{Gate}
 use Rattle.vw_net.specs.Cover.{cover_value}
 use Rattle.vw_net.specs.Order.{is_gate}
-use Rattle.vw_sim.proofs.Gates.{gate_fits, order_cell, order_gate, order_within, more_have_values, all_ready}
+use Rattle.vw_sim.proofs.Gates.{gate_fits, order_cell, more_have_values}
+use Rattle.vw_net.proofs.Ready.{order_gate, order_within, all_ready}
 use Rattle.vw_sim.proofs.clock.put_gates.Goals as goal
 use Rattle.vw_sim.proofs.clock.put_gates.Goals.{in-Gate, in_default}
 

@@ -1,7 +1,8 @@
 use Rattle.std.proofs.Common.{◌≡◌, ◌<◌, ◌++◌, ℕ, List, length, get_or, slice_get, Some, ap, ap₂, ◌∙◌, sym, append-nil, arith}
 use Rattle.vw_net.specs.declared.cell.Cell.{Cell}
 use Rattle.vw_sim.specs.Machine.{gate_nets}
-use Rattle.vw_sim.proofs.Gates.{order_cell, order_within}
+use Rattle.vw_sim.proofs.Gates.{order_cell}
+use Rattle.vw_net.proofs.Ready.{order_within}
 use Rattle.vw_sim.proofs.Machines.{reads_more}
 use Rattle.vw_sim.proofs.machine.gate_reads.Goals as goal
 use Rattle.vw_sim.proofs.machine.gate_reads.Goals.{in-Gate+in_ok-extend_from_slice, in_default}

@@ -1,5 +1,6 @@
 use Rattle.std.proofs.Common.{◌≡◌, ◌<◌, ◌≤◌, ◌+◌, ℕ, length, get_or, ap, ap₂, ◌∙◌, arith}
-use Rattle.vw_wires.proofs.Tables.{IsKept, all_right, more_kept, order_within, same_depth}
+use Rattle.vw_wires.proofs.Tables.{IsKept, all_right, more_kept, same_depth}
+use Rattle.vw_net.proofs.Ready.{order_within}
 use Rattle.vw_wires.proofs.table.depth_table.Goals as goal
 
 -- the gate's net is one of fewer than 2 ^ 17
@@ -10,7 +11,7 @@ overflow_add-net c =
     let within : place < length ordered.order = omega (arith, ap length c.order-number-items.ensures) in
     let number : get_or c.order-number-items.result.now place 0 ≡ get_or ordered.order place 0 = cc in
     let inputs : c.inputs-in-loop-number.result ≡ ordered.flat.inputs = cc in
-    omega (arith, order_within ordered place within, ordered.flat.few_inputs, ordered.flat.few_cells)
+    omega (arith, order_within ordered.is_order place within, ordered.flat.few_inputs, ordered.flat.few_cells)
 
 -- and the table has a place for it
 pub index_mut-requires : goal.index_mut-requires
@@ -20,7 +21,7 @@ index_mut-requires c =
     let within : place < length ordered.order = omega (arith, ap length c.order-number-items.ensures) in
     let number : get_or c.order-number-items.result.now place 0 ≡ get_or ordered.order place 0 = cc in
     let inputs : c.inputs-in-loop-number.result ≡ ordered.flat.inputs = cc in
-    omega (arith, order_within ordered place within, c.loop-number.invariant.long)
+    omega (arith, order_within ordered.is_order place within, c.loop-number.invariant.long)
 
 -- the gate's net has its depth, since those that it reads have theirs
 pub loop-number-preserved : goal.loop-number-preserved
