@@ -1,15 +1,14 @@
 -- Leads of nets at their own nodes, as gates are gone over in their order.
-use Rattle.std.proofs.Common.{◌≡◌, ◌<◌, ◌≤◌, ◌+◌, ◌-◌, ◌^◌, ◌||◌, ℕ, Bool, true, false, List, [], length, take, replicate, get_or, set, slice_get, slice_index, slice_index_or, nat_lt, if◌then◌else◌, eqb, ap, ap₂, refl, sym, ◌∙◌, ⊎_elim, eq-eqb, ne_eqb, lt-ltb, le-ltb, eqb-true, true≢false, subst, Option, Some, None, All, arith}
+use Rattle.std.proofs.Common.{◌≡◌, ◌<◌, ◌≤◌, ◌+◌, ◌-◌, ◌^◌, ◌||◌, ℕ, Bool, true, false, List, [], length, take, replicate, get_or, set, slice_get, slice_index, slice_index_or, nat_lt, if◌then◌else◌, eqb, ap, ap₂, refl, sym, ◌∙◌, ⊎_elim, eq-eqb, le-ltb, eqb-true, true≢false, subst, Option, Some, None, All, arith}
 use Rattle.std.proofs.Math.Bool.{or-false}
-use Rattle.std.proofs.lemmas.Bool.{cases_Bool, cases_eq, cases_lt, or_cases, or_left, or_right}
+use Rattle.std.proofs.lemmas.Bool.{cases_Bool, cases_eq, cases_lt, or_cases}
 use Rattle.std.proofs.lemmas.Grind.{get_or-set_at}
 use Rattle.std.proofs.lemmas.List.{get_or_past, get_or-replicate, get_or-set_other, length-replicate, length-set, take_all}
 use Rattle.std.proofs.lemmas.List.Elements.{All-replicate, All-set, All-weaker}
-use Rattle.std.proofs.lemmas.List.Folds.{list_any_at, list_any_more}
 use Rattle.std.proofs.lemmas.List.Sums.{AllPass-from_list_all}
 use Rattle.vw_net.specs.declared.cell.Cell.{Cell}
 use Rattle.vw_net.specs.declared.cell.Cell.TheVariants.{Gate, Latch}
-use Rattle.vw_net.specs.Order.{is_among, is_gate, is_latch, is_ready, read_nets_at}
+use Rattle.vw_net.specs.Order.{is_latch, is_ready, read_nets_at}
 use Rattle.vw_net.proofs.Ready.{order_within, ready_before, all_ready}
 use Rattle.vw_plan.proofs.Leads.{map_agree}
 use Rattle.vw_plan.specs.Lead.{brought_at, driven_lead, greatest, lead}

@@ -1,12 +1,10 @@
 -- Values of nets as gates are worked out, one after the other.
-use Rattle.std.proofs.Common.{◌≡◌, ◌≤◌, ◌<◌, ◌+◌, ◌-◌, ◌||◌, ℕ, Bool, true, false, List, length, take, map, get_or, set, slice_get, slice_index_or, nat_lt, eqb, Option, Some, ap, ap₂, sym, refl, ◌∙◌, ⊎_elim, eq-eqb, ne_eqb, lt-ltb, All, arith}
-use Rattle.std.proofs.lemmas.Bool.{cases_eq, cases_lt, or_left, or_right}
-use Rattle.std.proofs.Math.Bool.{or-false}
+use Rattle.std.proofs.Common.{◌≡◌, ◌≤◌, ◌<◌, ◌+◌, ℕ, Bool, true, false, List, length, take, map, get_or, set, slice_get, slice_index_or, Option, Some, ap, ap₂, sym, refl, ◌∙◌, ⊎_elim, All, arith}
+use Rattle.std.proofs.lemmas.Bool.{cases_eq}
 use Rattle.std.specs.List.{list_all}
 use Rattle.std.proofs.lemmas.Grind.{get_or-set_at}
 use Rattle.std.proofs.lemmas.List.{get_or-set_other}
 use Rattle.std.proofs.lemmas.List.Elements.{All-weaker}
-use Rattle.std.proofs.lemmas.List.Folds.{list_any_at, list_any_more}
 use Rattle.std.proofs.lemmas.List.Sums.{AllPass-from_list_all}
 use Rattle.std.proofs.lemmas.Option.{get_or_from_slice_get, slice_get_within, slice_get_read}
 use Rattle.vw_net.specs.declared.cell.Cell.{Cell}
@@ -14,7 +12,7 @@ use Rattle.vw_net.specs.declared.cell.Cell.TheVariants.{Gate}
 use Rattle.vw_net.specs.declared.cover.Cover.{Cover}
 use Rattle.vw_net.specs.Cells.{IsWellFormed}
 use Rattle.vw_net.specs.Cover.{cover_value}
-use Rattle.vw_net.specs.Order.{IsOrder, is_gate, is_latch, is_among, is_ready, read_nets_at}
+use Rattle.vw_net.specs.Order.{IsOrder, is_ready, read_nets_at}
 use Rattle.vw_net.proofs.Ready.{order_within, ready_before}
 use Rattle.vw_net.proofs.Levels.{map_agree}
 

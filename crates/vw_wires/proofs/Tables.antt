@@ -1,17 +1,15 @@
 -- The table of depths, as gates are gone over in their order.
-use Rattle.std.proofs.Common.{◌≡◌, ◌<◌, ◌≤◌, ◌+◌, ◌-◌, ◌||◌, ℕ, Bool, true, false, List, length, take, get_or, set, slice_get, slice_index, nat_lt, if◌then◌else◌, eqb, ap, ap₂, refl, sym, ◌∙◌, ⊎_elim, eq-eqb, ne_eqb, lt-ltb, le-ltb, None, All, arith}
-use Rattle.std.proofs.Math.Bool.{or-false}
-use Rattle.std.proofs.lemmas.Bool.{cases_eq, cases_lt, or_left, or_right}
+use Rattle.std.proofs.Common.{◌≡◌, ◌<◌, ◌≤◌, ◌+◌, ◌-◌, ℕ, Bool, true, false, List, length, take, get_or, set, slice_get, slice_index, nat_lt, if◌then◌else◌, ap, ap₂, sym, ◌∙◌, ⊎_elim, le-ltb, None, All, arith}
+use Rattle.std.proofs.lemmas.Bool.{cases_eq, cases_lt}
 use Rattle.std.proofs.lemmas.Grind.{get_or-set_at}
 use Rattle.std.proofs.lemmas.List.{get_or_past, get_or-set_other, length-set, take_all}
 use Rattle.std.proofs.lemmas.List.Elements.{All-set, All-weaker}
-use Rattle.std.proofs.lemmas.List.Folds.{list_any_at, list_any_more}
 use Rattle.std.proofs.lemmas.List.Sums.{AllPass-from_list_all}
 use Rattle.std.proofs.lemmas.Option.{slice_get_past}
 use Rattle.vw_net.specs.declared.cell.Cell.{Cell}
 use Rattle.vw_net.specs.declared.flat.Flat.{Flat}
 use Rattle.vw_net.specs.declared.ordered.Ordered.{Ordered}
-use Rattle.vw_net.specs.Order.{is_among, is_gate, is_latch, is_ready, read_nets_at}
+use Rattle.vw_net.specs.Order.{is_ready, read_nets_at}
 use Rattle.vw_net.proofs.Ready.{order_within, ready_before, all_ready}
 use Rattle.vw_plan.specs.Needs.{crossing, depth, driven_depth}
 use Rattle.vw_plan.specs.Nets.{driver}
