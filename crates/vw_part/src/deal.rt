@@ -58,7 +58,8 @@ impl Deal {
         requires chip { IsChip board.now chip }
         requires room { cells_on self.old.chip_of.items chip < board.now.cells }
         ensures deal { OnOk result (IsDeal board.now pins.now self.new) }
-        ensures chip_of { OnOk result (self.new.chip_of.items ≡ self.old.chip_of.items ++ chip ∷ []) }
+        ensures chip_of { OnOk result (self.new.chip_of.items
+            ≡ self.old.chip_of.items ++ chip ∷ []) }
     {
         let own = pins.at(self.chip_of.len());
         self.chip_of.push(chip)?;
@@ -70,7 +71,8 @@ impl Deal {
     pub fn of(alloc: Global, board: &Board, pins: &Pins, wishes: &[u32]) -> Result<Self, AllocError>
         requires { length pins.now.of_cells.items ≤ board.now.chips * board.now.cells }
         ensures deal { IfOk result (IsDeal board.now pins.now) }
-        ensures each { IfOk result (λ deal. length deal.chip_of.items ≡ length pins.now.of_cells.items) }
+        ensures each { IfOk result
+            (λ deal. length deal.chip_of.items ≡ length pins.now.of_cells.items) }
     {
         let mut deal = Deal::empty(alloc, board, pins)?;
         for cell in 0..pins.cells() {

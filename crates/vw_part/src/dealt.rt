@@ -6,9 +6,9 @@ ghost use Rattle.vw_part.specs.Faults.{IsPartFault};
 
 use crate::deal::Deal;
 use crate::fault::PartFault;
-use crate::hint::hint;
 use crate::pins::Pins;
 use std::alloc::{AllocError, Global};
+use vw_hint::hint;
 use vw_net::{Flat, Ordered, Sequence};
 use vw_plan::Board;
 
@@ -21,7 +21,8 @@ fn dealt(alloc: Global, flat: &Flat, board: &Board) -> Result<Sequence<u32>, All
     ensures least { IfOk result (NoMoveHelps flat.now board.now) }
 {
     let pins = Pins::of(alloc, flat)?;
-    let wishes = hint(alloc, &pins, board)?;
+    let nets = u32::try_from(pins.nets).unwrap_or(u32::MAX);
+    let wishes = hint(alloc, nets, pins.of_cells.as_slice(), board)?;
     let mut deal = Deal::of(alloc, board, &pins, wishes.as_slice())?;
     deal.descend(board, &pins);
     Ok(Sequence::of(deal.chip_of))

@@ -59,7 +59,8 @@ impl Deal {
         ensures lower { result ≡ true → spread board.now pins.now self.new.chip_of.items
             < spread board.now pins.now self.old.chip_of.items }
         ensures same { result ≡ false → self.new.chip_of.items ≡ self.old.chip_of.items }
-        ensures settled { result ≡ false → IsSettled board.now pins.now self.new.chip_of.items cell }
+        ensures settled { result ≡ false
+            → IsSettled board.now pins.now self.new.chip_of.items cell }
     {
         match self.target(board, pins, cell) {
             Some(chip) => {

@@ -29,7 +29,8 @@ impl Load {
     pub fn add(&mut self, nets: &[u32])
         requires cells { self.old.cells + 1 < 2 ^ 32 }
         requires within { All (λ net. net < vec_len self.old.counts) nets.now }
-        requires fits { (net : ℕ) → slice_index self.old.counts.items net + number_of nets.now net < 2 ^ 32 }
+        requires fits { (net : ℕ)
+            → slice_index self.old.counts.items net + number_of nets.now net < 2 ^ 32 }
         ensures cells { self.new.cells ≡ self.old.cells + 1 }
         ensures long { vec_len self.new.counts ≡ vec_len self.old.counts }
         ensures counts { (net : ℕ) → slice_index self.new.counts.items net
@@ -45,7 +46,8 @@ impl Load {
     pub fn remove(&mut self, nets: &[u32])
         requires cells { 1 ≤ self.old.cells }
         requires within { All (λ net. net < vec_len self.old.counts) nets.now }
-        requires there { (net : ℕ) → number_of nets.now net ≤ slice_index self.old.counts.items net }
+        requires there { (net : ℕ)
+            → number_of nets.now net ≤ slice_index self.old.counts.items net }
         ensures cells { self.new.cells + 1 ≡ self.old.cells }
         ensures long { vec_len self.new.counts ≡ vec_len self.old.counts }
         ensures counts { (net : ℕ) → slice_index self.new.counts.items net + number_of nets.now net
@@ -59,7 +61,8 @@ impl Load {
 
     /// How many of these nets only one cell of the chip drives or reads.
     pub fn lone(&self, nets: &[u32]) -> usize
-        ensures { result ≡ total (λ net. one_if (slice_index self.now.counts.items net == 1)) nets.now }
+        ensures { result ≡ total
+            (λ net. one_if (slice_index self.now.counts.items net == 1)) nets.now }
     {
         let mut lone = 0;
         for net in nets {
@@ -72,7 +75,8 @@ impl Load {
 
     /// How many of these nets a cell of the chip drives or reads.
     pub fn met(&self, nets: &[u32]) -> usize
-        ensures { result ≡ total (λ net. one_if (nat_lt 0 (slice_index self.now.counts.items net))) nets.now }
+        ensures { result ≡ total
+            (λ net. one_if (nat_lt 0 (slice_index self.now.counts.items net))) nets.now }
     {
         let mut met = 0;
         for net in nets {

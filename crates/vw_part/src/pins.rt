@@ -44,7 +44,8 @@ impl Pins {
     /// Those of a netlist.
     pub fn of(alloc: Global, flat: &Flat) -> Result<Self, AllocError>
         ensures nets { IfOk result (λ pins. pins.nets ≡ flat.now.inputs + length flat.now.cells) }
-        ensures pins { IfOk result (λ pins. ArePins flat.now.inputs flat.now.cells pins.of_cells.items) }
+        ensures pins { IfOk result
+            (λ pins. ArePins flat.now.inputs flat.now.cells pins.of_cells.items) }
     {
         let mut of_cells = Vec::with_capacity(alloc, flat.cells().len())?;
         for (number, cell) in flat.cells().iter().enumerate() {

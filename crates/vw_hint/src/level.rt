@@ -1,8 +1,8 @@
 //! A netlist as nets over vertices, of which each stands for one or more cells.
 use crate::numbers::Numbers;
-use crate::pins::Pins;
 use crate::rows::Rows;
 use std::alloc::{AllocError, Global};
+use vw_net::Sequence;
 
 /// Nets of at least two vertices.
 #[derive(Drop)]
@@ -16,18 +16,21 @@ pub struct Level {
 }
 
 impl Level {
-    /// The level at which each vertex is a cell.
-    pub fn of_pins(alloc: Global, pins: &Pins) -> Result<Self, AllocError> {
+    /// The level at which each vertex is a cell, given how many nets there are, and those of each cell.
+    pub fn of_pins(
+        alloc: Global,
+        nets: u32,
+        of_cells: &[Sequence<u32>],
+    ) -> Result<Self, AllocError> {
         let mut of_cell = Rows::new(alloc)?;
         let mut weights = Numbers::new(alloc);
-        for nets in pins.of_cells.as_slice() {
-            for net in nets.as_slice() {
+        for own in of_cells {
+            for net in own.as_slice() {
                 of_cell.push(*net)?;
             }
             of_cell.end_row()?;
             weights.push(1)?;
         }
-        let nets = u32::try_from(pins.nets).unwrap_or(u32::MAX);
         let of_net = of_cell.turned(alloc, nets)?;
         let map = Numbers::below(alloc, weights.len())?;
         merged(alloc, &of_net, &map, weights)

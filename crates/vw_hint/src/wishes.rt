@@ -1,11 +1,15 @@
-//! Where cells might be put. Nothing rests on it but how good a partition is found.
+//! Where cells might be put.
+ghost use Rattle.std.specs.Prelude.{◌≡◌, length, IfOk};
+ghost use Rattle.std.specs.List.{All};
+ghost use Rattle.vw_plan.specs.Good.{IsChip};
+
 use crate::cut::{Cut, better};
 use crate::halves::halved;
 use crate::level::Level;
 use crate::numbers::Numbers;
-use crate::pins::Pins;
 use crate::run::Run;
 use std::alloc::{AllocError, Global};
+use vw_net::Sequence;
 use vw_plan::Board;
 
 /// The same number for each of some chips.
@@ -94,9 +98,22 @@ fn run_of(
     })
 }
 
-/// A chip for each cell: the best of the order of the cells, of halves of halves, and of runs over all chips at once.
-pub fn hint(alloc: Global, pins: &Pins, board: &Board) -> Result<Vec<u32>, AllocError> {
-    let top = Level::of_pins(alloc, pins)?;
+/// A chip for each cell: where it might be put. How good a partition is found rests on it, and nothing else does.
+///
+/// It takes how many nets there are, and for each cell the numbers of the nets that it drives or reads. Cells that share
+/// nets are put together where that can be done: the best of the order of the cells, of halves of halves, and of runs over
+/// all chips at once. A chip may get more cells than it has room for. It takes memory for the nets of the cells, and for
+/// each chip a number for each net.
+pub fn hint(
+    alloc: Global,
+    nets: u32,
+    of_cells: &[Sequence<u32>],
+    board: &Board,
+) -> Result<Vec<u32>, AllocError>
+    ensures each { IfOk result (λ wishes. length wishes.items ≡ length of_cells.now) }
+    ensures chips { IfOk result (λ wishes. All (IsChip board.now) wishes.items) }
+{
+    let top = Level::of_pins(alloc, nets, of_cells)?;
     let cells = top.vertices();
     let (tries, runs) = effort(&top, board.chips());
     let mut best = in_order(alloc, &top, board.chips(), board.cells())?;
@@ -108,14 +125,25 @@ pub fn hint(alloc: Global, pins: &Pins, board: &Board) -> Result<Vec<u32>, Alloc
         let run = run_of(alloc, order, runs, cells, board)?;
         best = better(best, run.of(alloc, &top)?);
     }
-    wished(alloc, &best)
+    wished(alloc, of_cells.len(), &best, board)
 }
 
-/// The chips by their numbers on the board, which begin with 1.
-fn wished(alloc: Global, cut: &Cut) -> Result<Vec<u32>, AllocError> {
-    let mut wishes = Vec::with_capacity(alloc, cut.chip_of.len() as usize)?;
-    for cell in 0..cut.chip_of.len() {
-        wishes.push(cut.chip_of.at(cell).saturating_add(1))?;
+/// The chip of a cell by its number on the board, where the first one is 1.
+fn wish(cell: usize, cut: &Cut, board: &Board) -> u32
+    ensures { IsChip board.now result }
+{
+    let chip = cut.chip_of.at(u32::try_from(cell).unwrap_or(u32::MAX));
+    chip.saturating_add(1).min(board.chips())
+}
+
+/// The chips of so many cells by their numbers on the board.
+fn wished(alloc: Global, cells: usize, cut: &Cut, board: &Board) -> Result<Vec<u32>, AllocError>
+    ensures each { IfOk result (λ wishes. length wishes.items ≡ cells) }
+    ensures chips { IfOk result (λ wishes. All (IsChip board.now) wishes.items) }
+{
+    let mut wishes = Vec::with_capacity(alloc, cells)?;
+    for cell in 0..cells {
+        wishes.push(wish(cell, cut, board))?;
     }
     Ok(wishes)
 }

@@ -1,0 +1,18 @@
+//! Where the cells of a netlist might be put on the chips of a board.
+#![tactic(auto)]
+
+mod climb;
+mod cluster;
+mod cut;
+mod grow;
+mod halves;
+mod level;
+mod numbers;
+mod rows;
+mod run;
+mod wishes;
+
+pub use wishes::hint;
+
+#[cfg(test)]
+mod tests;
