@@ -1,5 +1,4 @@
-pub mod Sets
 pub mod Numbered
 pub mod Adding
 pub mod Searched
-pub mod Steps
+pub mod AtPlacedModel

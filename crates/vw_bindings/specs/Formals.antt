@@ -2,19 +2,15 @@
 use Rattle.std.specs.Prelude.{◌≡◌, Option, option_map, find}
 use Rattle.std.specs.Borrow.{Bor}
 use Rattle.vw_design.specs.declared.model.Model.{Model}
-use Rattle.vw_design.specs.Paths.{Word, is_port}
+use Rattle.vw_design.specs.Paths.{Word, is_port, lent}
 use Rattle.vw_design.specs.ModelFaults.{is_formal_of}
 use Rattle.vw_bindings.specs.declared.words.Words.{Words}
-use Rattle.vw_bindings.specs.Words.{has_word}
+use Rattle.vw_design.specs.WordSets.{has_word}
 
 -- the inputs, clocks and outputs of a model
 abbrev pub AreFormals : Model → Words → Type 0
 AreFormals model formals = (name : Word) → has_word formals.words name ≡ is_formal_of model name
 
--- a name that lies elsewhere, if there is one
-abbrev pub lent : Option (Bor Word) → Option Word
-lent name = option_map (λ name. name.now) name
-
 -- the first output of a model that is an input or clock of it, too
-abbrev pub IsBoth : Model → Option (Bor Word) → Type 0
-IsBoth model output = lent output ≡ find (is_port model) model.outputs
+abbrev pub IsBothWays : Model → Option (Bor Word) → Type 0
+IsBothWays model output = lent output ≡ find (is_port model) model.outputs

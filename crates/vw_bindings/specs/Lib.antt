@@ -1,4 +1,3 @@
-pub mod Words
 pub mod Placed
 pub mod Formals
-pub mod Found
+pub mod PlacedFaults

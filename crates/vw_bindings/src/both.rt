@@ -2,10 +2,10 @@
 ghost use Rattle.std.specs.Prelude.{◌≡◌, option_map, IfOk};
 ghost use Rattle.std.specs.List.{AllZip};
 ghost use Rattle.vw_design.specs.ModelFaults.{both_ways};
-ghost use Rattle.vw_design.specs.ModelNumbers.{AreTargets, AreMarks};
+ghost use Rattle.vw_design.specs.ModelNumbers.{AreTargets, AreModelMarks};
 ghost use Rattle.vw_bindings.specs.Placed.{IsPlacement, placed_models};
-ghost use Rattle.vw_bindings.specs.Formals.{IsBoth};
-ghost use Rattle.vw_bindings.specs.Found.{name_of};
+ghost use Rattle.vw_bindings.specs.Formals.{IsBothWays};
+ghost use Rattle.vw_bindings.specs.PlacedFaults.{named_output};
 
 use crate::copy::copy;
 use crate::formals::ports_of;
@@ -24,8 +24,8 @@ pub fn both_ways(
     marks: &[bool],
 ) -> Result<Option<OutputOf>, AllocError>
     requires targets { AreTargets design.now targets.now }
-    requires marks { AreMarks design.now marks.now }
-    ensures { IfOk result (λ found. option_map name_of found ≡ both_ways design.now) }
+    requires marks { AreModelMarks design.now marks.now }
+    ensures { IfOk result (λ found. option_map named_output found ≡ both_ways design.now) }
 {
     let placed = placed_models(alloc, design, targets, marks)?;
     let outputs = all_both(alloc, design)?;
@@ -40,8 +40,8 @@ fn first_both(
     outputs: &[Option<&Name>],
 ) -> Result<Option<OutputOf>, AllocError>
     requires placed { AllZip (IsPlacement design.now) (placed_models design.now) placed.now }
-    requires outputs { AllZip IsBoth design.now.models outputs.now }
-    ensures { IfOk result (λ found. option_map name_of found ≡ both_ways design.now) }
+    requires outputs { AllZip IsBothWays design.now.models outputs.now }
+    ensures { IfOk result (λ found. option_map named_output found ≡ both_ways design.now) }
 {
     for placement in placed {
         let found = outputs[placement.number as usize];
@@ -58,7 +58,7 @@ fn first_both(
 
 /// The first output of a model that is an input or clock of it, too.
 fn both_of(alloc: Global, model: &Model) -> Result<Option<&Name>, AllocError>
-    ensures { IfOk result (IsBoth model.now) }
+    ensures { IfOk result (IsBothWays model.now) }
 {
     let ports = ports_of(alloc, model)?;
     Ok(ports.first_in(model.outputs()))
@@ -66,7 +66,7 @@ fn both_of(alloc: Global, model: &Model) -> Result<Option<&Name>, AllocError>
 
 /// That of each model.
 fn all_both(alloc: Global, design: &Design) -> Result<Vec<Option<&Name>>, AllocError>
-    ensures { IfOk result (λ outputs. AllZip IsBoth design.now.models outputs.items) }
+    ensures { IfOk result (λ outputs. AllZip IsBothWays design.now.models outputs.items) }
 {
     let mut outputs = Vec::with_capacity(alloc, design.models().len())?;
     for model in design.models() {

@@ -2,7 +2,7 @@
 ghost use Rattle.std.specs.Prelude.{◌≡◌, IfOk};
 ghost use Rattle.std.specs.List.{AllZip};
 ghost use Rattle.vw_design.specs.Paths.{Word, is_port};
-ghost use Rattle.vw_bindings.specs.Words.{has_word};
+ghost use Rattle.vw_design.specs.WordSets.{has_word};
 ghost use Rattle.vw_bindings.specs.Formals.{AreFormals};
 
 use crate::words::Words;

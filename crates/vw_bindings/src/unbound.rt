@@ -2,10 +2,10 @@
 ghost use Rattle.std.specs.Prelude.{◌≡◌, option_map, IfOk};
 ghost use Rattle.std.specs.List.{AllZip};
 ghost use Rattle.vw_design.specs.ModelFaults.{unbound_input, unbound_input_in};
-ghost use Rattle.vw_design.specs.ModelNumbers.{AreTargets, AreMarks};
+ghost use Rattle.vw_design.specs.ModelNumbers.{AreTargets, AreModelMarks};
 ghost use Rattle.vw_bindings.specs.Placed.{IsPlacement, placed_models};
-ghost use Rattle.vw_bindings.specs.Formals.{lent};
-ghost use Rattle.vw_bindings.specs.Found.{name_at};
+ghost use Rattle.vw_design.specs.Paths.{lent};
+ghost use Rattle.vw_bindings.specs.PlacedFaults.{name_at};
 
 use crate::copy::copy;
 use crate::formal_at::FormalAt;
@@ -25,7 +25,7 @@ pub fn unbound_input(
     marks: &[bool],
 ) -> Result<Option<FormalAt>, AllocError>
     requires targets { AreTargets design.now targets.now }
-    requires marks { AreMarks design.now marks.now }
+    requires marks { AreModelMarks design.now marks.now }
     ensures { IfOk result (λ found. option_map name_at found ≡ unbound_input design.now) }
 {
     let placed = placed_models(alloc, design, targets, marks)?;

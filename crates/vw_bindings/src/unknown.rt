@@ -2,11 +2,12 @@
 ghost use Rattle.std.specs.Prelude.{◌≡◌, not, find, option_map, IfOk};
 ghost use Rattle.std.specs.List.{AllZip};
 ghost use Rattle.vw_design.specs.ModelFaults.{unknown_formal};
-ghost use Rattle.vw_design.specs.ModelNumbers.{AreTargets, AreMarks};
-ghost use Rattle.vw_bindings.specs.Words.{has_word};
+ghost use Rattle.vw_design.specs.ModelNumbers.{AreTargets, AreModelMarks};
+ghost use Rattle.vw_design.specs.WordSets.{has_word};
 ghost use Rattle.vw_bindings.specs.Placed.{IsPlacement, placed_models};
-ghost use Rattle.vw_bindings.specs.Formals.{AreFormals, lent};
-ghost use Rattle.vw_bindings.specs.Found.{name_at};
+ghost use Rattle.vw_bindings.specs.Formals.{AreFormals};
+ghost use Rattle.vw_design.specs.Paths.{lent};
+ghost use Rattle.vw_bindings.specs.PlacedFaults.{name_at};
 
 use crate::copy::copy;
 use crate::formal_at::FormalAt;
@@ -27,7 +28,7 @@ pub fn unknown_formal(
     marks: &[bool],
 ) -> Result<Option<FormalAt>, AllocError>
     requires targets { AreTargets design.now targets.now }
-    requires marks { AreMarks design.now marks.now }
+    requires marks { AreModelMarks design.now marks.now }
     ensures { IfOk result (λ found. option_map name_at found ≡ unknown_formal design.now) }
 {
     let placed = placed_models(alloc, design, targets, marks)?;

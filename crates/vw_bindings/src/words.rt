@@ -2,9 +2,8 @@
 ghost use Rattle.std.specs.Prelude.{◌≡◌, ◌||◌, not, false, ℕ, List, OnOk, IfOk, find, map};
 ghost use Rattle.std.specs.Str.{bytes_eq};
 ghost use Rattle.vw_design.specs.Distinct.{has_name};
-ghost use Rattle.vw_design.specs.Paths.{Word};
-ghost use Rattle.vw_bindings.specs.Words.{has_word};
-ghost use Rattle.vw_bindings.specs.Formals.{lent};
+ghost use Rattle.vw_design.specs.Paths.{Word, lent};
+ghost use Rattle.vw_design.specs.WordSets.{has_word};
 
 use std::alloc::{AllocError, Global};
 use std::collections::HashMap;

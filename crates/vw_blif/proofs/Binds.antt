@@ -7,9 +7,9 @@ use Rattle.std.proofs.lemmas.List.Folds.{list_any-append}
 use Rattle.std.proofs.lemmas.Slice.Eq.{bytes_eq-Decides}
 use Rattle.vw_design.specs.declared.item.Bind.{Bind}
 use Rattle.vw_design.specs.Distinct.{has_name, are_distinct}
-use Rattle.vw_blif.specs.Words.{Word}
+use Rattle.vw_design.specs.Paths.{Word}
 use Rattle.vw_blif.specs.Spelled.{Binding, spelled_bind}
-use Rattle.vw_blif.specs.Bindings.{formal_of, actual_of, is_no_bind, bind_of, repeats}
+use Rattle.vw_blif.specs.Bindings.{formal_of, actual_part, is_no_bind, bind_of, repeats}
 use Rattle.vw_blif.specs.Steps.Says.{AreBinds}
 use Rattle.vw_blif.proofs.Repeats.{has_name-push, repeats-append}
 
@@ -36,7 +36,7 @@ are_distinct-push (other ∷ names) name all new =
 
 -- one binding more
 pub binds_more : (words : List Word) (word : Word) (binds : List Bind) (bind : Bind) → AreBinds words binds → is_no_bind word ≡ false
-    → bind.formal ≡ formal_of word → bind.actual ≡ actual_of word → has_name (map formal_of words) (formal_of word) ≡ false → AreBinds (words ++ word ∷ []) (binds ++ bind ∷ [])
+    → bind.formal ≡ formal_of word → bind.actual ≡ actual_part word → has_name (map formal_of words) (formal_of word) ≡ false → AreBinds (words ++ word ∷ []) (binds ++ bind ∷ [])
 binds_more words word binds bind are sides formal actual new =
     let one : spelled_bind bind ≡ bind_of word = ap₂ (λ (f a : Word). record { formal = f; actual = a }) formal actual in
     let formals = map-append (λ (b : Bind). b.formal) binds (bind ∷ []) ∙ ap₂ (λ (fs : List Word) (f : Word). fs ++ f ∷ []) are.formals formal in

@@ -14,7 +14,7 @@ use Rattle.vw_blif.specs.declared.kind.Kind.{Kind}
 use Rattle.vw_blif.specs.declared.kind.Kind.TheVariants.{Model, Inputs, Outputs, Clock, Names, Latch, Subckt, End, Other, Row}
 use Rattle.vw_blif.specs.Kinds.{kind, is_model}
 use Rattle.vw_blif.specs.Spelled.{SpelledModel, spelled_model}
-use Rattle.vw_blif.specs.Designs.{spelled_by}
+use Rattle.vw_blif.specs.Designs.{spelled_models}
 use Rattle.vw_blif.specs.Faults.{faults_by, first_of, fault_at}
 use Rattle.vw_blif.specs.Read.{or_next, first_fault, unless, design_of_lines, design_of, is_text_fault}
 use Rattle.vw_blif.specs.Steps.Names.{opened, names_so_far}
@@ -26,7 +26,7 @@ pub record IsReadSoFar (lines rest : List Line) (r : Reader) : Type 0 where
   pub before : List Line
   pub told : ToldAll before r
   pub faults : first_fault before rest ≡ first_fault [] lines
-  pub makes : models_made r rest ≡ spelled_by lines
+  pub makes : models_made r rest ≡ spelled_models lines
   pub few : length (names_so_far r.models.items (opened r.block)) + length rest ≤ length lines
 
 pub no_line : (lines : List Line) (r : Reader) → IsAtStart r → IsReadSoFar lines lines r
@@ -61,7 +61,7 @@ line_at_fault lines rest line old fault kept refuses is =
 pub of_lines : (text : List ℕ) → length text ≤ 16777216 → design_of text ≡ design_of_lines (word_lines text)
 of_lines text small = cond-false (ltb 16777216 (length text)) _ _ (le-ltb 16777216 (length text) small)
 
-some_lines : (lines : List Line) → 0 < length lines → design_of_lines lines ≡ unless (first_fault [] lines) (spelled_by lines)
+some_lines : (lines : List Line) → 0 < length lines → design_of_lines lines ≡ unless (first_fault [] lines) (spelled_models lines)
 some_lines [] some = absurd (omega (some, arith))
 some_lines (line ∷ lines) some = refl
 
@@ -71,7 +71,7 @@ pub has_fault : (text : List ℕ) (rest : List Line) (line : Line) (old : Reader
 has_fault text rest line old fault small kept refuses is =
     let lines = word_lines text in
     of_lines text small ∙ some_lines lines (omega (kept.few, arith))
-    ∙ ap (λ (f : Option TextFault). unless f (spelled_by lines)) (line_at_fault lines rest line old fault kept refuses is)
+    ∙ ap (λ (f : Option TextFault). unless f (spelled_models lines)) (line_at_fault lines rest line old fault kept refuses is)
 
 -- the first line begins a model, where it has no fault
 first_begins : (line : Line) (kind_ : Kind) → first_of (faults_by kind_ [] line) ≡ None → is_model kind_ ≡ true
@@ -90,35 +90,35 @@ no_fault : (fault next : Option TextFault) → or_next fault next ≡ None → f
 no_fault None next fine = refl
 no_fault (Some fault) next fine = absurd (true≢false (ap is_some fine))
 
-some_models : (lines : List Line) → 0 < length lines → first_fault [] lines ≡ None → 0 < length (spelled_by lines)
+some_models : (lines : List Line) → 0 < length lines → first_fault [] lines ≡ None → 0 < length (spelled_models lines)
 some_models [] some fine = absurd (omega (some, arith))
 some_models (line ∷ lines) some fine =
     let begins = first_begins line (kind line) (no_fault (fault_at [] line) (first_fault (line ∷ []) lines) fine) in
     rw begins (omega arith)
 
 -- lines without a fault that spell no model
-no_models : (lines : List Line) → first_fault [] lines ≡ None → length (spelled_by lines) ≡ 0 → lines ≡ []
+no_models : (lines : List Line) → first_fault [] lines ≡ None → length (spelled_models lines) ≡ 0 → lines ≡ []
 no_models [] fine none = refl
 no_models (line ∷ lines) fine none = absurd (omega (some_models (line ∷ lines) (omega arith) fine, none, arith))
 
 -- lines that spell a model
-models_left : (lines : List Line) → 0 < length (spelled_by lines) → 0 < length lines
+models_left : (lines : List Line) → 0 < length (spelled_models lines) → 0 < length lines
 models_left [] some = absurd (omega (some, arith))
 models_left (line ∷ lines) some = omega arith
 
 -- the end of a text
 module _ (text : List ℕ) (r : Reader) (models : List model.Model) (small : length text ≤ 16777216)
     (kept : IsReadSoFar (word_lines text) [] r) (read : IsRead r models) where
-  made : map spelled_model models ≡ spelled_by (word_lines text)
+  made : map spelled_model models ≡ spelled_models (word_lines text)
   made = read.made ∙ kept.makes
 
-  count : length (spelled_by (word_lines text)) ≡ length models
+  count : length (spelled_models (word_lines text)) ≡ length models
   count = sym (ap (λ (ms : List SpelledModel). length ms) made) ∙ length-map models spelled_model
 
   pub is_design : 0 < length models → design_of text ≡ Ok (map spelled_model models)
   is_design some =
       of_lines text small ∙ some_lines (word_lines text) (models_left (word_lines text) (omega (some, count, arith)))
-      ∙ ap (λ (f : Option TextFault). unless f (spelled_by (word_lines text))) (sym kept.faults)
+      ∙ ap (λ (f : Option TextFault). unless f (spelled_models (word_lines text))) (sym kept.faults)
       ∙ ap (λ (ms : List SpelledModel). Ok ms) (sym made)
 
   pub has_no_model : length models ≡ 0 → design_of text ≡ Err (NoModel 0)

@@ -2,7 +2,7 @@
 use Rattle.std.proofs.Common.{◌≡◌, ◌<◌, ◌+◌, ℕ, Bool, true, false, not, List, [], ◌∷◌, ◌++◌, length, take, get_or, refl, sym, ◌∙◌, ap, ap₂, append_assoc, append-nil, true≢false}
 use Rattle.std.proofs.lemmas.Bool.{or_parts}
 use Rattle.vw_design.specs.Distinct.{has_name, are_distinct}
-use Rattle.vw_blif.specs.Words.{Word}
+use Rattle.vw_design.specs.Paths.{Word}
 use Rattle.vw_blif.specs.Bindings.{repeats}
 use Rattle.vw_blif.proofs.Repeats.{more_words}
 use Rattle.vw_blif.proofs.Binds.{are_distinct-push}

@@ -6,7 +6,7 @@ use Rattle.std.proofs.lemmas.List.Sums.{length-filter, count_by-le-length}
 use Rattle.vw_text.specs.declared.line.Line.{Line}
 use Rattle.vw_text.specs.Bare.{bare}
 use Rattle.vw_text.specs.Physical.{text_lines}
-use Rattle.vw_text.specs.Logical.{Logical, before_backslash, with_line, joined, logical_lines}
+use Rattle.vw_text.specs.Logical.{Logical, before_backslash, with_line, joined_lines, logical_lines}
 use Rattle.vw_text.specs.WordLines.{is_empty, word_line, word_lines}
 
 few_onto_first : (b : ℕ) (lines : List (List ℕ)) (n : ℕ) → length lines ≤ n → length (onto_first b lines) ≤ suc n
@@ -26,9 +26,9 @@ few_with_line number line None lines n few = omega (few, arith)
 few_with_line number line (Some front) [] n few = omega arith
 few_with_line number line (Some front) (next ∷ lines) n few = omega (few, arith)
 
-few_joined : (number : ℕ) (lines : List (List ℕ)) → length (joined number lines) ≤ length lines
+few_joined : (number : ℕ) (lines : List (List ℕ)) → length (joined_lines number lines) ≤ length lines
 few_joined number [] = omega arith
-few_joined number (line ∷ lines) = few_with_line number line (before_backslash line) (joined (number + 1) lines) (length lines) (few_joined (number + 1) lines)
+few_joined number (line ∷ lines) = few_with_line number line (before_backslash line) (joined_lines (number + 1) lines) (length lines) (few_joined (number + 1) lines)
 
 pub few_word_lines : (text : List ℕ) → length (word_lines text) ≤ length text
 few_word_lines text =

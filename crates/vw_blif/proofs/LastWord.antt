@@ -1,6 +1,7 @@
 -- The last of some words, and those before it.
 use Rattle.std.proofs.Common.{◌≡◌, ◌<◌, ◌-◌, suc, List, [], ◌∷◌, length, take, get_or, refl, sym, ◌∙◌, ap, arith}
-use Rattle.vw_blif.specs.Words.{Word, front_words, last_word}
+use Rattle.vw_blif.specs.Words.{front_words, last_word}
+use Rattle.vw_design.specs.Paths.{Word}
 
 pub front_words-take : (words : List Word) → front_words words ≡ take (length words - 1) words
 front_words-take [] = refl

@@ -5,7 +5,7 @@ use Rattle.vw_net.specs.declared.cover.Mark.TheVariants.{Zero as zero_mark, Any}
 use Rattle.vw_net.specs.declared.cell.Init.TheVariants.{Free}
 use Rattle.vw_design.specs.declared.item.Edge.TheVariants.{Rise}
 use Rattle.vw_blif.specs.Spelled.{table, latch, place, SpelledModel}
-use Rattle.vw_blif.specs.Printed.{printed}
+use Rattle.vw_blif.specs.Printed.{printed_design}
 use Rattle.vw_blif.specs.PlainDesigns.{IsPlainDesign}
 
 abbrev pub small : List SpelledModel
@@ -23,7 +23,7 @@ small =
     }
     ∷ []
 
-pub small_text : printed small
+pub small_text : printed_design small
     ≡ codes ".model m" ++ (10 ∷ (codes ".inputs a b" ++ (10 ∷ (codes ".outputs q" ++ (10 ∷ (codes ".names a b d" ++ (10 ∷ (codes "0- 0"
     ++ (10 ∷ (codes ".latch d q re NIL 3" ++ (10 ∷ (codes ".subckt n p=q" ++ (10 ∷ (codes ".end" ++ 10 ∷ []))))))))))))))
 small_text = refl

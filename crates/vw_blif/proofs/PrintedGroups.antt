@@ -13,23 +13,24 @@ use Rattle.vw_design.specs.declared.item.Edge.{Edge}
 use Rattle.vw_design.specs.declared.item.Edge.TheVariants.{Rise, Fall, Unsaid}
 use Rattle.vw_text.specs.declared.line.Line.{Line}
 use Rattle.vw_text.specs.WordLines.{is_empty}
-use Rattle.vw_text.specs.PlainLines.{is_plain, numbered}
+use Rattle.vw_text.specs.PlainLines.{is_plain, numbered_lines}
 use Rattle.vw_blif.specs.declared.kind.Kind.{Kind}
 use Rattle.vw_blif.specs.declared.kind.Kind.TheVariants.{Row}
-use Rattle.vw_blif.specs.Words.{Word, front_words, last_word}
+use Rattle.vw_blif.specs.Words.{front_words, last_word}
+use Rattle.vw_design.specs.Paths.{Word}
 use Rattle.vw_blif.specs.Kinds.{kind, is_model, is_end, is_row}
 use Rattle.vw_blif.specs.Spelled.{Binding, table, latch}
-use Rattle.vw_blif.specs.Rows.{mark_of, value_word, row_marks, are_on_set}
+use Rattle.vw_blif.specs.Rows.{mark_of_byte, value_word, row_marks, are_on_set}
 use Rattle.vw_blif.specs.Latches.{control_of, init_of}
-use Rattle.vw_blif.specs.Bindings.{formal_of, actual_of, bind_of}
+use Rattle.vw_blif.specs.Bindings.{formal_of, actual_part, bind_of}
 use Rattle.vw_blif.specs.Designs.{table_of, item_of}
 use Rattle.vw_blif.specs.Printed.{mark_byte, row_words, init_word, control_word, latch_words, bind_word}
 use Rattle.vw_blif.specs.PlainDesigns.{is_plain_table, is_plain_control, can_stand_beside, is_plain_bind}
 
-pub numbered-append : (n : ℕ) (lines others : List (List Word)) → numbered n (lines ++ others) ≡ numbered n lines ++ numbered (n + length lines) others
-numbered-append n [] others = ap (λ m. numbered m others) (omega arith)
+pub numbered-append : (n : ℕ) (lines others : List (List Word)) → numbered_lines n (lines ++ others) ≡ numbered_lines n lines ++ numbered_lines (n + length lines) others
+numbered-append n [] others = ap (λ m. numbered_lines m others) (omega arith)
 numbered-append n (words ∷ lines) others =
-    ap (λ (ls : List Line). record { number = n; words = words } ∷ ls) (numbered-append (n + 1) lines others ∙ ap (λ m. numbered (n + 1) lines ++ numbered m others) (omega arith))
+    ap (λ (ls : List Line). record { number = n; words = words } ∷ ls) (numbered-append (n + 1) lines others ∙ ap (λ m. numbered_lines (n + 1) lines ++ numbered_lines m others) (omega arith))
 
 -- ---- rows
 
@@ -48,7 +49,7 @@ abbrev pub leaves : Line → Bool
 leaves line = is_model (kind line) || is_end (kind line)
 
 abbrev pub rows_at : ℕ → Bool → List (List Mark) → List Line
-rows_at n on rows = numbered n (map (row_words on) rows)
+rows_at n on rows = numbered_lines n (map (row_words on) rows)
 
 pub rows_begin_none : (n : ℕ) (on : Bool) (rows : List (List Mark)) → list_any begins_group (rows_at n on rows) ≡ false
 rows_begin_none n on [] = refl
@@ -60,7 +61,7 @@ rows_stay n on [] = refl
 rows_stay n on (row ∷ rows) =
     ap₂ (λ (k : Kind) (b : Bool). (is_model k || is_end k) || b) (row_kind n on row) (rows_stay (n + 1) on rows)
 
-marks_back : (marks : List Mark) → map mark_of (map mark_byte marks) ≡ marks
+marks_back : (marks : List Mark) → map mark_of_byte (map mark_byte marks) ≡ marks
 marks_back [] = refl
 marks_back (zero_mark ∷ marks) = ap (λ (ms : List Mark). zero_mark ∷ ms) (marks_back marks)
 marks_back (one_mark ∷ marks) = ap (λ (ms : List Mark). one_mark ∷ ms) (marks_back marks)
@@ -150,7 +151,7 @@ formal_back bind plain =
     let none = not-true _ (and_parts (is_plain bind.actual) _ (and_parts (is_plain bind.formal) _ plain).1).1 in
     ap (λ n. take n (bind_word bind)) (sign_at bind.formal bind.actual none) ∙ take-append_seam bind.formal (61 ∷ bind.actual)
 
-pub actual_back : (bind : Binding) → is_plain_bind bind ≡ true → actual_of (bind_word bind) ≡ bind.actual
+pub actual_back : (bind : Binding) → is_plain_bind bind ≡ true → actual_part (bind_word bind) ≡ bind.actual
 actual_back bind plain =
     let none = not-true _ (and_parts (is_plain bind.actual) _ (and_parts (is_plain bind.formal) _ plain).1).1 in
     ap (λ n. drop (n + 1) (bind_word bind)) (sign_at bind.formal bind.actual none) ∙ drop-append-add bind.formal (61 ∷ bind.actual) 1

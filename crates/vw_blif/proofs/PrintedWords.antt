@@ -14,7 +14,7 @@ use Rattle.vw_design.specs.declared.item.Edge.TheVariants.{Rise, Fall, Unsaid}
 use Rattle.vw_design.specs.Distinct.{are_distinct}
 use Rattle.vw_text.specs.WordLines.{is_empty}
 use Rattle.vw_text.specs.PlainLines.{is_special, is_plain, IsPlainLine}
-use Rattle.vw_blif.specs.Words.{Word}
+use Rattle.vw_design.specs.Paths.{Word}
 use Rattle.vw_blif.specs.Spelled.{Binding, SpelledItem, table, latch, place, SpelledModel}
 use Rattle.vw_blif.specs.Rows.{value_word}
 use Rattle.vw_blif.specs.Printed.{mark_byte, row_words, init_word, control_word, latch_words, bind_word, item_lines, port_lines, head_lines, model_lines, design_lines}

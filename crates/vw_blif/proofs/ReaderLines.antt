@@ -12,15 +12,16 @@ use Rattle.vw_blif.specs.declared.block.Block.{Block}
 use Rattle.vw_blif.specs.declared.reader.Reader.{Reader}
 use Rattle.vw_blif.specs.declared.kind.Kind.{Kind}
 use Rattle.vw_blif.specs.declared.kind.Kind.TheVariants.{Model, Inputs, Outputs, Clock, Names, Latch, Subckt, End, Other, Row}
-use Rattle.vw_blif.specs.Words.{Word, first_word}
+use Rattle.vw_blif.specs.Words.{first_word}
+use Rattle.vw_design.specs.Paths.{Word}
 use Rattle.vw_blif.specs.Kinds.{kind, further, is_model, is_end, input, output, clocked}
 use Rattle.vw_blif.specs.Spelled.{SpelledModel, spelled_model}
 use Rattle.vw_blif.specs.Designs.{blocks, model_of}
 use Rattle.vw_blif.specs.Before.{is_open, open_behind, names_behind, model_names, table_behind, open_table, ports_behind, ports_before}
 use Rattle.vw_blif.specs.Faults.{when, faults_by, first_of, fault_at}
 use Rattle.vw_blif.specs.Steps.Names.{opened, names_so_far}
-use Rattle.vw_blif.specs.Steps.Blocks.{block_made, Told, Takes, Refuses, IsNew}
-use Rattle.vw_blif.specs.Steps.Readers.{models_with, models_made, ToldOpen, ToldAll, Ends, ReadsLine, RefusesLine}
+use Rattle.vw_blif.specs.Steps.Blocks.{block_made, IsAsBefore, TakesLine, RefusesInModel, IsNew}
+use Rattle.vw_blif.specs.Steps.Readers.{models_with, models_made, ToldOpen, ToldAll, EndsModel, ReadsLine, RefusesLine}
 use Rattle.vw_blif.proofs.Repeats.{has_name-push}
 
 -- a line of the open model
@@ -50,11 +51,11 @@ same_names Other line names other = refl
 same_names Row line names other = refl
 
 module _ (old new : Reader) (line : Line) (b taken : Block) (was : opened old.block ≡ Some b) (is : opened new.block ≡ Some taken) (same : new.models ≡ old.models)
-    (other : is_model (kind line) ≡ false) (takes : Takes b line taken) where
+    (other : is_model (kind line) ≡ false) (takes : TakesLine b line taken) where
   names_taken : names_so_far new.models.items (opened new.block) ≡ names_so_far old.models.items (opened old.block)
   names_taken = rw (same, was, is, takes.name) refl
 
-  told_block : (before : List Line) → ToldAll before old → Told before b
+  told_block : (before : List Line) → ToldAll before old → IsAsBefore before b
   told_block before told = subst (λ (o : Option Block). ToldOpen before o) was told.block
 
   pub line_taken : ReadsLine old line new
@@ -72,7 +73,7 @@ module _ (old new : Reader) (line : Line) (b taken : Block) (was : opened old.bl
   }
 
 -- a line that the open model refuses
-pub line_refused : (old : Reader) (line : Line) (b : Block) (fault : TextFault) → opened old.block ≡ Some b → Refuses b line fault → RefusesLine old line fault
+pub line_refused : (old : Reader) (line : Line) (b : Block) (fault : TextFault) → opened old.block ≡ Some b → RefusesInModel b line fault → RefusesLine old line fault
 line_refused old line b fault was refuses = λ before told. refuses before (subst (λ (o : Option Block). ToldOpen before o) was told.block)
 
 -- a `.end` line
@@ -84,7 +85,7 @@ end_faults k before line is = rw is refl
 made_end : (b : Block) (line : Line) (lines : List Line) → kind line ≡ End → block_made b (line ∷ lines) ≡ block_made b []
 made_end b line lines is = rw (ap is_end is) refl
 
-pub model_ended : (old ended new : Reader) (line : Line) (b : Block) → opened old.block ≡ Some b → ended.models ≡ old.models → opened ended.block ≡ Some b → kind line ≡ End → Ends ended new
+pub model_ended : (old ended new : Reader) (line : Line) (b : Block) → opened old.block ≡ Some b → ended.models ≡ old.models → opened ended.block ≡ Some b → kind line ≡ End → EndsModel ended new
     → ReadsLine old line new
 model_ended old ended new line b was same is is_end_ ends =
     let other : is_model (kind line) ≡ false = ap is_model is_end_ in
@@ -136,7 +137,7 @@ behind : (line : Line) (rest : List Line) → kind line ≡ Model → (o : Optio
 behind line rest is None = rw (ap is_model is) refl
 behind line rest is (Some b) = rw (ap is_model is) refl
 
-module _ (old mid : Reader) (line : Line) (name : Word) (is_kind : kind line ≡ Model) (one : further line ≡ name ∷ []) (ends : Ends old mid) where
+module _ (old mid : Reader) (line : Line) (name : Word) (is_kind : kind line ≡ Model) (one : further line ≡ name ∷ []) (ends : EndsModel old mid) where
   names_mid : (before : List Line) → ToldAll before old → model_names before ≡ names_so_far mid.models.items (opened mid.block)
   names_mid before told = told.names ∙ sym ends.names
 
@@ -160,7 +161,7 @@ module _ (old mid : Reader) (line : Line) (name : Word) (is_kind : kind line ≡
         ∙ ap₂ (λ (names ws : List Word). names ++ first_word ws ∷ []) (names_mid before told) one
         ∙ sym names_new
 
-    told_new : (before : List Line) → Told (line ∷ before) b
+    told_new : (before : List Line) → IsAsBefore (line ∷ before) b
     told_new before = record {
       open_ = ap (λ (k : Kind). open_behind k (is_open before)) is_kind;
       table_ = rw fresh.table_ (ap (λ (k : Kind). table_behind k line (open_table before)) is_kind);

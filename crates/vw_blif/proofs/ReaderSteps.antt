@@ -5,7 +5,7 @@ use Rattle.std.proofs.lemmas.List.Elements.{All-push}
 use Rattle.vw_design.specs.declared.model.Model.{Model}
 use Rattle.vw_design.specs.Shape.{IsWellMade}
 use Rattle.vw_blif.specs.declared.block.Block.{Block}
-use Rattle.vw_blif.specs.Words.{Word}
+use Rattle.vw_design.specs.Paths.{Word}
 use Rattle.vw_blif.specs.Spelled.{SpelledModel, spelled_model}
 use Rattle.vw_blif.specs.Designs.{blocks}
 use Rattle.vw_blif.specs.Steps.Names.{names_so_far}

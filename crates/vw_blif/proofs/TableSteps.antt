@@ -10,14 +10,15 @@ use Rattle.vw_net.specs.declared.cover.Mark.{Mark}
 use Rattle.vw_net.specs.declared.cover.Row.{Row}
 use Rattle.vw_text.specs.declared.line.Line.{Line}
 use Rattle.vw_blif.specs.declared.table.Table.{Table}
-use Rattle.vw_blif.specs.Words.{Word, front_words, last_word}
+use Rattle.vw_blif.specs.Words.{front_words, last_word}
+use Rattle.vw_design.specs.Paths.{Word}
 use Rattle.vw_blif.specs.Kinds.{further}
 use Rattle.vw_blif.specs.Spelled.{table}
-use Rattle.vw_blif.specs.Rows.{mark_of, is_value, value_word, is_row_of, row_marks, are_on_set}
+use Rattle.vw_blif.specs.Rows.{mark_of_byte, is_value, value_word, is_row_of, row_marks, are_on_set}
 use Rattle.vw_blif.specs.Before.{or_value}
 use Rattle.vw_blif.specs.Faults.{differs_from}
 use Rattle.vw_blif.specs.Steps.Blocks.{on_or}
-use Rattle.vw_blif.specs.Steps.Tables.{BeginsTable, AddsRow, is_other}
+use Rattle.vw_blif.specs.Steps.Tables.{BeginsTable, AddsRow, is_other_value}
 use Rattle.vw_blif.proofs.LastWord.{front_words-take}
 
 pub length-front_words : (words : List Word) → 0 < length words → length (front_words words) ≡ length words - 1
@@ -50,7 +51,7 @@ pub length-row_marks : (width : ℕ) (words : List Word) → is_row_of width wor
 length-row_marks width [] row = absurd (true≢false (sym row))
 length-row_marks width (value ∷ []) row = sym (eqb-true width 0 ((and_parts (eqb width 0) (is_value value) row).0))
 length-row_marks width (marks ∷ value ∷ []) row =
-    length-map marks mark_of ∙ eqb-true (length marks) width ((and_parts (eqb (length marks) width) _ ((and_parts (ltb 0 width) _ row).1)).0)
+    length-map marks mark_of_byte ∙ eqb-true (length marks) width ((and_parts (eqb (length marks) width) _ ((and_parts (ltb 0 width) _ row).1)).0)
 length-row_marks width (marks ∷ value ∷ more ∷ words) row = absurd (true≢false (sym row))
 
 -- and so do all rows of a table with that row more
@@ -69,7 +70,7 @@ value_is word is = by_test (bytes_eq word (codes "1")) refl
         or_nothing true = refl
         or_nothing false = refl
 
-same_value : (first one : Bool) → is_other (Some first) one ≡ false → first ≡ one
+same_value : (first one : Bool) → is_other_value (Some first) one ≡ false → first ≡ one
 same_value true true same = refl
 same_value true false same = absurd (true≢false same)
 same_value false true same = absurd (true≢false same)
@@ -82,21 +83,21 @@ module _ (line : Line) (one : Bool) (width : ℕ) (ends : one ≡ bytes_eq (last
   word_is : value_word one ≡ last_word line.words
   word_is = ap value_word ends ∙ value_is (last_word line.words) (last_value width line.words row_is)
 
-  on_is : (on : Option Bool) (rows : List Line) → is_other on one ≡ false → one ≡ on_or on (are_on_set (line ∷ rows))
+  on_is : (on : Option Bool) (rows : List Line) → is_other_value on one ≡ false → one ≡ on_or on (are_on_set (line ∷ rows))
   on_is None rows same = ends
   on_is (Some first) rows same = sym (same_value first one same)
 
-  value_told : (on : Option Bool) → is_other on one ≡ false → value_word one ≡ or_value (option_map value_word on) (last_word line.words)
+  value_told : (on : Option Bool) → is_other_value on one ≡ false → value_word one ≡ or_value (option_map value_word on) (last_word line.words)
   value_told None same = word_is
   value_told (Some first) same = ap value_word (sym (same_value first one same))
 
-  same_told : (on : Option Bool) → is_other on one ≡ false → differs_from (option_map value_word on) (last_word line.words) ≡ false
+  same_told : (on : Option Bool) → is_other_value on one ≡ false → differs_from (option_map value_word on) (last_word line.words) ≡ false
   same_told None same = refl
   same_told (Some first) same = ap not (ap₂ bytes_eq (ap value_word (same_value first one same) ∙ word_is) refl ∙ same_word (last_word line.words))
 
 pub adds_row : (line : Line) (old new : Table) (row : Row) (one : Bool) → new.line ≡ old.line → new.ins ≡ old.ins → new.out ≡ old.out → new.on ≡ Some one
     → new.rows.items ≡ old.rows.items ++ row ∷ [] → row.marks ≡ row_marks line.words → one ≡ bytes_eq (last_word line.words) (codes "1")
-    → is_row_of (length old.ins) line.words ≡ true → is_other old.on one ≡ false → AddsRow old line new
+    → is_row_of (length old.ins) line.words ≡ true → is_other_value old.on one ≡ false → AddsRow old line new
 adds_row line old new row one at ins out on rows marks ends row_is same = record {
   makes = λ more.
       let value : one ≡ on_or old.on (are_on_set (line ∷ more)) = on_is line one (length old.ins) ends row_is old.on more same in

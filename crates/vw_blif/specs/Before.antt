@@ -3,7 +3,8 @@ use Rattle.std.specs.Prelude.{ℕ, ◌-◌, Bool, true, false, List, [], ◌∷�
 use Rattle.vw_text.specs.declared.line.Line.{Line}
 use Rattle.vw_blif.specs.declared.kind.Kind.{Kind}
 use Rattle.vw_blif.specs.declared.kind.Kind.TheVariants.{Model, Inputs, Outputs, Clock, Names, Latch, Subckt, End, Other, Row}
-use Rattle.vw_blif.specs.Words.{Word, first_word, last_word}
+use Rattle.vw_blif.specs.Words.{first_word, last_word}
+use Rattle.vw_design.specs.Paths.{Word}
 use Rattle.vw_blif.specs.Kinds.{kind, further, Port, adds_to}
 
 -- whether a line stands within a model, behind a line of a kind

@@ -3,22 +3,23 @@
 use Rattle.std.specs.Prelude.{ℕ, Bool, false, ◌||◌, List, [], ◌∷◌, ◌++◌, map, length, ◌==◌}
 use Rattle.std.specs.List.{list_any, before_first, after_first}
 use Rattle.vw_design.specs.Distinct.{has_name}
-use Rattle.vw_blif.specs.Words.{Word, first_word, further_words}
+use Rattle.vw_blif.specs.Words.{first_word, further_words}
+use Rattle.vw_design.specs.Paths.{Word}
 use Rattle.vw_blif.specs.Spelled.{Binding, SpelledItem, place}
 
 -- what stands before the first `=`, and what stands behind it
 abbrev pub formal_of : Word → Word
 formal_of word = before_first (λ b. b == 61) word
 
-abbrev pub actual_of : Word → Word
-actual_of word = after_first (λ b. b == 61) word
+abbrev pub actual_part : Word → Word
+actual_part word = after_first (λ b. b == 61) word
 
 -- no byte stands on one of the sides
 abbrev pub is_no_bind : Word → Bool
-is_no_bind word = length (formal_of word) == 0 || length (actual_of word) == 0
+is_no_bind word = length (formal_of word) == 0 || length (actual_part word) == 0
 
 abbrev pub bind_of : Word → Binding
-bind_of word = record { formal = formal_of word; actual = actual_of word }
+bind_of word = record { formal = formal_of word; actual = actual_part word }
 
 -- whether one of these words stands among those before it, or among these
 abbrev pub repeats : List Word → List Word → Bool
@@ -31,5 +32,5 @@ has_bad_bind words =
     list_any is_no_bind (further_words words) || repeats [] (map formal_of (further_words words))
 
 -- the placed model of the words behind the keyword
-abbrev pub place_of : ℕ → List Word → SpelledItem
-place_of line words = place line (first_word words) (map bind_of (further_words words))
+abbrev pub spelled_placing : ℕ → List Word → SpelledItem
+spelled_placing line words = place line (first_word words) (map bind_of (further_words words))

@@ -6,12 +6,13 @@ use Rattle.std.specs.List.{flat_map, filter_map}
 use Rattle.vw_text.specs.declared.line.Line.{Line}
 use Rattle.vw_blif.specs.declared.kind.Kind.{Kind}
 use Rattle.vw_blif.specs.declared.kind.Kind.TheVariants.{Model, Inputs, Outputs, Clock, Names, Latch, Subckt, End, Other, Row}
-use Rattle.vw_blif.specs.Words.{Word, first_word, last_word, front_words}
+use Rattle.vw_blif.specs.Words.{first_word, last_word, front_words}
+use Rattle.vw_design.specs.Paths.{Word}
 use Rattle.vw_blif.specs.Kinds.{kind, further, is_model, is_end, is_row, Port, input, output, clocked, adds_to}
 use Rattle.vw_blif.specs.Spelled.{SpelledItem, table, SpelledModel}
 use Rattle.vw_blif.specs.Rows.{row_marks, are_on_set}
 use Rattle.vw_blif.specs.Latches.{latch_of}
-use Rattle.vw_blif.specs.Bindings.{place_of}
+use Rattle.vw_blif.specs.Bindings.{spelled_placing}
 use Rattle.vw_blif.specs.Blocks.{Part, Cut, cut_before, until}
 
 -- the blocks of lines, and the groups of the lines behind a `.model` line
@@ -34,7 +35,7 @@ item_by Outputs line rows = None
 item_by Clock line rows = None
 item_by Names line rows = Some (table_of line rows)
 item_by Latch line rows = Some (latch_of line.number (further line))
-item_by Subckt line rows = Some (place_of line.number (further line))
+item_by Subckt line rows = Some (spelled_placing line.number (further line))
 item_by End line rows = None
 item_by Other line rows = None
 item_by Row line rows = None
@@ -60,5 +61,5 @@ abbrev pub model_of : Part Line → SpelledModel
 model_of block = model_by (first_word (further block.head)) ((groups block.tail).parts)
 
 -- the models of lines
-abbrev pub spelled_by : List Line → List SpelledModel
-spelled_by lines = map model_of ((blocks lines).parts)
+abbrev pub spelled_models : List Line → List SpelledModel
+spelled_models lines = map model_of ((blocks lines).parts)

@@ -8,7 +8,8 @@ use Rattle.vw_blif.specs.declared.fault.TextFault.{TextFault}
 use Rattle.vw_blif.specs.declared.fault.TextFault.TheVariants.{NoModel, Unsupported, BadWords, BadRow, MixedRows, TooWide, BadLatchType, BadInit, DuplicateModel, DuplicatePort, BadBind}
 use Rattle.vw_blif.specs.declared.kind.Kind.{Kind}
 use Rattle.vw_blif.specs.declared.kind.Kind.TheVariants.{Model, Inputs, Outputs, Clock, Names, Latch, Subckt, End, Other, Row}
-use Rattle.vw_blif.specs.Words.{Word, first_word, last_word}
+use Rattle.vw_blif.specs.Words.{first_word, last_word}
+use Rattle.vw_design.specs.Paths.{Word}
 use Rattle.vw_blif.specs.Kinds.{kind, further, Port, input, output, clocked, adds_to}
 use Rattle.vw_blif.specs.Rows.{is_row_of}
 use Rattle.vw_blif.specs.Latches.{has_bad_type, has_bad_init}

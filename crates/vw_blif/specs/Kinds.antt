@@ -4,7 +4,8 @@ use Rattle.std.specs.Str.{bytes_eq}
 use Rattle.vw_text.specs.declared.line.Line.{Line}
 use Rattle.vw_blif.specs.declared.kind.Kind.{Kind}
 use Rattle.vw_blif.specs.declared.kind.Kind.TheVariants.{Model, Inputs, Outputs, Clock, Names, Latch, Subckt, End, Other, Row}
-use Rattle.vw_blif.specs.Words.{Word, first_word, further_words, begins_with_point}
+use Rattle.vw_blif.specs.Words.{first_word, further_words, begins_with_point}
+use Rattle.vw_design.specs.Paths.{Word}
 
 -- the kind of a first word: one of the eight keywords, another word with a point in front, or a part of a row
 abbrev pub kind_of : Word → Kind

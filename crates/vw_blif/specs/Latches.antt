@@ -6,7 +6,7 @@ use Rattle.vw_net.specs.declared.cell.Init.{Init}
 use Rattle.vw_net.specs.declared.cell.Init.TheVariants.{Zero, One, Free}
 use Rattle.vw_design.specs.declared.item.Edge.{Edge}
 use Rattle.vw_design.specs.declared.item.Edge.TheVariants.{Rise, Fall, Unsaid}
-use Rattle.vw_blif.specs.Words.{Word}
+use Rattle.vw_design.specs.Paths.{Word}
 use Rattle.vw_blif.specs.Spelled.{SpelledItem, latch}
 
 -- what is written behind the input and the output of a latch

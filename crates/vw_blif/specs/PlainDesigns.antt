@@ -10,9 +10,9 @@ use Rattle.vw_design.specs.declared.item.Edge.TheVariants.{Rise, Fall, Unsaid}
 use Rattle.vw_design.specs.Distinct.{are_distinct}
 use Rattle.vw_text.specs.WordLines.{is_empty}
 use Rattle.vw_text.specs.PlainLines.{is_plain}
-use Rattle.vw_blif.specs.Words.{Word}
+use Rattle.vw_design.specs.Paths.{Word}
 use Rattle.vw_blif.specs.Spelled.{Binding, SpelledItem, table, latch, place, SpelledModel}
-use Rattle.vw_blif.specs.Printed.{item_lines, head_lines, model_lines, printed}
+use Rattle.vw_blif.specs.Printed.{item_lines, head_lines, model_lines, printed_design}
 
 -- a table: plain nets, at most 128 inputs, a mark for each of them in each row, and a row at least in an off-set
 abbrev pub is_plain_table : List Word → Word → Bool → List (List Mark) → Bool
@@ -73,4 +73,4 @@ pub record IsPlainDesign (design : List SpelledModel) : Type 0 where
   pub models : IsTrue (list_all is_plain_model design)
   pub names : IsTrue (are_distinct (map (λ model. model.name) design))
   pub numbers : IsTrue (have_numbers 1 design)
-  pub short : length (printed design) ≤ 16777216
+  pub short : length (printed_design design) ≤ 16777216

@@ -9,7 +9,7 @@ use Rattle.vw_net.specs.declared.cell.Init.TheVariants.{Zero, One, Free}
 use Rattle.vw_design.specs.declared.item.Edge.{Edge}
 use Rattle.vw_design.specs.declared.item.Edge.TheVariants.{Rise, Fall, Unsaid}
 use Rattle.vw_text.specs.PlainLines.{plain_text}
-use Rattle.vw_blif.specs.Words.{Word}
+use Rattle.vw_design.specs.Paths.{Word}
 use Rattle.vw_blif.specs.Spelled.{Binding, SpelledItem, table, latch, place, SpelledModel}
 use Rattle.vw_blif.specs.Rows.{value_word}
 
@@ -65,5 +65,5 @@ abbrev pub design_lines : List SpelledModel → List (List Word)
 design_lines design = flat_map model_lines design
 
 -- the text of a design
-abbrev pub printed : List SpelledModel → List ℕ
-printed design = plain_text (design_lines design)
+abbrev pub printed_design : List SpelledModel → List ℕ
+printed_design design = plain_text (design_lines design)

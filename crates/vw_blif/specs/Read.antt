@@ -6,7 +6,7 @@ use Rattle.vw_text.specs.WordLines.{word_lines}
 use Rattle.vw_blif.specs.declared.fault.TextFault.{TextFault}
 use Rattle.vw_blif.specs.declared.fault.TextFault.TheVariants.{TooLarge, NoModel, Unsupported, BadWords, BadRow, MixedRows, TooWide, BadLatchType, BadInit, DuplicateModel, DuplicatePort, BadBind, NoMemory}
 use Rattle.vw_blif.specs.Spelled.{SpelledModel}
-use Rattle.vw_blif.specs.Designs.{spelled_by}
+use Rattle.vw_blif.specs.Designs.{spelled_models}
 use Rattle.vw_blif.specs.Faults.{fault_at}
 
 abbrev pub or_next : Option TextFault → Option TextFault → Option TextFault
@@ -25,7 +25,7 @@ unless (Some fault) x = Err fault
 
 abbrev pub design_of_lines : List Line → Result (List SpelledModel) TextFault
 design_of_lines [] = Err (NoModel 0)
-design_of_lines (line ∷ lines) = unless (first_fault [] (line ∷ lines)) (spelled_by (line ∷ lines))
+design_of_lines (line ∷ lines) = unless (first_fault [] (line ∷ lines)) (spelled_models (line ∷ lines))
 
 abbrev pub design_of : List ℕ → Result (List SpelledModel) TextFault
 design_of text = if nat_lt 16777216 (length text) then Err TooLarge else design_of_lines (word_lines text)

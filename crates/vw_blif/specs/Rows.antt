@@ -5,13 +5,14 @@ use Rattle.std.specs.Str.{bytes_eq}
 use Rattle.vw_net.specs.declared.cover.Mark.{Mark}
 use Rattle.vw_net.specs.declared.cover.Mark.TheVariants.{Zero, One, Any}
 use Rattle.vw_text.specs.declared.line.Line.{Line}
-use Rattle.vw_blif.specs.Words.{Word, last_word}
+use Rattle.vw_blif.specs.Words.{last_word}
+use Rattle.vw_design.specs.Paths.{Word}
 
 abbrev pub is_mark : ℕ → Bool
 is_mark b = b == 48 || (b == 49 || b == 45)
 
-abbrev pub mark_of : ℕ → Mark
-mark_of b = if b == 48 then Zero else if b == 49 then One else Any
+abbrev pub mark_of_byte : ℕ → Mark
+mark_of_byte b = if b == 48 then Zero else if b == 49 then One else Any
 
 -- the value of a row: `0` or `1`
 abbrev pub is_value : Word → Bool
@@ -34,7 +35,7 @@ is_row_of width (marks ∷ value ∷ more ∷ words) = false
 abbrev pub row_marks : List Word → List Mark
 row_marks [] = []
 row_marks (value ∷ []) = []
-row_marks (marks ∷ value ∷ words) = map mark_of marks
+row_marks (marks ∷ value ∷ words) = map mark_of_byte marks
 
 -- whether the rows of a table are its on-set: its first row ends in `1`, or there is none
 abbrev pub are_on_set : List Line → Bool

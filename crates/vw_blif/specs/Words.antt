@@ -1,9 +1,6 @@
 -- Words of a line.
+use Rattle.vw_design.specs.Paths.{Word}
 use Rattle.std.specs.Prelude.{ℕ, Bool, false, ◌==◌, List, [], ◌∷◌}
-
--- its bytes
-abbrev pub Word : Type 0
-Word = List ℕ
 
 -- the first word; no byte where there is none
 abbrev pub first_word : List Word → Word

@@ -1,7 +1,7 @@
 //! Bindings of placed models.
 ghost use Rattle.std.specs.Prelude.{◌≡◌, ◌<◌, true, false, length, IfOk, IfErr, MatchOption, IsTrue};
 ghost use Rattle.vw_design.specs.Shape.{has_its_shape};
-ghost use Rattle.vw_blif.specs.Bindings.{formal_of, actual_of, is_no_bind, has_bad_bind, place_of};
+ghost use Rattle.vw_blif.specs.Bindings.{formal_of, actual_part, is_no_bind, has_bad_bind, spelled_placing};
 ghost use Rattle.vw_blif.specs.Spelled.{spelled_item};
 ghost use Rattle.vw_blif.specs.Steps.Says.{SaysBind, SaysPlace, AreBinds};
 
@@ -19,7 +19,7 @@ use vw_outside::Name;
 fn sides(word: &[u8]) -> Option<(&[u8], &[u8])>
     ensures { MatchOption result (is_no_bind word.now ≡ true)
         (λ sides. (is_no_bind word.now ≡ false) × (sides.0.now ≡ formal_of word.now)
-        × (sides.1.now ≡ actual_of word.now)) }
+        × (sides.1.now ≡ actual_part word.now)) }
 {
     let Some(cut) = word.find_byte(b'=') else {
         return None;
@@ -63,7 +63,7 @@ fn binds_of(alloc: Global, line: u64, words: &[Name]) -> Result<Vec<Bind>, TextF
 /// The placed model of the words behind the keyword.
 pub fn place_of(alloc: Global, line: u64, words: &[Name]) -> Result<Item, TextFault>
     requires { 0 < length words.now }
-    ensures item { IfOk result (λ item. spelled_item item ≡ place_of line words.now) }
+    ensures item { IfOk result (λ item. spelled_item item ≡ spelled_placing line words.now) }
     ensures shape { IfOk result (λ item. IsTrue (has_its_shape item)) }
     ensures fine { IfOk result (λ _. has_bad_bind words.now ≡ false) }
     ensures fault { IfErr result (SaysPlace line words.now) }

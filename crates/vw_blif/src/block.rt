@@ -35,7 +35,7 @@ impl<'a> Block<'a> {
     ghost use Rattle.vw_blif.specs.Kinds.{kind};
     ghost use Rattle.vw_blif.specs.declared.kind.Kind.{Kind};
     ghost use Rattle.vw_blif.specs.Spelled.{spelled_model};
-    ghost use Rattle.vw_blif.specs.Steps.Blocks.{IsNew, Closes, HasItem, block_made, Takes, Refuses};
+    ghost use Rattle.vw_blif.specs.Steps.Blocks.{IsNew, ClosesTable, HasItem, block_made, TakesLine, RefusesInModel};
 
     /// A model of which nothing but the name was read.
     pub fn new(alloc: Global, name: Name) -> Result<Box<Self>, AllocError>
@@ -54,7 +54,7 @@ impl<'a> Block<'a> {
 
     /// Puts the open table behind the items.
     fn close(&mut self) -> Result<(), AllocError>
-        ensures { OnOk result (Closes self.old self.new) }
+        ensures { OnOk result (ClosesTable self.old self.new) }
     {
         if let Some(table) = self.table.take() {
             self.items.push(close_table(table))?;
@@ -80,8 +80,8 @@ impl<'a> Block<'a> {
         line: &Line,
     ) -> Result<(), TextFault>
         requires { kind line.now ≡ Kind.Inputs }
-        ensures takes { OnOk result (Takes self.old line.now self.new) }
-        ensures refuses { IfErr result (Refuses self.old line.now) }
+        ensures takes { OnOk result (TakesLine self.old line.now self.new) }
+        ensures refuses { IfErr result (RefusesInModel self.old line.now) }
     {
         self.close()?;
         let inputs = replace(&mut self.inputs, Ports::new(alloc));
@@ -97,8 +97,8 @@ impl<'a> Block<'a> {
         line: &Line,
     ) -> Result<(), TextFault>
         requires { kind line.now ≡ Kind.Outputs }
-        ensures takes { OnOk result (Takes self.old line.now self.new) }
-        ensures refuses { IfErr result (Refuses self.old line.now) }
+        ensures takes { OnOk result (TakesLine self.old line.now self.new) }
+        ensures refuses { IfErr result (RefusesInModel self.old line.now) }
     {
         self.close()?;
         let outputs = replace(&mut self.outputs, Ports::new(alloc));
@@ -114,8 +114,8 @@ impl<'a> Block<'a> {
         line: &Line,
     ) -> Result<(), TextFault>
         requires { kind line.now ≡ Kind.Clock }
-        ensures takes { OnOk result (Takes self.old line.now self.new) }
-        ensures refuses { IfErr result (Refuses self.old line.now) }
+        ensures takes { OnOk result (TakesLine self.old line.now self.new) }
+        ensures refuses { IfErr result (RefusesInModel self.old line.now) }
     {
         self.close()?;
         let clocks = replace(&mut self.clocks, Ports::new(alloc));
@@ -126,8 +126,8 @@ impl<'a> Block<'a> {
     /// Takes a `.names` line.
     pub fn add_table(&mut self, alloc: Global, line: &Line) -> Result<(), TextFault>
         requires { kind line.now ≡ Kind.Names }
-        ensures takes { OnOk result (Takes self.old line.now self.new) }
-        ensures refuses { IfErr result (Refuses self.old line.now) }
+        ensures takes { OnOk result (TakesLine self.old line.now self.new) }
+        ensures refuses { IfErr result (RefusesInModel self.old line.now) }
     {
         let table = begin_table(alloc, line)?;
         self.close()?;
@@ -138,8 +138,8 @@ impl<'a> Block<'a> {
     /// Takes a `.latch` line.
     pub fn add_latch(&mut self, alloc: Global, line: &Line) -> Result<(), TextFault>
         requires { kind line.now ≡ Kind.Latch }
-        ensures takes { OnOk result (Takes self.old line.now self.new) }
-        ensures refuses { IfErr result (Refuses self.old line.now) }
+        ensures takes { OnOk result (TakesLine self.old line.now self.new) }
+        ensures refuses { IfErr result (RefusesInModel self.old line.now) }
     {
         let words = further(line);
         if words.len() < 2 || words.len() > 5 {
@@ -153,8 +153,8 @@ impl<'a> Block<'a> {
     /// Takes a `.subckt` line.
     pub fn add_place(&mut self, alloc: Global, line: &Line) -> Result<(), TextFault>
         requires { kind line.now ≡ Kind.Subckt }
-        ensures takes { OnOk result (Takes self.old line.now self.new) }
-        ensures refuses { IfErr result (Refuses self.old line.now) }
+        ensures takes { OnOk result (TakesLine self.old line.now self.new) }
+        ensures refuses { IfErr result (RefusesInModel self.old line.now) }
     {
         let words = further(line);
         if words.is_empty() {
@@ -168,8 +168,8 @@ impl<'a> Block<'a> {
     /// Takes a row.
     pub fn add_row(&mut self, alloc: Global, line: &Line) -> Result<(), TextFault>
         requires { kind line.now ≡ Kind.Row }
-        ensures takes { OnOk result (Takes self.old line.now self.new) }
-        ensures refuses { IfErr result (Refuses self.old line.now) }
+        ensures takes { OnOk result (TakesLine self.old line.now self.new) }
+        ensures refuses { IfErr result (RefusesInModel self.old line.now) }
     {
         let Some(table) = self.table.take() else {
             return Err(TextFault::BadRow(line.number()));

@@ -2,7 +2,8 @@
 ghost use Rattle.std.specs.Prelude.{◌≡◌, ◌≤◌, ◌<◌, true, false, length, IfOk, IfErr};
 ghost use Rattle.vw_blif.specs.Latches.{Written, written_of, is_type, is_init, edge_of, control_of, init_of, latch_of, has_bad_type, has_bad_init};
 ghost use Rattle.vw_blif.specs.Spelled.{spelled_item};
-ghost use Rattle.vw_blif.specs.Steps.Says.{SaysLatch, word_at};
+ghost use Rattle.vw_blif.specs.Steps.Says.{SaysLatch};
+ghost use Rattle.vw_design.specs.Paths.{lent};
 
 use crate::copies::copy;
 use crate::fault::TextFault;
@@ -13,7 +14,7 @@ use vw_outside::Name;
 
 /// Whether a word, where it is written, is the type of a latch.
 fn is_type(word: Option<&Name>) -> bool
-    ensures { result ≡ is_type (word_at word.entry) }
+    ensures { result ≡ is_type (lent word.entry) }
 {
     match word {
         None => true,
@@ -23,7 +24,7 @@ fn is_type(word: Option<&Name>) -> bool
 
 /// Whether a word, where it is written, is an initial value.
 fn is_init(word: Option<&Name>) -> bool
-    ensures { result ≡ is_init (word_at word.entry) }
+    ensures { result ≡ is_init (lent word.entry) }
 {
     match word {
         None => true,
@@ -38,7 +39,7 @@ fn is_init(word: Option<&Name>) -> bool
 
 /// The edge of a type.
 fn edge_of(word: Option<&Name>) -> Edge
-    ensures { result ≡ edge_of (word_at word.entry) }
+    ensures { result ≡ edge_of (lent word.entry) }
 {
     match word {
         None => Edge::Unsaid,
@@ -49,7 +50,7 @@ fn edge_of(word: Option<&Name>) -> Edge
 
 /// The control of a latch.
 fn control_of(alloc: Global, word: Option<&Name>) -> Result<Option<Name>, AllocError>
-    ensures { IfOk result (λ control. control ≡ control_of (word_at word.entry)) }
+    ensures { IfOk result (λ control. control ≡ control_of (lent word.entry)) }
 {
     match word {
         None => Ok(None),
@@ -60,7 +61,7 @@ fn control_of(alloc: Global, word: Option<&Name>) -> Result<Option<Name>, AllocE
 
 /// The initial value of a latch.
 fn init_of(word: Option<&Name>) -> Init
-    ensures { result ≡ init_of (word_at word.entry) }
+    ensures { result ≡ init_of (lent word.entry) }
 {
     match word {
         None => Init::Free,
@@ -81,9 +82,9 @@ struct Written<'a> {
 /// Which word is which, by their number.
 fn written_of(words: &[Name]) -> Written<'_>
     requires { length words.now ≤ 3 }
-    ensures type_ { word_at result.type_ ≡ (written_of words.now).type_ }
-    ensures control { word_at result.control ≡ (written_of words.now).control }
-    ensures init { word_at result.init ≡ (written_of words.now).init }
+    ensures type_ { lent result.type_ ≡ (written_of words.now).type_ }
+    ensures control { lent result.control ≡ (written_of words.now).control }
+    ensures init { lent result.init ≡ (written_of words.now).init }
 {
     match words {
         [] => Written {

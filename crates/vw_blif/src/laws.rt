@@ -8,7 +8,7 @@ ghost use Rattle.vw_blif.specs.Cuts.{IsCut};
 ghost use Rattle.vw_blif.specs.Read.{first_fault, design_of};
 ghost use Rattle.vw_blif.specs.FirstFault.{IsFirst};
 ghost use Rattle.vw_blif.specs.Spelled.{SpelledModel, spelled_model};
-ghost use Rattle.vw_blif.specs.Printed.{printed};
+ghost use Rattle.vw_blif.specs.Printed.{printed_design};
 ghost use Rattle.vw_blif.specs.PlainDesigns.{IsPlainDesign};
 
 use vw_text::plain_lines_read;
@@ -33,7 +33,7 @@ pub fn the_first_fault_counts()
 /// A design that is printed in the plain way is read back.
 pub fn printed_designs_read()
     ensures { (design : List SpelledModel) → IsPlainDesign design
-        → design_of (printed design) ≡ Ok design }
+        → design_of (printed_design design) ≡ Ok design }
 {
     plain_lines_read();
 }

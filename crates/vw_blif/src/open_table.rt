@@ -6,7 +6,7 @@ ghost use Rattle.vw_blif.specs.Kinds.{further};
 ghost use Rattle.vw_blif.specs.Spelled.{spelled_item};
 ghost use Rattle.vw_blif.specs.Designs.{table_of};
 ghost use Rattle.vw_blif.specs.Steps.Blocks.{table_told, table_made};
-ghost use Rattle.vw_blif.specs.Steps.Tables.{BeginsTable, SaysNames, AddsRow, SaysRow, is_other};
+ghost use Rattle.vw_blif.specs.Steps.Tables.{BeginsTable, SaysNames, AddsRow, SaysRow, is_other_value};
 
 use crate::copies::{copies, copy, front_and_last, further};
 use crate::fault::TextFault;
@@ -44,7 +44,7 @@ pub fn begin_table(alloc: Global, line: &Line) -> Result<Table, TextFault>
 
 /// Whether rows end in another digit than this value.
 fn is_other(on: Option<bool>, value: bool) -> bool
-    ensures { result ≡ is_other on value }
+    ensures { result ≡ is_other_value on value }
 {
     match on {
         None => false,

@@ -35,7 +35,7 @@ pub struct Reader<'a> {
 impl<'a> Reader<'a> {
     ghost use Rattle.vw_blif.specs.Kinds.{kind};
     ghost use Rattle.vw_blif.specs.declared.kind.Kind.{Kind};
-    ghost use Rattle.vw_blif.specs.Steps.Readers.{IsAtStart, Ends, IsRead, ReadsLine, RefusesLine};
+    ghost use Rattle.vw_blif.specs.Steps.Readers.{IsAtStart, EndsModel, IsRead, ReadsLine, RefusesLine};
 
     /// Nothing was read.
     pub fn new(alloc: Global) -> Result<Self, AllocError>
@@ -50,7 +50,7 @@ impl<'a> Reader<'a> {
 
     /// The same design, with its open model among the models.
     fn end(self) -> Result<Self, AllocError>
-        ensures { IfOk result (Ends self.entry) }
+        ensures { IfOk result (EndsModel self.entry) }
     {
         let Reader {
             mut models,

@@ -1,7 +1,7 @@
 //! Rows of tables.
 ghost use Rattle.std.specs.Prelude.{◌≡◌, map, IfOk};
 ghost use Rattle.std.specs.List.{list_all};
-ghost use Rattle.vw_blif.specs.Rows.{is_mark, mark_of, is_value, is_row_of, row_marks};
+ghost use Rattle.vw_blif.specs.Rows.{is_mark, mark_of_byte, is_value, is_row_of, row_marks};
 
 use std::alloc::{AllocError, Global};
 use vw_net::{Mark, Sequence};
@@ -9,7 +9,7 @@ use vw_outside::Name;
 
 /// What a character of a row asks of its input.
 fn mark_of(byte: u8) -> Mark
-    ensures { result ≡ mark_of byte }
+    ensures { result ≡ mark_of_byte byte }
 {
     match byte {
         b'0' => Mark::Zero,
@@ -46,7 +46,7 @@ fn are_marks(word: &[u8]) -> bool
 
 /// The marks of the characters of a word.
 fn marks_of(alloc: Global, word: &[u8]) -> Result<Vec<Mark>, AllocError>
-    ensures { IfOk result (λ marks. marks.items ≡ map mark_of word.now) }
+    ensures { IfOk result (λ marks. marks.items ≡ map mark_of_byte word.now) }
 {
     word.iter().map(|byte| mark_of(*byte)).collect(alloc)
 }

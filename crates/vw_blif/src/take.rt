@@ -2,7 +2,7 @@
 ghost use Rattle.std.specs.Prelude.{◌≡◌, ◌≢◌, IfErr, OnOk};
 ghost use Rattle.vw_blif.specs.Kinds.{kind};
 ghost use Rattle.vw_blif.specs.declared.kind.Kind.{Kind};
-ghost use Rattle.vw_blif.specs.Steps.Blocks.{Takes, Refuses};
+ghost use Rattle.vw_blif.specs.Steps.Blocks.{TakesLine, RefusesInModel};
 ghost use Rattle.vw_blif.specs.Steps.Readers.{SaysOther};
 
 use crate::block::Block;
@@ -34,8 +34,8 @@ pub fn take<'a>(
     requires is { line_is ≡ kind line.now }
     requires no_model { line_is ≢ Kind.Model }
     requires no_end { line_is ≢ Kind.End }
-    ensures takes { OnOk result (Takes block.old line.now block.new) }
-    ensures refuses { IfErr result (Refuses block.old line.now) }
+    ensures takes { OnOk result (TakesLine block.old line.now block.new) }
+    ensures refuses { IfErr result (RefusesInModel block.old line.now) }
 {
     match line_is {
         Kind::Inputs => block.add_inputs(alloc, arena, line),

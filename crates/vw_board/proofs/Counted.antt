@@ -6,7 +6,7 @@ use Rattle.std.proofs.Math.Seq.{take-append_seam}
 use Rattle.std.proofs.lemmas.List.Elements.{All-head, All-tail}
 use Rattle.vw_plan.specs.declared.link.Link.{Link}
 use Rattle.vw_plan.specs.Distance.{has_walk}
-use Rattle.vw_board.specs.Steps.Tables.{AreWithin, IsOneLinkMore, Notes, HaveWalks, HaveLeast, first_below}
+use Rattle.vw_board.specs.Steps.Tables.{AreNodeLinks, IsOneLinkMore, Notes, HaveWalks, HaveLeast, first_below}
 
 -- two tests that agree on each element agree on whether there is one that passes
 list_any_agree : {A : Type 0} (one other : A → Bool) (xs : List A) → All (λ x. one x ≡ other x) xs → list_any one xs ≡ list_any other xs
@@ -17,7 +17,7 @@ list_any_agree one other (x ∷ xs) agree =
     ap₂ (λ (first more : Bool). first || more) here (list_any_agree one other xs rest)
 
 -- one link before walks of some number of links makes walks of one link more
-pub walks_more : (links : List Link) (nodes count to : ℕ) (walks more : List Bool) → AreWithin nodes links → HaveWalks links nodes count to walks → IsOneLinkMore links walks more → HaveWalks links nodes (count + 1) to more
+pub walks_more : (links : List Link) (nodes count to : ℕ) (walks more : List Bool) → AreNodeLinks nodes links → HaveWalks links nodes count to walks → IsOneLinkMore links walks more → HaveWalks links nodes (count + 1) to more
 walks_more links nodes count to walks more within have one_more = record { each = one_more.each ∙ have.each; walk = walk } where
   agree : (from : ℕ) → All (λ link. (link.from == from && slice_index_or walks link.to false) ≡ (link.from == from && has_walk links count link.to to)) links
   agree from place default inside = ap (λ (leads : Bool). (get_or links place default).from == from && leads) (have.walk (get_or links place default).to (within place default inside).1)

@@ -6,7 +6,7 @@ use Rattle.std.proofs.lemmas.List.{length-map}
 use Rattle.std.proofs.lemmas.List.Elements.{All-nil, All-cons, All-tail, All-map, All-filter}
 use Rattle.vw_text.specs.Physical.{text_lines}
 use Rattle.vw_text.specs.Bare.{bare}
-use Rattle.vw_text.specs.Logical.{Logical, before_backslash, continued, with_line, joined, logical_lines}
+use Rattle.vw_text.specs.Logical.{Logical, before_backslash, continued, with_line, joined_lines, logical_lines}
 use Rattle.vw_text.specs.WordLines.{is_empty, word_line, word_lines}
 
 -- a byte makes at most one line more
@@ -30,9 +30,9 @@ with_line_below : (bound number : ℕ) (line : List ℕ) (front : Option (List �
 with_line_below bound number line None lines below all = All-cons (λ other. other.number < bound) (record { number = number; bytes = line }) lines below all
 with_line_below bound number line (Some front) lines below all = continued_below bound number front lines below all
 
-joined_below : (bound number : ℕ) (lines : List (List ℕ)) → number + length lines ≤ bound → All (λ line. line.number < bound) (joined number lines)
+joined_below : (bound number : ℕ) (lines : List (List ℕ)) → number + length lines ≤ bound → All (λ line. line.number < bound) (joined_lines number lines)
 joined_below bound number [] few = All-nil (λ line. line.number < bound)
-joined_below bound number (line ∷ lines) few = with_line_below bound number line (before_backslash line) (joined (number + 1) lines) (omega arith) (joined_below bound (number + 1) lines (omega arith))
+joined_below bound number (line ∷ lines) few = with_line_below bound number line (before_backslash line) (joined_lines (number + 1) lines) (omega arith) (joined_below bound (number + 1) lines (omega arith))
 
 pub numbers_below : (text : List ℕ) → length text ≤ 1048576 → All (λ line. line.number < 2 ^ 63) (word_lines text)
 numbers_below text small =

@@ -4,7 +4,7 @@ use Rattle.std.specs.Option.{option_map_or, option_or}
 use Rattle.vw_text.specs.declared.line.Line.{Line}
 use Rattle.vw_board.specs.declared.fault.BoardFault.{BoardFault}
 use Rattle.vw_board.specs.declared.fault.BoardFault.TheVariants.{BadLine, BadNumber}
-use Rattle.vw_board.specs.Words.{has_form, number_within, number_at}
+use Rattle.vw_board.specs.Words.{has_words, number_within, number_at}
 
 -- one of these lines: a word, and a number from the least to the greatest
 pub record Header : Type 0 where
@@ -12,25 +12,25 @@ pub record Header : Type 0 where
   pub least : ℕ
   pub greatest : ℕ
 
-abbrev pub board_line : Header
-board_line = record { word = codes "board"; least = 1; greatest = 1 }
+abbrev pub board_header : Header
+board_header = record { word = codes "board"; least = 1; greatest = 1 }
 
-abbrev pub chips_line : Header
-chips_line = record { word = codes "chips"; least = 1; greatest = 32 }
+abbrev pub chips_header : Header
+chips_header = record { word = codes "chips"; least = 1; greatest = 32 }
 
-abbrev pub cells_line : Header
-cells_line = record { word = codes "cells"; least = 1; greatest = 65536 }
+abbrev pub cells_header : Header
+cells_header = record { word = codes "cells"; least = 1; greatest = 65536 }
 
-abbrev pub settle_line : Header
-settle_line = record { word = codes "settle"; least = 0; greatest = 15 }
+abbrev pub settle_header : Header
+settle_header = record { word = codes "settle"; least = 0; greatest = 15 }
 
-abbrev pub pins_line : Header
-pins_line = record { word = codes "pins"; least = 1; greatest = 4096 }
+abbrev pub pins_header : Header
+pins_header = record { word = codes "pins"; least = 1; greatest = 4096 }
 
 -- the fault of a line that has to be one of these; of two the one of the lesser number
 abbrev pub header_fault : Header → Line → Option BoardFault
 header_fault header line =
-    if not (has_form header.word 2 line) then Some (BadLine line.number)
+    if not (has_words header.word 2 line) then Some (BadLine line.number)
     else if is_none (number_within header.least header.greatest 1 line) then Some (BadNumber line.number)
     else None
 
@@ -41,18 +41,18 @@ next_number (line ∷ []) = line.number + 1
 next_number (line ∷ next ∷ lines) = next_number (next ∷ lines)
 
 -- the fault at a place of the lines; a text that ends before has it on the line that would come next
-abbrev pub fault_at : List Line → Header → Option Line → Option BoardFault
-fault_at lines header None = Some (BadLine (next_number lines))
-fault_at lines header (Some line) = header_fault header line
+abbrev pub place_fault : List Line → Header → Option Line → Option BoardFault
+place_fault lines header None = Some (BadLine (next_number lines))
+place_fault lines header (Some line) = header_fault header line
 
 -- the first fault of the first five lines
 abbrev pub headers_fault : List Line → Option BoardFault
 headers_fault lines =
-    option_or (fault_at lines board_line (slice_get lines 0))
-    (option_or (fault_at lines chips_line (slice_get lines 1))
-    (option_or (fault_at lines cells_line (slice_get lines 2))
-    (option_or (fault_at lines settle_line (slice_get lines 3))
-    (fault_at lines pins_line (slice_get lines 4)))))
+    option_or (place_fault lines board_header (slice_get lines 0))
+    (option_or (place_fault lines chips_header (slice_get lines 1))
+    (option_or (place_fault lines cells_header (slice_get lines 2))
+    (option_or (place_fault lines settle_header (slice_get lines 3))
+    (place_fault lines pins_header (slice_get lines 4)))))
 
 -- the number of the line at a place
 abbrev pub header_number : ℕ → List Line → ℕ

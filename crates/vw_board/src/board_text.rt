@@ -3,7 +3,7 @@ ghost use Rattle.std.specs.Prelude.{◌≡◌, ◌≤◌, ◌<◌, ◌^◌, IfOk
 ghost use Rattle.std.specs.List.{All};
 ghost use Rattle.vw_board.specs.Pins.{AreEnoughPins};
 ghost use Rattle.vw_board.specs.BoardText.{Accepts, Refuses, RefusesLines, RefusesLinks, SpellsBoard};
-ghost use Rattle.vw_board.specs.Steps.Heads.{IsInRange};
+ghost use Rattle.vw_board.specs.Steps.Heads.{IsHeadInRange};
 ghost use Rattle.vw_board.specs.Steps.Separate.{AreSeparate};
 
 use crate::apart::first_apart;
@@ -19,7 +19,7 @@ use vw_text::{Line, lines};
 
 /// The board of these numbers and links, where the chips have enough pins and walks lead everywhere.
 fn make_board(alloc: Global, head: Head, links: Vec<Link>) -> Result<Board, BoardFault>
-    requires head { IsInRange head }
+    requires head { IsHeadInRange head }
     requires links { AreSeparate head.chips links.items }
     ensures enough { IfOk result (λ _. AreEnoughPins head.chips head.pins links.items) }
     ensures chips { IfOk result (λ board. board.chips ≡ head.chips) }

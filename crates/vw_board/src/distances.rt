@@ -29,11 +29,11 @@ impl Model for Distances {
 
     ghost Value = { Board };
 
-    ghost use Rattle.vw_board.specs.Steps.Tables.{IsTable};
+    ghost use Rattle.vw_board.specs.Steps.Tables.{AreDistanceTables};
 
     ghost view = { λ d. d.board.value };
 
-    ghost invariant = { λ d. IsTable d.board.value d.distances d.steps };
+    ghost invariant = { λ d. AreDistanceTables d.board.value d.distances d.steps };
 }
 
 /// The first node to which a link leads from a node and whose distance is one less.

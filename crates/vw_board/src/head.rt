@@ -1,10 +1,10 @@
 //! The first five lines of a board text.
 ghost use Rattle.std.specs.Prelude.{◌≡◌, ◌<◌, ◌≤◌, ◌^◌, length, slice_get, Some, None, IsTrue, IfOk, IfErr};
 ghost use Rattle.std.specs.List.{All};
-ghost use Rattle.vw_board.specs.Words.{has_form, number_within};
-ghost use Rattle.vw_board.specs.Headers.{next_number, fault_at, headers_fault, header_number};
+ghost use Rattle.vw_board.specs.Words.{has_words, number_within};
+ghost use Rattle.vw_board.specs.Headers.{next_number, place_fault, headers_fault, header_number};
 ghost use Rattle.vw_board.specs.Steps.Faults.{is_line_fault};
-ghost use Rattle.vw_board.specs.Steps.Heads.{IsHead};
+ghost use Rattle.vw_board.specs.Steps.Heads.{IsBoardHead};
 
 use crate::fault::BoardFault;
 use vw_text::{Line, number};
@@ -21,7 +21,7 @@ pub struct Head {
 /// Whether a line has this many words, at least one, and begins with a word.
 pub fn has_form(line: &Line, word: &[u8], count: usize) -> bool
     requires { 0 < count }
-    ensures { result ≡ has_form word.now count line.now }
+    ensures { result ≡ has_words word.now count line.now }
 {
     let words = line.words();
     words.len() == count && words[0].as_slice() == word
@@ -60,11 +60,11 @@ fn header(
 ) -> Result<u32, BoardFault>
     requires numbered { All (λ line. line.number < 2 ^ 63) lines.now }
     requires small { greatest < 2 ^ 32 }
-    ensures fine { IfOk result (λ value. (fault_at lines.now
+    ensures fine { IfOk result (λ value. (place_fault lines.now
         (record { word = word.now; least = least; greatest = greatest })
         (slice_get lines.now place) ≡ None)
         × (value ≡ header_number place lines.now) × (least ≤ value) × (value ≤ greatest)) }
-    ensures fault { IfErr result (λ fault. fault_at lines.now
+    ensures fault { IfErr result (λ fault. place_fault lines.now
         (record { word = word.now; least = least; greatest = greatest })
         (slice_get lines.now place) ≡ Some fault) }
     ensures of_line { IfErr result (λ fault. IsTrue (is_line_fault fault)) }
@@ -84,7 +84,7 @@ fn header(
 /// The numbers of the first five lines.
 pub fn read_head(lines: &[Line]) -> Result<Head, BoardFault>
     requires { All (λ line. line.number < 2 ^ 63) lines.now }
-    ensures fine { IfOk result (IsHead lines.now) }
+    ensures fine { IfOk result (IsBoardHead lines.now) }
     ensures fault { IfErr result (λ fault. headers_fault lines.now ≡ Some fault) }
     ensures of_line { IfErr result (λ fault. IsTrue (is_line_fault fault)) }
 {

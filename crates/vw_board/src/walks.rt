@@ -2,7 +2,7 @@
 //! node follow those from which walks of one link more do.
 ghost use Rattle.std.specs.Prelude.{◌≡◌, ◌≤◌, ◌<◌, ◌+◌, ◌&&◌, ◌==◌, ℕ, false, length, slice_index_or, IfOk};
 ghost use Rattle.std.specs.List.{All, list_any};
-ghost use Rattle.vw_board.specs.Steps.Tables.{AreWithin, IsOneLinkMore, Notes, HaveLeast, AreLeast};
+ghost use Rattle.vw_board.specs.Steps.Tables.{AreNodeLinks, IsOneLinkMore, Notes, HaveLeast, AreLeast};
 
 use std::alloc::{AllocError, Global};
 use vw_net::Sequence;
@@ -10,7 +10,7 @@ use vw_plan::Link;
 
 /// For each node, whether a link leads from it to one of these nodes.
 fn one_link_more(alloc: Global, links: &[Link], nodes: &[bool]) -> Result<Vec<bool>, AllocError>
-    requires { AreWithin (length nodes.now) links.now }
+    requires { AreNodeLinks (length nodes.now) links.now }
     ensures { IfOk result (λ more. IsOneLinkMore links.now nodes.now more.items) }
 {
     let mut more = vec![in alloc; false; nodes.len()]?;
@@ -44,7 +44,7 @@ fn least_links_to(
 ) -> Result<Vec<Option<u32>>, AllocError>
     requires few { chips ≤ 32 }
     requires to { to ≤ chips }
-    requires ends { AreWithin (chips + 1) links.now }
+    requires ends { AreNodeLinks (chips + 1) links.now }
     ensures { IfOk result (λ least. HaveLeast links.now (chips + 1) (chips + 1) to least.items) }
 {
     let count = chips as usize + 1;
@@ -65,7 +65,7 @@ pub fn least_links(
     links: &[Link],
 ) -> Result<Vec<Sequence<Option<u32>>>, AllocError>
     requires few { chips ≤ 32 }
-    requires ends { AreWithin (chips + 1) links.now }
+    requires ends { AreNodeLinks (chips + 1) links.now }
     ensures { IfOk result (λ lists. AreLeast links.now (chips + 1) lists.items) }
 {
     let mut lists = Vec::new(alloc);

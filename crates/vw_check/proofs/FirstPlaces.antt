@@ -4,14 +4,14 @@ use Rattle.std.specs.List.{find}
 use Rattle.std.specs.Option.{option_or}
 use Rattle.std.specs.HashMap.{HashMap}
 use Rattle.vw_check.specs.Firsts.{found_if}
-use Rattle.vw_check.specs.Steps.Tables.{first_pair, is_pair, pair_in, HasPairs}
+use Rattle.vw_check.specs.Steps.Tables.{first_pair, is_number_pair, pair_in, HasPairs}
 
 -- the number of a place, where they are numbered from a number on, leads to the first that passes a test
 abbrev LeadsFrom : {X : Type 0} → (X → Bool) → ℕ → List X → Option ℕ → Type 0
 LeadsFrom test from xs None = find test xs ≡ None
 LeadsFrom test from xs (Some place) = (from ≤ place) × (place < from + length xs) × (slice_get xs (place - from) ≡ find test xs)
 
-module _ {X : Type 0} (pair_of : X → ℕ × ℕ) (test : X → Bool) (one other : ℕ) (same : (x : X) → test x ≡ is_pair one other (pair_of x)) where
+module _ {X : Type 0} (pair_of : X → ℕ × ℕ) (test : X → Bool) (one other : ℕ) (same : (x : X) → test x ≡ is_number_pair one other (pair_of x)) where
   leads_one : (from : ℕ) (x : X) (xs : List X) (here : Bool) → test x ≡ here → (rest : Option ℕ) → LeadsFrom test (suc from) xs rest → LeadsFrom test from (x ∷ xs) (option_or (found_if here from) rest)
   leads_one from x xs true is rest leads =
       let none : from - from ≡ 0 = omega arith in
@@ -37,5 +37,5 @@ from_zero test xs (Some place) leads =
     (omega arith, rw same at leads.2)
 
 -- what a table of the pairs of a list finds
-pub leads : {X S : Type 0} (pair_of : X → ℕ × ℕ) (test : X → Bool) (one other : ℕ) (same : (x : X) → test x ≡ is_pair one other (pair_of x)) (xs : List X) (table : HashMap (ℕ × ℕ) ℕ S) → HasPairs (map pair_of xs) table → LeadsTo test xs (pair_in table one other)
+pub leads : {X S : Type 0} (pair_of : X → ℕ × ℕ) (test : X → Bool) (one other : ℕ) (same : (x : X) → test x ≡ is_number_pair one other (pair_of x)) (xs : List X) (table : HashMap (ℕ × ℕ) ℕ S) → HasPairs (map pair_of xs) table → LeadsTo test xs (pair_in table one other)
 leads pair_of test one other same xs table has = subst (LeadsTo test xs) (sym (has one other)) (from_zero test xs (first_pair 0 (map pair_of xs) one other) (leads_from pair_of test one other same 0 xs))

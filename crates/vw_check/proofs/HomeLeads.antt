@@ -11,8 +11,9 @@ use Rattle.vw_net.specs.declared.cell.Cell.TheVariants.{Gate, Latch}
 use Rattle.vw_net.specs.Order.{is_latch, is_ready, read_nets_at}
 use Rattle.vw_net.proofs.Ready.{order_within, ready_before, all_ready}
 use Rattle.vw_plan.proofs.Leads.{map_agree}
-use Rattle.vw_plan.specs.Lead.{brought_at, driven_lead, greatest, lead}
-use Rattle.vw_plan.specs.Nets.{driver}
+use Rattle.vw_plan.specs.Lead.{brought_at, driven_lead, lead}
+use Rattle.vw_net.specs.Lists.{greatest}
+use Rattle.vw_plan.specs.Nets.{driving_cell}
 use Rattle.vw_plan.specs.Setting.{Setting, home}
 use Rattle.vw_check.specs.Steps.Moments.{AreLeads, lead_by}
 
@@ -34,7 +35,7 @@ zero_at count net = ⊎_elim (λ within. get_or-replicate count net 0 0 within) 
 
 -- the law of leads
 abbrev pub Settles : Setting → Type 0
-Settles setting = (node net : ℕ) → lead setting node net ≡ (if eqb (home setting net) node then driven_lead (lead setting node) (driver setting.ordered.flat net) else brought_at setting node net)
+Settles setting = (node net : ℕ) → lead setting node net ≡ (if eqb (home setting net) node then driven_lead (lead setting node) (driving_cell setting.ordered.flat net) else brought_at setting node net)
 
 -- the lead of a cell, by a list of leads
 pub same_lead : (setting : Setting) (items leads : List ℕ) (other number : ℕ) → items ≡ leads → other ≡ number → driven_lead (lead_by setting items (slice_index setting.plan.chip_of other)) (slice_get setting.ordered.flat.cells other) ≡ driven_lead (lead_by setting leads (slice_index setting.plan.chip_of number)) (slice_get setting.ordered.flat.cells number)
@@ -55,8 +56,8 @@ module _ (setting : Setting) where
     home_lead net = lead setting (home setting net) net
 
     -- at its own node a net has the lead of what drives it
-    own_lead : (net : ℕ) → home_lead net ≡ driven_lead (lead setting (home setting net)) (driver setting.ordered.flat net)
-    own_lead net = settles (home setting net) net ∙ ap (λ (own : Bool). if own then driven_lead (lead setting (home setting net)) (driver setting.ordered.flat net) else brought_at setting (home setting net) net) (eq-eqb (home setting net) (home setting net) refl)
+    own_lead : (net : ℕ) → home_lead net ≡ driven_lead (lead setting (home setting net)) (driving_cell setting.ordered.flat net)
+    own_lead net = settles (home setting net) net ∙ ap (λ (own : Bool). if own then driven_lead (lead setting (home setting net)) (driving_cell setting.ordered.flat net) else brought_at setting (home setting net) net) (eq-eqb (home setting net) (home setting net) refl)
 
     -- the nets that are ready have their leads in the list
     abbrev pub AreRight : List ℕ → List ℕ → Type 0
@@ -81,7 +82,7 @@ module _ (setting : Setting) where
         ap (λ (own : Bool). if own then slice_index_or leads net 0 else brought_at setting node net) is ∙ right ∙ ap (λ (at : ℕ). lead setting at net) here in
         let if_away = λ (is : eqb (home setting net) node ≡ false).
         ap (λ (own : Bool). if own then slice_index_or leads net 0 else brought_at setting node net) is
-        ∙ sym (settles node net ∙ ap (λ (own : Bool). if own then driven_lead (lead setting node) (driver setting.ordered.flat net) else brought_at setting node net) is) in
+        ∙ sym (settles node net ∙ ap (λ (own : Bool). if own then driven_lead (lead setting node) (driving_cell setting.ordered.flat net) else brought_at setting node net) is) in
         ⊎_elim if_home if_away (cases_Bool (eqb (home setting net) node))
 
     -- the lead of the gate at a place, by the list
@@ -102,7 +103,7 @@ module _ (setting : Setting) where
         let agree : All (λ read. lead_by setting leads node read ≡ lead setting node read) (read_nets_at cell) = All-weaker (λ read. is_done read ≡ true) (λ read. lead_by setting leads node read ≡ lead setting node read) (λ read done. right_lead leads node read (right read done)) (read_nets_at cell) ready in
         let no_input : nat_lt net inputs ≡ false = le-ltb net inputs (omega arith) in
         let its_number : net - inputs ≡ number = omega arith in
-        let its_driver : driver setting.ordered.flat net ≡ cell = ap (λ (input : Bool). if input then None else slice_get cells (net - inputs)) no_input ∙ ap (λ (at : ℕ). slice_get cells at) its_number in
+        let its_driver : driving_cell setting.ordered.flat net ≡ cell = ap (λ (input : Bool). if input then None else slice_get cells (net - inputs)) no_input ∙ ap (λ (at : ℕ). slice_get cells at) its_number in
         let its_home : home setting net ≡ node = ap (λ (input : Bool). if input then 0 else slice_index setting.plan.chip_of (net - inputs)) no_input ∙ ap (λ (at : ℕ). slice_index setting.plan.chip_of at) its_number in
         driven_agree (lead_by setting leads node) (lead setting node) cell agree
         ∙ ap₂ (λ (at : ℕ) (drives : Option Cell). driven_lead (lead setting at) drives) (sym its_home) (sym its_driver)

@@ -6,7 +6,7 @@ use Rattle.vw_plan.specs.Sound.{IsSound}
 use Rattle.vw_plan.specs.Needs.{needed_pairs}
 use Rattle.vw_plan.proofs.NeededPairs.{any-needed_pairs}
 use Rattle.vw_check.specs.declared.fault.PlanFault.{PlanFault}
-use Rattle.vw_check.specs.Firsts.{first_found}
+use Rattle.vw_check.specs.Firsts.{first_some}
 use Rattle.vw_check.specs.CellFaults.{wrong_cells, zero_period, bad_chip, overfull}
 use Rattle.vw_check.specs.WireFaults.{missing_wire, extra_wire}
 use Rattle.vw_check.specs.HopFaults.{broken_route, bad_pin, out_of_order, past_period, pin_clash}
@@ -26,21 +26,21 @@ abbrev EachNone : {Y : Type 0} → List (Option Y) → Type 0
 EachNone [] = Unit {0}
 EachNone (found ∷ others) = (found ≡ None) × EachNone others
 
-each_search : {Y : Type 0} (searches : List (Option Y)) → first_found searches ≡ None → EachNone searches
+each_search : {Y : Type 0} (searches : List (Option Y)) → first_some searches ≡ None → EachNone searches
 each_search [] is = tt
-each_search (found ∷ others) is = (none_first found (first_found others) is, each_search others (none_rest found (first_found others) is))
+each_search (found ∷ others) is = (none_first found (first_some others) is, each_search others (none_rest found (first_some others) is))
 
-no_search : {Y : Type 0} (searches : List (Option Y)) → EachNone searches → first_found searches ≡ None
+no_search : {Y : Type 0} (searches : List (Option Y)) → EachNone searches → first_some searches ≡ None
 no_search [] each = refl
-no_search (found ∷ others) each = none_both found (first_found others) each.0 (no_search others each.1)
+no_search (found ∷ others) each = none_both found (first_some others) each.0 (no_search others each.1)
 
 abbrev EachGives : {Y : Type 0} → (Y → Type 0) → List (Option Y) → Type 0
 EachGives P [] = Unit {0}
 EachGives {Y = Y} P (found ∷ others) = ((y : Y) → found ≡ Some y → P y) × EachGives P others
 
-some_search : {Y : Type 0} (P : Y → Type 0) (searches : List (Option Y)) (y : Y) → EachGives P searches → first_found searches ≡ Some y → P y
+some_search : {Y : Type 0} (P : Y → Type 0) (searches : List (Option Y)) (y : Y) → EachGives P searches → first_some searches ≡ Some y → P y
 some_search P [] y each is = absurd (none-some y is)
-some_search P (found ∷ others) y each is = some_is found (first_found others) y P is (each.0 y) (some_search P others y each.1)
+some_search P (found ∷ others) y each is = some_is found (first_some others) y P is (each.0 y) (some_search P others y each.1)
 
 -- ---- a plan without a fault is sound
 
@@ -61,7 +61,7 @@ module _ (setting : Setting) where
   moments = too_early setting ∷ late_latch setting ∷ []
 
   abbrev groups : List (Option PlanFault)
-  groups = first_found cells ∷ first_found wires ∷ first_found hops ∷ first_found moments ∷ []
+  groups = first_some cells ∷ first_some wires ∷ first_some hops ∷ first_some moments ∷ []
 
   pub sound : plan_fault setting ≡ None → IsSound setting
   unfolding plan_fault

@@ -12,7 +12,8 @@ use Rattle.vw_plan.specs.Sound.{IsPlaced}
 use Rattle.vw_check.specs.declared.fault.PlanFault.{PlanFault}
 use Rattle.vw_check.specs.declared.fault.PlanFault.TheVariants.{WrongCells, ZeroPeriod, BadChip, Overfull}
 use Rattle.vw_check.specs.Firsts.{found_unless}
-use Rattle.vw_check.specs.CellFaults.{wrong_cells, zero_period, is_chip, bad_chip, cells_on, overfull}
+use Rattle.vw_check.specs.CellFaults.{wrong_cells, zero_period, is_chip, bad_chip, overfull}
+use Rattle.vw_plan.specs.Good.{cells_on}
 use Rattle.vw_check.specs.Answers.{Breaks}
 use Rattle.vw_check.proofs.LawFirsts.{EachAt, each_none, none_each, each_to, each_all, all_each, unless_none, none_unless, if_none, none_if, first_is, unless_is, if_is}
 
@@ -82,19 +83,19 @@ module _ (setting : Setting) where
       (each_to (λ k chip. found_unless (is_chip board chip) (BadChip k) ≡ None) (λ k chip. IsChip board chip) (λ k chip is. chip_passes board chip (unless_none (is_chip board chip) (BadChip k) is)) 0 plan.chip_of
       (each_none (λ k chip. found_unless (is_chip board chip) (BadChip k)) 0 plan.chip_of none))
 
-  have_room : bad_chip board plan ≡ None → overfull board plan ≡ None → (chip : ℕ) → cells_on plan chip ≤ board.cells
+  have_room : bad_chip board plan ≡ None → overfull board plan ≡ None → (chip : ℕ) → cells_on plan.chip_of chip ≤ board.cells
   have_room chips none chip = by (is_chip board chip) refl where
-    by : (is : Bool) → is_chip board chip ≡ is → cells_on plan chip ≤ board.cells
+    by : (is : Bool) → is_chip board chip ≡ is → cells_on plan.chip_of chip ≤ board.cells
     by true is =
         let its = chip_passes board chip is in
-        let full : ℕ → PlanFault = λ one. Overfull one (cells_on plan one) in
-        leb-true (cells_on plan chip) board.cells
-        (each_from (λ one. nat_le (cells_on plan one) board.cells ≡ true) 0 1 board.chips
-        (each_to (λ k one. found_unless (nat_le (cells_on plan one) board.cells) (full one) ≡ None) (λ k one. nat_le (cells_on plan one) board.cells ≡ true) (λ k one got. unless_none (nat_le (cells_on plan one) board.cells) (full one) got) 0 (range_with_len 1 board.chips)
-        (each_none (λ k one. found_unless (nat_le (cells_on plan one) board.cells) (full one)) 0 (range_with_len 1 board.chips) none))
+        let full : ℕ → PlanFault = λ one. Overfull one (cells_on plan.chip_of one) in
+        leb-true (cells_on plan.chip_of chip) board.cells
+        (each_from (λ one. nat_le (cells_on plan.chip_of one) board.cells ≡ true) 0 1 board.chips
+        (each_to (λ k one. found_unless (nat_le (cells_on plan.chip_of one) board.cells) (full one) ≡ None) (λ k one. nat_le (cells_on plan.chip_of one) board.cells ≡ true) (λ k one got. unless_none (nat_le (cells_on plan.chip_of one) board.cells) (full one) got) 0 (range_with_len 1 board.chips)
+        (each_none (λ k one. found_unless (nat_le (cells_on plan.chip_of one) board.cells) (full one)) 0 (range_with_len 1 board.chips) none))
         chip its.0 (omega (arith, its.1)))
     by false is =
-        let empty : cells_on plan chip ≡ 0 = no_cells (IsChip board) plan.chip_of chip (are_chips chips) (λ its. true≢false (sym (passes_chip board chip its) ∙ is)) in
+        let empty : cells_on plan.chip_of chip ≡ 0 = no_cells (IsChip board) plan.chip_of chip (are_chips chips) (λ its. true≢false (sym (passes_chip board chip its) ∙ is)) in
         omega (arith, empty)
 
   pub placed : wrong_cells flat plan ≡ None → bad_chip board plan ≡ None → overfull board plan ≡ None → IsPlaced setting
@@ -126,10 +127,10 @@ module _ (setting : Setting) where
 
   pub no_overfull : IsPlaced setting → overfull board plan ≡ None
   no_overfull is =
-      none_each (λ k one. found_unless (nat_le (cells_on plan one) board.cells) (Overfull one (cells_on plan one))) 0 (range_with_len 1 board.chips)
-      (each_to (λ k one. cells_on plan one ≤ board.cells) (λ k one. found_unless (nat_le (cells_on plan one) board.cells) (Overfull one (cells_on plan one)) ≡ None)
-      (λ k one room. none_unless (nat_le (cells_on plan one) board.cells) (Overfull one (cells_on plan one)) (le-leb (cells_on plan one) board.cells room)) 0 (range_with_len 1 board.chips)
-      (from_each (λ one. cells_on plan one ≤ board.cells) 0 1 board.chips is.room))
+      none_each (λ k one. found_unless (nat_le (cells_on plan.chip_of one) board.cells) (Overfull one (cells_on plan.chip_of one))) 0 (range_with_len 1 board.chips)
+      (each_to (λ k one. cells_on plan.chip_of one ≤ board.cells) (λ k one. found_unless (nat_le (cells_on plan.chip_of one) board.cells) (Overfull one (cells_on plan.chip_of one)) ≡ None)
+      (λ k one room. none_unless (nat_le (cells_on plan.chip_of one) board.cells) (Overfull one (cells_on plan.chip_of one)) (le-leb (cells_on plan.chip_of one) board.cells room)) 0 (range_with_len 1 board.chips)
+      (from_each (λ one. cells_on plan.chip_of one ≤ board.cells) 0 1 board.chips is.room))
 
   -- ---- what the faults break
 
@@ -148,5 +149,5 @@ module _ (setting : Setting) where
 
   pub overfull_breaks : (fault : PlanFault) → overfull board plan ≡ Some fault → Breaks setting fault
   overfull_breaks fault is =
-      first_is (λ k one. found_unless (nat_le (cells_on plan one) board.cells) (Overfull one (cells_on plan one))) (λ found. Breaks setting found)
-      (λ k one found its. subst (Breaks setting) (unless_is (nat_le (cells_on plan one) board.cells) (Overfull one (cells_on plan one)) found its) (λ sound. none-some fault (sym (no_overfull sound) ∙ is))) 0 (range_with_len 1 board.chips) fault is
+      first_is (λ k one. found_unless (nat_le (cells_on plan.chip_of one) board.cells) (Overfull one (cells_on plan.chip_of one))) (λ found. Breaks setting found)
+      (λ k one found its. subst (Breaks setting) (unless_is (nat_le (cells_on plan.chip_of one) board.cells) (Overfull one (cells_on plan.chip_of one)) found its) (λ sound. none-some fault (sym (no_overfull sound) ∙ is))) 0 (range_with_len 1 board.chips) fault is

@@ -13,7 +13,7 @@ use Rattle.vw_plan.specs.Links.{HaveSameEnds}
 use Rattle.vw_plan.specs.Sound.{has_pin}
 use Rattle.vw_plan.specs.Walks.{has_link}
 use Rattle.vw_check.specs.Steps.Rules.{width_between}
-use Rattle.vw_check.specs.Steps.Tables.{HasPairs, is_pair, link_pairs, pair_in}
+use Rattle.vw_check.specs.Steps.Tables.{HasPairs, is_number_pair, link_pairs, pair_in}
 use Rattle.vw_check.proofs.FirstPairs.{turned_eqb}
 use Rattle.vw_check.proofs.FirstPlaces.{LeadsTo, leads}
 
@@ -21,7 +21,7 @@ module _ (from to : ℕ) where
   abbrev pub joins : Link → Bool
   joins link = eqb link.from from && eqb link.to to
 
-  pub turned : (link : Link) → joins link ≡ is_pair from to (link.from, link.to)
+  pub turned : (link : Link) → joins link ≡ is_number_pair from to (link.from, link.to)
   turned link = ap₂ (λ (first second : Bool). first && second) (turned_eqb link.from from) (turned_eqb link.to to)
 
 -- what a table of the links finds

@@ -9,12 +9,12 @@ use Rattle.vw_net.specs.declared.ordered.Ordered.{Ordered}
 use Rattle.vw_net.specs.Order.{is_gate}
 use Rattle.vw_plan.specs.declared.board.Board.{Board}
 use Rattle.vw_plan.specs.declared.plan.Plan.{Plan}
-use Rattle.vw_plan.specs.Nets.{driver, node_of}
+use Rattle.vw_plan.specs.Nets.{driving_cell, node_of}
 use Rattle.vw_plan.specs.Setting.{Setting, setting_of, home}
 use Rattle.vw_plan.specs.Lead.{brought_at, driven_lead, level_lead, lead, usable}
 use Rattle.vw_check.specs.declared.fault.PlanFault.{PlanFault}
 use Rattle.vw_check.specs.declared.fault.PlanFault.TheVariants.{BrokenRoute, TooEarly, LateLatch}
-use Rattle.vw_check.specs.Firsts.{first_at, first_found, found_unless}
+use Rattle.vw_check.specs.Firsts.{first_at, first_some, found_unless}
 use Rattle.vw_check.specs.HopFaults.{bad_pin, out_of_order, past_period, pin_clash, goes_on, broken_route}
 use Rattle.vw_check.specs.MomentFaults.{early_wire, late_cell}
 use Rattle.vw_check.specs.Faults.{cell_fault, wire_fault, hop_fault, moment_fault, plan_fault}
@@ -29,7 +29,7 @@ module _ (board : Board) (plan : Plan) (one other : Ordered) (same : one.flat �
   level_same : (level node net : ℕ) → level_lead level here node net ≡ level_lead level there node net
   level_same zero node net = refl
   level_same (suc level) node net =
-      ap₂ (λ (flat : Flat) (leads : ℕ → ℕ). if node_of flat plan.chip_of net == node then driven_lead leads (driver flat net) else brought_at here node net) same (fun_ext (level_same level node))
+      ap₂ (λ (flat : Flat) (leads : ℕ → ℕ). if node_of flat plan.chip_of net == node then driven_lead leads (driving_cell flat net) else brought_at here node net) same (fun_ext (level_same level node))
 
   lead_same : (node net : ℕ) → lead here node net ≡ lead there node net
   unfolding lead
@@ -38,7 +38,7 @@ module _ (board : Board) (plan : Plan) (one other : Ordered) (same : one.flat �
 
   usable_same : (node net : ℕ) → usable here node net ≡ usable there node net
   usable_same node net =
-      ap₂ (λ (flat : Flat) (at : ℕ). at + (if is_gate (driver flat net) && node_of flat plan.chip_of net == node then board.settle else 0)) same (lead_same node net)
+      ap₂ (λ (flat : Flat) (at : ℕ). at + (if is_gate (driving_cell flat net) && node_of flat plan.chip_of net == node then board.settle else 0)) same (lead_same node net)
 
   home_usable_same : (net : ℕ) → usable here (home here net) net ≡ usable there (home there net) net
   home_usable_same net =
@@ -72,13 +72,13 @@ module _ (board : Board) (plan : Plan) (one other : Ordered) (same : one.flat �
   fault_same =
       let cells = ap (λ (flat : Flat). cell_fault flat board plan) same in
       let wires = ap (λ (flat : Flat). wire_fault flat plan) same in
-      let hops = ap (λ (route : Option PlanFault). first_found (route ∷ bad_pin board plan ∷ out_of_order board plan ∷ past_period board plan ∷ pin_clash plan ∷ [])) route_same in
-      let moments = ap₂ (λ (early : Option PlanFault) (late : Option PlanFault). first_found (early ∷ late ∷ []))
+      let hops = ap (λ (route : Option PlanFault). first_some (route ∷ bad_pin board plan ∷ out_of_order board plan ∷ past_period board plan ∷ pin_clash plan ∷ [])) route_same in
+      let moments = ap₂ (λ (early : Option PlanFault) (late : Option PlanFault). first_some (early ∷ late ∷ []))
       (ap (λ (found : ℕ → _ → Option PlanFault). first_at found 0 plan.wires) early_same)
       (ap₂ (λ (found : ℕ → Cell → Option PlanFault) (flat : Flat). first_at found 0 flat.cells) late_same same) in
       let first : Option PlanFault = cell_fault other.flat board plan in
       let second : Option PlanFault = wire_fault other.flat plan in
-      ap (λ (found : Option PlanFault). first_found (found ∷ wire_fault one.flat plan ∷ hop_fault here ∷ moment_fault here ∷ [])) cells
-      ∙ ap (λ (found : Option PlanFault). first_found (first ∷ found ∷ hop_fault here ∷ moment_fault here ∷ [])) wires
-      ∙ ap (λ (found : Option PlanFault). first_found (first ∷ second ∷ found ∷ moment_fault here ∷ [])) hops
-      ∙ ap (λ (found : Option PlanFault). first_found (first ∷ second ∷ hop_fault there ∷ found ∷ [])) moments
+      ap (λ (found : Option PlanFault). first_some (found ∷ wire_fault one.flat plan ∷ hop_fault here ∷ moment_fault here ∷ [])) cells
+      ∙ ap (λ (found : Option PlanFault). first_some (first ∷ found ∷ hop_fault here ∷ moment_fault here ∷ [])) wires
+      ∙ ap (λ (found : Option PlanFault). first_some (first ∷ second ∷ found ∷ moment_fault here ∷ [])) hops
+      ∙ ap (λ (found : Option PlanFault). first_some (first ∷ second ∷ hop_fault there ∷ found ∷ [])) moments

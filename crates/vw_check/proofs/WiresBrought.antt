@@ -5,11 +5,11 @@ use Rattle.std.specs.HashMap.{HashMap}
 use Rattle.vw_plan.specs.declared.wire.Wire.{Wire}
 use Rattle.vw_plan.specs.Lead.{after_last, brings, brought_at}
 use Rattle.vw_plan.specs.Setting.{Setting}
-use Rattle.vw_check.specs.Steps.Tables.{HasPairs, is_pair, pair_in, wire_pairs}
+use Rattle.vw_check.specs.Steps.Tables.{HasPairs, is_number_pair, pair_in, wire_pairs}
 use Rattle.vw_check.proofs.FirstPairs.{turned_eqb}
 use Rattle.vw_check.proofs.FirstPlaces.{LeadsTo, leads}
 
-pub turned : (net node : ℕ) (wire : Wire) → brings net node wire ≡ is_pair net node (wire.net, wire.to)
+pub turned : (net node : ℕ) (wire : Wire) → brings net node wire ≡ is_number_pair net node (wire.net, wire.to)
 turned net node wire = ap₂ (λ (first second : Bool). first && second) (turned_eqb wire.net net) (turned_eqb wire.to node)
 
 -- what a table of the wires finds

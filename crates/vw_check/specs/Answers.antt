@@ -44,7 +44,7 @@ is_plan_fault (LateLatch cell usable) = true
 is_plan_fault NoMemory = false
 
 -- an accepted plan: it has no fault, and the three are as they were. That it is sound is kept by its type
-pub record IsAccepted (setting : Setting) (checked : Checked) : Type 0 where
+pub record IsAcceptedPlan (setting : Setting) (checked : Checked) : Type 0 where
   pub faultless : plan_fault setting ≡ None
   pub ordered : checked.ordered ≡ setting.ordered
   pub board : checked.board ≡ setting.board
@@ -55,7 +55,7 @@ abbrev pub IsFault : Setting → PlanFault → Type 0
 IsFault setting fault = (fault ≡ NoMemory) ⊎ ((plan_fault setting ≡ Some fault) × Breaks setting fault)
 
 -- a plan that isn't accepted, handed back with its design and its board
-pub record IsRefused (setting : Setting) (refused : CheckRefused) : Type 0 where
+pub record IsRefusedPlan (setting : Setting) (refused : CheckRefused) : Type 0 where
   pub fault : IsFault setting refused.fault
   pub ordered : refused.ordered ≡ setting.ordered
   pub board : refused.board ≡ setting.board

@@ -1,5 +1,6 @@
 -- What is wrong with the chips of the cells, and with the period. Each cell has to have a chip, and no chip more cells than
 -- it has room for.
+use Rattle.vw_plan.specs.Good.{cells_on}
 use Rattle.std.specs.Prelude.{◌==◌, ℕ, Bool, not, ◌&&◌, length, count_by, Option, nat_le}
 use Rattle.std.specs.List.{range_with_len}
 use Rattle.vw_net.specs.declared.flat.Flat.{Flat}
@@ -25,10 +26,6 @@ is_chip board chip = not (chip == 0) && nat_le chip board.chips
 abbrev pub bad_chip : Board → Plan → Option PlanFault
 bad_chip board plan = first_at (λ cell chip. found_unless (is_chip board chip) (BadChip cell)) 0 plan.chip_of
 
--- how many cells are on a chip
-abbrev pub cells_on : Plan → ℕ → ℕ
-cells_on plan chip = count_by (λ other. other == chip) plan.chip_of
-
 -- the least chip that has more cells than it has room for
 abbrev pub overfull : Board → Plan → Option PlanFault
-overfull board plan = first_at (λ _ chip. found_unless (nat_le (cells_on plan chip) board.cells) (Overfull chip (cells_on plan chip))) 0 (range_with_len 1 board.chips)
+overfull board plan = first_at (λ _ chip. found_unless (nat_le (cells_on plan.chip_of chip) board.cells) (Overfull chip (cells_on plan.chip_of chip))) 0 (range_with_len 1 board.chips)

@@ -5,7 +5,7 @@ use Rattle.vw_plan.specs.declared.board.Board.{Board}
 use Rattle.vw_plan.specs.declared.plan.Plan.{Plan}
 use Rattle.vw_plan.specs.Setting.{Setting}
 use Rattle.vw_check.specs.declared.fault.PlanFault.{PlanFault}
-use Rattle.vw_check.specs.Firsts.{first_found}
+use Rattle.vw_check.specs.Firsts.{first_some}
 use Rattle.vw_check.specs.CellFaults.{wrong_cells, zero_period, bad_chip, overfull}
 use Rattle.vw_check.specs.WireFaults.{missing_wire, extra_wire}
 use Rattle.vw_check.specs.HopFaults.{broken_route, bad_pin, out_of_order, past_period, pin_clash}
@@ -13,15 +13,15 @@ use Rattle.vw_check.specs.MomentFaults.{too_early, late_latch}
 
 -- the chips of the cells, and the period
 abbrev pub cell_fault : Flat → Board → Plan → Option PlanFault
-cell_fault flat board plan = first_found (wrong_cells flat plan ∷ zero_period plan ∷ bad_chip board plan ∷ overfull board plan ∷ [])
+cell_fault flat board plan = first_some (wrong_cells flat plan ∷ zero_period plan ∷ bad_chip board plan ∷ overfull board plan ∷ [])
 
 -- the wires as a whole
 abbrev pub wire_fault : Flat → Plan → Option PlanFault
-wire_fault flat plan = first_found (missing_wire flat plan ∷ extra_wire flat plan ∷ [])
+wire_fault flat plan = first_some (missing_wire flat plan ∷ extra_wire flat plan ∷ [])
 
 -- their hops
 abbrev pub hop_fault : Setting → Option PlanFault
-hop_fault setting = first_found (
+hop_fault setting = first_some (
     broken_route setting
     ∷ bad_pin setting.board setting.plan
     ∷ out_of_order setting.board setting.plan
@@ -31,10 +31,10 @@ hop_fault setting = first_found (
 
 -- when nets are usable
 abbrev pub moment_fault : Setting → Option PlanFault
-moment_fault setting = first_found (too_early setting ∷ late_latch setting ∷ [])
+moment_fault setting = first_some (too_early setting ∷ late_latch setting ∷ [])
 
 unfoldable pub plan_fault : Setting → Option PlanFault
-plan_fault setting = first_found (
+plan_fault setting = first_some (
     cell_fault setting.ordered.flat setting.board setting.plan
     ∷ wire_fault setting.ordered.flat setting.plan
     ∷ hop_fault setting

@@ -8,9 +8,9 @@ first_at found number [] = None
 first_at found number (x ∷ xs) = option_or (found number x) (first_at found (suc number) xs)
 
 -- the first thing that is found at all
-abbrev pub first_found : {Y : Type 0} → List (Option Y) → Option Y
-first_found [] = None
-first_found (found ∷ others) = option_or found (first_found others)
+abbrev pub first_some : {Y : Type 0} → List (Option Y) → Option Y
+first_some [] = None
+first_some (found ∷ others) = option_or found (first_some others)
 
 -- a thing, where a test gives true
 abbrev pub found_if : {Y : Type 0} → Bool → Y → Option Y

@@ -1,6 +1,7 @@
 //! Faults of the chips of cells, and of the period.
 ghost use Rattle.std.specs.Prelude.{◌≡◌};
-ghost use Rattle.vw_check.specs.CellFaults.{wrong_cells, zero_period, is_chip, bad_chip, cells_on, overfull};
+ghost use Rattle.vw_check.specs.CellFaults.{wrong_cells, zero_period, is_chip, bad_chip, overfull};
+ghost use Rattle.vw_plan.specs.Good.{cells_on};
 
 use crate::fault::PlanFault;
 use vw_net::Flat;
@@ -49,7 +50,7 @@ pub fn bad_chip(board: &Board, plan: &Plan) -> Option<PlanFault>
 
 /// How many cells are on a chip.
 fn cells_on(plan: &Plan, chip: u32) -> u32
-    ensures { result ≡ cells_on plan.now chip }
+    ensures { result ≡ cells_on plan.now.chip_of chip }
 {
     let mut count = 0;
     for other in plan.chip_of() {

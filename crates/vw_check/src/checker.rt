@@ -3,7 +3,7 @@ ghost use Rattle.std.specs.Prelude.{◌≡◌, ◌<◌, ◌+◌, length, IfOk, I
 ghost use Rattle.std.specs.List.{All};
 ghost use Rattle.vw_plan.specs.Setting.{setting_of};
 ghost use Rattle.vw_check.specs.Faults.{cell_fault, hop_fault, moment_fault, plan_fault};
-ghost use Rattle.vw_check.specs.Answers.{IsAccepted, IsRefused};
+ghost use Rattle.vw_check.specs.Answers.{IsAcceptedPlan, IsRefusedPlan};
 ghost use Rattle.vw_check.specs.Steps.Tables.{HasPairs, wire_pairs};
 
 use crate::cells::{bad_chip, overfull, wrong_cells, zero_period};
@@ -109,10 +109,10 @@ pub fn check(
     plan: Plan,
 ) -> Result<Checked, CheckRefused>
     // A plan that is accepted has no fault, and the three are as they were handed in.
-    ensures accepted { IfOk result (λ checked. IsAccepted (setting_of ordered board plan) checked) }
+    ensures accepted { IfOk result (λ checked. IsAcceptedPlan (setting_of ordered board plan) checked) }
 
     // Else it has this fault, which breaks a point of a sound plan, or memory ran out; the three are handed back.
-    ensures refused { IfErr result (λ refused. IsRefused (setting_of ordered board plan) refused) }
+    ensures refused { IfErr result (λ refused. IsRefusedPlan (setting_of ordered board plan) refused) }
 {
     faultless_plans_are_sound();
     faults_break_points();

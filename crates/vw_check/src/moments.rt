@@ -1,7 +1,8 @@
 //! The moments at which nets are usable.
 ghost use Rattle.std.specs.Prelude.{◌≡◌, ◌≤◌, ◌<◌, ◌+◌, ◌^◌, length, map, slice_get, slice_index, IfOk};
 ghost use Rattle.std.specs.List.{All};
-ghost use Rattle.vw_plan.specs.Lead.{after_last, brought_at, driven_lead, greatest, is_gate_at, usable};
+ghost use Rattle.vw_plan.specs.Lead.{after_last, brought_at, driven_lead, is_gate_at, usable};
+ghost use Rattle.vw_net.specs.Lists.{greatest};
 ghost use Rattle.vw_plan.specs.Setting.{setting_of};
 ghost use Rattle.vw_check.specs.MomentFaults.{late_latch, too_early};
 ghost use Rattle.vw_check.specs.Steps.Tables.{HasPairs, wire_pairs};

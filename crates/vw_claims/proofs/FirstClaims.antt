@@ -10,7 +10,7 @@ use Rattle.vw_design.specs.declared.item.Item.TheVariants.{Names, Latch, Sub}
 use Rattle.vw_design.specs.declared.model.Model.{Model}
 use Rattle.vw_design.specs.declared.design.Design.{Design}
 use Rattle.vw_design.specs.Distinct.{has_name}
-use Rattle.vw_design.specs.Paths.{Word, Placing, placings, model_named, outputs_of, is_port}
+use Rattle.vw_design.specs.Paths.{Word, Placing, placings, model_named, model_outputs, is_port}
 use Rattle.vw_design.specs.Claims.{Numbered, and_behind, numbered, Claim as NamedClaim, port, driven, bound, bind_claim, item_claims, claims, first_claim}
 use Rattle.vw_design.proofs.Has.{Has}
 use Rattle.vw_design.proofs.Entries.{IsEntry, entry_of}
@@ -84,7 +84,7 @@ module _ (items : List Item) where
   item_first design name number before (Names line ins out cover) stands = cell_first name out number
   item_first design name number before (Latch line d q edge control init) stands = cell_first name q number
   item_first design name number before (Sub line model binds) stands =
-      binds_first (outputs_of (model_named design.models model)) (record { model = model; binds = binds }) before (stands line model binds refl) name 0 binds
+      binds_first (model_outputs (model_named design.models model)) (record { model = model; binds = binds }) before (stands line model binds refl) name 0 binds
       (λ j. ap (slice_get binds) (let e : 0 + j ≡ j = omega arith in e))
 
   -- many items

@@ -1,5 +1,5 @@
 pub mod Keys
 pub mod Looks
 pub mod FirstClaims
-pub mod Agains
+pub mod ClaimedAgain
 pub mod Targets

@@ -12,6 +12,6 @@ AreOutputs design outputs =
     AllZip (λ model names. (name : Word) → has_name names name ≡ has_name model.outputs name) design.models outputs
 
 -- the outputs of the model with a number; none where there is no number
-abbrev pub outputs_at : List (List Word) → Option ℕ → List Word
-outputs_at outputs None = []
-outputs_at outputs (Some number) = unwrap_or (slice_get outputs number) []
+abbrev pub model_outputs_at : List (List Word) → Option ℕ → List Word
+model_outputs_at outputs None = []
+model_outputs_at outputs (Some number) = unwrap_or (slice_get outputs number) []

@@ -8,7 +8,7 @@ use Rattle.vw_design.specs.declared.item.Item.TheVariants.{Names, Latch, Sub}
 use Rattle.vw_design.specs.declared.model.Model.{Model}
 use Rattle.vw_design.specs.declared.design.Design.{Design}
 use Rattle.vw_design.specs.Distinct.{has_name}
-use Rattle.vw_design.specs.Paths.{Word, Placing, model_named, outputs_of}
+use Rattle.vw_design.specs.Paths.{Word, Placing, model_named, model_outputs}
 use Rattle.vw_design.specs.Claims.{and_behind}
 use Rattle.vw_design.specs.ModelNumbers.{IsNumberOfModel}
 use Rattle.vw_claims.specs.declared.claim.Claim.{Claim}
@@ -28,7 +28,7 @@ binds_made outputs place number (bind ∷ binds) =
 abbrev pub item_made : Design → ℕ → ℕ → Item → List First
 item_made design number before (Names line ins out cover) = record { name = out; claim = Driven number } ∷ []
 item_made design number before (Latch line d q edge control init) = record { name = q; claim = Driven number } ∷ []
-item_made design number before (Sub line model binds) = binds_made (outputs_of (model_named design.models model)) (suc before) 0 binds
+item_made design number before (Sub line model binds) = binds_made (model_outputs (model_named design.models model)) (suc before) 0 binds
 
 -- a further claim of an item, which claims again where the name is claimed already
 abbrev pub with_claim : ℕ → Word → Claim → ModelClaims → ModelClaims
@@ -55,10 +55,10 @@ ports_only model = record {
 }
 
 -- the numbers of the models that placings name, and that of what an item places
-abbrev pub ArePlaced : Design → List Placing → List (Option ℕ) → Type 0
-ArePlaced design placings numbers = AllZip (λ placing number. IsNumberOfModel design placing.model number) placings numbers
+abbrev pub AreModelNumbers : Design → List Placing → List (Option ℕ) → Type 0
+AreModelNumbers design placings numbers = AllZip (λ placing number. IsNumberOfModel design placing.model number) placings numbers
 
-abbrev pub IsTarget : Design → Item → Option ℕ → Type 0
-IsTarget design (Names line ins out cover) target = Unit {0}
-IsTarget design (Latch line d q edge control init) target = Unit {0}
-IsTarget design (Sub line model binds) target = IsNumberOfModel design model target
+abbrev pub IsModelNumber : Design → Item → Option ℕ → Type 0
+IsModelNumber design (Names line ins out cover) target = Unit {0}
+IsModelNumber design (Latch line d q edge control init) target = Unit {0}
+IsModelNumber design (Sub line model binds) target = IsNumberOfModel design model target

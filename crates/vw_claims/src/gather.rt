@@ -3,10 +3,10 @@ ghost use Rattle.std.specs.Prelude.{◌≡◌, ◌≤◌, ◌<◌, ◌-◌, ◌^
 ghost use Rattle.vw_design.specs.ModelNumbers.{AreTargets};
 ghost use Rattle.vw_design.specs.Paths.{placings};
 ghost use Rattle.vw_design.specs.Claims.{and_behind};
-ghost use Rattle.vw_claims.specs.Outputs.{AreOutputs, outputs_at};
+ghost use Rattle.vw_claims.specs.Outputs.{AreOutputs, model_outputs_at};
 ghost use Rattle.vw_claims.specs.Firsts.{port_first, with_firsts};
 ghost use Rattle.vw_claims.specs.Claimed.{AreClaims};
-ghost use Rattle.vw_claims.specs.Steps.{binds_made, item_made, with_claim, with_all, with_items, ports_only, ArePlaced, IsTarget};
+ghost use Rattle.vw_claims.specs.Steps.{binds_made, item_made, with_claim, with_all, with_items, ports_only, AreModelNumbers, IsModelNumber};
 
 use crate::claim::{Again, Claim};
 use crate::firsts::Firsts;
@@ -109,7 +109,7 @@ impl ModelClaims {
         requires { IfSome target (λ model. model < length outputs.now) }
         ensures { OnOk result (self.new
             ≡ with_all item (binds_made
-            (outputs_at outputs.now target) place 0 binds.now) self.old) }
+            (model_outputs_at outputs.now target) place 0 binds.now) self.old) }
     {
         match target {
             Some(model) => self.add_binds(alloc, item, place, binds, &outputs[model as usize]),
@@ -129,7 +129,7 @@ impl ModelClaims {
         item: &Item,
     ) -> Result<(), AllocError>
         requires outputs { AreOutputs design.now outputs.now }
-        requires target { IsTarget design.now item.now target }
+        requires target { IsModelNumber design.now item.now target }
         requires within { before ≤ number }
         ensures { OnOk result (self.new
             ≡ with_all number (item_made design.now number before item.now) self.old) }
@@ -154,7 +154,7 @@ impl ModelClaims {
         items: &[Item],
     ) -> Result<(), AllocError>
         requires outputs { AreOutputs design.now outputs.now }
-        requires placed { ArePlaced design.now (placings items.now) placed.now }
+        requires placed { AreModelNumbers design.now (placings items.now) placed.now }
         ensures { OnOk result (self.new ≡ with_items design.now 0 0 items.now self.old) }
     {
         let mut before = 0;

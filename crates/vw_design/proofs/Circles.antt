@@ -7,7 +7,7 @@ use Rattle.vw_design.specs.declared.item.Item.TheVariants.{Names, Latch, Sub}
 use Rattle.vw_design.specs.declared.model.Model.{Model}
 use Rattle.vw_design.specs.declared.design.Design.{Design}
 use Rattle.vw_design.specs.Paths.{Word, model_named, items_of}
-use Rattle.vw_design.specs.ModelFaults.{is_reached, names_model, model_places, IsCircle}
+use Rattle.vw_design.specs.ModelFaults.{is_reached, names_model, model_places, IsModelCircle}
 use Rattle.vw_design.specs.Counts.{is_below, IsRanking}
 use Rattle.vw_design.proofs.Has.{from-any, all-Has}
 use Rattle.vw_design.proofs.Names.{same_name}
@@ -37,7 +37,7 @@ module _ (design : Design) (among : Word → Bool) (rank : Word → ℕ) (rankin
       omega (arith, here.1)
 
 -- so none places itself in the end
-pub no_circle : (design : Design) (rank : Word → ℕ) → IsRanking design (is_reached design) rank → (names : List Word) → IsCircle design names → ⊥
+pub no_circle : (design : Design) (rank : Word → ℕ) → IsRanking design (is_reached design) rank → (names : List Word) → IsModelCircle design names → ⊥
 no_circle design rank ranking [] circle = omega (arith, circle.some)
 no_circle design rank ranking (name ∷ names) circle =
     omega (arith, falls design (is_reached design) rank ranking name names name (circle.reached 0 name (omega arith)) circle.placed)

@@ -9,7 +9,7 @@ use Rattle.vw_design.specs.declared.item.Item.TheVariants.{Names, Latch, Sub}
 use Rattle.vw_design.specs.declared.model.Model.{Model}
 use Rattle.vw_design.specs.declared.design.Design.{Design}
 use Rattle.vw_design.specs.Distinct.{has_name}
-use Rattle.vw_design.specs.Paths.{Word, Placing, placings, model_named, model_placed, outputs_of, is_port}
+use Rattle.vw_design.specs.Paths.{Word, Placing, placings, model_named, model_placed, model_outputs, is_port}
 use Rattle.vw_design.specs.Claims.{Numbered, numbered, Claim, port, driven, bound, bind_claim, item_claims, claims}
 use Rattle.vw_design.specs.Preorder.{is_cell}
 use Rattle.vw_design.proofs.Has.{Has, Has-append, from-flat_map, from-filter_map}
@@ -30,16 +30,16 @@ driven_by design model name entry is cell true claim has =
 driven_by design model name entry is cell false claim has = absurd has
 
 -- the model of a name, where it has an output
-has_outputs : (found : Option Model) (formal : Word) → has_name (outputs_of found) formal ≡ true → (placed : Model) × (found ≡ Some placed) × (has_name placed.outputs formal ≡ true)
+has_outputs : (found : Option Model) (formal : Word) → has_name (model_outputs found) formal ≡ true → (placed : Model) × (found ≡ Some placed) × (has_name placed.outputs formal ≡ true)
 has_outputs None formal has = absurd (true≢false (sym has))
 has_outputs (Some placed) formal has = (placed, refl, has)
 
 bound_by : (design : Design) (model : Model) (name : Word) (before : ℕ) (placing : Placing) → slice_get (placings model.items) before ≡ Some placing → (bind : Bind) (claim : Claim)
-    → (b : Bool) → (bytes_eq bind.actual name && has_name (outputs_of (model_named design.models placing.model)) bind.formal) ≡ b
+    → (b : Bool) → (bytes_eq bind.actual name && has_name (model_outputs (model_named design.models placing.model)) bind.formal) ≡ b
     → (if b then Some (bound (suc before) bind.formal) else None) ≡ Some claim → IsClaim design model name claim
 bound_by design model name before placing at bind claim false is gives = absurd (none-some claim gives)
 bound_by design model name before placing at bind claim true is gives =
-    let parts = and_parts (bytes_eq bind.actual name) (has_name (outputs_of (model_named design.models placing.model)) bind.formal) is in
+    let parts = and_parts (bytes_eq bind.actual name) (has_name (model_outputs (model_named design.models placing.model)) bind.formal) is in
     let found = has_outputs (model_named design.models placing.model) bind.formal parts.1 in
     let stands : model_placed design (suc before) model ≡ Some found.0 = ap (option_and_then (λ (p : Placing). model_named design.models p.model)) at ∙ found.1 in
     subst (IsClaim design model name) (same_Some (bound (suc before) bind.formal) claim gives) (found.0, stands, found.2)
@@ -49,7 +49,7 @@ item_claim : (design : Design) (model : Model) (name : Word) (entry : Numbered) 
 item_claim design model name entry (Names line ins out cover) same is claim has = driven_by design model name entry is (ap is_cell same) (bytes_eq out name) claim has
 item_claim design model name entry (Latch line d q edge control init) same is claim has = driven_by design model name entry is (ap is_cell same) (bytes_eq q name) claim has
 item_claim design model name entry (Sub line placed binds) same is claim has =
-    let outputs = outputs_of (model_named design.models placed) in
+    let outputs = model_outputs (model_named design.models placed) in
     let from = from-filter_map (bind_claim outputs (suc entry.before) name) claim binds has in
     bound_by design model name entry.before (record { model = placed; binds = binds }) (is.placing line placed binds same) from.0 claim (bytes_eq from.0.actual name && has_name outputs from.0.formal) refl from.2
 

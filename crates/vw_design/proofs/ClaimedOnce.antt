@@ -12,7 +12,7 @@ use Rattle.vw_design.specs.declared.item.Item.TheVariants.{Names, Latch, Sub}
 use Rattle.vw_design.specs.declared.model.Model.{Model}
 use Rattle.vw_design.specs.declared.design.Design.{Design}
 use Rattle.vw_design.specs.Distinct.{has_name}
-use Rattle.vw_design.specs.Paths.{Word, Path, Net, model_named, model_at, items_of, outputs_of, is_port}
+use Rattle.vw_design.specs.Paths.{Word, Path, Net, model_named, model_at, items_of, model_outputs, is_port}
 use Rattle.vw_design.specs.Claims.{Numbered, and_behind, numbered, port, driven, bound, bind_claim, item_claims, claims}
 use Rattle.vw_design.specs.Preorder.{Site, sites}
 use Rattle.vw_design.specs.Reads.{net_at}
@@ -58,7 +58,7 @@ item_times design name number before (Latch line d q edge control init) = by (by
   by : (b : Bool) → length (if b then driven number ∷ [] else []) ≡ once b + 0
   by true = omega arith
   by false = omega arith
-item_times design name number before (Sub line model binds) = bind_times design (outputs_of (model_named design.models model)) (suc before) name binds
+item_times design name number before (Sub line model binds) = bind_times design (model_outputs (model_named design.models model)) (suc before) name binds
 
 -- all items claim it as often
 items_times : (design : Design) (name : Word) (number before : ℕ) (items : List Item)

@@ -4,7 +4,7 @@ use Rattle.std.specs.Option.{option_or}
 use Rattle.std.proofs.lemmas.Option.{none-some, same_Some}
 use Rattle.vw_design.specs.declared.design.Design.{Design}
 use Rattle.vw_design.specs.Paths.{Word, Net}
-use Rattle.vw_design.specs.ModelFaults.{NameAt, NameOf, unknown_model, IsCircle, unknown_formal, unbound_input, both_ways}
+use Rattle.vw_design.specs.ModelFaults.{NameAt, NameOf, unknown_model, IsModelCircle, unknown_formal, unbound_input, both_ways}
 use Rattle.vw_design.specs.Limits.{Counted, too_big}
 use Rattle.vw_design.specs.NetFaults.{Unlike, Edged, undriven, two_drivers, gated_clock, several_clocks, several_edges, clock_as_data}
 use Rattle.vw_design.specs.Accepted.{IsAccepted, Fault, model_unknown, recursive, formal_unknown, input_unbound, output_both_ways, over_limit, net_undriven, driven_twice, clock_gated, clocks_differ, edges_differ, clock_read, further_fault, IsFurtherFault, IsFaultOf}
@@ -150,7 +150,7 @@ module _ (design : Design) where
   -- the three ways to be the fault of a design
   data View (fault : Fault) : Type 0 where
     by_model : (line : ℕ) → fault ≡ model_unknown line → unknown_model design ≡ Some line → View fault
-    by_circle : (names : List Word) → fault ≡ recursive names → unknown_model design ≡ None → IsCircle design names → View fault
+    by_circle : (names : List Word) → fault ≡ recursive names → unknown_model design ≡ None → IsModelCircle design names → View fault
     by_further : IsFurtherFault design fault → View fault
 
   view : (fault : Fault) → IsFaultOf design fault → View fault
@@ -217,7 +217,7 @@ module _ (design : Design) where
       known None is = is
       known (Some line) is = absurd (fine (model_unknown line) is)
 
-      no_circle : (names : List Word) → IsCircle design names → ⊥
+      no_circle : (names : List Word) → IsModelCircle design names → ⊥
       no_circle names circle = fine (recursive names) (known (unknown_model design) refl, circle)
 
       first_none : (found : Option Fault) → further_fault design ≡ found → further_fault design ≡ None

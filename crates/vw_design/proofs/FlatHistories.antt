@@ -11,12 +11,12 @@ use Rattle.vw_design.specs.declared.item.Item.{Item}
 use Rattle.vw_design.specs.declared.item.Item.TheVariants.{Names, Latch as LatchItem, Sub}
 use Rattle.vw_design.specs.declared.design.Design.{Design}
 use Rattle.vw_design.specs.Paths.{Word, Path, Net}
-use Rattle.vw_design.specs.Preorder.{Site, is_latch, cells}
+use Rattle.vw_design.specs.Preorder.{Site, is_latch_item, cells}
 use Rattle.vw_design.specs.Reads.{root_outputs}
 use Rattle.vw_design.specs.PathValue.{path_value}
 use Rattle.vw_design.specs.PathHistory.{latch_start, latch_next, path_start, path_outputs, path_next, path_outputs_from, path_states_from, path_state_after, path_history_from, path_history}
 use Rattle.vw_design.specs.Flattened.{number_of, IsCellOf, IsFlatOf}
-use Rattle.vw_design.proofs.Lists.{AllZip-length, map_numbered}
+use Rattle.vw_design.proofs.FilteredLists.{AllZip-length, map_numbered}
 use Rattle.vw_design.proofs.FlatValues.{latches_of_cells, levels_agree}
 
 abbrev starting : Bool → List Site → List Bool
@@ -27,13 +27,13 @@ stepping other list = map (λ (s : Site). latch_next (other s.path) s.item) list
 
 -- what latches start at
 starts : (design : Design) (unknown : Bool) (list : List Site) (made : List Cell) → AllZip (λ site cell. IsCellOf design site.path site.item cell) list made
-    → start_values unknown made ≡ map (λ (s : Site). latch_start unknown s.item) (filter (λ (s : Site). is_latch s.item) list)
+    → start_values unknown made ≡ map (λ (s : Site). latch_start unknown s.item) (filter (λ (s : Site). is_latch_item s.item) list)
 starts design unknown [] [] along = refl
 starts design unknown [] (cell ∷ made) along = absurd along
 starts design unknown (site ∷ list) [] along = absurd along
 starts design unknown (site ∷ list) (cell ∷ made) along = by site.item refl cell along.0 (starts design unknown list made along.1) where
-  by : (item : Item) → site.item ≡ item → (cell : Cell) → IsCellOf design site.path item cell → start_values unknown made ≡ starting unknown (filter (λ (s : Site). is_latch s.item) list)
-      → start_values unknown (cell ∷ made) ≡ starting unknown (cond (is_latch item) (site ∷ filter (λ (s : Site). is_latch s.item) list) (filter (λ (s : Site). is_latch s.item) list))
+  by : (item : Item) → site.item ≡ item → (cell : Cell) → IsCellOf design site.path item cell → start_values unknown made ≡ starting unknown (filter (λ (s : Site). is_latch_item s.item) list)
+      → start_values unknown (cell ∷ made) ≡ starting unknown (cond (is_latch_item item) (site ∷ filter (λ (s : Site). is_latch_item s.item) list) (filter (λ (s : Site). is_latch_item s.item) list))
   by (Names line ins out cover) is (Gate nets table) of_item rest = rest
   by (Names line ins out cover) is (Latch net start) of_item rest = absurd of_item
   by (LatchItem line d q edge control init) is (Gate nets table) of_item rest = absurd of_item
@@ -45,13 +45,13 @@ starts design unknown (site ∷ list) (cell ∷ made) along = by site.item refl 
 -- what they take next
 nexts : (design : Design) (value : ℕ → Bool) (other : Path → Word → Bool) → ((path : Path) (name : Word) (net : ℕ) → number_of design path name ≡ Some net → value net ≡ other path name)
     → (list : List Site) (made : List Cell) → AllZip (λ site cell. IsCellOf design site.path site.item cell) list made
-    → map value (latch_inputs made) ≡ map (λ (s : Site). latch_next (other s.path) s.item) (filter (λ (s : Site). is_latch s.item) list)
+    → map value (latch_inputs made) ≡ map (λ (s : Site). latch_next (other s.path) s.item) (filter (λ (s : Site). is_latch_item s.item) list)
 nexts design value other agree [] [] along = refl
 nexts design value other agree [] (cell ∷ made) along = absurd along
 nexts design value other agree (site ∷ list) [] along = absurd along
 nexts design value other agree (site ∷ list) (cell ∷ made) along = by site.item refl cell along.0 (nexts design value other agree list made along.1) where
-  by : (item : Item) → site.item ≡ item → (cell : Cell) → IsCellOf design site.path item cell → map value (latch_inputs made) ≡ stepping other (filter (λ (s : Site). is_latch s.item) list)
-      → map value (latch_inputs (cell ∷ made)) ≡ stepping other (cond (is_latch item) (site ∷ filter (λ (s : Site). is_latch s.item) list) (filter (λ (s : Site). is_latch s.item) list))
+  by : (item : Item) → site.item ≡ item → (cell : Cell) → IsCellOf design site.path item cell → map value (latch_inputs made) ≡ stepping other (filter (λ (s : Site). is_latch_item s.item) list)
+      → map value (latch_inputs (cell ∷ made)) ≡ stepping other (cond (is_latch_item item) (site ∷ filter (λ (s : Site). is_latch_item s.item) list) (filter (λ (s : Site). is_latch_item s.item) list))
   by (Names line ins out cover) is (Gate nets table) of_item rest = rest
   by (Names line ins out cover) is (Latch net start) of_item rest = absurd of_item
   by (LatchItem line d q edge control init) is (Gate nets table) of_item rest = absurd of_item

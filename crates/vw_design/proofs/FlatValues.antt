@@ -16,14 +16,14 @@ use Rattle.vw_design.specs.declared.item.Item.TheVariants.{Names, Latch as Latch
 use Rattle.vw_design.specs.declared.design.Design.{Design}
 use Rattle.vw_design.specs.Paths.{Word, Path}
 use Rattle.vw_design.specs.Drivers.{Source, at_port, at_cell, driver}
-use Rattle.vw_design.specs.Preorder.{Site, is_cell, is_latch, sites, cells, latches}
+use Rattle.vw_design.specs.Preorder.{Site, is_cell, is_latch_item, sites, cells, latches}
 use Rattle.vw_design.specs.Clocks.{columns}
 use Rattle.vw_design.specs.PathValue.{item_at, place_of_name, place_of_site, is_site_of, bit_at, item_value, source_value, path_level}
 use Rattle.vw_design.specs.Flattened.{number_of_source, number_of, IsTableOf, IsCellOf, IsFlatOf}
 use Rattle.vw_design.proofs.Has.{Has-at, at-place, from-filter}
 use Rattle.vw_design.proofs.Names.{same_name}
 use Rattle.vw_design.proofs.Sites.{site_item}
-use Rattle.vw_design.proofs.Lists.{filter-filter, place_in_filter, AllZip-at, map_numbered}
+use Rattle.vw_design.proofs.FilteredLists.{filter-filter, place_in_filter, AllZip-at, map_numbered}
 
 -- the first place of a name is one of the names
 pub place_within : (names : List Word) (name : Word) (place : ℕ) → place_of_name names name ≡ Some place → place < length names
@@ -32,27 +32,27 @@ place_within names name place found =
     slice_get_within names place at.0 at.1
 
 -- a latch is a cell
-latch_cell : (site : Site) → is_latch site.item ≡ true → is_cell site.item ≡ true
+latch_cell : (site : Site) → is_latch_item site.item ≡ true → is_cell site.item ≡ true
 latch_cell site latch = by site.item latch where
-  by : (item : Item) → is_latch item ≡ true → is_cell item ≡ true
+  by : (item : Item) → is_latch_item item ≡ true → is_cell item ≡ true
   by (Names line ins out cover) latch = refl
   by (LatchItem line d q edge control init) latch = refl
   by (Sub line model binds) latch = cc
 
 -- the latches among the cells are the latches
-pub latches_of_cells : (design : Design) → filter (λ site. is_latch site.item) (cells design) ≡ latches design
-latches_of_cells design = filter-filter (λ (s : Site). is_cell s.item) (λ (s : Site). is_latch s.item) latch_cell (sites design)
+pub latches_of_cells : (design : Design) → filter (λ site. is_latch_item site.item) (cells design) ≡ latches design
+latches_of_cells design = filter-filter (λ (s : Site). is_cell s.item) (λ (s : Site). is_latch_item s.item) latch_cell (sites design)
 
 -- as many latches stand before a cell of the netlist as before the cell of the design
 count_latches : (design : Design) (list : List Site) (made : List Cell) → AllZip (λ site cell. IsCellOf design site.path site.item cell) list made → (k : ℕ)
-    → length (filter (λ (s : Site). is_latch s.item) (take k list)) ≡ latch_count (take k made)
+    → length (filter (λ (s : Site). is_latch_item s.item) (take k list)) ≡ latch_count (take k made)
 count_latches design list made along zero = refl
 count_latches design [] [] along (suc k) = refl
 count_latches design [] (cell ∷ made) along (suc k) = absurd along
 count_latches design (site ∷ list) [] along (suc k) = absurd along
 count_latches design (site ∷ list) (cell ∷ made) along (suc k) = by site.item refl cell along.0 (count_latches design list made along.1 k) where
-  by : (item : Item) → site.item ≡ item → (cell : Cell) → IsCellOf design site.path item cell → length (filter (λ (s : Site). is_latch s.item) (take k list)) ≡ latch_count (take k made)
-      → length (cond (is_latch item) (site ∷ filter (λ (s : Site). is_latch s.item) (take k list)) (filter (λ (s : Site). is_latch s.item) (take k list))) ≡ latch_count (cell ∷ take k made)
+  by : (item : Item) → site.item ≡ item → (cell : Cell) → IsCellOf design site.path item cell → length (filter (λ (s : Site). is_latch_item s.item) (take k list)) ≡ latch_count (take k made)
+      → length (cond (is_latch_item item) (site ∷ filter (λ (s : Site). is_latch_item s.item) (take k list)) (filter (λ (s : Site). is_latch_item s.item) (take k list))) ≡ latch_count (cell ∷ take k made)
   by (Names line ins out cover) is (Gate nets table) made_of rest = rest
   by (Names line ins out cover) is (Latch net start) made_of rest = absurd made_of
   by (LatchItem line d q edge control init) is (Gate nets table) made_of rest = absurd made_of
@@ -89,7 +89,7 @@ module _ (design : Design) (flat : Flat) (made : IsFlatOf design flat) (row stat
   -- what a cell gives its net is what the item gives it
   cell_value : (level : ℕ) → ((path : Path) (name : Word) (net : ℕ) → number_of design path name ≡ Some net → level_value level flat row state net ≡ path_level level design row state path name)
       → (path : Path) (number before : ℕ) (item : Item) (cell : Cell) → IsCellOf design path item cell
-      → (is_latch item ≡ true → place_of_site (latches design) path number ≡ Some before)
+      → (is_latch_item item ≡ true → place_of_site (latches design) path number ≡ Some before)
       → driven_value (level_value level flat row state) state before (Some cell) ≡ item_value design state (path_level level design row state) path number (Some item)
   cell_value level below path number before (Names line ins out cover) (Gate nets table) is latch =
       let reads = map_numbered (number_of design path) (level_value level flat row state) (path_level level design row state path) (below path) ins nets is.0 in
@@ -110,9 +110,9 @@ module _ (design : Design) (flat : Flat) (made : IsFlatOf design flat) (row stat
       let item : item_at design path number ≡ Some site.0.item = ap₂ (item_at design) (sym site.2) (sym site.3) ∙ site_item design site.0 listed.0 in
       let along = AllZip-at (λ (s : Site) (cell : Cell). IsCellOf design s.path s.item cell) (cells design) flat.cells place site.0 made.cells site.1 in
       let of_item : IsCellOf design path site.0.item along.0 = subst (λ (p : Path). IsCellOf design p site.0.item along.0) site.2 along.2 in
-      let latch = λ (is : is_latch site.0.item ≡ true).
+      let latch = λ (is : is_latch_item site.0.item ≡ true).
       ap (λ (list : List Site). place_of_site list path number) (sym (latches_of_cells design))
-      ∙ place_in_filter (is_site_of path number) (λ (s : Site). is_latch s.item) (cells design) place site.0 found site.1 is
+      ∙ place_in_filter (is_site_of path number) (λ (s : Site). is_latch_item s.item) (cells design) place site.0 found site.1 is
       ∙ ap (λ (n : ℕ). Some n) (count_latches design (cells design) flat.cells made.cells place) in
       ap (λ (inputs : ℕ). level_value (suc level) flat row state (inputs + place)) (sym made.inputs)
       ∙ cell_level level place

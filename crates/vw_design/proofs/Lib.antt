@@ -12,11 +12,11 @@ pub mod Instances
 pub mod Reached
 pub mod Placed
 pub mod Sites
-pub mod Lists
+pub mod FilteredLists
 pub mod ListPlaces
 pub mod FlatValues
 pub mod FlatHistories
-pub mod Found
+pub mod DriverNumbers
 pub mod LoopFree
 pub mod Once
 pub mod Weights
@@ -31,3 +31,4 @@ pub mod Numbers
 pub mod OncePaths
 pub mod Ordered
 pub mod FlatOnce
+pub mod WordSets

@@ -19,7 +19,7 @@ use Rattle.vw_design.specs.Loops.{Gate, is_driven_by, reads_from, gate_reads, Is
 use Rattle.vw_design.proofs.Has.{Has, Has-left, Has-right, any-Has, from-any}
 use Rattle.vw_design.proofs.Names.{name_same}
 use Rattle.vw_design.proofs.FlatValues.{site_of_place}
-use Rattle.vw_design.proofs.Found.{cell_place}
+use Rattle.vw_design.proofs.DriverNumbers.{cell_place}
 
 -- two ways to give values that agree on each element give one list
 map_same : {A B : Type 0} (one other : A → B) (xs : List A) → ((x : A) → Has x xs → one x ≡ other x) → map one xs ≡ map other xs

@@ -13,7 +13,7 @@ use Rattle.vw_design.specs.Paths.{Word}
 use Rattle.vw_design.specs.Drivers.{driver}
 use Rattle.vw_design.specs.Preorder.{sites}
 use Rattle.vw_design.specs.Clocks.{clock_ports}
-use Rattle.vw_design.specs.ModelFaults.{reached, unknown_model, is_reached, place_in_file, IsCircle}
+use Rattle.vw_design.specs.ModelFaults.{reached, unknown_model, is_reached, place_in_file, IsModelCircle}
 use Rattle.vw_design.specs.Accepted.{further_fault, formal_unknown, input_unbound, output_both_ways, net_undriven, driven_twice, clock_gated, clocks_differ, edges_differ, clock_read}
 use Rattle.vw_design.proofs.WorkedParts.{bind, table, design}
 
@@ -43,7 +43,7 @@ unknown = refl
 abbrev circle : Design
 circle = design (model (codes "a") [] [] (Sub 2 (codes "b") [] ∷ []) ∷ model (codes "b") [] [] (Sub 4 (codes "a") [] ∷ []) ∷ []) refl
 
-recursive_models : IsCircle circle (codes "a" ∷ codes "b" ∷ [])
+recursive_models : IsModelCircle circle (codes "a" ∷ codes "b" ∷ [])
 unfolding sites
 recursive_models = record { some = omega arith; reached = are_reached; distinct = refl; placed = (refl, (refl, tt)); earliest = first } where
   are_reached : (i : ℕ) (name : Word) → i < 2 → is_reached circle (slice_index_or (codes "a" ∷ codes "b" ∷ []) i name) ≡ true

@@ -4,14 +4,14 @@ use Rattle.std.specs.Prelude.{◌≡◌, ℕ, List, Option, Some, None, option_m
 use Rattle.std.specs.Option.{option_or}
 use Rattle.vw_design.specs.declared.design.Design.{Design}
 use Rattle.vw_design.specs.Paths.{Word, Net}
-use Rattle.vw_design.specs.ModelFaults.{NameAt, NameOf, unknown_model, IsCircle, unknown_formal, unbound_input, both_ways}
+use Rattle.vw_design.specs.ModelFaults.{NameAt, NameOf, unknown_model, IsModelCircle, unknown_formal, unbound_input, both_ways}
 use Rattle.vw_design.specs.Limits.{IsSmall, Counted, too_big}
 use Rattle.vw_design.specs.NetFaults.{Unlike, Edged, undriven, two_drivers, gated_clock, several_clocks, several_edges, clock_as_data}
 
 -- none of the faults of models is there, so that the design has its instances and its drivers
 pub record HasNoModelFault (design : Design) : Type 0 where
   pub models_known : unknown_model design ≡ None
-  pub no_circle : (names : List Word) → IsCircle design names → ⊥
+  pub no_circle : (names : List Word) → IsModelCircle design names → ⊥
   pub formals_known : unknown_formal design ≡ None
   pub inputs_bound : unbound_input design ≡ None
   pub one_way : both_ways design ≡ None
@@ -63,13 +63,13 @@ further_fault design = option_or (fault_of_models design) (fault_of_nets design)
 -- a fault behind the circle is the design's where no model is unknown, no circle is there, and it is the first
 pub record IsFurtherFault (design : Design) (fault : Fault) : Type 0 where
   pub models_known : unknown_model design ≡ None
-  pub no_circle : (names : List Word) → IsCircle design names → ⊥
+  pub no_circle : (names : List Word) → IsModelCircle design names → ⊥
   pub first : further_fault design ≡ Some fault
 
 -- what it is for a fault to be the design's
 abbrev pub IsFaultOf : Design → Fault → Type 0
 IsFaultOf design (model_unknown line) = unknown_model design ≡ Some line
-IsFaultOf design (recursive names) = (unknown_model design ≡ None) × IsCircle design names
+IsFaultOf design (recursive names) = (unknown_model design ≡ None) × IsModelCircle design names
 IsFaultOf design (formal_unknown formal) = IsFurtherFault design (formal_unknown formal)
 IsFaultOf design (input_unbound formal) = IsFurtherFault design (input_unbound formal)
 IsFaultOf design (output_both_ways output) = IsFurtherFault design (output_both_ways output)

@@ -8,7 +8,7 @@ use Rattle.vw_design.specs.declared.item.Item.TheVariants.{Names, Latch, Sub}
 use Rattle.vw_design.specs.declared.model.Model.{Model}
 use Rattle.vw_design.specs.declared.design.Design.{Design}
 use Rattle.vw_design.specs.Distinct.{has_name}
-use Rattle.vw_design.specs.Paths.{Word, is_port, model_named, outputs_of}
+use Rattle.vw_design.specs.Paths.{Word, is_port, model_named, model_outputs}
 
 -- an item of a model, with its number among the items, from 0, and how many `.subckt` items stand before it
 pub record Numbered : Type 0 where
@@ -45,7 +45,7 @@ abbrev pub item_claims : Design → Word → ℕ → ℕ → Item → List Claim
 item_claims design name number before (Names line ins out cover) = if bytes_eq out name then driven number ∷ [] else []
 item_claims design name number before (Latch line d q edge control init) = if bytes_eq q name then driven number ∷ [] else []
 item_claims design name number before (Sub line model binds) =
-    filter_map (bind_claim (outputs_of (model_named design.models model)) (suc before) name) binds
+    filter_map (bind_claim (model_outputs (model_named design.models model)) (suc before) name) binds
 
 -- all claims on a name of a model, in order
 abbrev pub claims : Design → Model → Word → List Claim

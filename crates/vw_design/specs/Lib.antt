@@ -2,6 +2,7 @@ pub mod Distinct
 pub mod Shape
 pub mod Lists
 pub mod Paths
+pub mod WordSets
 pub mod Claims
 pub mod Drivers
 pub mod Preorder

@@ -4,8 +4,8 @@ use Rattle.vw_design.specs.declared.item.Item.{Item}
 use Rattle.vw_design.specs.declared.item.Item.TheVariants.{Names, Latch, Sub}
 use Rattle.vw_design.specs.declared.design.Design.{Design}
 use Rattle.vw_design.specs.Distinct.{has_name}
-use Rattle.vw_design.specs.Lists.{greatest}
-use Rattle.vw_design.specs.Paths.{Path, model_at, outputs_of}
+use Rattle.vw_net.specs.Lists.{greatest}
+use Rattle.vw_design.specs.Paths.{Path, model_at, model_outputs}
 use Rattle.vw_design.specs.Preorder.{Site, sites, instances, cells}
 use Rattle.vw_design.specs.Clocks.{inputs_of, clocks_of}
 
@@ -14,7 +14,7 @@ abbrev pub input_count : Design → ℕ
 input_count design = length (filter (λ name. not (has_name (clocks_of (model_at design [])) name)) (inputs_of (model_at design [])))
 
 abbrev pub output_count : Design → ℕ
-output_count design = length (outputs_of (model_at design []))
+output_count design = length (model_outputs (model_at design []))
 
 -- the instances, the root counted
 abbrev pub instance_count : Design → ℕ

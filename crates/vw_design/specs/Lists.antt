@@ -1,4 +1,4 @@
--- First elements and first places of lists, the greatest number, and lists that go round.
+-- First elements and first places of lists.
 use Rattle.std.specs.Prelude.{ℕ, zero, suc, Bool, List, [], ◌∷◌, ◌++◌, Option, Some, None, option_map, if◌then◌else◌, max}
 use Rattle.std.specs.Option.{option_or}
 
@@ -11,13 +11,3 @@ first_found search (x ∷ xs) = option_or (search x) (first_found search xs)
 abbrev pub first_place : {A : Type 0} → (A → Bool) → List A → Option ℕ
 first_place test [] = None
 first_place test (x ∷ xs) = if test x then Some zero else option_map (λ place. suc place) (first_place test xs)
-
--- the greatest of some numbers; 0 where there is none
-abbrev pub greatest : List ℕ → ℕ
-greatest [] = zero
-greatest (number ∷ numbers) = max number (greatest numbers)
-
--- the list from its second element on, and then the first: what comes next behind each element of a circle
-abbrev pub turned : {A : Type 0} → List A → List A
-turned [] = []
-turned (x ∷ xs) = xs ++ x ∷ []

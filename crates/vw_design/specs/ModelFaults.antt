@@ -10,7 +10,8 @@ use Rattle.vw_design.specs.declared.item.Item.TheVariants.{Names, Latch, Sub}
 use Rattle.vw_design.specs.declared.model.Model.{Model}
 use Rattle.vw_design.specs.declared.design.Design.{Design}
 use Rattle.vw_design.specs.Distinct.{has_name, are_distinct}
-use Rattle.vw_design.specs.Lists.{first_found, turned}
+use Rattle.vw_design.specs.Lists.{first_found}
+use Rattle.vw_net.specs.Lists.{turned}
 use Rattle.vw_design.specs.Paths.{Word, model_named, model_at, is_port}
 use Rattle.vw_design.specs.Preorder.{instances}
 
@@ -60,7 +61,7 @@ place_in_file design name = position_or_len (λ model. bytes_eq model.name name)
 
 -- 14: models that are reached place each other in a circle. Each places the next and the last one the first, none
 -- stands twice, and the first is the one that stands first in the file. Several lists may be right
-pub record IsCircle (design : Design) (names : List Word) : Type 0 where
+pub record IsModelCircle (design : Design) (names : List Word) : Type 0 where
   pub some : 0 < length names
   pub reached : (i : ℕ) (name : Word) → i < length names → IsTrue (is_reached design (slice_index_or names i name))
   pub distinct : IsTrue (are_distinct names)

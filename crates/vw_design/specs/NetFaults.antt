@@ -11,7 +11,7 @@ use Rattle.vw_design.specs.declared.model.Model.{Model}
 use Rattle.vw_design.specs.declared.design.Design.{Design}
 use Rattle.vw_design.specs.Distinct.{has_name}
 use Rattle.vw_design.specs.Lists.{first_found}
-use Rattle.vw_design.specs.Paths.{Word, Path, Net, model_named, model_at, outputs_of}
+use Rattle.vw_design.specs.Paths.{Word, Path, Net, model_named, model_at, model_outputs}
 use Rattle.vw_design.specs.Drivers.{Source, at_port, at_cell, driver}
 use Rattle.vw_design.specs.Preorder.{Site, sites, latches}
 use Rattle.vw_design.specs.Reads.{net_at, reads, data_reads, controls}
@@ -29,7 +29,7 @@ bound_actual outputs bind = if has_name outputs bind.formal then Some bind.actua
 abbrev pub claimed_by : Design → Item → List Word
 claimed_by design (Names line ins out cover) = out ∷ []
 claimed_by design (Latch line d q edge control init) = q ∷ []
-claimed_by design (Sub line model binds) = filter_map (bound_actual (outputs_of (model_named design.models model))) binds
+claimed_by design (Sub line model binds) = filter_map (bound_actual (model_outputs (model_named design.models model))) binds
 
 -- the names that the ports and the items before a number of a model claim
 abbrev pub claimed_before : Design → Option Model → ℕ → List Word

@@ -1,6 +1,7 @@
 -- Paths, and what stands at them. Source: `.subckt` of the Berkeley description; that an instance is a path is this
 -- project's way to speak of it.
-use Rattle.std.specs.Prelude.{ℕ, zero, suc, Bool, ◌||◌, List, [], ◌∷◌, ◌++◌, reverse, codes, Option, Some, None, option_and_then, slice_get, find, filter_map, flat_map}
+use Rattle.std.specs.Prelude.{ℕ, zero, suc, Bool, ◌||◌, List, [], ◌∷◌, ◌++◌, reverse, codes, Option, Some, None, option_and_then, option_map, slice_get, find, filter_map, flat_map}
+use Rattle.std.specs.Borrow.{Bor}
 use Rattle.std.specs.Fmt.{decimal}
 use Rattle.std.specs.Str.{bytes_eq}
 use Rattle.vw_design.specs.declared.item.Bind.{Bind}
@@ -13,6 +14,10 @@ use Rattle.vw_design.specs.Distinct.{has_name}
 -- a name, as its bytes
 abbrev pub Word : Type 0
 Word = List ℕ
+
+-- a name that lies elsewhere, if there is one
+abbrev pub lent : Option (Bor Word) → Option Word
+lent name = option_map (λ name. name.now) name
 
 -- the places of an instance, the last one first; the root has none. A place is the number, from 1, of a `.subckt` item
 -- among those of its model
@@ -65,9 +70,9 @@ abbrev pub items_of : Option Model → List Item
 items_of None = []
 items_of (Some model) = model.items
 
-abbrev pub outputs_of : Option Model → List Word
-outputs_of None = []
-outputs_of (Some model) = model.outputs
+abbrev pub model_outputs : Option Model → List Word
+model_outputs None = []
+model_outputs (Some model) = model.outputs
 
 -- whether a name is an input or a clock of a model
 abbrev pub is_port : Model → Word → Bool

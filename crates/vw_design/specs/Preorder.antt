@@ -57,13 +57,13 @@ is_cell (Names line ins out cover) = true
 is_cell (Latch line d q edge control init) = true
 is_cell (Sub line model binds) = false
 
-abbrev pub is_latch : Item → Bool
-is_latch (Names line ins out cover) = false
-is_latch (Latch line d q edge control init) = true
-is_latch (Sub line model binds) = false
+abbrev pub is_latch_item : Item → Bool
+is_latch_item (Names line ins out cover) = false
+is_latch_item (Latch line d q edge control init) = true
+is_latch_item (Sub line model binds) = false
 
 abbrev pub cells : Design → List Site
 cells design = filter (λ site. is_cell site.item) (sites design)
 
 abbrev pub latches : Design → List Site
-latches design = filter (λ site. is_latch site.item) (sites design)
+latches design = filter (λ site. is_latch_item site.item) (sites design)

@@ -3,7 +3,7 @@ use Rattle.std.specs.Prelude.{List, [], ◌∷◌, ◌++◌, map, option_to_list
 use Rattle.vw_design.specs.declared.item.Item.{Item}
 use Rattle.vw_design.specs.declared.item.Item.TheVariants.{Names, Latch, Sub}
 use Rattle.vw_design.specs.declared.design.Design.{Design}
-use Rattle.vw_design.specs.Paths.{Word, Path, Net, model_at, outputs_of}
+use Rattle.vw_design.specs.Paths.{Word, Path, Net, model_at, model_outputs}
 use Rattle.vw_design.specs.Preorder.{Site, sites}
 
 abbrev pub net_at : Path → Word → Net
@@ -26,7 +26,7 @@ nets_at site names = map (net_at site.path) names
 
 -- the outputs of the root
 abbrev pub root_outputs : Design → List Net
-root_outputs design = map (net_at []) (outputs_of (model_at design []))
+root_outputs design = map (net_at []) (model_outputs (model_at design []))
 
 -- all nets that are read, those that are read as data, and the controls, each in preorder
 abbrev pub reads : Design → List Net

@@ -9,7 +9,7 @@ use Rattle.vw_design.specs.Claims.{Numbered, numbered, Claim as NamedClaim, port
 use Rattle.vw_design.specs.Drivers.{Source as PathSource, at_port, at_cell, driver}
 use Rattle.vw_design.specs.Paths.{Word, Path, model_at, is_port}
 use Rattle.vw_design.specs.Preorder.{instances}
-use Rattle.vw_design.proofs.Found.{IsFound, driver_is, cell_place}
+use Rattle.vw_design.proofs.DriverNumbers.{IsFound, driver_is, cell_place}
 use Rattle.vw_claims.specs.declared.claim.Claim.{Claim}
 use Rattle.vw_claims.specs.declared.claim.Claim.TheVariants.{Port as ClaimedPort}
 use Rattle.vw_claims.specs.declared.model_claims.ModelClaims.{ModelClaims}

@@ -19,7 +19,7 @@ use Rattle.vw_design.proofs.Numbers.{cell_number, instance_number}
 use Rattle.vw_claims.specs.declared.model_claims.ModelClaims.{ModelClaims}
 use Rattle.vw_claims.specs.Claimed.{AreClaims}
 use Rattle.vw_walk.specs.declared.tables.Placed.{Placed}
-use Rattle.vw_walk.specs.Tables.{IsPlaced}
+use Rattle.vw_walk.specs.Tables.{IsEntryAt}
 use Rattle.vw_walk.proofs.Entries.{stands_behind}
 use Rattle.vw_sizes.specs.declared.sizes.Before.{Before}
 use Rattle.vw_names.specs.declared.model_names.ModelNames.{ModelNames}
@@ -28,7 +28,7 @@ use Rattle.vw_names.specs.Names.{firsts_of, IsPlacedNames}
 use Rattle.vw_drivers.specs.declared.source.Source.TheVariants.{Cell}
 use Rattle.vw_drivers.specs.declared.tables.Tables.{Tables}
 use Rattle.vw_drivers.specs.Tables.{AreTables, instance_firsts}
-use Rattle.vw_drivers.specs.Steps.{before_of, placed_of, cell_of, child_of}
+use Rattle.vw_drivers.specs.Steps.{before_of, placed_of, cell_source, child_of}
 
 -- a place isn't 0
 no_root : (before : ℕ) → suc before == 0 ≡ false
@@ -38,7 +38,7 @@ no_root before = ne_eqb (suc before) 0 (omega arith)
 pub record HasInstance (design : Design) (tables : Tables) (number : ℕ) (path : Path) : Type 0 where
   pub entry : Placed
   pub at : slice_get tables.instances number ≡ Some entry
-  pub is : IsPlaced design (instances design) number path entry
+  pub is : IsEntryAt design (instances design) number path entry
   pub claims : ModelClaims
   pub claims_are : AreClaims design (Some is.model) claims
   pub firsts_are : firsts_of tables.claims (Some entry.model) ≡ claims.firsts
@@ -92,7 +92,7 @@ module _ (design : Design) (faultless : HasNoModelFault design) (tables : Tables
 
     -- the number of a cell
     pub cell_is : (item : ℕ) (what : Item) → slice_get has.is.model.items item ≡ Some what → is_cell what ≡ true
-        → cell_of tables has.entry item ≡ option_map (λ place. Cell place) (place_of_site (cells design) path item)
+        → cell_source tables has.entry item ≡ option_map (λ place. Cell place) (place_of_site (cells design) path item)
     cell_is item what at cell =
         let stands = stands_behind design tables.instances faultless.small are.placed number path listed has.entry has.at in
         let depth = 64 + length design.models - length path in

@@ -36,8 +36,8 @@ placed_of tables model place =
     if place == 0 then None else option_and_then (λ names. slice_get names.placed (place - 1)) (slice_get tables.names model)
 
 -- the cell that is an item of an instance
-abbrev pub cell_of : Tables → Placed → ℕ → Option Source
-cell_of tables entry item =
+abbrev pub cell_source : Tables → Placed → ℕ → Option Source
+cell_source tables entry item =
     option_and_then (λ before. if nat_lt (entry.cells + before.cells) (2 ^ 32) then Some (Cell (entry.cells + before.cells)) else None)
     (before_of tables entry.model item)
 
@@ -51,7 +51,7 @@ child_of tables instance entry place =
 abbrev pub led_by : Tables → Rows → Rows → ℕ → Placed → ℕ → Option Claim → Option Source
 led_by tables outputs ports instance entry number None = None
 led_by tables outputs ports instance entry number (Some claims.Port) = if instance == 0 then Some (Port number) else at_rows ports instance number
-led_by tables outputs ports instance entry number (Some (claims.Driven item)) = cell_of tables entry item
+led_by tables outputs ports instance entry number (Some (claims.Driven item)) = cell_source tables entry item
 led_by tables outputs ports instance entry number (Some (claims.Bound place bind)) =
     option_and_then (λ child. at_rows outputs child bind) (child_of tables instance entry place)
 

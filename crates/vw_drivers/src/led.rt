@@ -3,7 +3,7 @@ ghost use Rattle.std.specs.Prelude.{◌≡◌, Some, option_map};
 ghost use Rattle.vw_claims.specs.Firsts.{claim_at};
 ghost use Rattle.vw_names.specs.Names.{firsts_of};
 ghost use Rattle.vw_drivers.specs.Drivers.{at_rows};
-ghost use Rattle.vw_drivers.specs.Steps.{before_of, placed_of, cell_of, child_of, led_by, led_at, led, ways_of};
+ghost use Rattle.vw_drivers.specs.Steps.{before_of, placed_of, cell_source, child_of, led_by, led_at, led, ways_of};
 
 use crate::source::Source;
 use crate::tables::Tables;
@@ -42,7 +42,7 @@ fn placed_at<'a>(tables: &'a Tables, model: u32, place: u32) -> Option<&'a Place
 
 /// The number of the cell that is an item of an instance.
 fn cell_at(tables: &Tables, entry: Placed, item: u32) -> Option<Source>
-    ensures { result ≡ cell_of tables.now entry item }
+    ensures { result ≡ cell_source tables.now entry item }
 {
     let before = before_item(tables, entry.model, item)?;
     let number = entry.cells.checked_add(before.cells)?;

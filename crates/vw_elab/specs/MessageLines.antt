@@ -3,8 +3,8 @@ use Rattle.std.specs.Prelude.{ℕ, List, [], ◌∷◌, ◌++◌, codes, flat_ma
 use Rattle.std.specs.Fmt.{decimal}
 
 -- a fault at a line: its number, the line, what is wrong, and a name
-abbrev pub at_line : ℕ → ℕ → List ℕ → List ℕ → List ℕ
-at_line fault line what name = codes "design " ++ decimal fault ++ codes ": line " ++ decimal line ++ codes ": " ++ what ++ name ++ 10 ∷ []
+abbrev pub at_line_of_name : ℕ → ℕ → List ℕ → List ℕ → List ℕ
+at_line_of_name fault line what name = codes "design " ++ decimal fault ++ codes ": line " ++ decimal line ++ codes ": " ++ what ++ name ++ 10 ∷ []
 
 -- a fault of a net, and one of two names
 abbrev pub of_net : ℕ → List ℕ → List ℕ → List ℕ

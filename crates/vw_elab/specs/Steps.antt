@@ -2,20 +2,20 @@
 use Rattle.std.specs.Prelude.{◌≡◌, List, None}
 use Rattle.vw_design.specs.declared.design.Design.{Design}
 use Rattle.vw_design.specs.Paths.{Word}
-use Rattle.vw_design.specs.ModelFaults.{unknown_model, IsCircle, unknown_formal, unbound_input, both_ways}
+use Rattle.vw_design.specs.ModelFaults.{unknown_model, IsModelCircle, unknown_formal, unbound_input, both_ways}
 use Rattle.vw_design.specs.ModelNumbers.{AreTargets, IsModelOrder}
 use Rattle.vw_design.specs.NetFaults.{undriven, two_drivers}
 use Rattle.vw_design.specs.Accepted.{HasNoModelFault}
 use Rattle.vw_elab.specs.declared.models.Models.{Models}
 
 -- each item names a model, and none places itself
-pub record HasModels (design : Design) : Type 0 where
+pub record HasKnownModels (design : Design) : Type 0 where
   pub known : unknown_model design ≡ None
-  pub no_circle : (names : List Word) → IsCircle design names → ⊥
+  pub no_circle : (names : List Word) → IsModelCircle design names → ⊥
 
 -- and each binding is right
 pub record HasBindings (design : Design) : Type 0 where
-  pub models : HasModels design
+  pub models : HasKnownModels design
   pub formals_known : unknown_formal design ≡ None
   pub inputs_bound : unbound_input design ≡ None
   pub one_way : both_ways design ≡ None

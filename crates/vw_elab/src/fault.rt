@@ -1,7 +1,7 @@
 ghost use Rattle.std.specs.Prelude.{◌≡◌, ◌++◌, [], ◌∷◌, codes, IfOk, OnOk};
 ghost use Rattle.std.specs.Fmt.{decimal};
-ghost use Rattle.vw_sizes.specs.Quantities.{name_of};
-ghost use Rattle.vw_elab.specs.MessageLines.{at_line, of_net, of_pair, spaced};
+ghost use Rattle.vw_sizes.specs.Quantities.{quantity_word};
+ghost use Rattle.vw_elab.specs.MessageLines.{at_line_of_name, of_net, of_pair, spaced};
 
 use std::alloc::{AllocError, AllocFailed, Global};
 use vw_net::Sequence;
@@ -67,7 +67,7 @@ fn at_line(
     what: &[u8],
     name: &[u8],
 ) -> Result<Vec<u8>, AllocError>
-    ensures { IfOk result (λ text. text.items ≡ at_line fault line what.now name.now) }
+    ensures { IfOk result (λ text. text.items ≡ at_line_of_name fault line what.now name.now) }
 {
     let mut text = format!(in alloc; "design {fault}: line {line}: ")?.into_bytes();
     text.extend_from_slice(what)?;
@@ -168,7 +168,7 @@ fn add_last(text: &mut Vec<u8>, word: &[u8]) -> Result<(), AllocError>
 /// The message of a quantity that is above its limit.
 fn of_limit(alloc: Global, quantity: Quantity, limit: u64) -> Result<Vec<u8>, AllocError>
     ensures { IfOk result (λ text. text.items ≡ codes "design 18: more than "
-        ++ decimal limit ++ 32 ∷ name_of quantity ++ 10 ∷ []) }
+        ++ decimal limit ++ 32 ∷ quantity_word quantity ++ 10 ∷ []) }
 {
     let mut text = format!(in alloc; "design 18: more than {limit} ")?.into_bytes();
     add_last(&mut text, quantity.name())?;

@@ -1,10 +1,10 @@
 //! Faults of models, and the models by numbers.
 ghost use Rattle.std.specs.Prelude.{◌≡◌, None};
 ghost use Rattle.vw_design.specs.ModelFaults.{unknown_model};
-ghost use Rattle.vw_design.specs.ModelNumbers.{AreTargets, AreMarks, IsModelOrder};
+ghost use Rattle.vw_design.specs.ModelNumbers.{AreTargets, AreModelMarks, IsModelOrder};
 ghost use Rattle.vw_sizes.specs.Sizes.{AreSizes};
 ghost use Rattle.vw_elab.specs.Refusals.{Judges};
-ghost use Rattle.vw_elab.specs.Steps.{HasModels, HasBindings, AreModels};
+ghost use Rattle.vw_elab.specs.Steps.{HasKnownModels, HasBindings, AreModels};
 
 use crate::fault::DesignFault;
 use std::alloc::Global;
@@ -31,9 +31,9 @@ fn order_of_models(
     marks: &[bool],
 ) -> Result<Sequence<u32>, DesignFault>
     requires targets { AreTargets design.now targets.now }
-    requires marks { AreMarks design.now marks.now }
+    requires marks { AreModelMarks design.now marks.now }
     ensures order { Judges design.now
-        (λ order. IsModelOrder design.now order × HasModels design.now) result }
+        (λ order. IsModelOrder design.now order × HasKnownModels design.now) result }
 {
     if let Some(line) = unknown_model(design, targets, marks) {
         return Err(DesignFault::UnknownModel(line));
@@ -55,8 +55,8 @@ fn check_bindings(
     marks: &[bool],
 ) -> Result<(), DesignFault>
     requires targets { AreTargets design.now targets.now }
-    requires marks { AreMarks design.now marks.now }
-    requires models { HasModels design.now }
+    requires marks { AreModelMarks design.now marks.now }
+    requires models { HasKnownModels design.now }
     ensures { Judges design.now (λ _. HasBindings design.now) result }
 {
     if let Some(at) = unknown_formal(alloc, design, targets, marks)? {

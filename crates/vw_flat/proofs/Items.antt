@@ -16,7 +16,7 @@ use Rattle.vw_walk.specs.declared.tables.CellSite.{CellSite}
 use Rattle.vw_walk.specs.Tables.{IsCellSite}
 use Rattle.vw_elab.specs.declared.elaborated.Instance.{Instance}
 use Rattle.vw_elab.specs.Numbers.{IsInstance}
-use Rattle.vw_flat.specs.Numbers.{item_of}
+use Rattle.vw_flat.specs.Numbers.{item_with_numbers}
 
 pub some_at : {A : Type 0} → (xs : List A) (k : ℕ) → k < length xs → (x : A) × (slice_get xs k ≡ Some x)
 some_at [] k within = absurd (omega arith)
@@ -55,7 +55,7 @@ module _ (design : Design) where
     pub model_is : slice_get design.models instance.model ≡ Some model
     pub item : Item
     pub item_is : slice_get model.items entry.item ≡ Some item
-    pub same : item_of (slice_get (cells design) cell) ≡ Some item
+    pub same : item_with_numbers (slice_get (cells design) cell) ≡ Some item
 
   pub some_model : (path : Path) (number : ℕ) (item : Item) → item_at design path number ≡ Some item → (model : Model) × (model_at design path ≡ Some model)
   some_model path number item is = by (model_at design path) refl where
@@ -75,13 +75,13 @@ module _ (design : Design) where
         model_is = is_instance.model ∙ ap (model_at design) path ∙ model.1;
         item = site.item;
         item_is = ap (slice_get model.0.items) at.item_is ∙ ap (λ (m : Option Model). slice_get (items_of m) site.number) (sym model.1) ∙ is.item;
-        same = ap item_of is.at;
+        same = ap item_with_numbers is.at;
       }
 
   -- the item of a cell, as it is read: first its model among the models, then the item among those of the model
   pub record IsItemAt (cell number : ℕ) (items : List Item) : Type 0 where
     pub within : number < length items
-    pub same : (item : Item) → item ≡ get_or items number item → item_of (slice_get (cells design) cell) ≡ Some item
+    pub same : (item : Item) → item ≡ get_or items number item → item_with_numbers (slice_get (cells design) cell) ≡ Some item
 
   pub record IsModelAt (cell : ℕ) (entry : CellSite) (number : ℕ) (models : List Model) : Type 0 where
     pub within : number < length models
@@ -104,11 +104,11 @@ module _ (design : Design) where
       }
 
   -- no cell is a placed model
-  pub never_placed : (cell : ℕ) (item : Item) → item_of (slice_get (cells design) cell) ≡ Some item → (line : ℕ) (name : Word) (binds : List Bind) → item ≡ Sub line name binds → ⊥
+  pub never_placed : (cell : ℕ) (item : Item) → item_with_numbers (slice_get (cells design) cell) ≡ Some item → (line : ℕ) (name : Word) (binds : List Bind) → item ≡ Sub line name binds → ⊥
   never_placed cell item is line name binds same = by (slice_get (cells design) cell) refl where
     by : (found : Option Site) → slice_get (cells design) cell ≡ found → ⊥
-    by None at = none-some item (sym (ap item_of at) ∙ is)
+    by None at = none-some item (sym (ap item_with_numbers at) ∙ is)
     by (Some site) at =
         let listed = from-filter (λ (s : Site). is_cell s.item) site (sites design) (Has-at site (cells design) cell at) in
-        let here : site.item ≡ Sub line name binds = same_Some site.item item (sym (ap item_of at) ∙ is) ∙ same in
+        let here : site.item ≡ Sub line name binds = same_Some site.item item (sym (ap item_with_numbers at) ∙ is) ∙ same in
         true≢false (sym listed.1 ∙ ap is_cell here)

@@ -1,3 +1,3 @@
 pub mod Items
 pub mod Readings
-pub mod Lists
+pub mod LongerLists

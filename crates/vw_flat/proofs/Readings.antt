@@ -21,12 +21,12 @@ use Rattle.vw_design.proofs.Has.{Has, Has-at, at-Has, all-Has, Has-left, Has-rig
 use Rattle.vw_design.proofs.Sites.{site_item}
 use Rattle.vw_design.proofs.Reached.{model_in_file}
 use Rattle.vw_design.proofs.Sizes.{few_columns}
-use Rattle.vw_design.proofs.Found.{read_numbered}
+use Rattle.vw_design.proofs.DriverNumbers.{read_numbered}
 use Rattle.vw_names.specs.Names.{reads_of}
 use Rattle.vw_elab.specs.declared.driver.Driver.{Driver}
 use Rattle.vw_elab.specs.declared.driver.Driver.TheVariants as drivers
 use Rattle.vw_elab.specs.Numbers.{of_port, driver_of}
-use Rattle.vw_flat.specs.Numbers.{number_by, HasNumber, nets, item_of, numbers_at}
+use Rattle.vw_flat.specs.Numbers.{number_by, HasNumber, nets, item_with_numbers, numbers_at}
 use Rattle.vw_flat.proofs.Items.{some_at, some_model}
 
 -- an element of a front
@@ -109,14 +109,14 @@ module _ (design : Design) where
   output_has net place is = Has-right net (flat_map (λ (s : Site). nets_at s (data_of s.item)) (sites design)) (root_outputs design) (Has-at net (root_outputs design) place is)
 
   -- a gate reads as many nets as its table has inputs
-  pub gate_reads_all : (cell : ℕ) (item : Item) → item_of (slice_get (cells design) cell) ≡ Some item → (line : ℕ) (ins : List Word) (out : Word) (cover : Cover) → item ≡ Names line ins out cover
+  pub gate_reads_all : (cell : ℕ) (item : Item) → item_with_numbers (slice_get (cells design) cell) ≡ Some item → (line : ℕ) (ins : List Word) (out : Word) (cover : Cover) → item ≡ Names line ins out cover
       → length (numbers_at design (slice_get (cells design) cell)) ≡ cover.inputs
   gate_reads_all cell item is line ins out cover same = by (slice_get (cells design) cell) refl where
     by : (found : Option Site) → slice_get (cells design) cell ≡ found → length (numbers_at design (slice_get (cells design) cell)) ≡ cover.inputs
-    by None at = absurd (none-some item (sym (ap item_of at) ∙ is))
+    by None at = absurd (none-some item (sym (ap item_with_numbers at) ∙ is))
     by (Some site) at =
         let listed = from-filter (λ (s : Site). is_cell s.item) site (sites design) (Has-at site (cells design) cell at) in
-        let here : site.item ≡ Names line ins out cover = same_Some site.item item (sym (ap item_of at) ∙ is) ∙ same in
+        let here : site.item ≡ Names line ins out cover = same_Some site.item item (sym (ap item_with_numbers at) ∙ is) ∙ same in
         let stands = site_item design site listed.0 in
         let model = some_model design site.path site.number site.item stands in
         let of_model : slice_get model.0.items site.number ≡ Some site.item = ap (λ (m : Option Model). slice_get (items_of m) site.number) (sym model.1) ∙ stands in

@@ -28,8 +28,8 @@ abbrev pub nets : Design → ℕ
 nets design = length (columns design) + length (cells design)
 
 -- the item of a site, and the numbers of what it reads as data
-abbrev pub item_of : Option Site → Option Item
-item_of site = option_map (λ s. s.item) site
+abbrev pub item_with_numbers : Option Site → Option Item
+item_with_numbers site = option_map (λ s. s.item) site
 
 abbrev pub numbers_at : Design → Option Site → List (Option ℕ)
 numbers_at design None = []

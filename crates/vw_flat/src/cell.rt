@@ -4,7 +4,7 @@ ghost use Rattle.std.specs.List.{All};
 ghost use Rattle.vw_net.specs.Cells.{IsWellFormed};
 ghost use Rattle.vw_design.specs.Limits.{cell_count};
 ghost use Rattle.vw_design.specs.Preorder.{cells};
-ghost use Rattle.vw_flat.specs.Numbers.{nets, item_of, numbers_at, IsCellAt};
+ghost use Rattle.vw_flat.specs.Numbers.{nets, item_with_numbers, numbers_at, IsCellAt};
 
 use crate::number::number_read;
 use std::alloc::{AllocError, Global};
@@ -15,7 +15,7 @@ use vw_net::{Cell, Sequence};
 /// The item of a cell.
 pub fn item_of(elaborated: &Elaborated, cell: u32) -> &Item
     requires { cell < cell_count elaborated.now }
-    ensures { item_of (slice_get (cells elaborated.now) cell) ≡ Some result.now }
+    ensures { item_with_numbers (slice_get (cells elaborated.now) cell) ≡ Some result.now }
 {
     let site = elaborated.site(cell);
     let instance = elaborated.instance(site.instance);
@@ -50,7 +50,7 @@ pub fn cell_of(
     cell: u32,
     item: &Item,
 ) -> Result<Cell, AllocError>
-    requires { item_of (slice_get (cells elaborated.now) cell) ≡ Some item.now }
+    requires { item_with_numbers (slice_get (cells elaborated.now) cell) ≡ Some item.now }
     ensures is { IfOk result (IsCellAt elaborated.now (slice_get (cells elaborated.now) cell)) }
     ensures fits { IfOk result (IsWellFormed (nets elaborated.now)) }
 {

@@ -9,9 +9,9 @@ use Rattle.vw_net.specs.Order.{is_among}
 use Rattle.vw_design.specs.declared.model.Model.{Model}
 use Rattle.vw_design.specs.declared.design.Design.{Design}
 use Rattle.vw_design.specs.Distinct.{has_name, are_distinct}
-use Rattle.vw_design.specs.Lists.{turned}
+use Rattle.vw_net.specs.Lists.{turned}
 use Rattle.vw_design.specs.Paths.{Word, model_named}
-use Rattle.vw_design.specs.ModelFaults.{is_reached, model_places, place_in_file, IsCircle}
+use Rattle.vw_design.specs.ModelFaults.{is_reached, model_places, place_in_file, IsModelCircle}
 use Rattle.vw_design.specs.ModelNumbers.{AreTargets, is_reached_model}
 use Rattle.vw_design.proofs.Has.{from-map}
 use Rattle.vw_design.proofs.Names.{Has-has_name}
@@ -109,7 +109,7 @@ module _ (design : Design) where
           ∙ ap (λ (w : Word). model_places (model_named design.models w) is.next.name) (ap name_of is.at)
           ∙ ap (λ (m : Option Model). model_places m is.next.name) (named_at design number is.model is.at) ∙ is.places
 
-      pub is_circle_of_names : IsCircle design (names_of design (drop start circle ++ take start circle))
+      pub is_circle_of_names : IsModelCircle design (names_of design (drop start circle ++ take start circle))
       is_circle_of_names = record {
         some = omega (arith, names_long, is_circle.some);
         reached = λ i name inside.

@@ -13,7 +13,7 @@ use Rattle.vw_design.specs.ModelNumbers.{IsNumberOfModel, AreTargets, is_reached
 use Rattle.vw_design.proofs.Has.{Has-at, at-Has, any-Has, from-any, from-filter_map, Has-filter_map}
 use Rattle.vw_design.proofs.Names.{same_name, equal_names}
 use Rattle.vw_design.proofs.ModelNumbers.{place_of_model, model_of_place, named_at, name_of_named}
-use Rattle.vw_design.proofs.Lists.{AllZip-at, AllZip-length}
+use Rattle.vw_design.proofs.FilteredLists.{AllZip-at, AllZip-length}
 use Rattle.vw_design.proofs.Closed.{reached_at, reached_closed, reached_least}
 use Rattle.vw_models.specs.Reach.{Targets, PlacesAt, AreWithin, IsClosed}
 use Rattle.vw_models.proofs.Places.{at_within, list_at, AllZip-back}

@@ -14,7 +14,7 @@ use Rattle.vw_design.specs.declared.model.Model.{Model}
 use Rattle.vw_design.specs.declared.design.Design.{Design}
 use Rattle.vw_design.specs.Lists.{first_found}
 use Rattle.vw_design.specs.Paths.{Word, Placing, placing_of, placings, model_named, items_of}
-use Rattle.vw_design.specs.ModelFaults.{has_model_name, is_reached, names_model, unknown_model, IsCircle, place_in_file}
+use Rattle.vw_design.specs.ModelFaults.{has_model_name, is_reached, names_model, unknown_model, IsModelCircle, place_in_file}
 use Rattle.vw_design.specs.Counts.{is_below, IsRanking}
 use Rattle.vw_design.specs.ModelNumbers.{IsNumberOfModel, AreTargets, is_reached_model, has_number_among, IsModelOrder}
 use Rattle.vw_design.proofs.Circles.{no_circle}
@@ -149,5 +149,5 @@ module _ (design : Design) where
           all_pass (is_below (is_reached design) rank p) model.items
           (λ item has. item_below p item (λ placing is_placing. all-Has (λ (q : Placing). has_number_among design (take p order) q.model) placing (placings model.items) before (Has-filter_map placing_of placing item model.items has is_placing)))
 
-    pub ordered_no_circle : (names : List Word) → IsCircle design names → ⊥
+    pub ordered_no_circle : (names : List Word) → IsModelCircle design names → ⊥
     ordered_no_circle names circle = no_circle design rank ranking names circle

@@ -5,7 +5,7 @@ use Rattle.std.proofs.lemmas.Bool.{eqb-true, or_cases}
 use Rattle.std.proofs.lemmas.List.{drop-append-le, take-append-le}
 use Rattle.std.proofs.lemmas.List.Elements.{AllZip-push}
 use Rattle.vw_net.specs.Order.{is_among}
-use Rattle.vw_design.specs.Lists.{turned}
+use Rattle.vw_net.specs.Lists.{turned}
 use Rattle.vw_models.specs.Reach.{Targets}
 use Rattle.vw_models.specs.Circles.{round_from}
 use Rattle.vw_models.specs.Search.{Places, Leads}

@@ -4,4 +4,4 @@ pub mod Unknown
 pub mod Ahead
 pub mod Search
 pub mod Circles
-pub mod Found
+pub mod ModelOrders

@@ -3,7 +3,7 @@
 use Rattle.std.specs.Prelude.{◌≡◌, ◌<◌, ◌==◌, ℕ, List, [], ◌∷◌, ◌++◌, length, take, slice_index, slice_index_or, if◌then◌else◌, IsTrue}
 use Rattle.std.specs.List.{IsDistinct, AllZip}
 use Rattle.vw_net.specs.Order.{is_among}
-use Rattle.vw_design.specs.Lists.{turned}
+use Rattle.vw_net.specs.Lists.{turned}
 use Rattle.vw_models.specs.declared.mark.Mark.{Mark}
 use Rattle.vw_models.specs.declared.mark.Mark.TheVariants.{Fresh, Open, Done}
 use Rattle.vw_models.specs.declared.depth.NumberOrder.{NumberOrder}

@@ -1,6 +1,6 @@
 //! Which models are reached from the root.
 ghost use Rattle.std.specs.Prelude.{IfOk};
-ghost use Rattle.vw_design.specs.ModelNumbers.{AreTargets, AreMarks};
+ghost use Rattle.vw_design.specs.ModelNumbers.{AreTargets, AreModelMarks};
 
 use crate::reach::reach;
 use std::alloc::{AllocError, Global};
@@ -15,7 +15,7 @@ pub fn marks_of(
     targets: &[Sequence<Option<u32>>],
 ) -> Result<Vec<bool>, AllocError>
     requires { AreTargets design.now targets.now }
-    ensures { IfOk result (λ marks. AreMarks design.now marks.items) }
+    ensures { IfOk result (λ marks. AreModelMarks design.now marks.items) }
 {
     reach(alloc, targets)
 }

@@ -2,7 +2,7 @@
 ghost use Rattle.std.specs.Prelude.{◌≡◌, None, IfOk};
 ghost use Rattle.vw_design.specs.ModelFaults.{unknown_model};
 ghost use Rattle.vw_design.specs.ModelNumbers.{AreTargets};
-ghost use Rattle.vw_models.specs.Found.{IsFound};
+ghost use Rattle.vw_models.specs.ModelOrders.{IsFound};
 
 use crate::circle::circle_names;
 use crate::depth::{NumberOrder, search};

@@ -4,7 +4,7 @@ ghost use Rattle.std.specs.List.{AllZip};
 ghost use Rattle.vw_design.specs.Lists.{first_found};
 ghost use Rattle.vw_design.specs.Paths.{placings, model_named};
 ghost use Rattle.vw_design.specs.ModelFaults.{by_placing, unknown_model};
-ghost use Rattle.vw_design.specs.ModelNumbers.{AreTargets, AreMarks, IsNumberOfModel};
+ghost use Rattle.vw_design.specs.ModelNumbers.{AreTargets, AreModelMarks, IsNumberOfModel};
 ghost use Rattle.vw_models.specs.Unknown.{unknown_of};
 
 use vw_design::{Design, Item};
@@ -18,7 +18,7 @@ pub fn unknown_model(
     marks: &[bool],
 ) -> Option<u64>
     requires targets { AreTargets design.now targets.now }
-    requires marks { AreMarks design.now marks.now }
+    requires marks { AreModelMarks design.now marks.now }
     ensures { result ≡ unknown_model design.now }
 {
     for (number, model) in design.models().iter().enumerate() {

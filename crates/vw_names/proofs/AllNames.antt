@@ -8,7 +8,7 @@ use Rattle.vw_design.specs.declared.model.Model.{Model}
 use Rattle.vw_design.specs.declared.design.Design.{Design}
 use Rattle.vw_design.specs.Paths.{placings}
 use Rattle.vw_design.specs.ModelNumbers.{IsNumberOfModel, AreTargets}
-use Rattle.vw_design.proofs.Lists.{AllZip-at, AllZip-length}
+use Rattle.vw_design.proofs.FilteredLists.{AllZip-at, AllZip-length}
 use Rattle.vw_design.proofs.ListPlaces.{in_front, at_end}
 use Rattle.vw_claims.specs.declared.model_claims.ModelClaims.{ModelClaims}
 use Rattle.vw_claims.specs.Firsts.{First, number_named}

@@ -12,7 +12,7 @@ use Rattle.vw_design.specs.declared.design.Design.{Design}
 use Rattle.vw_design.specs.Paths.{Placing, placings, model_named}
 use Rattle.vw_design.specs.Claims.{and_behind}
 use Rattle.vw_design.specs.ModelNumbers.{IsNumberOfModel}
-use Rattle.vw_design.proofs.Lists.{AllZip-at}
+use Rattle.vw_design.proofs.FilteredLists.{AllZip-at}
 use Rattle.vw_design.proofs.ListPlaces.{none_at_place}
 use Rattle.vw_design.proofs.ModelNumbers.{one_number}
 use Rattle.vw_claims.specs.declared.model_claims.ModelClaims.{ModelClaims}

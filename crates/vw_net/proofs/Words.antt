@@ -14,7 +14,7 @@ use Rattle.vw_net.specs.declared.cover.Row.{Row}
 use Rattle.vw_net.specs.declared.cover.Cover.{Cover}
 use Rattle.vw_net.specs.Mark.{mark_matches, row_matches}
 use Rattle.vw_net.specs.Cover.{cover_value}
-use Rattle.vw_net.specs.Word.{place_of, bit_of, columns, mark_word, row_word, rows_word, table_word}
+use Rattle.vw_net.specs.Word.{place_of, bit_of, input_words, mark_word, row_word, rows_word, table_word}
 
 -- ---- places
 
@@ -61,21 +61,21 @@ below-at (suc n) test k within all =
     ⊎_elim (λ (same : k ≡ n). ap test same ∙ parts.1) (λ (other : k ≡ n → ⊥). below-at n test k (omega arith) parts.0) (cases_eq k n)
 
 is_column : ℕ → Bool
-is_column input = below 64 (λ place. nat_eq (bit_at (get_or columns input 0) place) (bit_at place input))
+is_column input = below 64 (λ place. nat_eq (bit_at (get_or input_words input 0) place) (bit_at place input))
 
 columns_right : below 6 is_column ≡ true
 unfolding below is_column
 columns_right = refl
 
 -- bit k of column i is bit i of k
-column_bit : (input place : ℕ) → input < 6 → place < 64 → bit_at (get_or columns input 0) place ≡ bit_at place input
+column_bit : (input place : ℕ) → input < 6 → place < 64 → bit_at (get_or input_words input 0) place ≡ bit_at place input
 unfolding is_column
 column_bit input place within low =
     let right = below-at 6 is_column input within columns_right in
-    eqb-true _ _ (below-at 64 (λ (k : ℕ). nat_eq (bit_at (get_or columns input 0) k) (bit_at k input)) place low right)
+    eqb-true _ _ (below-at 64 (λ (k : ℕ). nat_eq (bit_at (get_or input_words input 0) k) (bit_at k input)) place low right)
 
 fits : ℕ → Bool
-fits input = nat_le (get_or columns input 0) (2 ^ 64 - 1)
+fits input = nat_le (get_or input_words input 0) (2 ^ 64 - 1)
 
 columns_fit : below 6 fits ≡ true
 unfolding below fits
@@ -102,12 +102,12 @@ mark_bit Zero column place value small low is = bit_at_not w64 column place smal
 mark_bit One column place value small low is = is
 mark_bit Any column place value small low is = bit_at_ones 64 place low
 
-column_at : (bits : List Bool) (input : ℕ) → length bits ≤ 6 → input < 6 → bit_at (get_or columns input 0) (place_of bits) ≡ bit (get_or bits input false)
+column_at : (bits : List Bool) (input : ℕ) → length bits ≤ 6 → input < 6 → bit_at (get_or input_words input 0) (place_of bits) ≡ bit (get_or bits input false)
 column_at bits input few within = column_bit input (place_of bits) within (place_of-below bits few) ∙ bit_at-place_of bits input
 
-column_small : (input : ℕ) → input < 6 → get_or columns input 0 < 2 ^ 64
+column_small : (input : ℕ) → input < 6 → get_or input_words input 0 < 2 ^ 64
 unfolding fits
-column_small input within = omega (arith, leb-true (get_or columns input 0) (2 ^ 64 - 1) (below-at 6 fits input within columns_fit))
+column_small input within = omega (arith, leb-true (get_or input_words input 0) (2 ^ 64 - 1) (below-at 6 fits input within columns_fit))
 
 both : (word mark row before : ℕ) (matches rest : Bool) → before ≡ min word mark → mark ≡ bit matches → row ≡ min before (bit rest) → row ≡ min word (bit (matches && rest))
 both word mark row before matches rest first its all = omega (arith, bit-and matches rest)
@@ -120,7 +120,7 @@ module _ (bits : List Bool) (few : length bits ≤ 6) where
   row_bit word input (mark ∷ marks) [] same even within = absurd (omega arith)
   row_bit word input (mark ∷ marks) (value ∷ left) same even within =
       let place = place_of bits in
-      let column = get_or columns input 0 in
+      let column = get_or input_words input 0 in
       let here : input < 6 = omega arith in
       let start : input + 0 ≡ input = omega arith in
       let is : bit_at column place ≡ bit value = column_at bits input few here ∙ ap (λ (i : ℕ). bit (get_or bits i false)) (sym start) ∙ ap bit (sym (same 0)) in
@@ -160,7 +160,7 @@ module _ (bits : List Bool) (few : length bits ≤ 6) where
 row_word-lt : (word input : ℕ) (marks : List Mark) → word < 2 ^ 64 → row_word word input marks < 2 ^ 64
 row_word-lt word input [] small = small
 row_word-lt word input (mark ∷ marks) small =
-    let its = mark_word (get_or columns input 0) mark in
+    let its = mark_word (get_or input_words input 0) mark in
     row_word-lt (bit_and word its) (input + 1) marks (omega (arith, and_le_l word its))
 
 rows_word-lt : (word : ℕ) (rows : List Row) → word < 2 ^ 64 → rows_word word rows < 2 ^ 64

@@ -1,3 +1,4 @@
+pub mod Lists
 pub mod Mark
 pub mod Cover
 pub mod Word

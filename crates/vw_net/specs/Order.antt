@@ -21,6 +21,12 @@ abbrev pub read_nets_at : Option Cell → List ℕ
 read_nets_at None = []
 read_nets_at (Some cell) = read_nets cell
 
+-- the nets that a gate reads; an input and a latch rest on none within a clock
+abbrev pub gate_inputs : Option Cell → List ℕ
+gate_inputs None = []
+gate_inputs (Some (Gate ins cover)) = ins
+gate_inputs (Some (Latch d init)) = []
+
 abbrev pub is_among : List ℕ → ℕ → Bool
 is_among numbers number = list_any (λ other. other == number) numbers
 

@@ -14,8 +14,8 @@ abbrev pub bit_of : ℕ → ℕ → Bool
 bit_of word place = bit_and (word / 2 ^ place) 1 == 1
 
 -- the words of six inputs: bit k of word i is bit i of k
-abbrev pub columns : List ℕ
-columns =
+abbrev pub input_words : List ℕ
+input_words =
     12297829382473034410
     ∷ 14757395258967641292
     ∷ 17361641481138401520
@@ -33,7 +33,7 @@ mark_word column Any = 2 ^ 64 - 1
 -- of these places, those at which each mark from an input on matches
 abbrev pub row_word : ℕ → ℕ → List Mark → ℕ
 row_word word input [] = word
-row_word word input (mark ∷ marks) = row_word (bit_and word (mark_word (slice_index_or columns input 0) mark)) (input + 1) marks
+row_word word input (mark ∷ marks) = row_word (bit_and word (mark_word (slice_index_or input_words input 0) mark)) (input + 1) marks
 
 -- these places, and those at which some row matches
 abbrev pub rows_word : ℕ → List Row → ℕ

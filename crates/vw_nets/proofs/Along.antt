@@ -10,12 +10,12 @@ use Rattle.vw_design.specs.PathValue.{item_at}
 use Rattle.vw_design.specs.Preorder.{Site, is_cell, instances, sites, cells}
 use Rattle.vw_design.specs.Reads.{net_at, nets_at}
 use Rattle.vw_design.proofs.Has.{Has-at, from-filter}
-use Rattle.vw_design.proofs.Lists.{AllZip-at, AllZip-length}
+use Rattle.vw_design.proofs.FilteredLists.{AllZip-at, AllZip-length}
 use Rattle.vw_design.proofs.Sites.{site_item}
 use Rattle.vw_walk.specs.declared.tables.CellSite.{CellSite}
 use Rattle.vw_walk.specs.Tables.{AreCellSites, IsCellSite}
 use Rattle.vw_nets.proofs.Finds.{find_map}
-use Rattle.vw_nets.proofs.Places.{element}
+use Rattle.vw_nets.proofs.InstancePlaces.{element}
 
 -- what stands behind the end of a table of cells
 abbrev pub no_cell : CellSite

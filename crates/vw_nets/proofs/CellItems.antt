@@ -15,10 +15,10 @@ use Rattle.vw_names.specs.declared.model_names.ModelNames.{ModelNames}
 use Rattle.vw_names.specs.Names.{reads_of, firsts_of}
 use Rattle.vw_walk.specs.declared.tables.CellSite.{CellSite}
 use Rattle.vw_walk.specs.declared.tables.Placed.{Placed}
-use Rattle.vw_walk.specs.Tables.{IsPlaced}
+use Rattle.vw_walk.specs.Tables.{IsEntryAt}
 use Rattle.vw_drivers.specs.declared.tables.Tables.{Tables}
 use Rattle.vw_drivers.specs.Tables.{AreTables, instance_firsts}
-use Rattle.vw_nets.specs.Items.{item_by, numbers_by, AreNumbersOf}
+use Rattle.vw_nets.specs.Items.{item_at_site, numbers_by, AreNumbersOf}
 
 pub numbers_of_names : (firsts : List First) (names : List Word) (numbers : List (Option ℕ)) → numbers ≡ map (number_named firsts) names → AreNumbersOf firsts names numbers
 numbers_of_names firsts names numbers are place name at =
@@ -27,13 +27,13 @@ numbers_of_names firsts names numbers are place name at =
     ∙ ap (λ (found : Option Word). option_and_then (λ (number : Option ℕ). number) (option_map (number_named firsts) found)) at
 
 module _ (design : Design) (tables : Tables) (are : AreTables design tables) (cell : CellSite) (path : Path) (item : Item) (listed : slice_get (instances design) cell.instance ≡ Some path) (at : item_at design path cell.item ≡ Some item) where
-  abbrev pub entry : (found : Placed) × (slice_get tables.instances cell.instance ≡ Some found) × IsPlaced design (instances design) cell.instance path found
+  abbrev pub entry : (found : Placed) × (slice_get tables.instances cell.instance ≡ Some found) × IsEntryAt design (instances design) cell.instance path found
   entry = are.placed.each cell.instance path listed
 
   pub in_model : slice_get entry.2.model.items cell.item ≡ Some item
   in_model = sym (ap (λ (m : Option Model). slice_get (items_of m) cell.item) entry.2.stands) ∙ at
 
-  pub item_is : item_by design tables cell ≡ Some item
+  pub item_is : item_at_site design tables cell ≡ Some item
   item_is =
       ap (option_and_then (λ (e : Placed). option_and_then (λ (model : Model). slice_get model.items cell.item) (slice_get design.models e.model))) entry.1
       ∙ ap (option_and_then (λ (model : Model). slice_get model.items cell.item)) entry.2.model_is ∙ in_model
@@ -56,12 +56,12 @@ module _ (design : Design) (tables : Tables) (are : AreTables design tables) (ce
   numbers_here numbers is =
       numbers_of_names (instance_firsts tables cell.instance) (reads_of item) numbers (same_Some numbers (map (number_named (instance_firsts tables cell.instance)) (reads_of item)) (is ∙ numbers_are))
 
-  pub item_here : (found : Item) → Some found ≡ item_by design tables cell → found ≡ item
+  pub item_here : (found : Item) → Some found ≡ item_at_site design tables cell → found ≡ item
   item_here found is = same_Some found item (is ∙ item_is)
 
 -- the claims of the root's model
 module _ (design : Design) (tables : Tables) (are : AreTables design tables) where
-  abbrev pub root_entry : (found : Placed) × (slice_get tables.instances 0 ≡ Some found) × IsPlaced design (instances design) 0 [] found
+  abbrev pub root_entry : (found : Placed) × (slice_get tables.instances 0 ≡ Some found) × IsEntryAt design (instances design) 0 [] found
   root_entry = are.placed.each 0 [] refl
 
   abbrev pub root_claims : (found : ModelClaims) × (slice_get tables.claims root_entry.0.model ≡ Some found) × AreClaims design (Some root_entry.2.model) found

@@ -14,11 +14,11 @@ use Rattle.vw_claims.specs.declared.model_claims.ModelClaims.{ModelClaims}
 use Rattle.vw_claims.specs.Claimed.{IsAgain}
 use Rattle.vw_sizes.specs.declared.sizes.Before.{Before}
 use Rattle.vw_walk.specs.declared.tables.Placed.{Placed}
-use Rattle.vw_walk.specs.Tables.{IsPlaced}
+use Rattle.vw_walk.specs.Tables.{IsEntryAt}
 use Rattle.vw_drivers.specs.declared.tables.Tables.{Tables}
 use Rattle.vw_drivers.specs.Tables.{AreTables}
 use Rattle.vw_nets.specs.Seconds.{again_by, position_by, IsClaimedAt, AreFrom, AreNone}
-use Rattle.vw_nets.proofs.Places.{element}
+use Rattle.vw_nets.proofs.InstancePlaces.{element}
 
 -- more items weigh no less
 module _ (weight : Item → ℕ) (below : Word → ℕ) where
@@ -62,7 +62,7 @@ module _ (design : Design) (path : Path) where
 
 -- the tables of an instance
 module _ (design : Design) (tables : Tables) (are : AreTables design tables) (instance : ℕ) (path : Path) (listed : slice_get (instances design) instance ≡ Some path) where
-  abbrev pub entry : (found : Placed) × (slice_get tables.instances instance ≡ Some found) × IsPlaced design (instances design) instance path found
+  abbrev pub entry : (found : Placed) × (slice_get tables.instances instance ≡ Some found) × IsEntryAt design (instances design) instance path found
   entry = are.placed.each instance path listed
 
   pub again_is : IsAgain design (model_at design path) (again_by tables instance)

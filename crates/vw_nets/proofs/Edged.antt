@@ -12,7 +12,7 @@ use Rattle.vw_design.specs.declared.item.Item.{Item}
 use Rattle.vw_design.specs.declared.item.Item.TheVariants.{Names, Latch, Sub}
 use Rattle.vw_design.specs.NetFaults.{Edged, edge_at, same_edge, first_unlike, several_edges}
 use Rattle.vw_design.specs.Paths.{Word, Path, printed}
-use Rattle.vw_design.specs.Preorder.{Site, is_cell, is_latch, instances, sites, cells, latches}
+use Rattle.vw_design.specs.Preorder.{Site, is_cell, is_latch_item, instances, sites, cells, latches}
 use Rattle.vw_nets.specs.declared.edges.Typed.{Typed}
 use Rattle.vw_nets.specs.Edges.{IsTyped, other_edge, first_other}
 use Rattle.vw_nets.specs.Nets.{latches_pair}
@@ -69,11 +69,11 @@ module _ (design : Design) where
         ∙ sym (of_site edge is.site (drop (i + 1) (cells design))) ∙ sym (ap (other_of edge) is.cut) ∙ far
 
 -- only latches write types
-latches_alone : (list : List Site) → typed_of (filter (λ site. is_latch site.item) list) ≡ typed_of (filter (λ site. is_cell site.item) list)
+latches_alone : (list : List Site) → typed_of (filter (λ site. is_latch_item site.item) list) ≡ typed_of (filter (λ site. is_cell site.item) list)
 latches_alone [] = refl
 latches_alone (site ∷ list) = by site.path site.item site refl refl (latches_alone list) where
-  by : (path : Path) (item : Item) (site : Site) → site.path ≡ path → site.item ≡ item → typed_of (filter (λ (s : Site). is_latch s.item) list) ≡ typed_of (filter (λ (s : Site). is_cell s.item) list)
-      → typed_of (cond (is_latch item) (site ∷ filter (λ (s : Site). is_latch s.item) list) (filter (λ (s : Site). is_latch s.item) list))
+  by : (path : Path) (item : Item) (site : Site) → site.path ≡ path → site.item ≡ item → typed_of (filter (λ (s : Site). is_latch_item s.item) list) ≡ typed_of (filter (λ (s : Site). is_cell s.item) list)
+      → typed_of (cond (is_latch_item item) (site ∷ filter (λ (s : Site). is_latch_item s.item) list) (filter (λ (s : Site). is_latch_item s.item) list))
       ≡ typed_of (cond (is_cell item) (site ∷ filter (λ (s : Site). is_cell s.item) list) (filter (λ (s : Site). is_cell s.item) list))
   by path (Names line ins out cover) site here is rest =
       rest ∙ sym (ap₂ (λ (p : Path) (x : Item). cons_option (edge_at p x) (typed_of (filter (λ (s : Site). is_cell s.item) list))) here is)

@@ -23,7 +23,7 @@ use Rattle.vw_drivers.specs.Tables.{AreTables, root_firsts}
 use Rattle.vw_nets.specs.declared.columns.Columns.{Columns}
 use Rattle.vw_nets.specs.Columns.{AreColumns}
 use Rattle.vw_nets.specs.Free.{unmarked, is_free, has_none, with_column, AreFree}
-use Rattle.vw_nets.specs.Wanted.{AreMarks}
+use Rattle.vw_nets.specs.Wanted.{AreClockMarks}
 use Rattle.vw_nets.proofs.ClockMarks.{set_here, set_elsewhere, number_within}
 use Rattle.vw_nets.proofs.PortNumbers.{one_name}
 
@@ -128,7 +128,7 @@ module _ (design : Design) (tables : Tables) (are : AreTables design tables) (ro
       let named = numbered (number_named firsts name) firsts port (meant root.items) (claimed.2.firsts name ∙ ap (option_map (λ (claim : Claim). Some claim)) (port_first name is)) in
       (named.0, ap (λ (found : Option ModelClaims). number_named (unwrap_or (option_map (λ (f : ModelClaims). f.firsts) found) []) name) claimed.1 ∙ named.1)
 
-  free_is : (marks : List Bool) → AreMarks design (root_firsts tables) marks → (name : Word) → has_name root.inputs name ≡ true → is_free (root_firsts tables) marks name ≡ not (has_name (clock_ports design) name)
+  free_is : (marks : List Bool) → AreClockMarks design (root_firsts tables) marks → (name : Word) → has_name root.inputs name ≡ true → is_free (root_firsts tables) marks name ≡ not (has_name (clock_ports design) name)
   free_is marks marked name is =
       let number = input_number name is in
       ap (λ (found : Option ℕ). is_some (unmarked marks found)) number.1
@@ -143,13 +143,13 @@ module _ (design : Design) (tables : Tables) (are : AreTables design tables) (ro
   filter_same one other [] same = refl
   filter_same one other (name ∷ names) same = ap₂ (λ (b : Bool) (rest : List Word). cond b (name ∷ rest) rest) (same name (inl refl)) (filter_same one other names (λ further has. same further (inr has)))
 
-  free_columns : (marks : List Bool) → AreMarks design (root_firsts tables) marks → filter (is_free (root_firsts tables) marks) root.inputs ≡ columns design
+  free_columns : (marks : List Bool) → AreClockMarks design (root_firsts tables) marks → filter (is_free (root_firsts tables) marks) root.inputs ≡ columns design
   unfolding columns
   free_columns marks marked =
       filter_same (is_free (root_firsts tables) marks) (λ name. not (has_name (clock_ports design) name)) root.inputs (λ name has. free_is marks marked name (has_name-Has root.inputs name has))
       ∙ ap (λ (m : Option Model). filter (λ name. not (has_name (clock_ports design) name)) (inputs_of m)) stands
 
-  pub columns_are : (firsts : List First) → firsts ≡ root_firsts tables → (marks list : List Bool) → list ≡ marks → AreMarks design (root_firsts tables) marks → (names : List Word) → names ≡ root.inputs → (found : Columns) → AreFree firsts list names found
+  pub columns_are : (firsts : List First) → firsts ≡ root_firsts tables → (marks list : List Bool) → list ≡ marks → AreClockMarks design (root_firsts tables) marks → (names : List Word) → names ≡ root.inputs → (found : Columns) → AreFree firsts list names found
       → AreColumns design (root_firsts tables) found
   columns_are firsts same marks list given marked names inputs found free =
       let same_columns = λ (name : Word).

@@ -1,4 +1,4 @@
-pub mod Places
+pub mod InstancePlaces
 pub mod Finds
 pub mod CellItems
 pub mod Along

@@ -23,7 +23,7 @@ use Rattle.vw_names.specs.Names.{reads_of}
 use Rattle.vw_drivers.specs.declared.source.Source.{Source}
 use Rattle.vw_drivers.specs.declared.source.Source.TheVariants.{Port, Cell}
 use Rattle.vw_drivers.specs.Sources.{source_of}
-use Rattle.vw_nets.specs.Ports.{port_number, ports_of}
+use Rattle.vw_nets.specs.Ports.{port_number, item_ports}
 use Rattle.vw_nets.proofs.Reading.{of_cells_alone}
 
 abbrev pub somes : List ℕ → List (Option ℕ)
@@ -89,7 +89,7 @@ only_one None = refl
 only_one (Some x) = refl
 
 -- an item with a control, and one without
-pub ports_here : (design : Design) (path : Path) (item : Item) (control : Word) → control ∷ [] ≡ controls_of item → ports_of design path item ≡ option_to_list (port_of (driver design path control))
+pub ports_here : (design : Design) (path : Path) (item : Item) (control : Word) → control ∷ [] ≡ controls_of item → item_ports design path item ≡ option_to_list (port_of (driver design path control))
 ports_here design path item control is =
     ap (filter_map (λ (name : Word). port_of (driver design path name))) (sym is) ∙ only_one (port_of (driver design path control))
 
@@ -100,7 +100,7 @@ filter_map-map h f (x ∷ xs) = ap (cons_option (h (f x))) (filter_map-map h f x
 -- the ports of all controls, cell by cell
 module _ (design : Design) where
   abbrev pub of_cells : List Site → List Word
-  of_cells list = flat_map (λ site. ports_of design site.path site.item) list
+  of_cells list = flat_map (λ site. item_ports design site.path site.item) list
 
   by_site : (list : List Site) → filter_map (λ net. port_of (driver design net.path net.name)) (flat_map (λ site. nets_at site (controls_of site.item)) list) ≡ of_cells list
   by_site [] = refl
@@ -109,4 +109,4 @@ module _ (design : Design) where
       ∙ ap₂ (λ (one other : List Word). one ++ other) (filter_map-map (λ (net : Net). port_of (driver design net.path net.name)) (net_at site.path) (controls_of site.item)) (by_site list)
 
   pub ports_are : control_ports design ≡ of_cells (cells design)
-  ports_are = by_site (sites design) ∙ of_cells_alone (λ path item. ports_of design path item) (λ path line model binds. refl) (sites design)
+  ports_are = by_site (sites design) ∙ of_cells_alone (λ path item. item_ports design path item) (λ path line model binds. refl) (sites design)

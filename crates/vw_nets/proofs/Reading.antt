@@ -6,7 +6,7 @@ use Rattle.vw_design.specs.declared.design.Design.{Design}
 use Rattle.vw_design.specs.declared.item.Bind.{Bind}
 use Rattle.vw_design.specs.declared.item.Item.{Item}
 use Rattle.vw_design.specs.declared.item.Item.TheVariants.{Names, Latch, Sub}
-use Rattle.vw_design.specs.Paths.{Word, Path, Net, model_at, outputs_of}
+use Rattle.vw_design.specs.Paths.{Word, Path, Net, model_at, model_outputs}
 use Rattle.vw_design.specs.Preorder.{Site, is_cell, sites, cells}
 use Rattle.vw_design.specs.Reads.{net_at, nets_at, root_outputs}
 use Rattle.vw_nets.proofs.Finds.{find_map}
@@ -32,7 +32,7 @@ module _ (design : Design) (test : Net → Bool) (names : Item → List Word) (n
   at_cells = ap (find test) (of_cells_alone (λ path item. map (net_at path) (names item)) (λ path line model binds. ap (map (net_at path)) (none line model binds)) (sites design))
 
   pub then_outputs : find test (flat_map (λ site. nets_at site (names site.item)) (sites design) ++ root_outputs design)
-      ≡ option_or (find test (flat_map (λ site. nets_at site (names site.item)) (cells design))) (option_map (net_at []) (find (λ name. test (net_at [] name)) (outputs_of (model_at design []))))
+      ≡ option_or (find test (flat_map (λ site. nets_at site (names site.item)) (cells design))) (option_map (net_at []) (find (λ name. test (net_at [] name)) (model_outputs (model_at design []))))
   then_outputs =
       find-append test (flat_map (λ (site : Site). nets_at site (names site.item)) (sites design)) (root_outputs design)
-      ∙ ap₂ (λ (one other : Option Net). option_or one other) at_cells (find_map (net_at []) test (outputs_of (model_at design [])))
+      ∙ ap₂ (λ (one other : Option Net). option_or one other) at_cells (find_map (net_at []) test (model_outputs (model_at design [])))

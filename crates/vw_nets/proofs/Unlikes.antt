@@ -11,7 +11,7 @@ use Rattle.vw_design.specs.Clocks.{port_of, inputs_of, clocks_of, control_ports}
 use Rattle.vw_design.specs.Drivers.{Source, at_port, at_cell, driver}
 use Rattle.vw_design.specs.Reads.{controls}
 use Rattle.vw_design.specs.NetFaults.{first_unlike, several_clocks}
-use Rattle.vw_design.proofs.Found.{driver_is}
+use Rattle.vw_design.proofs.DriverNumbers.{driver_is}
 use Rattle.vw_design.proofs.Has.{Has, Has-at, from-filter_map, from-find}
 use Rattle.vw_design.proofs.Names.{name_same}
 use Rattle.vw_claims.specs.Firsts.{First, number_named}

@@ -12,12 +12,9 @@ use Rattle.vw_drivers.specs.declared.tables.Tables.{Tables}
 abbrev pub lent_item : Option (Bor Item) → Option Item
 lent_item item = option_map (λ item. item.now) item
 
-abbrev pub lent : Option (Bor Word) → Option Word
-lent name = option_map (λ name. name.now) name
-
 -- the item of a cell, and the numbers of the first claims on what it reads
-abbrev pub item_by : Design → Tables → CellSite → Option Item
-item_by design tables cell =
+abbrev pub item_at_site : Design → Tables → CellSite → Option Item
+item_at_site design tables cell =
     option_and_then (λ entry. option_and_then (λ model. slice_get model.items cell.item) (slice_get design.models entry.model)) (slice_get tables.instances cell.instance)
 
 abbrev pub numbers_by : Tables → CellSite → Option (List (Option ℕ))

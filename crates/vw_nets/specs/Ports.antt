@@ -16,8 +16,8 @@ port_number (Some (Port number)) = Some number
 port_number (Some (Cell number)) = None
 
 -- the ports of the root that drive the control of an item
-abbrev pub ports_of : Design → Path → Item → List Word
-ports_of design path item = filter_map (λ name. port_of (driver design path name)) (controls_of item)
+abbrev pub item_ports : Design → Path → Item → List Word
+item_ports design path item = filter_map (λ name. port_of (driver design path name)) (controls_of item)
 
 -- whether a number that was found is this one
 abbrev pub has_number : Option ℕ → ℕ → Bool

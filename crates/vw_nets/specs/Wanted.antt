@@ -4,7 +4,7 @@ use Rattle.std.specs.Option.{option_or}
 use Rattle.vw_design.specs.declared.item.Item.{Item}
 use Rattle.vw_design.specs.declared.design.Design.{Design}
 use Rattle.vw_design.specs.Distinct.{has_name}
-use Rattle.vw_design.specs.Paths.{Word, Path, Net, model_at, outputs_of}
+use Rattle.vw_design.specs.Paths.{Word, Path, Net, model_at, model_outputs}
 use Rattle.vw_design.specs.Drivers.{Source as PathSource, driver}
 use Rattle.vw_design.specs.Preorder.{cells}
 use Rattle.vw_design.specs.Reads.{net_at, nets_at, data_of, controls_of}
@@ -39,14 +39,14 @@ takes Gated source = is_cell_number source
 takes (ClockPort marks) source = is_marked marks.now source
 
 -- for each claim of the root, by its number, whether its name is a clock port
-abbrev pub AreMarks : Design → List First → List Bool → Type 0
-AreMarks design root marks =
+abbrev pub AreClockMarks : Design → List First → List Bool → Type 0
+AreClockMarks design root marks =
     (name : Word) (number : ℕ) → number_named root name ≡ Some number → slice_get marks number ≡ Some (has_name (clock_ports design) name)
 
 abbrev pub HasMarks : Design → List First → Wanted → Type 0
 HasMarks design root Undriven = Unit {0}
 HasMarks design root Gated = Unit {0}
-HasMarks design root (ClockPort marks) = AreMarks design root marks.now
+HasMarks design root (ClockPort marks) = AreClockMarks design root marks.now
 
 -- the names of an item among which it is looked for
 abbrev pub wanted_names : Wanted → Item → List Word
@@ -65,4 +65,4 @@ wanted_read design wanted =
 -- the same, and behind them the outputs of the root
 abbrev pub first_wanted : Design → Wanted → Option Net
 first_wanted design wanted =
-    option_or (wanted_read design wanted) (option_map (net_at []) (wanted_among design wanted [] (outputs_of (model_at design []))))
+    option_or (wanted_read design wanted) (option_map (net_at []) (wanted_among design wanted [] (model_outputs (model_at design []))))

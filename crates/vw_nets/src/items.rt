@@ -1,7 +1,8 @@
 //! Items of cells.
 ghost use Rattle.std.specs.Prelude.{◌≡◌, option_map, option_and_then, option_to_list, slice_get};
 ghost use Rattle.vw_design.specs.Reads.{controls_of};
-ghost use Rattle.vw_nets.specs.Items.{lent, lent_item, item_by, numbers_by};
+ghost use Rattle.vw_nets.specs.Items.{lent_item, item_at_site, numbers_by};
+ghost use Rattle.vw_design.specs.Paths.{lent};
 
 use crate::nets::Nets;
 use vw_design::Item;
@@ -11,7 +12,7 @@ use vw_walk::CellSite;
 impl<'a> Nets<'a> {
     /// The item of a cell.
     pub(crate) fn item_of(&self, cell: CellSite) -> Option<&'a Item>
-        ensures { lent_item result ≡ item_by self.now.design.now self.now.tables.now cell }
+        ensures { lent_item result ≡ item_at_site self.now.design.now self.now.tables.now cell }
     {
         let entry = self.tables.instances().get(cell.instance as usize)?;
         let model = self.design.models().get(entry.model as usize)?;

@@ -5,7 +5,7 @@ ghost use Rattle.vw_design.specs.Clocks.{clock_ports};
 ghost use Rattle.vw_claims.specs.Firsts.{number_named};
 ghost use Rattle.vw_drivers.specs.Tables.{root_firsts};
 ghost use Rattle.vw_nets.specs.Nets.{AreNets};
-ghost use Rattle.vw_nets.specs.Wanted.{AreMarks};
+ghost use Rattle.vw_nets.specs.Wanted.{AreClockMarks};
 
 use crate::nets::Nets;
 use std::alloc::{AllocError, Global};
@@ -16,7 +16,7 @@ impl<'a> Nets<'a> {
     /// For each claim of the root, by its number, whether its name is a clock port.
     pub(crate) fn clock_marks(&self, alloc: Global) -> Result<Vec<bool>, AllocError>
         requires { AreNets self.now }
-        ensures { IfOk result (λ marks. AreMarks self.now.design.now
+        ensures { IfOk result (λ marks. AreClockMarks self.now.design.now
             (root_firsts self.now.tables.now) marks.items) }
     {
         let numbers = self.clock_numbers(alloc)?;

@@ -2,14 +2,13 @@
 ghost use Rattle.std.specs.Prelude.{◌≡◌, ◌==◌, [], ℕ, not, ◌++◌, Some, None, find, map, slice_get, option_to_list, IfOk};
 ghost use Rattle.vw_design.specs.declared.item.Item.{Item};
 ghost use Rattle.vw_design.specs.Clocks.{control_ports};
-ghost use Rattle.vw_design.specs.Paths.{Path, Word, model_at};
+ghost use Rattle.vw_design.specs.Paths.{Path, Word, model_at, lent};
 ghost use Rattle.vw_design.specs.PathValue.{item_at};
 ghost use Rattle.vw_design.specs.Preorder.{instances};
 ghost use Rattle.vw_claims.specs.Firsts.{number_named};
 ghost use Rattle.vw_drivers.specs.Tables.{root_firsts};
-ghost use Rattle.vw_nets.specs.Items.{lent};
 ghost use Rattle.vw_nets.specs.Nets.{AreNets};
-ghost use Rattle.vw_nets.specs.Ports.{port_number, ports_of, has_number, root_ports};
+ghost use Rattle.vw_nets.specs.Ports.{port_number, item_ports, has_number, root_ports};
 
 use crate::items::{control_of, number_at};
 use crate::nets::Nets;
@@ -43,7 +42,7 @@ impl<'a> Nets<'a> {
             → slice_get (instances self.now.design.now) cell.instance ≡ Some path
             → item_at self.now.design.now path cell.item ≡ Some item
             → map (number_named (root_firsts self.now.tables.now))
-            (ports_of self.now.design.now path item)
+            (item_ports self.now.design.now path item)
             ≡ map (λ (number : ℕ). Some number) (option_to_list result) }
     {
         let item = self.item_of(cell)?;

@@ -2,14 +2,14 @@
 ghost use Rattle.std.specs.Prelude.{◌≡◌, [], ◌∷◌, Some, slice_get, option_to_list, IfOk};
 ghost use Rattle.vw_design.specs.declared.item.Item.{Item};
 ghost use Rattle.vw_design.specs.Drivers.{driver};
-ghost use Rattle.vw_design.specs.Paths.{Path, Word, model_at, outputs_of};
+ghost use Rattle.vw_design.specs.Paths.{Path, Word, model_at, model_outputs, lent};
 ghost use Rattle.vw_design.specs.PathValue.{item_at};
 ghost use Rattle.vw_design.specs.Preorder.{instances};
 ghost use Rattle.vw_design.specs.Reads.{data_of, controls_of};
 ghost use Rattle.vw_claims.specs.Firsts.{number_named};
 ghost use Rattle.vw_names.specs.Names.{reads_of};
 ghost use Rattle.vw_drivers.specs.Tables.{root_firsts, instance_firsts};
-ghost use Rattle.vw_nets.specs.Items.{lent, AreNumbersOf};
+ghost use Rattle.vw_nets.specs.Items.{AreNumbersOf};
 ghost use Rattle.vw_nets.specs.Nets.{AreNets, printed_net};
 ghost use Rattle.vw_nets.specs.Wanted.{wants, HasMarks, wanted_names, wanted_among, wanted_read, first_wanted};
 
@@ -192,7 +192,7 @@ impl<'a> Nets<'a> {
         requires nets { AreNets self.now }
         requires marks { HasMarks self.now.design.now (root_firsts self.now.tables.now) wanted.now }
         ensures { lent result ≡ wanted_among self.now.design.now wanted.now []
-            (outputs_of (model_at self.now.design.now [])) }
+            (model_outputs (model_at self.now.design.now [])) }
     {
         let root = self.tables.instances()[0];
         let claims = &self.tables.claims()[root.model as usize];

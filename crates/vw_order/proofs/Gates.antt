@@ -5,10 +5,10 @@ use Rattle.std.proofs.lemmas.Option.{none-some, same_Some}
 use Rattle.vw_net.specs.declared.cell.Cell.{Cell}
 use Rattle.vw_net.specs.declared.cell.Cell.TheVariants.{Gate, Latch}
 use Rattle.vw_net.specs.declared.flat.Flat.{Flat}
-use Rattle.vw_net.specs.Order.{is_gate, is_among, read_nets_at}
+use Rattle.vw_net.specs.Order.{is_gate, is_among, read_nets_at, gate_inputs}
 use Rattle.vw_net.proofs.Orders.{gate_within}
 use Rattle.vw_order.specs.Reads.{gate_reads}
-use Rattle.vw_order.specs.Inputs.{gate_inputs, gate_of}
+use Rattle.vw_order.specs.Inputs.{gate_of}
 use Rattle.vw_order.specs.Search.{gates, Reads}
 use Rattle.vw_order.proofs.Searches.{IsWithin}
 

@@ -7,7 +7,7 @@ use Rattle.vw_net.specs.declared.cell.Cell.TheVariants.{Gate, Latch}
 use Rattle.vw_net.specs.declared.flat.Flat.{Flat}
 use Rattle.vw_net.specs.Order.{IsOrder, is_gate, is_latch, is_among, is_ready, read_nets_at}
 use Rattle.vw_order.specs.Reads.{gate_reads}
-use Rattle.vw_order.specs.Loops.{IsCircle}
+use Rattle.vw_order.specs.Loops.{IsGateCircle}
 
 -- the first that passes stands before what is behind another one that passes
 front_position : {A : Type 0} → (test : A → Bool) (xs : List A) (end : ℕ) → list_any test (take end xs) ≡ true → position_or_len test xs < end
@@ -68,6 +68,6 @@ module _ (flat : Flat) (order : List ℕ) (is_order : IsOrder flat.inputs flat.c
   falls number [] last along = before number last along.0
   falls number (next ∷ numbers) last along = omega (arith, before number next along.0, falls next numbers last along.1)
 
-  pub no_circle : (numbers : List ℕ) → IsCircle flat numbers → ⊥
+  pub no_circle : (numbers : List ℕ) → IsGateCircle flat numbers → ⊥
   no_circle [] circle = omega (arith, circle.some)
   no_circle (number ∷ numbers) circle = omega (arith, falls number numbers number circle.each)

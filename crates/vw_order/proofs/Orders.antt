@@ -6,11 +6,11 @@ use Rattle.std.proofs.lemmas.Option.{none-some, same_Some, slice_get_within, get
 use Rattle.vw_net.specs.declared.cell.Cell.{Cell}
 use Rattle.vw_net.specs.declared.cell.Cell.TheVariants.{Gate, Latch}
 use Rattle.vw_net.specs.declared.flat.Flat.{Flat}
-use Rattle.vw_net.specs.Order.{IsOrder, is_gate, is_latch, is_among, is_ready, read_nets_at}
+use Rattle.vw_net.specs.Order.{IsOrder, is_gate, is_latch, is_among, is_ready, read_nets_at, gate_inputs}
 use Rattle.vw_net.specs.Cells.{read_nets}
 use Rattle.vw_net.proofs.Orders.{gate_or_latch}
 use Rattle.vw_order.specs.declared.mark.Mark.{Mark}
-use Rattle.vw_order.specs.Inputs.{gate_inputs, gate_of}
+use Rattle.vw_order.specs.Inputs.{gate_of}
 use Rattle.vw_order.specs.Search.{Graph, gates, ReadsAt, IsSearch, IsNumberOrder}
 use Rattle.vw_order.proofs.Among.{at_among, once_apart}
 use Rattle.vw_order.proofs.Gates.{is_gate_of}

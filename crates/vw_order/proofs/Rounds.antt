@@ -5,7 +5,7 @@ use Rattle.std.proofs.lemmas.Bool.{eqb-true, or_cases}
 use Rattle.std.proofs.lemmas.List.{drop-append-le, take-append-le}
 use Rattle.std.proofs.lemmas.List.Elements.{AllZip-push}
 use Rattle.vw_net.specs.Order.{is_among}
-use Rattle.vw_order.specs.Loops.{turned}
+use Rattle.vw_net.specs.Lists.{turned}
 use Rattle.vw_order.specs.Circles.{round_from}
 use Rattle.vw_order.specs.Search.{Graph, Reads, Leads, IsNumberCircle}
 use Rattle.vw_order.proofs.Among.{among_one, once_part}

@@ -7,7 +7,8 @@ use Rattle.std.proofs.lemmas.Map.Keys.{IsDistinct-IsPermutation}
 use Rattle.vw_net.specs.declared.flat.Flat.{Flat}
 use Rattle.vw_net.specs.Order.{is_among}
 use Rattle.vw_order.specs.Reads.{gate_reads}
-use Rattle.vw_order.specs.Loops.{turned, IsLoop}
+use Rattle.vw_order.specs.Loops.{IsLoop}
+use Rattle.vw_net.specs.Lists.{turned}
 use Rattle.vw_order.specs.Circles.{IsLeast}
 use Rattle.vw_order.specs.Search.{gates, Reads, IsNumberCircle}
 use Rattle.vw_order.proofs.Among.{among_left, among_right, among_either, among_at, at_among, eqb_comm}

@@ -2,13 +2,7 @@
 use Rattle.std.specs.Prelude.{ℕ, ◌-◌, List, [], map, nat_lt, slice_get, Option, Some, None, if◌then◌else◌}
 use Rattle.vw_net.specs.declared.cell.Cell.{Cell}
 use Rattle.vw_net.specs.declared.cell.Cell.TheVariants.{Gate, Latch}
-use Rattle.vw_net.specs.Order.{is_gate}
-
--- the nets that a gate reads; none at a latch
-abbrev pub gate_inputs : Option Cell → List ℕ
-gate_inputs None = []
-gate_inputs (Some (Gate ins cover)) = ins
-gate_inputs (Some (Latch d init)) = []
+use Rattle.vw_net.specs.Order.{is_gate, gate_inputs}
 
 -- the number of the gate that drives a net
 abbrev pub gate_of : ℕ → List Cell → ℕ → Option ℕ

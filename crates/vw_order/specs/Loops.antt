@@ -1,22 +1,18 @@
 -- Gates that read each other in a circle, by their cell numbers. A latch isn't a gate, so feedback through one is none.
+use Rattle.vw_net.specs.Lists.{turned}
 use Rattle.std.specs.Prelude.{◌<◌, ◌≤◌, ◌==◌, ℕ, List, [], ◌∷◌, ◌++◌, length, slice_index, IsTrue}
 use Rattle.std.specs.List.{AllZip, IsDistinct}
 use Rattle.vw_net.specs.declared.flat.Flat.{Flat}
 use Rattle.vw_order.specs.Reads.{gate_reads}
 
--- a list with its first element moved to the end
-abbrev pub turned : {A : Type 0} → List A → List A
-turned [] = []
-turned (x ∷ xs) = xs ++ x ∷ []
-
 -- each gate reads the net of the next one, and the last one that of the first. A gate that reads its own net is a circle
-pub record IsCircle (flat : Flat) (numbers : List ℕ) : Type 0 where
+pub record IsGateCircle (flat : Flat) (numbers : List ℕ) : Type 0 where
   pub some : 0 < length numbers
   pub each : AllZip (λ number next. IsTrue (gate_reads flat number next)) numbers (turned numbers)
 
 -- a circle as it is listed: no gate twice, and the least number first
 pub record IsLoop (flat : Flat) (numbers : List ℕ) : Type 0 where
-  pub circle : IsCircle flat numbers
+  pub circle : IsGateCircle flat numbers
   pub once : IsDistinct ◌==◌ numbers
   pub least : (i : ℕ) → i < length numbers → slice_index numbers 0 ≤ slice_index numbers i
 

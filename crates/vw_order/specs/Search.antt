@@ -11,7 +11,7 @@ use Rattle.vw_order.specs.declared.depth.Depth.{Depth}
 use Rattle.vw_order.specs.declared.search.Found.{Found}
 use Rattle.vw_order.specs.declared.search.Found.TheVariants.{Order, Circle}
 use Rattle.vw_order.specs.Inputs.{gates_read}
-use Rattle.vw_order.specs.Loops.{turned}
+use Rattle.vw_net.specs.Lists.{turned}
 
 -- numbers that read each other: how many there are, which of them count, and what each reads at its places
 pub record Graph : Type 0 where

@@ -2,13 +2,13 @@
 ghost use Rattle.std.specs.Prelude.{ℕ, List};
 ghost use Rattle.vw_net.specs.declared.flat.Flat.{Flat};
 ghost use Rattle.vw_net.specs.Order.{IsOrder};
-ghost use Rattle.vw_order.specs.Loops.{IsCircle, IsLoop, IsLoopFree};
+ghost use Rattle.vw_order.specs.Loops.{IsGateCircle, IsLoop, IsLoopFree};
 
 /// Where there is an order, no gates read each other in a circle: neither as a loop is listed, nor with any first gate
 /// and gates that stand more than once.
 pub fn orders_are_loop_free()
     ensures circles { (flat : Flat) (order : List ℕ) → IsOrder flat.inputs flat.cells order
-        → (numbers : List ℕ) → IsCircle flat numbers → ⊥ }
+        → (numbers : List ℕ) → IsGateCircle flat numbers → ⊥ }
     ensures loops { (flat : Flat) (order : List ℕ) → IsOrder flat.inputs flat.cells order
         → IsLoopFree flat }
 {}

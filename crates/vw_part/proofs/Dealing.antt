@@ -8,8 +8,8 @@ use Rattle.vw_plan.specs.Good.{IsChip, cells_on}
 use Rattle.vw_part.specs.declared.deal.Deal.{Deal}
 use Rattle.vw_part.specs.declared.load.Load.{Load}
 use Rattle.vw_part.specs.declared.pins.Pins.{Pins}
-use Rattle.vw_part.specs.Deals.{IsDeal, IsLoad, IsTarget, freed, held, met, nets_at}
-use Rattle.vw_part.specs.Pins.{number_of, one_if, total}
+use Rattle.vw_part.specs.Deals.{IsDeal, IsLoad, IsTarget, freed, held, met, cell_nets}
+use Rattle.vw_part.specs.Pins.{times_among, one_if, total}
 use Rattle.vw_part.proofs.Held.{all_full, held_push, held_set, on_all, on_push, on_set}
 use Rattle.vw_part.proofs.Totals.{at_other, at_same, total_same, total_tests-le}
 
@@ -22,7 +22,7 @@ not_all_full board chips real few full =
 pub record IsMore (own : List ℕ) (before after : Load) : Type 0 where
   pub cells : after.cells ≡ before.cells + 1
   pub long : length after.counts.items ≡ length before.counts.items
-  pub counts : (net : ℕ) → get_or after.counts.items net 0 ≡ get_or before.counts.items net 0 + number_of own net
+  pub counts : (net : ℕ) → get_or after.counts.items net 0 ≡ get_or before.counts.items net 0 + times_among own net
 
 load_same : (pins : Pins) (chips others : List ℕ) (chip : ℕ) (load : Load) → cells_on others chip ≡ cells_on chips chip → ((net : ℕ) → held others pins.of_cells.items chip net ≡ held chips pins.of_cells.items chip net) → IsLoad pins chips chip load → IsLoad pins others chip load
 load_same pins chips others chip load cells counts is = record {
@@ -31,10 +31,10 @@ load_same pins chips others chip load cells counts is = record {
   counts = λ net. is.counts net ∙ sym (counts net);
 }
 
-pub dealt_more : (board : Board) (pins : Pins) (before after : Deal) (chip : ℕ) (load : Load) → IsDeal board pins before → length before.chip_of.items < length pins.of_cells.items → IsChip board chip → cells_on before.chip_of.items chip < board.cells → after.chip_of.items ≡ before.chip_of.items ++ chip ∷ [] → after.loads.items ≡ set before.loads.items chip load → IsMore (nets_at pins (length before.chip_of.items)) (get_or before.loads.items chip load) load → IsDeal board pins after
+pub dealt_more : (board : Board) (pins : Pins) (before after : Deal) (chip : ℕ) (load : Load) → IsDeal board pins before → length before.chip_of.items < length pins.of_cells.items → IsChip board chip → cells_on before.chip_of.items chip < board.cells → after.chip_of.items ≡ before.chip_of.items ++ chip ∷ [] → after.loads.items ≡ set before.loads.items chip load → IsMore (cell_nets pins (length before.chip_of.items)) (get_or before.loads.items chip load) load → IsDeal board pins after
 dealt_more board pins before after chip load is next real room chip_of loads more =
     let chips = before.chip_of.items in
-    let own = nets_at pins (length chips) in
+    let own = cell_nets pins (length chips) in
     let new = chips ++ chip ∷ [] in
     let within : chip < length before.loads.items = omega (arith, is.nodes, real.1) in
     let if_on : (other : ℕ) → cells_on new other ≤ board.cells = λ other.
@@ -47,12 +47,12 @@ dealt_more board pins before after chip load is next real room chip_of loads mor
     let own_load : IsLoad pins new chip load = record {
       cells = omega (arith, more.cells, old.cells, on_push chips chip chip, at_same chip 1);
       long = more.long ∙ old.long;
-      counts = λ net. omega (arith, more.counts net, old.counts net, held_push chips pins.of_cells.items chip chip net next, at_same chip (number_of own net));
+      counts = λ net. omega (arith, more.counts net, old.counts net, held_push chips pins.of_cells.items chip chip net next, at_same chip (times_among own net));
     } in
     let found : IsLoad pins new chip (get_or (set before.loads.items chip load) chip default) = subst (λ (x : Load). IsLoad pins new chip x) (sym (get_or-set_same before.loads.items chip load default within)) own_load in
     subst (λ (x : ℕ). IsLoad pins new x (get_or (set before.loads.items chip load) x default)) here found in
     let if_not = λ (apart : chip ≡ other → ⊥).
-    let kept : IsLoad pins new other (get_or before.loads.items other default) = load_same pins chips new other (get_or before.loads.items other default) (omega (arith, on_push chips chip other, at_other chip 1 other apart)) (λ net. omega (arith, held_push chips pins.of_cells.items chip other net next, at_other chip (number_of own net) other apart)) (is.loads other default low) in
+    let kept : IsLoad pins new other (get_or before.loads.items other default) = load_same pins chips new other (get_or before.loads.items other default) (omega (arith, on_push chips chip other, at_other chip 1 other apart)) (λ net. omega (arith, held_push chips pins.of_cells.items chip other net next, at_other chip (times_among own net) other apart)) (is.loads other default low) in
     subst (λ (x : Load). IsLoad pins new other x) (sym (get_or-set_other before.loads.items chip other load default (λ same. apart (sym same)))) kept in
     ⊎_elim if_here if_not (cases_eq chip other) in
     record {
@@ -64,10 +64,10 @@ dealt_more board pins before after chip load is next real room chip_of loads mor
     }
 
 -- after a move
-pub dealt_moved : (board : Board) (pins : Pins) (before after : Deal) (cell chip : ℕ) (left come : Load) → IsDeal board pins before → cell < length before.chip_of.items → IsTarget board before.chip_of.items cell chip → after.chip_of.items ≡ set before.chip_of.items cell chip → after.loads.items ≡ set (set before.loads.items (get_or before.chip_of.items cell 0) left) chip come → IsMore (nets_at pins cell) left (get_or before.loads.items (get_or before.chip_of.items cell 0) left) → IsMore (nets_at pins cell) (get_or before.loads.items chip come) come → IsDeal board pins after
+pub dealt_moved : (board : Board) (pins : Pins) (before after : Deal) (cell chip : ℕ) (left come : Load) → IsDeal board pins before → cell < length before.chip_of.items → IsTarget board before.chip_of.items cell chip → after.chip_of.items ≡ set before.chip_of.items cell chip → after.loads.items ≡ set (set before.loads.items (get_or before.chip_of.items cell 0) left) chip come → IsMore (cell_nets pins cell) left (get_or before.loads.items (get_or before.chip_of.items cell 0) left) → IsMore (cell_nets pins cell) (get_or before.loads.items chip come) come → IsDeal board pins after
 dealt_moved board pins before after cell chip left come is within target chip_of loads less more =
     let chips = before.chip_of.items in
-    let own = nets_at pins cell in
+    let own = cell_nets pins cell in
     let from = get_or chips cell 0 in
     let new = set chips cell chip in
     let was = All-get_or (IsChip board) chips cell 0 within is.chips in
@@ -85,7 +85,7 @@ dealt_moved board pins before after cell chip left come is within target chip_of
     let own_load : IsLoad pins new chip come = record {
       cells = omega (arith, more.cells, old.cells, on chip, at_same chip 1, at_other from 1 chip target.away);
       long = more.long ∙ old.long;
-      counts = λ net. omega (arith, more.counts net, old.counts net, nets_on chip net, at_same chip (number_of own net), at_other from (number_of own net) chip target.away);
+      counts = λ net. omega (arith, more.counts net, old.counts net, nets_on chip net, at_same chip (times_among own net), at_other from (times_among own net) chip target.away);
     } in
     let found : IsLoad pins new chip (get_or (set (set before.loads.items from left) chip come) chip default) = subst (λ (x : Load). IsLoad pins new chip x) (sym (get_or-set_same (set before.loads.items from left) chip come default chip_within)) own_load in
     subst (λ (x : ℕ). IsLoad pins new x (get_or (set (set before.loads.items from left) chip come) x default)) here found in
@@ -95,12 +95,12 @@ dealt_moved board pins before after cell chip left come is within target chip_of
     let own_load : IsLoad pins new from left = record {
       cells = omega (arith, less.cells, old.cells, on from, at_same from 1, at_other chip 1 from (λ same. target.away (sym same)));
       long = sym less.long ∙ old.long;
-      counts = λ net. omega (arith, less.counts net, old.counts net, nets_on from net, at_same from (number_of own net), at_other chip (number_of own net) from (λ same. target.away (sym same)));
+      counts = λ net. omega (arith, less.counts net, old.counts net, nets_on from net, at_same from (times_among own net), at_other chip (times_among own net) from (λ same. target.away (sym same)));
     } in
     let found : IsLoad pins new from (get_or (set before.loads.items from left) from default) = subst (λ (x : Load). IsLoad pins new from x) (sym (get_or-set_same before.loads.items from left default from_within)) own_load in
     subst (λ (x : ℕ). IsLoad pins new x (get_or (set before.loads.items from left) x default)) here found in
     let if_other = λ (away : from ≡ other → ⊥).
-    let kept : IsLoad pins new other (get_or before.loads.items other default) = load_same pins chips new other (get_or before.loads.items other default) (omega (arith, on other, at_other chip 1 other apart, at_other from 1 other away)) (λ net. omega (arith, nets_on other net, at_other chip (number_of own net) other apart, at_other from (number_of own net) other away)) (is.loads other default low) in
+    let kept : IsLoad pins new other (get_or before.loads.items other default) = load_same pins chips new other (get_or before.loads.items other default) (omega (arith, on other, at_other chip 1 other apart, at_other from 1 other away)) (λ net. omega (arith, nets_on other net, at_other chip (times_among own net) other apart, at_other from (times_among own net) other away)) (is.loads other default low) in
     subst (λ (x : Load). IsLoad pins new other x) (sym (get_or-set_other before.loads.items from other left default (λ same. away (sym same)))) kept in
     let before_last : IsLoad pins new other (get_or (set before.loads.items from left) other default) = ⊎_elim if_from if_other (cases_eq from other) in
     subst (λ (x : Load). IsLoad pins new other x) (sym (get_or-set_other (set before.loads.items from left) chip other come default (λ same. apart (sym same)))) before_last in
@@ -118,24 +118,24 @@ dealt_moved board pins before after cell chip left come is within target chip_of
 pub loaded : (board : Board) (pins : Pins) (deal : Deal) (chip : ℕ) (load : Load) → IsDeal board pins deal → chip ≤ board.chips → load ≡ get_or deal.loads.items chip load → IsLoad pins deal.chip_of.items chip load
 loaded board pins deal chip load is low found = subst (λ (x : Load). IsLoad pins deal.chip_of.items chip x) (sym found) (is.loads chip load low)
 
-pub freed_is : (board : Board) (pins : Pins) (deal : Deal) (cell from lone : ℕ) (load : Load) (own : List ℕ) → IsDeal board pins deal → cell < length deal.chip_of.items → from ≡ get_or deal.chip_of.items cell 0 → load ≡ get_or deal.loads.items from load → own ≡ nets_at pins cell → lone ≡ total (λ net. one_if (eqb (get_or load.counts.items net 0) 1)) own → lone ≡ freed pins deal.chip_of.items cell
+pub freed_is : (board : Board) (pins : Pins) (deal : Deal) (cell from lone : ℕ) (load : Load) (own : List ℕ) → IsDeal board pins deal → cell < length deal.chip_of.items → from ≡ get_or deal.chip_of.items cell 0 → load ≡ get_or deal.loads.items from load → own ≡ cell_nets pins cell → lone ≡ total (λ net. one_if (eqb (get_or load.counts.items net 0) 1)) own → lone ≡ freed pins deal.chip_of.items cell
 freed_is board pins deal cell from lone load own is within from_is found own_is count =
     let chips = deal.chip_of.items in
     let was = All-get_or (IsChip board) chips cell 0 within is.chips in
     let low : from ≤ board.chips = omega (arith, from_is, was.1) in
     let load_is = loaded board pins deal from load is low found in
     let same = total_same (λ net. one_if (eqb (get_or load.counts.items net 0) 1)) (λ net. one_if (eqb (held chips pins.of_cells.items from net) 1)) own (λ net. ap (λ (n : ℕ). one_if (eqb n 1)) (load_is.counts net)) in
-    count ∙ same ∙ ap (λ (nets : List ℕ). total (λ net. one_if (eqb (held chips pins.of_cells.items from net) 1)) nets) own_is ∙ ap (λ (x : ℕ). total (λ net. one_if (eqb (held chips pins.of_cells.items x net) 1)) (nets_at pins cell)) from_is
+    count ∙ same ∙ ap (λ (nets : List ℕ). total (λ net. one_if (eqb (held chips pins.of_cells.items from net) 1)) nets) own_is ∙ ap (λ (x : ℕ). total (λ net. one_if (eqb (held chips pins.of_cells.items x net) 1)) (cell_nets pins cell)) from_is
 
-pub met_is : (board : Board) (pins : Pins) (deal : Deal) (cell chip there : ℕ) (load : Load) (own : List ℕ) → IsDeal board pins deal → chip ≤ board.chips → load ≡ get_or deal.loads.items chip load → own ≡ nets_at pins cell → there ≡ total (λ net. one_if (nat_lt 0 (get_or load.counts.items net 0))) own → there ≡ met pins deal.chip_of.items cell chip
+pub met_is : (board : Board) (pins : Pins) (deal : Deal) (cell chip there : ℕ) (load : Load) (own : List ℕ) → IsDeal board pins deal → chip ≤ board.chips → load ≡ get_or deal.loads.items chip load → own ≡ cell_nets pins cell → there ≡ total (λ net. one_if (nat_lt 0 (get_or load.counts.items net 0))) own → there ≡ met pins deal.chip_of.items cell chip
 met_is board pins deal cell chip there load own is low found own_is count =
     let chips = deal.chip_of.items in
     let load_is = loaded board pins deal chip load is low found in
     let same = total_same (λ net. one_if (nat_lt 0 (get_or load.counts.items net 0))) (λ net. one_if (nat_lt 0 (held chips pins.of_cells.items chip net))) own (λ net. ap (λ (n : ℕ). one_if (nat_lt 0 n)) (load_is.counts net)) in
     count ∙ same ∙ ap (λ (nets : List ℕ). total (λ net. one_if (nat_lt 0 (held chips pins.of_cells.items chip net))) nets) own_is
 
-pub freed-le : (pins : Pins) (chips : List ℕ) (cell : ℕ) → freed pins chips cell ≤ length (nets_at pins cell)
-freed-le pins chips cell = total_tests-le (λ net. eqb (held chips pins.of_cells.items (get_or chips cell 0) net) 1) (nets_at pins cell)
+pub freed-le : (pins : Pins) (chips : List ℕ) (cell : ℕ) → freed pins chips cell ≤ length (cell_nets pins cell)
+freed-le pins chips cell = total_tests-le (λ net. eqb (held chips pins.of_cells.items (get_or chips cell 0) net) 1) (cell_nets pins cell)
 
-pub met-le : (pins : Pins) (chips : List ℕ) (cell chip : ℕ) → met pins chips cell chip ≤ length (nets_at pins cell)
-met-le pins chips cell chip = total_tests-le (λ net. nat_lt 0 (held chips pins.of_cells.items chip net)) (nets_at pins cell)
+pub met-le : (pins : Pins) (chips : List ℕ) (cell chip : ℕ) → met pins chips cell chip ≤ length (cell_nets pins cell)
+met-le pins chips cell chip = total_tests-le (λ net. nat_lt 0 (held chips pins.of_cells.items chip net)) (cell_nets pins cell)

@@ -7,8 +7,8 @@ use Rattle.std.proofs.lemmas.List.Elements.{All-get_or}
 use Rattle.vw_plan.specs.declared.board.Board.{Board}
 use Rattle.vw_plan.specs.Good.{IsChip}
 use Rattle.vw_part.specs.declared.pins.Pins.{Pins}
-use Rattle.vw_part.specs.Deals.{freed, held, holders, met, nets_at, spread}
-use Rattle.vw_part.specs.Pins.{number_of, one_if, total}
+use Rattle.vw_part.specs.Deals.{freed, held, holders, met, cell_nets, spread}
+use Rattle.vw_part.specs.Pins.{times_among, one_if, total}
 use Rattle.vw_part.proofs.Held.{at_none, held_set}
 use Rattle.vw_part.proofs.Totals.{at, at_other, at_same, by_share, range_at, share, share_none, share_one, total_ones, total_plus, total_same}
 
@@ -45,21 +45,21 @@ module _ (chips : List ℕ) (pins : List (List ℕ)) (cell new most : ℕ) (with
   there net = one_if (nat_lt 0 (held chips pins new net))
 
   -- another net is held as before
-  others : (net : ℕ) → number_of own net ≡ 0 → holders most moved pins net ≡ holders most chips pins net
+  others : (net : ℕ) → times_among own net ≡ 0 → holders most moved pins net ≡ holders most chips pins net
   others net none =
       let each = λ (chip : ℕ).
-      let left : at old (number_of own net) chip ≡ 0 = ap (λ (amount : ℕ). at old amount chip) none ∙ at_none old chip in
-      let right : at new (number_of own net) chip ≡ 0 = ap (λ (amount : ℕ). at new amount chip) none ∙ at_none new chip in
+      let left : at old (times_among own net) chip ≡ 0 = ap (λ (amount : ℕ). at old amount chip) none ∙ at_none old chip in
+      let right : at new (times_among own net) chip ≡ 0 = ap (λ (amount : ℕ). at new amount chip) none ∙ at_none new chip in
       let same : held moved pins chip net ≡ held chips pins chip net = omega (arith, left, right, held_set chips pins cell new chip net within) in
       let bit : one_if (nat_lt 0 (held moved pins chip net)) ≡ one_if (nat_lt 0 (held chips pins chip net)) = ap (λ (amount : ℕ). one_if (nat_lt 0 amount)) same in bit in
       total_same (λ chip. one_if (nat_lt 0 (held moved pins chip net))) (λ chip. one_if (nat_lt 0 (held chips pins chip net))) (range_with_len 1 most) each
 
   -- a net of the cell, chip by chip
-  by_chip : (net chip : ℕ) → number_of own net ≡ 1 → (old ≡ new → ⊥) → (one_if (nat_lt 0 (held moved pins chip net)) + at old (leaves net) chip) + at new (there net) chip ≡ one_if (nat_lt 0 (held chips pins chip net)) + at new 1 chip
+  by_chip : (net chip : ℕ) → times_among own net ≡ 1 → (old ≡ new → ⊥) → (one_if (nat_lt 0 (held moved pins chip net)) + at old (leaves net) chip) + at new (there net) chip ≡ one_if (nat_lt 0 (held chips pins chip net)) + at new 1 chip
   by_chip net chip one apart =
       let change = held_set chips pins cell new chip net within in
-      let left : at old (number_of own net) chip ≡ at old 1 chip = ap (λ (amount : ℕ). at old amount chip) one in
-      let right : at new (number_of own net) chip ≡ at new 1 chip = ap (λ (amount : ℕ). at new amount chip) one in
+      let left : at old (times_among own net) chip ≡ at old 1 chip = ap (λ (amount : ℕ). at old amount chip) one in
+      let right : at new (times_among own net) chip ≡ at new 1 chip = ap (λ (amount : ℕ). at new amount chip) one in
       let if_old = λ (here : old ≡ chip).
       let away : new ≡ chip → ⊥ = λ is. apart (here ∙ sym is) in
       let unit : at old 1 chip ≡ 1 = subst (λ (x : ℕ). at old 1 x ≡ 1) here (at_same old 1) in
@@ -84,7 +84,7 @@ module _ (chips : List ℕ) (pins : List (List ℕ)) (cell new most : ℕ) (with
       ⊎_elim if_old if_else (cases_eq old chip)
 
   -- and all chips together
-  by_net : (net : ℕ) → number_of own net ≡ 1 → (old ≡ new → ⊥) → 1 ≤ old → old ≤ most → 1 ≤ new → new ≤ most → holders most moved pins net + (leaves net + there net) ≡ holders most chips pins net + 1
+  by_net : (net : ℕ) → times_among own net ≡ 1 → (old ≡ new → ⊥) → 1 ≤ old → old ≤ most → 1 ≤ new → new ≤ most → holders most moved pins net + (leaves net + there net) ≡ holders most chips pins net + 1
   by_net net one apart some_old few_old some_new few_new =
       let range = range_with_len 1 most in
       let after = λ (chip : ℕ). one_if (nat_lt 0 (held moved pins chip net)) in
@@ -98,17 +98,17 @@ module _ (chips : List ℕ) (pins : List (List ℕ)) (cell new most : ℕ) (with
   abbrev gain : ℕ → ℕ
   gain net = leaves net + there net
 
-  each_net : (net : ℕ) → number_of own net ≤ 1 → (old ≡ new → ⊥) → 1 ≤ old → old ≤ most → 1 ≤ new → new ≤ most → holders most moved pins net + share gain own net ≡ holders most chips pins net + share (λ x. 1) own net
+  each_net : (net : ℕ) → times_among own net ≤ 1 → (old ≡ new → ⊥) → 1 ≤ old → old ≤ most → 1 ≤ new → new ≤ most → holders most moved pins net + share gain own net ≡ holders most chips pins net + share (λ x. 1) own net
   each_net net few apart some_old few_old some_new few_new =
-      let if_none = λ (none : number_of own net < 1).
-      let zero_of : number_of own net ≡ 0 = omega arith in
+      let if_none = λ (none : times_among own net < 1).
+      let zero_of : times_among own net ≡ 0 = omega arith in
       let sum : holders most moved pins net + share gain own net ≡ holders most chips pins net + share (λ x. 1) own net = omega (arith, others net zero_of, share_none gain own net zero_of, share_none (λ x. 1) own net zero_of) in sum in
-      let if_one = λ (some : 1 ≤ number_of own net).
-      let one : number_of own net ≡ 1 = omega arith in
+      let if_one = λ (some : 1 ≤ times_among own net).
+      let one : times_among own net ≡ 1 = omega arith in
       let sum : holders most moved pins net + share gain own net ≡ holders most chips pins net + share (λ x. 1) own net = omega (arith, by_net net one apart some_old few_old some_new few_new, share_one gain own net one, share_one (λ x. 1) own net one) in sum in
-      ⊎_elim if_none if_one (cases_lt (number_of own net) 1)
+      ⊎_elim if_none if_one (cases_lt (times_among own net) 1)
 
-  pub all_nets : (nets : ℕ) → ((net : ℕ) → number_of own net ≤ 1) → All (λ net. net < nets) own → (old ≡ new → ⊥) → 1 ≤ old → old ≤ most → 1 ≤ new → new ≤ most → total (holders most moved pins) (range_with_len 0 nets) + (total leaves own + total there own) ≡ total (holders most chips pins) (range_with_len 0 nets) + length own
+  pub all_nets : (nets : ℕ) → ((net : ℕ) → times_among own net ≤ 1) → All (λ net. net < nets) own → (old ≡ new → ⊥) → 1 ≤ old → old ≤ most → 1 ≤ new → new ≤ most → total (holders most moved pins) (range_with_len 0 nets) + (total leaves own + total there own) ≡ total (holders most chips pins) (range_with_len 0 nets) + length own
   all_nets nets once below apart some_old few_old some_new few_new =
       let range = range_with_len 0 nets in
       let first = total_plus (holders most moved pins) (share gain own) (λ net. holders most moved pins net + share gain own net) range (λ net. refl) in
@@ -117,7 +117,7 @@ module _ (chips : List ℕ) (pins : List (List ℕ)) (cell new most : ℕ) (with
       omega (arith, first, second, same, by_share gain own nets below, by_share (λ x. 1) own nets below, total_plus leaves there gain own (λ net. refl), total_ones own)
 
 -- the spread after a move
-pub spread_moved : (board : Board) (pins : Pins) (chips : List ℕ) (cell new : ℕ) → cell < length chips → length chips ≤ length pins.of_cells.items → All (IsChip board) chips → IsChip board new → (get_or chips cell 0 ≡ new → ⊥) → spread board pins (set chips cell new) + (freed pins chips cell + met pins chips cell new) ≡ spread board pins chips + length (nets_at pins cell)
+pub spread_moved : (board : Board) (pins : Pins) (chips : List ℕ) (cell new : ℕ) → cell < length chips → length chips ≤ length pins.of_cells.items → All (IsChip board) chips → IsChip board new → (get_or chips cell 0 ≡ new → ⊥) → spread board pins (set chips cell new) + (freed pins chips cell + met pins chips cell new) ≡ spread board pins chips + length (cell_nets pins cell)
 unfolding spread
 spread_moved board pins chips cell new within few all real apart =
     let was = All-get_or (IsChip board) chips cell 0 within all in

@@ -5,7 +5,7 @@ use Rattle.std.proofs.lemmas.List.Elements.{All-head, All-tail}
 use Rattle.std.proofs.lemmas.List.Sums.{sum_by-cons}
 use Rattle.vw_plan.specs.Good.{cells_on}
 use Rattle.vw_part.specs.Deals.{held}
-use Rattle.vw_part.specs.Pins.{number_of, one_if, total}
+use Rattle.vw_part.specs.Pins.{times_among, one_if, total}
 use Rattle.vw_part.proofs.Totals.{at, at_same, range_at, total_plus}
 
 pub at_none : (number other : ℕ) → at number 0 other ≡ 0
@@ -64,13 +64,13 @@ all_full amount room from (suc many) full = omega (arith, full from (omega arith
 
 -- ---- nets
 
-pub held_push : (chips : List ℕ) (pins : List (List ℕ)) (new chip net : ℕ) → length chips < length pins → held (chips ++ new ∷ []) pins chip net ≡ held chips pins chip net + at new (number_of (get_or pins (length chips) []) net) chip
+pub held_push : (chips : List ℕ) (pins : List (List ℕ)) (new chip net : ℕ) → length chips < length pins → held (chips ++ new ∷ []) pins chip net ≡ held chips pins chip net + at new (times_among (get_or pins (length chips) []) net) chip
 held_push [] [] new chip net within = absurd (omega arith)
 held_push [] (own ∷ pins) new chip net within = omega arith
 held_push (first ∷ chips) [] new chip net within = absurd (omega arith)
 held_push (first ∷ chips) (own ∷ pins) new chip net within = omega (arith, held_push chips pins new chip net (omega arith))
 
-pub held_set : (chips : List ℕ) (pins : List (List ℕ)) (cell new chip net : ℕ) → cell < length chips → held (set chips cell new) pins chip net + at (get_or chips cell 0) (number_of (get_or pins cell []) net) chip ≡ held chips pins chip net + at new (number_of (get_or pins cell []) net) chip
+pub held_set : (chips : List ℕ) (pins : List (List ℕ)) (cell new chip net : ℕ) → cell < length chips → held (set chips cell new) pins chip net + at (get_or chips cell 0) (times_among (get_or pins cell []) net) chip ≡ held chips pins chip net + at new (times_among (get_or pins cell []) net) chip
 held_set [] pins cell new chip net within = absurd (omega arith)
 held_set (first ∷ chips) [] zero new chip net within = omega (arith, at_none first chip, at_none new chip)
 held_set (first ∷ chips) [] (suc cell) new chip net within = omega (arith, at_none (get_or chips cell 0) chip, at_none new chip)
@@ -78,15 +78,15 @@ held_set (first ∷ chips) (own ∷ pins) zero new chip net within = omega arith
 held_set (first ∷ chips) (own ∷ pins) (suc cell) new chip net within = omega (arith, held_set chips pins cell new chip net (omega arith))
 
 -- a cell's nets are held by its chip
-pub held_least : (chips : List ℕ) (pins : List (List ℕ)) (cell net : ℕ) → cell < length chips → number_of (get_or pins cell []) net ≤ held chips pins (get_or chips cell 0) net
+pub held_least : (chips : List ℕ) (pins : List (List ℕ)) (cell net : ℕ) → cell < length chips → times_among (get_or pins cell []) net ≤ held chips pins (get_or chips cell 0) net
 held_least [] pins cell net within = absurd (omega arith)
 held_least (first ∷ chips) [] cell net within = omega arith
-held_least (first ∷ chips) (own ∷ pins) zero net within = omega (arith, at_same first (number_of own net))
+held_least (first ∷ chips) (own ∷ pins) zero net within = omega (arith, at_same first (times_among own net))
 held_least (first ∷ chips) (own ∷ pins) (suc cell) net within = omega (arith, held_least chips pins cell net (omega arith))
 
-pub held-le : (chips : List ℕ) (pins : List (List ℕ)) (chip net : ℕ) → All (λ own. (net : ℕ) → number_of own net ≤ 1) pins → held chips pins chip net ≤ length chips
+pub held-le : (chips : List ℕ) (pins : List (List ℕ)) (chip net : ℕ) → All (λ own. (net : ℕ) → times_among own net ≤ 1) pins → held chips pins chip net ≤ length chips
 held-le [] pins chip net once = omega arith
 held-le (first ∷ chips) [] chip net once = omega arith
 held-le (first ∷ chips) (own ∷ pins) chip net once =
-    let here = All-head (λ own. (net : ℕ) → number_of own net ≤ 1) own pins once net in
-    omega (arith, at-le first (number_of own net) chip, here, held-le chips pins chip net (All-tail (λ own. (net : ℕ) → number_of own net ≤ 1) own pins once))
+    let here = All-head (λ own. (net : ℕ) → times_among own net ≤ 1) own pins once net in
+    omega (arith, at-le first (times_among own net) chip, here, held-le chips pins chip net (All-tail (λ own. (net : ℕ) → times_among own net ≤ 1) own pins once))

@@ -8,10 +8,10 @@ use Rattle.vw_net.specs.declared.flat.Flat.{Flat}
 use Rattle.vw_plan.specs.declared.board.Board.{Board}
 use Rattle.vw_plan.specs.Good.{IsChip, NoMoveHelps, pair_count}
 use Rattle.vw_part.specs.declared.pins.Pins.{Pins}
-use Rattle.vw_part.specs.Deals.{IsSettled, freed, holders, met, nets_at, spread}
+use Rattle.vw_part.specs.Deals.{IsSettled, freed, holders, met, cell_nets, spread}
 use Rattle.vw_part.specs.Pins.{ArePins, one_if, total}
 use Rattle.vw_part.proofs.Gains.{spread_moved}
-use Rattle.vw_part.proofs.Own.{pins_long}
+use Rattle.vw_part.proofs.CellNets.{pins_long}
 use Rattle.vw_part.proofs.Pairs.{at_host, count_is}
 
 module _ (flat : Flat) (board : Board) (pins : Pins) (nets : pins.nets ≡ flat.inputs + length flat.cells) (are : ArePins flat.inputs flat.cells pins.of_cells.items) where
@@ -35,6 +35,6 @@ module _ (flat : Flat) (board : Board) (pins : Pins) (nets : pins.nets ≡ flat.
       let goes : pair_count flat chips ≤ pair_count flat moved = omega (arith, ap (λ (l : List ℕ). pair_count flat l) unmoved) in goes in
       let if_away = λ (apart : get_or chips cell 0 ≡ chip → ⊥).
       let change = spread_moved board pins chips cell chip within (omega (arith, each, pins_long flat.inputs flat.cells pins.of_cells.items are)) real is_chip apart in
-      let no_help : freed pins chips cell + met pins chips cell chip ≤ length (nets_at pins cell) = ⊎_elim (λ help. absurd (settled cell within chip (record { real = is_chip; away = apart; room = room }) help)) (λ low. low) (cases_lt (length (nets_at pins cell)) (freed pins chips cell + met pins chips cell chip)) in
+      let no_help : freed pins chips cell + met pins chips cell chip ≤ length (cell_nets pins cell) = ⊎_elim (λ help. absurd (settled cell within chip (record { real = is_chip; away = apart; room = room }) help)) (λ low. low) (cases_lt (length (cell_nets pins cell)) (freed pins chips cell + met pins chips cell chip)) in
       let goes : pair_count flat chips ≤ pair_count flat moved = omega (arith, before, after, change, no_help) in goes in
       ⊎_elim if_same if_away (cases_eq (get_or chips cell 0) chip)

@@ -2,6 +2,6 @@ pub mod Totals
 pub mod Held
 pub mod Gains
 pub mod Pairs
-pub mod Own
+pub mod CellNets
 pub mod Dealing
 pub mod Least

@@ -10,11 +10,11 @@ use Rattle.vw_net.specs.Cells.{read_nets}
 use Rattle.vw_net.specs.Order.{is_among}
 use Rattle.vw_plan.specs.declared.need.Need.{Need}
 use Rattle.vw_plan.specs.Good.{pair_count}
-use Rattle.vw_plan.specs.Lead.{greatest}
+use Rattle.vw_net.specs.Lists.{greatest}
 use Rattle.vw_plan.specs.Needs.{needed_nodes, needed_pairs}
 use Rattle.vw_plan.specs.Nets.{is_needed, node_of}
 use Rattle.vw_part.specs.Deals.{held, holders}
-use Rattle.vw_part.specs.Pins.{ArePins, number_of, one_if, total}
+use Rattle.vw_part.specs.Pins.{ArePins, times_among, one_if, total}
 use Rattle.vw_part.proofs.Totals.{among, at, length-filter, length-flat_map, range_at, range_longer, range_plus, range_same, total_ones, total_plus, total_same}
 
 -- ---- where a net is driven and read
@@ -53,12 +53,12 @@ held_where own (first ∷ chips) [] pins chip net are same = absurd (omega (arit
 held_where own (first ∷ chips) (cell ∷ cells) [] chip net are same = absurd are
 held_where own (first ∷ chips) (cell ∷ cells) (nets ∷ pins) chip net are same =
     let rest = held_where (own + 1) chips cells pins chip net are.1 (omega (arith, same)) in
-    let head : nat_lt 0 (at first (number_of nets net) chip) ≡ (eqb first chip && (eqb own net || is_among (read_nets cell) net)) = by_bit (eqb first chip) in
-    more_than (at first (number_of nets net) chip) (held chips pins chip net)
+    let head : nat_lt 0 (at first (times_among nets net) chip) ≡ (eqb first chip && (eqb own net || is_among (read_nets cell) net)) = by_bit (eqb first chip) in
+    more_than (at first (times_among nets net) chip) (held chips pins chip net)
     ∙ ap₂ (λ (one other : Bool). one || other) head rest
     ∙ sides (eqb first chip) (eqb own net) (is_among (read_nets cell) net) (driven (own + 1) chips net chip) (list_any (reads_at net chip) (zip chips cells))
   where
-    by_bit : (bit : Bool) → nat_lt 0 (cond bit (number_of nets net) 0) ≡ (bit && (eqb own net || is_among (read_nets cell) net))
+    by_bit : (bit : Bool) → nat_lt 0 (cond bit (times_among nets net) 0) ≡ (bit && (eqb own net || is_among (read_nets cell) net))
     by_bit true = among nets net ∙ are.0.same net
     by_bit false = refl
 

@@ -4,7 +4,7 @@ use Rattle.std.specs.List.{All, filter, flat_map, range_with_len}
 use Rattle.std.proofs.lemmas.Bool.{cases_eq}
 use Rattle.std.proofs.lemmas.List.Elements.{All-head, All-tail}
 use Rattle.vw_net.specs.Order.{is_among}
-use Rattle.vw_part.specs.Pins.{number_of, one_if, total}
+use Rattle.vw_part.specs.Pins.{times_among, one_if, total}
 
 -- ---- sums term by term
 
@@ -104,7 +104,7 @@ by_share amount (number ∷ numbers) many within =
     let both = total_plus (at number (amount number)) (share amount numbers) (share amount (number ∷ numbers)) (range_with_len 0 many) (λ x. refl) in
     omega (arith, here, rest, both)
 
-pub share_none : (amount : ℕ → ℕ) (numbers : List ℕ) (number : ℕ) → number_of numbers number ≡ 0 → share amount numbers number ≡ 0
+pub share_none : (amount : ℕ → ℕ) (numbers : List ℕ) (number : ℕ) → times_among numbers number ≡ 0 → share amount numbers number ≡ 0
 share_none amount [] number none = refl
 share_none amount (other ∷ numbers) number none =
     let if_here = λ (here : other ≡ number). absurd (omega (arith, none, at_same number 1, subst (λ (x : ℕ). at other 1 x ≡ 1) here (at_same other 1))) in
@@ -112,7 +112,7 @@ share_none amount (other ∷ numbers) number none =
     let sum : share amount (other ∷ numbers) number ≡ 0 = omega (arith, at_other other (amount other) number apart, share_none amount numbers number (omega (arith, none))) in sum in
     ⊎_elim if_here if_not (cases_eq other number)
 
-pub share_one : (amount : ℕ → ℕ) (numbers : List ℕ) (number : ℕ) → number_of numbers number ≡ 1 → share amount numbers number ≡ amount number
+pub share_one : (amount : ℕ → ℕ) (numbers : List ℕ) (number : ℕ) → times_among numbers number ≡ 1 → share amount numbers number ≡ amount number
 share_one amount [] number one = absurd (omega (arith, one))
 share_one amount (other ∷ numbers) number one =
     let if_here = λ (here : other ≡ number).
@@ -127,17 +127,17 @@ share_one amount (other ∷ numbers) number one =
 -- ---- how often a number stands
 
 -- a number is among some where it stands there at least once
-pub among : (numbers : List ℕ) (number : ℕ) → nat_lt 0 (number_of numbers number) ≡ is_among numbers number
+pub among : (numbers : List ℕ) (number : ℕ) → nat_lt 0 (times_among numbers number) ≡ is_among numbers number
 among [] number = refl
 among (other ∷ numbers) number =
     let rest = among numbers number in
-    elim (eqb other number) as (λ bit. nat_lt 0 (one_if bit + number_of numbers number) ≡ (bit || is_among numbers number)) [
-      | true ↦ lt-ltb 0 (1 + number_of numbers number) (omega arith)
+    elim (eqb other number) as (λ bit. nat_lt 0 (one_if bit + times_among numbers number) ≡ (bit || is_among numbers number)) [
+      | true ↦ lt-ltb 0 (1 + times_among numbers number) (omega arith)
       | false ↦ ap (λ (n : ℕ). nat_lt 0 n) (omega arith) ∙ rest
     ]
 
 -- one of those that are left
-pub one_left : (numbers : List ℕ) (i : ℕ) → i < length numbers → 1 ≤ number_of (drop i numbers) (get_or numbers i 0)
+pub one_left : (numbers : List ℕ) (i : ℕ) → i < length numbers → 1 ≤ times_among (drop i numbers) (get_or numbers i 0)
 one_left [] i within = absurd (omega arith)
 one_left (number ∷ numbers) zero within = omega (arith, at_same number 1)
 one_left (number ∷ numbers) (suc i) within = one_left numbers i (omega arith)

@@ -6,13 +6,13 @@ use Rattle.vw_plan.specs.Good.{IsChip, cells_on}
 use Rattle.vw_part.specs.declared.deal.Deal.{Deal}
 use Rattle.vw_part.specs.declared.load.Load.{Load}
 use Rattle.vw_part.specs.declared.pins.Pins.{Pins}
-use Rattle.vw_part.specs.Pins.{number_of, one_if, total}
+use Rattle.vw_part.specs.Pins.{times_among, one_if, total}
 
 -- how many cells on a chip drive or read a net, given the nets of each cell
 abbrev pub held : List ℕ → List (List ℕ) → ℕ → ℕ → ℕ
 held [] pins chip net = 0
 held (other ∷ chips) [] chip net = 0
-held (other ∷ chips) (nets ∷ pins) chip net = (if other == chip then number_of nets net else 0) + held chips pins chip net
+held (other ∷ chips) (nets ∷ pins) chip net = (if other == chip then times_among nets net else 0) + held chips pins chip net
 
 -- on how many chips a net is driven or read
 abbrev pub holders : ℕ → List ℕ → List (List ℕ) → ℕ → ℕ
@@ -37,16 +37,16 @@ pub record IsDeal (board : Board) (pins : Pins) (deal : Deal) : Type 0 where
   pub loads : (chip : ℕ) (default : Load) → chip ≤ board.chips → IsLoad pins deal.chip_of.items chip (slice_index_or deal.loads.items chip default)
 
 -- the nets of a cell
-abbrev pub nets_at : Pins → ℕ → List ℕ
-nets_at pins cell = slice_index_or pins.of_cells.items cell []
+abbrev pub cell_nets : Pins → ℕ → List ℕ
+cell_nets pins cell = slice_index_or pins.of_cells.items cell []
 
 -- of its nets, how many only this cell of its chip drives or reads
 abbrev pub freed : Pins → List ℕ → ℕ → ℕ
-freed pins chip_of cell = total (λ net. one_if (held chip_of pins.of_cells.items (slice_index chip_of cell) net == 1)) (nets_at pins cell)
+freed pins chip_of cell = total (λ net. one_if (held chip_of pins.of_cells.items (slice_index chip_of cell) net == 1)) (cell_nets pins cell)
 
 -- of its nets, how many some cell of a chip drives or reads
 abbrev pub met : Pins → List ℕ → ℕ → ℕ → ℕ
-met pins chip_of cell chip = total (λ net. one_if (nat_lt 0 (held chip_of pins.of_cells.items chip net))) (nets_at pins cell)
+met pins chip_of cell chip = total (λ net. one_if (nat_lt 0 (held chip_of pins.of_cells.items chip net))) (cell_nets pins cell)
 
 -- a chip to which a cell may be moved: another one, with room
 pub record IsTarget (board : Board) (chip_of : List ℕ) (cell chip : ℕ) : Type 0 where
@@ -56,7 +56,7 @@ pub record IsTarget (board : Board) (chip_of : List ℕ) (cell chip : ℕ) : Typ
 
 -- a move there lowers the spread: more of the cell's nets are freed or met than it has
 abbrev pub Helps : Pins → List ℕ → ℕ → ℕ → Type 0
-Helps pins chip_of cell chip = length (nets_at pins cell) < freed pins chip_of cell + met pins chip_of cell chip
+Helps pins chip_of cell chip = length (cell_nets pins cell) < freed pins chip_of cell + met pins chip_of cell chip
 
 -- a move that is allowed, and lowers the spread
 pub record IsGain (board : Board) (pins : Pins) (chip_of : List ℕ) (cell chip : ℕ) : Type 0 where

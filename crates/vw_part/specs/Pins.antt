@@ -13,13 +13,13 @@ total amount [] = 0
 total amount (number ∷ numbers) = amount number + total amount numbers
 
 -- how often a number stands among some
-abbrev pub number_of : List ℕ → ℕ → ℕ
-number_of numbers number = total (λ other. one_if (other == number)) numbers
+abbrev pub times_among : List ℕ → ℕ → ℕ
+times_among numbers number = total (λ other. one_if (other == number)) numbers
 
 -- the nets that a cell drives or reads, each once
 pub record AreNetsOf (own : ℕ) (cell : Cell) (nets : List ℕ) : Type 0 where
   pub same : (net : ℕ) → is_among nets net ≡ (own == net || is_among (read_nets cell) net)
-  pub once : (net : ℕ) → number_of nets net ≤ 1
+  pub once : (net : ℕ) → times_among nets net ≤ 1
 
 -- those of each of some cells, of which the first drives the net `own`, and each other one the next net
 abbrev pub ArePins : ℕ → List Cell → List (List ℕ) → Type 0

@@ -2,7 +2,7 @@
 ghost use Rattle.std.specs.Prelude.{◌≡◌, ◌+◌, ◌<◌, ◌≤◌, ◌^◌, ◌==◌, ℕ, nat_lt, length, replicate, slice_index, IfOk};
 ghost use Rattle.std.specs.List.{All};
 ghost use Rattle.std.specs.Vec.{vec_len};
-ghost use Rattle.vw_part.specs.Pins.{number_of, one_if, total};
+ghost use Rattle.vw_part.specs.Pins.{times_among, one_if, total};
 
 use std::alloc::{AllocError, Global};
 
@@ -30,11 +30,11 @@ impl Load {
         requires cells { self.old.cells + 1 < 2 ^ 32 }
         requires within { All (λ net. net < vec_len self.old.counts) nets.now }
         requires fits { (net : ℕ)
-            → slice_index self.old.counts.items net + number_of nets.now net < 2 ^ 32 }
+            → slice_index self.old.counts.items net + times_among nets.now net < 2 ^ 32 }
         ensures cells { self.new.cells ≡ self.old.cells + 1 }
         ensures long { vec_len self.new.counts ≡ vec_len self.old.counts }
         ensures counts { (net : ℕ) → slice_index self.new.counts.items net
-            ≡ slice_index self.old.counts.items net + number_of nets.now net }
+            ≡ slice_index self.old.counts.items net + times_among nets.now net }
     {
         self.cells += 1;
         for net in nets {
@@ -47,10 +47,10 @@ impl Load {
         requires cells { 1 ≤ self.old.cells }
         requires within { All (λ net. net < vec_len self.old.counts) nets.now }
         requires there { (net : ℕ)
-            → number_of nets.now net ≤ slice_index self.old.counts.items net }
+            → times_among nets.now net ≤ slice_index self.old.counts.items net }
         ensures cells { self.new.cells + 1 ≡ self.old.cells }
         ensures long { vec_len self.new.counts ≡ vec_len self.old.counts }
-        ensures counts { (net : ℕ) → slice_index self.new.counts.items net + number_of nets.now net
+        ensures counts { (net : ℕ) → slice_index self.new.counts.items net + times_among nets.now net
             ≡ slice_index self.old.counts.items net }
     {
         self.cells -= 1;

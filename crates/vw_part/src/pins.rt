@@ -2,7 +2,7 @@
 ghost use Rattle.std.specs.Prelude.{◌≡◌, ◌+◌, ◌<◌, ◌≤◌, ℕ, [], length, slice_index_or, IfOk};
 ghost use Rattle.std.specs.List.{All};
 ghost use Rattle.vw_net.specs.Cells.{read_nets};
-ghost use Rattle.vw_part.specs.Pins.{AreNetsOf, ArePins, number_of};
+ghost use Rattle.vw_part.specs.Pins.{AreNetsOf, ArePins, times_among};
 
 use std::alloc::{AllocError, Global};
 use vw_net::{Cell, Flat, Sequence};
@@ -37,7 +37,7 @@ pub struct Pins {
     pub of_cells: Vec<Sequence<u32>>,
     ghost few_cells: { length of_cells.items ≤ 65536 },
     ghost within: { All (λ own. All (λ net. net < nets) own) of_cells.items },
-    ghost once: { All (λ own. (net : ℕ) → number_of own net ≤ 1) of_cells.items },
+    ghost once: { All (λ own. (net : ℕ) → times_among own net ≤ 1) of_cells.items },
 }
 
 impl Pins {

@@ -14,7 +14,7 @@ use Rattle.vw_plan.specs.declared.need.Route.{Route}
 use Rattle.vw_plan.specs.Needs.{depth}
 use Rattle.vw_phase.specs.declared.task.Task.{Task}
 use Rattle.vw_phase.specs.Steps.Tasks.{AreRising, all_tasks, tasks_from}
-use Rattle.vw_phase.proofs.Sent.{some_same}
+use Rattle.vw_phase.proofs.TaskWords.{some_same}
 use Rattle.vw_phase.proofs.DoneTasks.{is_task-own, is_task-true}
 use Rattle.vw_phase.specs.Steps.Underway.{AreTasks, IsOfKind, is_done, is_task, no_task, task_at}
 

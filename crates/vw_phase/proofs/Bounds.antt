@@ -15,7 +15,7 @@ use Rattle.vw_plan.specs.declared.need.Route.{Route}
 use Rattle.vw_plan.specs.declared.wire.Hop.{Hop}
 use Rattle.vw_plan.specs.declared.wire.Wire.{Wire}
 use Rattle.vw_plan.specs.Lead.{after_last}
-use Rattle.vw_plan.specs.Nets.{driver, node_of}
+use Rattle.vw_plan.specs.Nets.{driving_cell, node_of}
 use Rattle.vw_plan.specs.Routes.{steps_of}
 use Rattle.vw_phase.specs.declared.draft.Draft.{Draft}
 use Rattle.vw_phase.specs.Steps.Done.{IsAlong, latch_moment, latest}
@@ -67,7 +67,7 @@ module _ (ordered : Ordered) (board : Board) (chip_of : List ℕ) (routes : List
 
   pub usable_early : (node net : ℕ) → usable_by ordered.flat board chip_of routes draft.hops.items draft.leads.items node net ≤ most + 15
   usable_early node net =
-      let gate = is_gate (driver ordered.flat net) && eqb (node_of ordered.flat chip_of net) node in
+      let gate = is_gate (driving_cell ordered.flat net) && eqb (node_of ordered.flat chip_of net) node in
       let settle : (if gate then board.settle else 0) ≤ 15 = elim gate as (λ is. (if is then board.settle else 0) ≤ 15) [ true ↦ board.quick | false ↦ omega arith ] in
       omega (arith, lead_early node net, settle)
 

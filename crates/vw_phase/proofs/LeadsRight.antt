@@ -6,21 +6,20 @@ use Rattle.std.proofs.lemmas.Bool.{cases_Bool}
 use Rattle.vw_net.specs.declared.cell.Cell.{Cell}
 use Rattle.vw_net.specs.declared.cell.Cell.TheVariants.{Gate, Latch}
 use Rattle.vw_net.specs.declared.ordered.Ordered.{Ordered}
-use Rattle.vw_net.specs.Order.{is_gate}
+use Rattle.vw_net.specs.Order.{is_gate, gate_inputs}
 use Rattle.vw_plan.specs.declared.board.Board.{Board}
 use Rattle.vw_plan.specs.declared.need.Route.{Route}
 use Rattle.vw_plan.specs.declared.plan.Plan.{Plan}
 use Rattle.vw_plan.specs.declared.wire.Hop.{Hop}
 use Rattle.vw_plan.specs.declared.wire.Wire.{Wire}
 use Rattle.vw_plan.specs.Lead.{after_last, brings, brought_at, driven_lead, lead}
-use Rattle.vw_plan.specs.Nets.{driver}
+use Rattle.vw_plan.specs.Nets.{driving_cell}
 use Rattle.vw_plan.specs.Setting.{Setting, home, setting_of}
-use Rattle.vw_plan.specs.Ways.{gate_reads}
 use Rattle.vw_plan.proofs.Along.{every_net}
 use Rattle.vw_plan.proofs.Leads.{lead-by_driver}
 use Rattle.vw_phase.specs.Steps.Leads.{hops_to, lead_by, wires_of}
 use Rattle.vw_phase.specs.Steps.Underway.{lead_at_place}
-use Rattle.vw_phase.proofs.Kept.{driven_same}
+use Rattle.vw_phase.proofs.UntouchedMoments.{driven_same}
 use Rattle.vw_phase.proofs.SettledReads.{among_at, gate_number}
 
 -- the arrival of a net, by routes and hops
@@ -43,7 +42,7 @@ no_gate_zero lead_at (Some (Latch d init)) none = refl
 
 module _ (ordered : Ordered) (board : Board) (plan : Plan) (routes : List Route) (hops : List (List Hop)) (leads : List ℕ) (long : length hops ≡ length routes) (wires : plan.wires ≡ wires_of routes hops)
     (worked : (place : ℕ) → place < length ordered.order → slice_index leads (ordered.flat.inputs + slice_index ordered.order place) ≡ lead_at_place ordered board plan.chip_of routes hops leads place)
-    (zero_at : (net : ℕ) → is_gate (driver ordered.flat net) ≡ false → slice_index leads net ≡ 0) where
+    (zero_at : (net : ℕ) → is_gate (driving_cell ordered.flat net) ≡ false → slice_index leads net ≡ 0) where
   abbrev setting : Setting
   setting = setting_of ordered board plan
 
@@ -51,8 +50,8 @@ module _ (ordered : Ordered) (board : Board) (plan : Plan) (routes : List Route)
   IsRight from net = lead setting (home setting net) net ≡ slice_index leads net
 
   -- at its own node
-  own_lead : (net : ℕ) → lead setting (home setting net) net ≡ driven_lead (lead setting (home setting net)) (driver ordered.flat net)
-  own_lead net = lead-by_driver setting (home setting net) net ∙ ap (λ (own : Bool). if own then driven_lead (lead setting (home setting net)) (driver ordered.flat net) else brought_at setting (home setting net) net) (eq-eqb (home setting net) (home setting net) refl)
+  own_lead : (net : ℕ) → lead setting (home setting net) net ≡ driven_lead (lead setting (home setting net)) (driving_cell ordered.flat net)
+  own_lead net = lead-by_driver setting (home setting net) net ∙ ap (λ (own : Bool). if own then driven_lead (lead setting (home setting net)) (driving_cell ordered.flat net) else brought_at setting (home setting net) net) (eq-eqb (home setting net) (home setting net) refl)
 
   -- where a net is right at home, it is right at each node
   pub right_at : (node net : ℕ) → IsRight 0 net → lead setting node net ≡ lead_by ordered.flat board plan.chip_of routes hops leads node net
@@ -62,29 +61,29 @@ module _ (ordered : Ordered) (board : Board) (plan : Plan) (routes : List Route)
       ap (λ (at : ℕ). lead setting at net) (sym here) ∙ right ∙ sym (ap (λ (own : Bool). if own then slice_index leads net else after_last board (hops_to routes hops node net)) is) in
       let if_away = λ (is : eqb (home setting net) node ≡ false).
       lead-by_driver setting node net
-      ∙ ap (λ (own : Bool). if own then driven_lead (lead setting node) (driver ordered.flat net) else brought_at setting node net) is
+      ∙ ap (λ (own : Bool). if own then driven_lead (lead setting node) (driving_cell ordered.flat net) else brought_at setting node net) is
       ∙ ap (λ (list : List Wire). option_map_or (λ wire. after_last board wire.hops) (find (brings net node) list) 0) wires
       ∙ brought_same board routes hops node net long
       ∙ sym (ap (λ (own : Bool). if own then slice_index leads net else after_last board (hops_to routes hops node net)) is) in
       ⊎_elim if_home if_away (cases_Bool (eqb (home setting net) node))
 
   -- a net is right if the nets that its gate reads are
-  right_step : (from net : ℕ) → All (IsRight from) (gate_reads (driver ordered.flat net)) → IsRight (suc from) net
+  right_step : (from net : ℕ) → All (IsRight from) (gate_inputs (driving_cell ordered.flat net)) → IsRight (suc from) net
   right_step from net reads =
-      let if_gate = λ (gate : is_gate (driver ordered.flat net) ≡ true).
+      let if_gate = λ (gate : is_gate (driving_cell ordered.flat net) ≡ true).
       let its = gate_number ordered.flat net gate in
       let found = among_at ordered.order (net - ordered.flat.inputs) (sym (ordered.is_order.each (net - ordered.flat.inputs)) ∙ its.1) in
       let number : slice_index ordered.order found.0 ≡ net - ordered.flat.inputs = found.2 in
       let same : ordered.flat.inputs + slice_index ordered.order found.0 ≡ net = omega (arith, its.0, number) in
       let no_input : nat_lt net ordered.flat.inputs ≡ false = le-ltb net ordered.flat.inputs its.0 in
-      let its_driver : driver ordered.flat net ≡ slice_get ordered.flat.cells (slice_index ordered.order found.0) = ap (λ (bit : Bool). if bit then None else slice_get ordered.flat.cells (net - ordered.flat.inputs)) no_input ∙ ap (slice_get ordered.flat.cells) (sym number) in
+      let its_driver : driving_cell ordered.flat net ≡ slice_get ordered.flat.cells (slice_index ordered.order found.0) = ap (λ (bit : Bool). if bit then None else slice_get ordered.flat.cells (net - ordered.flat.inputs)) no_input ∙ ap (slice_get ordered.flat.cells) (sym number) in
       let its_node : home setting net ≡ slice_index plan.chip_of (slice_index ordered.order found.0) = ap (λ (bit : Bool). if bit then 0 else slice_index plan.chip_of (net - ordered.flat.inputs)) no_input ∙ ap (slice_index plan.chip_of) (sym number) in
       own_lead net
-      ∙ driven_same (lead setting (home setting net)) (lead_by ordered.flat board plan.chip_of routes hops leads (home setting net)) (driver ordered.flat net) (λ place default within. right_at (home setting net) _ (reads place default within))
+      ∙ driven_same (lead setting (home setting net)) (lead_by ordered.flat board plan.chip_of routes hops leads (home setting net)) (driving_cell ordered.flat net) (λ place default within. right_at (home setting net) _ (reads place default within))
       ∙ ap₂ (λ (at : ℕ) (cell : Option Cell). driven_lead (lead_by ordered.flat board plan.chip_of routes hops leads at) cell) its_node its_driver
       ∙ sym (worked found.0 found.1) ∙ ap (slice_index leads) same in
-      let if_not = λ (no : is_gate (driver ordered.flat net) ≡ false). own_lead net ∙ no_gate_zero (lead setting (home setting net)) (driver ordered.flat net) no ∙ sym (zero_at net no) in
-      ⊎_elim if_gate if_not (cases_Bool (is_gate (driver ordered.flat net)))
+      let if_not = λ (no : is_gate (driving_cell ordered.flat net) ≡ false). own_lead net ∙ no_gate_zero (lead setting (home setting net)) (driving_cell ordered.flat net) no ∙ sym (zero_at net no) in
+      ⊎_elim if_gate if_not (cases_Bool (is_gate (driving_cell ordered.flat net)))
 
   pub leads_right : (net : ℕ) → lead setting (home setting net) net ≡ slice_index leads net
   leads_right net = every_net ordered IsRight (λ from to other before right. right) right_step net

@@ -22,7 +22,8 @@ use Rattle.vw_plan.specs.declared.wire.Wire.{Wire}
 use Rattle.vw_plan.specs.Earliest.{AreEarliest, phase_start, ready_in_phase, wire_depth}
 use Rattle.std.specs.Option.{ForSome}
 use Rattle.vw_plan.specs.Good.{IsChip, cells_on}
-use Rattle.vw_plan.specs.Lead.{after_last, brings, greatest, usable}
+use Rattle.vw_plan.specs.Lead.{after_last, brings, usable}
+use Rattle.vw_net.specs.Lists.{greatest}
 use Rattle.vw_plan.specs.Needs.{is_pair, needed_pairs}
 use Rattle.vw_plan.specs.Nets.{is_needed, node_of}
 use Rattle.vw_plan.specs.Routes.{AreRoutes, FollowsRoute, IsRoute, need_of_route, steps_of}
@@ -30,10 +31,10 @@ use Rattle.vw_plan.specs.Setting.{Setting, home, setting_of}
 use Rattle.vw_plan.specs.Sound.{IsRising, IsRouted, IsSentWhenUsable, IsSound, share_pin}
 use Rattle.vw_phase.specs.declared.draft.Draft.{Draft}
 use Rattle.vw_phase.specs.Schedules.{IsSchedule}
-use Rattle.vw_phase.specs.Steps.Done.{Has, IsAlong, IsDone, IsSentWell, all_hops, latch_moment, latest}
+use Rattle.vw_phase.specs.Steps.Done.{Has, IsAlong, IsTasksDone, IsSentWell, all_hops, latch_moment, latest}
 use Rattle.vw_phase.specs.Steps.Leads.{wires_of}
-use Rattle.vw_phase.proofs.Assembled.{as_many, before_last, follows, leads_along, once_apart, same_hops}
-use Rattle.vw_phase.proofs.Brought.{Settles, usable_is}
+use Rattle.vw_phase.proofs.WiresOfRoutes.{as_many, before_last, follows, leads_along, once_apart, same_hops}
+use Rattle.vw_phase.proofs.BroughtLeads.{Settles, usable_is}
 use Rattle.vw_phase.proofs.StepsOf.{steps_long}
 
 -- ---- the greatest of some moments
@@ -134,7 +135,7 @@ module _ (ordered : Ordered) (board : Board) (plan : Plan) where
       let fits : IsWellFormed nets (Latch d init) = subst (IsWellFormed nets) same (flat.cells_fit number (Latch d init) within) in
       All-head (λ net. net < nets) d [] fits.1
 
-  module _ (chip_of : List ℕ) (routes : List Route) (draft : Draft) (done : IsDone ordered board chip_of routes draft) (law : (one : Setting) → Settles one) (has : Has chip_of routes draft.hops.items plan) where
+  module _ (chip_of : List ℕ) (routes : List Route) (draft : Draft) (done : IsTasksDone ordered board chip_of routes draft) (law : (one : Setting) → Settles one) (has : Has chip_of routes draft.hops.items plan) where
     abbrev moment_of : ℕ → Cell → ℕ
     moment_of = latch_moment flat board chip_of routes draft.hops.items draft.leads.items
 
@@ -172,7 +173,7 @@ module _ (ordered : Ordered) (board : Board) (plan : Plan) where
 
 module _ (ordered : Ordered) (board : Board) (plan : Plan) (routes : List Route) (draft : Draft) (law : (one : Setting) → Settles one) (listed : Listed) (once : Once)
     (each : length plan.chip_of ≡ length ordered.flat.cells) (chips : All (IsChip board) plan.chip_of) (room : (chip : ℕ) → cells_on plan.chip_of chip ≤ board.cells)
-    (are : AreRoutes ordered.flat board plan.chip_of routes) (done : IsDone ordered board plan.chip_of routes draft) (wires : plan.wires ≡ wires_of routes draft.hops.items)
+    (are : AreRoutes ordered.flat board plan.chip_of routes) (done : IsTasksDone ordered board plan.chip_of routes draft) (wires : plan.wires ≡ wires_of routes draft.hops.items)
     (period : plan.period ≡ max (max draft.after 1) (latest (latch_moment ordered.flat board plan.chip_of routes draft.hops.items draft.leads.items) 0 ordered.flat.cells)) where
   abbrev its : Setting
   its = setting_of ordered board plan
@@ -219,11 +220,11 @@ module _ (ordered : Ordered) (board : Board) (plan : Plan) (routes : List Route)
 
 pub scheduled_for : (ordered : Ordered) (board : Board) (plan : Plan) (routes : List Route) (draft : Draft) (chip_of : List ℕ) → plan.chip_of ≡ chip_of → ((one : Setting) → Settles one) → Listed → Once
     → length chip_of ≡ length ordered.flat.cells → All (IsChip board) chip_of → ((chip : ℕ) → cells_on chip_of chip ≤ board.cells)
-    → AreRoutes ordered.flat board chip_of routes → IsDone ordered board chip_of routes draft → plan.wires ≡ wires_of routes draft.hops.items
+    → AreRoutes ordered.flat board chip_of routes → IsTasksDone ordered board chip_of routes draft → plan.wires ≡ wires_of routes draft.hops.items
     → plan.period ≡ max (max draft.after 1) (latest (latch_moment ordered.flat board chip_of routes draft.hops.items draft.leads.items) 0 ordered.flat.cells)
     → IsSchedule ordered board chip_of routes plan
 scheduled_for ordered board plan routes draft chip_of same law listed once each chips room are done wires period =
-    subst (λ (list : List ℕ). length list ≡ length ordered.flat.cells → All (IsChip board) list → ((chip : ℕ) → cells_on list chip ≤ board.cells) → AreRoutes ordered.flat board list routes → IsDone ordered board list routes draft
+    subst (λ (list : List ℕ). length list ≡ length ordered.flat.cells → All (IsChip board) list → ((chip : ℕ) → cells_on list chip ≤ board.cells) → AreRoutes ordered.flat board list routes → IsTasksDone ordered board list routes draft
     → plan.period ≡ max (max draft.after 1) (latest (latch_moment ordered.flat board list routes draft.hops.items draft.leads.items) 0 ordered.flat.cells) → IsSchedule ordered board list routes plan)
     same (λ each_it chips_it room_it are_it done_it period_it. scheduled ordered board plan routes draft law listed once each_it chips_it room_it are_it done_it wires period_it) each chips room are done period
 

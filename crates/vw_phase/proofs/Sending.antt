@@ -12,7 +12,7 @@ use Rattle.vw_plan.specs.Walks.{has_link}
 use Rattle.vw_slots.specs.declared.slot.Slot.{Slot}
 use Rattle.vw_slots.specs.declared.slot.Taken.{Taken}
 use Rattle.vw_slots.specs.Slots.{Slots, IsFirstFree, with_slot}
-use Rattle.vw_phase.specs.Steps.Along.{AreLinked, AreSent, link_place, place_of, slot_of, slots_of, taken_by}
+use Rattle.vw_phase.specs.Steps.Along.{AreLinked, AreSent, link_place, hop_link, slot_of, slots_of, taken_by}
 
 -- where there is a link, it has a number
 pub place_within : (links : List Link) (from to : ℕ) → has_link links from to ≡ true → link_place links from to < length links
@@ -59,9 +59,9 @@ module _ (board : Board) (start : List Taken) (ready first : ℕ) (further : Lis
       let to = get_or further place 0 in
       let cut : drop place further ≡ to ∷ drop (place + 1) further = cut_at further place within in
       let linked : AreLinked board.links from (to ∷ drop (place + 1) further) = subst (λ (left : List ℕ). AreLinked board.links from left) cut way.linked in
-      let its_link : link ≡ place_of board hop = link_is ∙ ap₂ (link_place board.links) (sym from_is) (sym to_is) in
+      let its_link : link ≡ hop_link board hop = link_is ∙ ap₂ (link_place board.links) (sym from_is) (sym to_is) in
       let its_slot : slot ≡ slot_of hop = ap₂ slot_at (sym pin_is) (sym at_is) in
-      let its_free : IsFirstFree (slots_of board slots.taken) (place_of board hop) moment (slot_of hop) = subst (λ (one : Slot). IsFirstFree (slots_of board slots.taken) (place_of board hop) moment one) its_slot (subst (λ (number : ℕ). IsFirstFree (slots_of board slots.taken) number moment slot) its_link (free_in slots board link moment slot way.widths free)) in
+      let its_free : IsFirstFree (slots_of board slots.taken) (hop_link board hop) moment (slot_of hop) = subst (λ (one : Slot). IsFirstFree (slots_of board slots.taken) (hop_link board hop) moment one) its_slot (subst (λ (number : ℕ). IsFirstFree (slots_of board slots.taken) number moment slot) its_link (free_in slots board link moment slot way.widths free)) in
       let its_taken : after.taken ≡ slots.taken ++ taken_by board hop ∷ [] = ap (λ (s : Slots). s.taken) after_is ∙ ap₂ (λ (number : ℕ) (one : Slot). slots.taken ++ taken_at number one ∷ []) its_link its_slot in
       let long : length slots.taken ≡ length start + place = ap length way.taken ∙ length-append start (map (taken_by board) hops) ∙ ap (λ (count : ℕ). length start + count) (length-map hops (taken_by board) ∙ way.count) in
       let in_time : moment ≤ slot.at = free.in_time in

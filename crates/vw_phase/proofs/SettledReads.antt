@@ -10,14 +10,13 @@ use Rattle.vw_net.specs.declared.cell.Cell.TheVariants.{Gate, Latch}
 use Rattle.vw_net.specs.declared.flat.Flat.{Flat}
 use Rattle.vw_net.specs.declared.ordered.Ordered.{Ordered}
 use Rattle.vw_net.specs.Cells.{read_nets}
-use Rattle.vw_net.specs.Order.{is_among, is_gate, is_latch, is_ready, read_nets_at}
+use Rattle.vw_net.specs.Order.{is_among, is_gate, is_latch, is_ready, read_nets_at, gate_inputs}
 use Rattle.vw_plan.specs.declared.board.Board.{Board}
 use Rattle.vw_plan.specs.declared.need.Route.{Route}
-use Rattle.vw_plan.specs.Lead.{greatest}
+use Rattle.vw_net.specs.Lists.{greatest}
 use Rattle.vw_plan.specs.Needs.{crossing, depth, driven_depth, is_pair}
-use Rattle.vw_plan.specs.Nets.{driver, is_needed, is_read_at, node_of}
+use Rattle.vw_plan.specs.Nets.{driving_cell, is_needed, is_read_at, node_of}
 use Rattle.vw_plan.specs.Routes.{AreRoutes, need_of_route}
-use Rattle.vw_plan.specs.Ways.{gate_reads}
 use Rattle.vw_plan.proofs.Along.{All-gate_reads}
 use Rattle.vw_plan.proofs.Depths.{depth-by_driver}
 use Rattle.vw_plan.proofs.NeededPairs.{any-needed_pairs}
@@ -25,7 +24,7 @@ use Rattle.vw_phase.specs.declared.task.Task.{Task}
 use Rattle.vw_phase.specs.Steps.Tasks.{rank}
 use Rattle.vw_phase.specs.Steps.Underway.{AreTasks, is_done, task_at}
 use Rattle.vw_phase.proofs.DoneTasks.{done_earlier, done_later, kind_at}
-use Rattle.vw_phase.proofs.Kept.{IsHomeDone, IsSettled, route_place}
+use Rattle.vw_phase.proofs.UntouchedMoments.{IsHomeDone, IsSettled, route_place}
 
 -- a number that is among some stands at a place
 pub among_at : (numbers : List ℕ) (number : ℕ) → is_among numbers number ≡ true → (place : ℕ) × (place < length numbers) × (get_or numbers place 0 ≡ number)
@@ -56,10 +55,10 @@ among_take (suc count) (first ∷ numbers) number among =
     ⊎_elim here later (or_cases (eqb first number) (is_among (take count numbers) number) among)
 
 -- a net that a gate drives is past the inputs, and its number is a gate's
-pub gate_number : (flat : Flat) (net : ℕ) → is_gate (driver flat net) ≡ true → (flat.inputs ≤ net) × (is_gate (slice_get flat.cells (net - flat.inputs)) ≡ true)
+pub gate_number : (flat : Flat) (net : ℕ) → is_gate (driving_cell flat net) ≡ true → (flat.inputs ≤ net) × (is_gate (slice_get flat.cells (net - flat.inputs)) ≡ true)
 gate_number flat net gate =
     let if_input = λ (input : nat_lt net flat.inputs ≡ true).
-    let none : is_gate (driver flat net) ≡ false = ap (λ (bit : Bool). is_gate (if bit then None else slice_get flat.cells (net - flat.inputs))) input in
+    let none : is_gate (driving_cell flat net) ≡ false = ap (λ (bit : Bool). is_gate (if bit then None else slice_get flat.cells (net - flat.inputs))) input in
     let whole : (flat.inputs ≤ net) × (is_gate (slice_get flat.cells (net - flat.inputs)) ≡ true) = absurd (true≢false (sym gate ∙ none)) in whole in
     let if_past = λ (past : nat_lt net flat.inputs ≡ false).
     let same : is_gate (slice_get flat.cells (net - flat.inputs)) ≡ true = sym (ap (λ (bit : Bool). is_gate (if bit then None else slice_get flat.cells (net - flat.inputs))) past) ∙ gate in
@@ -72,12 +71,12 @@ greatest_at f [] place default within = absurd (omega (arith, within))
 greatest_at f (net ∷ nets) zero default within = omega arith
 greatest_at f (net ∷ nets) (suc place) default within = omega (arith, greatest_at f nets place default (omega (arith, within)))
 
-driven_at : (f : ℕ → ℕ) (cell : Option Cell) (place default : ℕ) → place < length (gate_reads cell) → f (get_or (gate_reads cell) place default) ≤ driven_depth f cell
+driven_at : (f : ℕ → ℕ) (cell : Option Cell) (place default : ℕ) → place < length (gate_inputs cell) → f (get_or (gate_inputs cell) place default) ≤ driven_depth f cell
 driven_at f None place default within = absurd (omega (arith, within))
 driven_at f (Some (Gate ins cover)) place default within = greatest_at f ins place default within
 driven_at f (Some (Latch d init)) place default within = absurd (omega (arith, within))
 
-reads_among : (cell : Option Cell) (place default : ℕ) → place < length (gate_reads cell) → is_among (read_nets_at cell) (get_or (gate_reads cell) place default) ≡ true
+reads_among : (cell : Option Cell) (place default : ℕ) → place < length (gate_inputs cell) → is_among (read_nets_at cell) (get_or (gate_inputs cell) place default) ≡ true
 reads_among None place default within = absurd (omega (arith, within))
 reads_among (Some (Gate ins cover)) place default within = list_any_at (λ other. eqb other (get_or ins place default)) ins place default within (eq-eqb (get_or ins place default) (get_or ins place default) refl)
 reads_among (Some (Latch d init)) place default within = absurd (omega (arith, within))
@@ -126,7 +125,7 @@ module _ (ordered : Ordered) (board : Board) (chip_of : List ℕ) (routes : List
       omega (arith, less, deep, most.depths))
 
   -- the place of a gate's net
-  pub gate_place : (net : ℕ) → is_gate (driver ordered.flat net) ≡ true → (place : ℕ) × (place < length ordered.order) × (net ≡ ordered.flat.inputs + slice_index ordered.order place)
+  pub gate_place : (net : ℕ) → is_gate (driving_cell ordered.flat net) ≡ true → (place : ℕ) × (place < length ordered.order) × (net ≡ ordered.flat.inputs + slice_index ordered.order place)
   gate_place net gate =
       let its = gate_number ordered.flat net gate in
       let found = among_at ordered.order (net - ordered.flat.inputs) (sym (ordered.is_order.each (net - ordered.flat.inputs)) ∙ its.1) in
@@ -148,7 +147,7 @@ module _ (ordered : Ordered) (board : Board) (chip_of : List ℕ) (routes : List
       (found.0, found.1, found.2, done)
 
   -- what a gate reads is settled before its lead is worked out
-  pub settled_before : (at place : ℕ) → at < length tasks → (task_at tasks at).sends ≡ false → (task_at tasks at).place ≡ place → All (IsSettled ordered board chip_of routes tasks at (slice_index chip_of (slice_index ordered.order place))) (gate_reads (slice_get ordered.flat.cells (slice_index ordered.order place)))
+  pub settled_before : (at place : ℕ) → at < length tasks → (task_at tasks at).sends ≡ false → (task_at tasks at).place ≡ place → All (IsSettled ordered board chip_of routes tasks at (slice_index chip_of (slice_index ordered.order place))) (gate_inputs (slice_get ordered.flat.cells (slice_index ordered.order place)))
   settled_before at place within sends is = λ turn default inside. (at_home turn default inside, away turn default inside) where
     number : ℕ
     number = slice_index ordered.order place
@@ -157,7 +156,7 @@ module _ (ordered : Ordered) (board : Board) (chip_of : List ℕ) (routes : List
     own_net = ordered.flat.inputs + slice_index ordered.order place
 
     read : ℕ → ℕ → ℕ
-    read turn default = get_or (gate_reads (slice_get ordered.flat.cells (slice_index ordered.order place))) turn default
+    read turn default = get_or (gate_inputs (slice_get ordered.flat.cells (slice_index ordered.order place))) turn default
 
     own_kind : ((task_at tasks at).place < length ordered.order) × ((task_at tasks at).depth ≡ depth ordered.flat chip_of (ordered.flat.inputs + slice_index ordered.order (task_at tasks at).place))
     own_kind = kind_at ordered chip_of routes tasks are at false within sends
@@ -174,18 +173,18 @@ module _ (ordered : Ordered) (board : Board) (chip_of : List ℕ) (routes : List
     its_number : (ordered.flat.inputs + slice_index ordered.order place) - ordered.flat.inputs ≡ slice_index ordered.order place
     its_number = omega arith
 
-    its_driver : driver ordered.flat (ordered.flat.inputs + slice_index ordered.order place) ≡ slice_get ordered.flat.cells (slice_index ordered.order place)
+    its_driver : driving_cell ordered.flat (ordered.flat.inputs + slice_index ordered.order place) ≡ slice_get ordered.flat.cells (slice_index ordered.order place)
     its_driver = ap (λ (bit : Bool). if bit then None else slice_get ordered.flat.cells ((ordered.flat.inputs + slice_index ordered.order place) - ordered.flat.inputs)) no_input ∙ ap (slice_get ordered.flat.cells) its_number
 
     its_node : node_of ordered.flat chip_of (ordered.flat.inputs + slice_index ordered.order place) ≡ slice_index chip_of (slice_index ordered.order place)
     its_node = ap (λ (bit : Bool). if bit then 0 else slice_index chip_of ((ordered.flat.inputs + slice_index ordered.order place) - ordered.flat.inputs)) no_input ∙ ap (slice_index chip_of) its_number
 
-    lesser : (turn default : ℕ) → turn < length (gate_reads (slice_get ordered.flat.cells (slice_index ordered.order place))) → depth ordered.flat chip_of (read turn default) + crossing ordered.flat chip_of own_net (read turn default) ≤ depth ordered.flat chip_of own_net
+    lesser : (turn default : ℕ) → turn < length (gate_inputs (slice_get ordered.flat.cells (slice_index ordered.order place))) → depth ordered.flat chip_of (read turn default) + crossing ordered.flat chip_of own_net (read turn default) ≤ depth ordered.flat chip_of own_net
     lesser turn default inside =
         let f = λ (one : ℕ). depth ordered.flat chip_of one + crossing ordered.flat chip_of own_net one in
         omega (arith, driven_at f (slice_get ordered.flat.cells (slice_index ordered.order place)) turn default inside, depth-by_driver ordered chip_of own_net, ap (driven_depth f) its_driver)
 
-    ready : (turn default : ℕ) → turn < length (gate_reads (slice_get ordered.flat.cells (slice_index ordered.order place))) → is_ready ordered.flat.inputs ordered.flat.cells (take place ordered.order) (read turn default) ≡ true
+    ready : (turn default : ℕ) → turn < length (gate_inputs (slice_get ordered.flat.cells (slice_index ordered.order place))) → is_ready ordered.flat.inputs ordered.flat.cells (take place ordered.order) (read turn default) ≡ true
     ready = All-gate_reads (λ net. is_ready ordered.flat.inputs ordered.flat.cells (take place ordered.order) net ≡ true) (slice_get ordered.flat.cells (slice_index ordered.order place)) (AllPass-from_list_all (is_ready ordered.flat.inputs ordered.flat.cells (take place ordered.order)) (read_nets_at (slice_get ordered.flat.cells (slice_index ordered.order place))) (ordered.is_order.after place place_within))
 
     not_latch : (cell : Option Cell) → is_gate cell ≡ true → is_latch cell ≡ true → ⊥
@@ -193,7 +192,7 @@ module _ (ordered : Ordered) (board : Board) (chip_of : List ℕ) (routes : List
     not_latch (Some (Gate ins cover)) gate latch = true≢false (sym latch)
     not_latch (Some (Latch d init)) gate latch = true≢false (sym gate)
 
-    at_home : (turn default : ℕ) → turn < length (gate_reads (slice_get ordered.flat.cells (slice_index ordered.order place))) → node_of ordered.flat chip_of (read turn default) ≡ slice_index chip_of (slice_index ordered.order place) → IsHomeDone ordered board chip_of routes tasks at (read turn default)
+    at_home : (turn default : ℕ) → turn < length (gate_inputs (slice_get ordered.flat.cells (slice_index ordered.order place))) → node_of ordered.flat chip_of (read turn default) ≡ slice_index chip_of (slice_index ordered.order place) → IsHomeDone ordered board chip_of routes tasks at (read turn default)
     at_home turn default inside own_is gate =
         let net = read turn default in
         let its = gate_number ordered.flat net gate in
@@ -212,7 +211,7 @@ module _ (ordered : Ordered) (board : Board) (chip_of : List ℕ) (routes : List
         omega (arith, behind, other_place, is, found.2)) in
         (found.0, found.1, same, done)
 
-    away : (turn default : ℕ) → turn < length (gate_reads (slice_get ordered.flat.cells (slice_index ordered.order place))) → (node_of ordered.flat chip_of (read turn default) ≡ slice_index chip_of (slice_index ordered.order place) → ⊥) → is_done tasks at true (route_place routes (read turn default) (slice_index chip_of (slice_index ordered.order place))) ≡ true
+    away : (turn default : ℕ) → turn < length (gate_inputs (slice_get ordered.flat.cells (slice_index ordered.order place))) → (node_of ordered.flat chip_of (read turn default) ≡ slice_index chip_of (slice_index ordered.order place) → ⊥) → is_done tasks at true (route_place routes (read turn default) (slice_index chip_of (slice_index ordered.order place))) ≡ true
     away turn default inside apart =
         let net = read turn default in
         let node = slice_index chip_of (slice_index ordered.order place) in

@@ -14,7 +14,7 @@ use Rattle.vw_plan.specs.Sound.{share_pin}
 use Rattle.vw_plan.specs.Walks.{has_link}
 use Rattle.vw_slots.specs.declared.slot.Taken.{Taken}
 use Rattle.vw_slots.specs.Slots.{is_taken}
-use Rattle.vw_phase.specs.Steps.Along.{AreLinked, AreSent, link_place, place_of, taken_by}
+use Rattle.vw_phase.specs.Steps.Along.{AreLinked, AreSent, link_place, hop_link, taken_by}
 use Rattle.vw_phase.specs.Steps.Done.{all_hops, uses}
 
 abbrev pub one_if : Bool → ℕ
@@ -45,10 +45,10 @@ same_ends (link ∷ links) a b c d there same =
 module _ (board : Board) where
   -- whether the pin and the microcycle of a hop are taken
   abbrev pub is_in : List Taken → Hop → Bool
-  is_in taken hop = is_taken taken (place_of board hop) hop.pin hop.at
+  is_in taken hop = is_taken taken (hop_link board hop) hop.pin hop.at
 
   abbrev takes : Hop → Hop → Bool
-  takes other hop = (eqb (place_of board other) (place_of board hop) && eqb other.at hop.at) && eqb other.pin hop.pin
+  takes other hop = (eqb (hop_link board other) (hop_link board hop) && eqb other.at hop.at) && eqb other.pin hop.pin
 
   -- hops that share a pin take one slot
   shares : (hop other : Hop) → has_link board.links other.from other.to ≡ true → share_pin hop other ≡ takes other hop
@@ -58,18 +58,18 @@ module _ (board : Board) where
         let parts = and_parts (eqb hop.from other.from && eqb hop.to other.to) (eqb hop.pin other.pin && eqb hop.at other.at) is in
         let ends = and_parts (eqb hop.from other.from) (eqb hop.to other.to) parts.0 in
         let slot = and_parts (eqb hop.pin other.pin) (eqb hop.at other.at) parts.1 in
-        let place : place_of board other ≡ place_of board hop = sym (ap₂ (link_place board.links) (eqb-true hop.from other.from ends.0) (eqb-true hop.to other.to ends.1)) in
-        and_from _ _ (and_from _ _ (eq-eqb (place_of board other) (place_of board hop) place) (eq-eqb other.at hop.at (sym (eqb-true hop.at other.at slot.1)))) (eq-eqb other.pin hop.pin (sym (eqb-true hop.pin other.pin slot.0)))
+        let place : hop_link board other ≡ hop_link board hop = sym (ap₂ (link_place board.links) (eqb-true hop.from other.from ends.0) (eqb-true hop.to other.to ends.1)) in
+        and_from _ _ (and_from _ _ (eq-eqb (hop_link board other) (hop_link board hop) place) (eq-eqb other.at hop.at (sym (eqb-true hop.at other.at slot.1)))) (eq-eqb other.pin hop.pin (sym (eqb-true hop.pin other.pin slot.0)))
 
     back : takes other hop ≡ true → share_pin hop other ≡ true
     back is =
-        let parts = and_parts (eqb (place_of board other) (place_of board hop) && eqb other.at hop.at) (eqb other.pin hop.pin) is in
-        let slot = and_parts (eqb (place_of board other) (place_of board hop)) (eqb other.at hop.at) parts.0 in
-        let ends = same_ends board.links other.from other.to hop.from hop.to there (eqb-true (place_of board other) (place_of board hop) slot.0) in
+        let parts = and_parts (eqb (hop_link board other) (hop_link board hop) && eqb other.at hop.at) (eqb other.pin hop.pin) is in
+        let slot = and_parts (eqb (hop_link board other) (hop_link board hop)) (eqb other.at hop.at) parts.0 in
+        let ends = same_ends board.links other.from other.to hop.from hop.to there (eqb-true (hop_link board other) (hop_link board hop) slot.0) in
         and_from _ _ (and_from _ _ (eq-eqb hop.from other.from (sym ends.0)) (eq-eqb hop.to other.to (sym ends.1))) (and_from _ _ (eq-eqb hop.pin other.pin (sym (eqb-true other.pin hop.pin parts.1))) (eq-eqb hop.at other.at (sym (eqb-true other.at hop.at slot.1))))
 
   in_more : (taken : List Taken) (hop other : Hop) → is_in (taken ++ taken_by board other ∷ []) hop ≡ (is_in taken hop || takes other hop)
-  in_more taken hop other = list_any-append (λ slot. (eqb slot.link (place_of board hop) && eqb slot.at hop.at) && eqb slot.pin hop.pin) taken (taken_by board other ∷ []) ∙ ap (λ (bit : Bool). is_in taken hop || bit) (or-false (takes other hop))
+  in_more taken hop other = list_any-append (λ slot. (eqb slot.link (hop_link board hop) && eqb slot.at hop.at) && eqb slot.pin hop.pin) taken (taken_by board other ∷ []) ∙ ap (λ (bit : Bool). is_in taken hop || bit) (or-false (takes other hop))
 
   one_more : (before own : Bool) → (own ≡ true → before ≡ false) → one_if before + one_if own ≡ one_if (before || own)
   one_more true true apart = absurd (true≢false (apart refl))
@@ -81,9 +81,9 @@ module _ (board : Board) where
   tally_one : (count : Hop → ℕ) (taken : List Taken) (other : Hop) → has_link board.links other.from other.to ≡ true → (is_in taken other ≡ true → ⊥) → ((hop : Hop) → count hop ≡ one_if (is_in taken hop)) → (hop : Hop) → count hop + one_if (share_pin hop other) ≡ one_if (is_in (taken ++ taken_by board other ∷ []) hop)
   tally_one count taken other there free tally hop =
       let apart = λ (is : takes other hop ≡ true).
-      let parts = and_parts (eqb (place_of board other) (place_of board hop) && eqb other.at hop.at) (eqb other.pin hop.pin) is in
-      let slot = and_parts (eqb (place_of board other) (place_of board hop)) (eqb other.at hop.at) parts.0 in
-      let same : is_in taken other ≡ is_in taken hop = ap₂ (λ (place at : ℕ). is_taken taken place other.pin at) (eqb-true (place_of board other) (place_of board hop) slot.0) (eqb-true other.at hop.at slot.1) ∙ ap (λ (pin : ℕ). is_taken taken (place_of board hop) pin hop.at) (eqb-true other.pin hop.pin parts.1) in
+      let parts = and_parts (eqb (hop_link board other) (hop_link board hop) && eqb other.at hop.at) (eqb other.pin hop.pin) is in
+      let slot = and_parts (eqb (hop_link board other) (hop_link board hop)) (eqb other.at hop.at) parts.0 in
+      let same : is_in taken other ≡ is_in taken hop = ap₂ (λ (place at : ℕ). is_taken taken place other.pin at) (eqb-true (hop_link board other) (hop_link board hop) slot.0) (eqb-true other.at hop.at slot.1) ∙ ap (λ (pin : ℕ). is_taken taken (hop_link board hop) pin hop.at) (eqb-true other.pin hop.pin parts.1) in
       let not_before = λ (before : is_in taken hop ≡ true). free (same ∙ before) in
       let whole : is_in taken hop ≡ false = ⊎_elim (λ before. absurd (not_before before)) (λ none. none) (cases_Bool (is_in taken hop)) in whole in
       ap₂ (λ (a : ℕ) (bit : Bool). a + one_if bit) (tally hop) (shares hop other there) ∙ one_more (is_in taken hop) (takes other hop) apart ∙ ap one_if (sym (in_more taken hop other))

@@ -18,7 +18,7 @@ use Rattle.vw_phase.specs.declared.draft.Draft.{Draft}
 use Rattle.vw_phase.specs.declared.task.Task.{Task}
 use Rattle.vw_phase.specs.Steps.Along.{AreLinked, AreSent, taken_by}
 use Rattle.vw_phase.specs.Steps.Done.{all_hops}
-use Rattle.vw_phase.specs.Steps.Drafts.{IsReady, IsReadyKind, hops_at}
+use Rattle.vw_phase.specs.Steps.Drafts.{IsDraftReady, IsReadyKind, hops_at}
 use Rattle.vw_phase.specs.Steps.Underway.{AreTasks, IsOfKind, IsUnderway, is_done, task_at}
 use Rattle.vw_phase.proofs.NeededRoutes.{route_net}
 
@@ -97,7 +97,7 @@ module _ (ordered : Ordered) (board : Board) (chip_of : List ℕ) (routes : List
         (route_net ordered.flat board chip_of routes are_routes task.place route at, room level start way task.place route at (way.none task.place not), route_linked ordered board chip_of route its),
   )
 
-  pub task_ready : (level start : ℕ) → IsUnderway ordered board chip_of routes tasks count draft level start → IsReady ordered board chip_of routes (task_at tasks count).sends (task_at tasks count).place start draft
+  pub task_ready : (level start : ℕ) → IsUnderway ordered board chip_of routes tasks count draft level start → IsDraftReady ordered board chip_of routes (task_at tasks count).sends (task_at tasks count).place start draft
   task_ready level start way = record {
     fit = way.fit;
     begun = way.begun;

@@ -14,13 +14,14 @@ use Rattle.vw_plan.specs.declared.plan.Plan.{Plan}
 use Rattle.vw_plan.specs.declared.wire.Hop.{Hop}
 use Rattle.vw_plan.specs.declared.wire.Wire.{Wire}
 use Rattle.vw_plan.specs.Earliest.{AreEarliest, IsEarliest, is_in_use}
-use Rattle.vw_plan.specs.Lead.{after_last, greatest}
+use Rattle.vw_plan.specs.Lead.{after_last}
+use Rattle.vw_net.specs.Lists.{greatest}
 use Rattle.vw_plan.specs.Links.{HaveSameEnds}
 use Rattle.vw_plan.specs.Needs.{depth}
 use Rattle.vw_plan.specs.Sound.{has_pin, share_pin}
 use Rattle.vw_slots.specs.declared.slot.Taken.{Taken}
 use Rattle.vw_slots.specs.Slots.{is_taken}
-use Rattle.vw_phase.specs.Steps.Along.{AreSent, link_place, place_of, taken_by}
+use Rattle.vw_phase.specs.Steps.Along.{AreSent, link_place, hop_link, taken_by}
 use Rattle.vw_phase.specs.Steps.Done.{all_hops, uses}
 use Rattle.vw_phase.specs.Steps.Leads.{wires_of}
 use Rattle.vw_phase.specs.Steps.Underway.{start_by}
@@ -83,7 +84,7 @@ phase_same ordered board plan limit (route ∷ routes) (sent ∷ hops) long = ap
 
 -- ---- earliest hops
 
-module _ (board : Board) (plan : Plan) (final : List Taken) (in_use : (hop : Hop) → is_taken final (place_of board hop) hop.pin hop.at ≡ true → is_in_use plan hop ≡ true) where
+module _ (board : Board) (plan : Plan) (final : List Taken) (in_use : (hop : Hop) → is_taken final (hop_link board hop) hop.pin hop.at ≡ true → is_in_use plan hop ≡ true) where
   pub early_from : (taken : List Taken) (ready : ℕ) (steps : List (ℕ × ℕ)) (hops : List Hop) → AreSent board taken ready steps hops → ((link pin at : ℕ) → is_taken (taken ++ map (taken_by board) hops) link pin at ≡ true → is_taken final link pin at ≡ true) → AreEarliest board plan ready hops
   early_from taken ready [] [] sent stays = tt
   early_from taken ready [] (hop ∷ hops) sent stays = absurd sent
@@ -92,7 +93,7 @@ module _ (board : Board) (plan : Plan) (final : List Taken) (in_use : (hop : Hop
       let first : IsEarliest board plan ready hop = λ at late before pin there.
       let other : Hop = record { from = hop.from; to = hop.to; pin = pin; at = at } in
       let inside : pin < slice_index (map (λ link. link.width) board.links) (link_place board.links hop.from hop.to) = pin_within board.links other board.linked.once there in
-      let full : is_taken taken (place_of board hop) pin at ≡ true = sent.1.full_before at late before pin inside in
-      let stayed : is_taken final (place_of board hop) pin at ≡ true = stays (place_of board hop) pin at (list_any-append (λ slot. (eqb slot.link (place_of board hop) && eqb slot.at at) && eqb slot.pin pin) taken (map (taken_by board) (hop ∷ hops)) ∙ or_left _ _ full) in
+      let full : is_taken taken (hop_link board hop) pin at ≡ true = sent.1.full_before at late before pin inside in
+      let stayed : is_taken final (hop_link board hop) pin at ≡ true = stays (hop_link board hop) pin at (list_any-append (λ slot. (eqb slot.link (hop_link board hop) && eqb slot.at at) && eqb slot.pin pin) taken (map (taken_by board) (hop ∷ hops)) ∙ or_left _ _ full) in
       in_use other stayed in
       (first, early_from (taken ++ taken_by board hop ∷ []) (hop.at + 1) steps hops sent.2 (λ link pin at is. stays link pin at (ap (λ (list : List Taken). is_taken list link pin at) (sym (append_assoc taken (taken_by board hop ∷ []) (map (taken_by board) hops))) ∙ is)))

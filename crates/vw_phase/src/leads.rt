@@ -1,8 +1,9 @@
 //! The leads of nets, from the hops so far.
 ghost use Rattle.std.specs.Prelude.{◌≡◌, ◌≤◌, ◌<◌, ◌+◌, ◌^◌, length, map, slice_get, slice_index};
 ghost use Rattle.std.specs.List.{All};
-ghost use Rattle.vw_plan.specs.Lead.{after_last, driven_lead, greatest};
-ghost use Rattle.vw_plan.specs.Nets.{driver};
+ghost use Rattle.vw_plan.specs.Lead.{after_last, driven_lead};
+ghost use Rattle.vw_net.specs.Lists.{greatest};
+ghost use Rattle.vw_plan.specs.Nets.{driving_cell};
 ghost use Rattle.vw_net.specs.Order.{is_gate};
 ghost use Rattle.vw_phase.specs.Steps.Given.{lead_for, net_count, usable_for};
 ghost use Rattle.vw_phase.specs.Steps.Leads.{hops_to};
@@ -93,7 +94,7 @@ pub fn lead_of_cell(given: &Given, hops: &[Sequence<Hop>], leads: &[u64], number
 /// Whether a net is a gate's.
 fn is_gate(flat: &Flat, net: u32) -> bool
     requires { net < flat.now.inputs + length flat.now.cells }
-    ensures { result ≡ is_gate (driver flat.now net) }
+    ensures { result ≡ is_gate (driving_cell flat.now net) }
 {
     if net < flat.inputs() {
         return false;

@@ -10,7 +10,7 @@ use Rattle.std.proofs.lemmas.List.FromFn.{get_or-range_with_len, length-range_wi
 use Rattle.std.proofs.lemmas.List.Sums.{count_by_more_no, count_by_more_yes, sum_by-le}
 use Rattle.vw_net.specs.declared.flat.Flat.{Flat}
 use Rattle.vw_plan.specs.declared.need.Need.{Need}
-use Rattle.vw_plan.specs.Lead.{greatest}
+use Rattle.vw_net.specs.Lists.{greatest}
 use Rattle.vw_plan.specs.Needs.{needed_nodes, needed_pairs}
 use Rattle.vw_plan.specs.Nets.{is_needed, node_of}
 use Rattle.vw_place.specs.Traffic.{IsTraffic, goes}

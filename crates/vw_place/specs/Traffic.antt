@@ -14,13 +14,13 @@ abbrev pub goes : Flat → List ℕ → ℕ → ℕ → Need → Bool
 goes flat chip_of from to need = node_of flat chip_of need.net == from && need.to == to
 
 -- a number for each two of 33 nodes; at most 69,632 nets are needed at 33 nodes each
-pub record IsTable (table : List ℕ) : Type 0 where
+pub record IsPairTable (table : List ℕ) : Type 0 where
   pub long : length table ≡ 1089
   pub low : All (λ count. count ≤ 2297856) table
 
 -- the table of how many needed pairs go from each node to each other
 pub record IsTraffic (flat : Flat) (chip_of table : List ℕ) : Type 0 where
-  pub fits : IsTable table
+  pub fits : IsPairTable table
   pub counts : (from to : ℕ) → from < 33 → to < 33 → slice_index table (from * 33 + to) ≡ count_by (goes flat chip_of from to) (needed_pairs flat chip_of)
 
 -- how far the pairs between two nodes go, with nodes numbered by a list

@@ -1,7 +1,7 @@
 //! Exchanges of chips, until none makes the way shorter.
 ghost use Rattle.std.specs.Prelude.{◌≡◌, ◌≤◌, ◌<◌, ◌+◌};
 ghost use Rattle.vw_place.specs.Numbering.{IsNodeList};
-ghost use Rattle.vw_place.specs.Traffic.{IsTable, way};
+ghost use Rattle.vw_place.specs.Traffic.{IsPairTable, way};
 ghost use Rattle.vw_place.specs.Tries.{AreTried, IsBefore, IsBoth, IsLater, NoneIsUseful};
 
 use crate::way::whole_way;
@@ -16,7 +16,7 @@ fn try_two(
     one: usize,
     other: usize,
 ) -> u64
-    requires table { IsTable table.now }
+    requires table { IsPairTable table.now }
     requires list { IsNodeList distances.now at.old }
     requires old { old ≡ way table.now distances.now at.old }
     requires one { 1 ≤ one }
@@ -37,7 +37,7 @@ fn try_two(
 
 /// Tries to exchange a chip with each later one.
 fn try_later(table: &[u32], distances: &Distances, at: &mut [u32], old: u64, one: usize) -> u64
-    requires table { IsTable table.now }
+    requires table { IsPairTable table.now }
     requires list { IsNodeList distances.now at.old }
     requires old { old ≡ way table.now distances.now at.old }
     requires one { 1 ≤ one }
@@ -56,7 +56,7 @@ fn try_later(table: &[u32], distances: &Distances, at: &mut [u32], old: u64, one
 
 /// Tries to exchange each two chips once.
 fn try_each(table: &[u32], distances: &Distances, at: &mut [u32], old: u64) -> u64
-    requires table { IsTable table.now }
+    requires table { IsPairTable table.now }
     requires list { IsNodeList distances.now at.old }
     requires old { old ≡ way table.now distances.now at.old }
     ensures list { IsNodeList distances.now at.new }
@@ -74,7 +74,7 @@ fn try_each(table: &[u32], distances: &Distances, at: &mut [u32], old: u64) -> u
 /// Exchanges chips until no exchange of two makes the way shorter. Each round tries each two of them, and each but the
 /// last makes the way shorter.
 pub fn exchange(table: &[u32], distances: &Distances, at: &mut [u32])
-    requires table { IsTable table.now }
+    requires table { IsPairTable table.now }
     requires list { IsNodeList distances.now at.old }
     ensures list { IsNodeList distances.now at.new }
     ensures none { NoneIsUseful (way table.now distances.now) (distances.now.chips + 1) at.new }

@@ -3,7 +3,7 @@ ghost use Rattle.std.specs.Prelude.{◌≡◌, ◌≤◌, ◌+◌, ℕ, length, 
 ghost use Rattle.std.specs.List.{All};
 ghost use Rattle.vw_plan.specs.Good.{IsChip, NoExchangeHelps, NoMoveHelps, cells_on};
 ghost use Rattle.vw_place.specs.Numbering.{IsNodeList, IsRenumbered, moved};
-ghost use Rattle.vw_place.specs.Traffic.{IsTable, way};
+ghost use Rattle.vw_place.specs.Traffic.{IsPairTable, way};
 ghost use Rattle.vw_place.specs.Tries.{NoneIsUseful};
 
 use crate::exchange::exchange;
@@ -39,7 +39,7 @@ fn best_numbers(
     distances: &Distances,
     table: &[u32],
 ) -> Result<Vec<u32>, AllocError>
-    requires table { IsTable table.now }
+    requires table { IsPairTable table.now }
     requires distances { distances.now ≡ board.now }
     ensures list { IfOk result (λ at. IsNodeList board.now at.items) }
     ensures none { IfOk result (λ at. NoneIsUseful (way table.now board.now)

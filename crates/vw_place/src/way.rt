@@ -1,13 +1,13 @@
 //! How far the needed pairs go, all together.
 ghost use Rattle.std.specs.Prelude.{◌≡◌, ◌≤◌, ◌<◌, ◌+◌};
 ghost use Rattle.vw_place.specs.Numbering.{IsNodeList};
-ghost use Rattle.vw_place.specs.Traffic.{IsTable, way, way_between, way_from};
+ghost use Rattle.vw_place.specs.Traffic.{IsPairTable, way, way_between, way_from};
 
 use vw_board::Distances;
 
 /// How far the pairs between two nodes go.
 fn way_between(table: &[u32], distances: &Distances, at: &[u32], from: usize, to: usize) -> u64
-    requires table { IsTable table.now }
+    requires table { IsPairTable table.now }
     requires list { IsNodeList distances.now at.now }
     requires from { from ≤ distances.now.chips }
     requires to { to ≤ distances.now.chips }
@@ -19,7 +19,7 @@ fn way_between(table: &[u32], distances: &Distances, at: &[u32], from: usize, to
 
 /// How far the pairs from a node go.
 fn way_from(table: &[u32], distances: &Distances, at: &[u32], from: usize) -> u64
-    requires table { IsTable table.now }
+    requires table { IsPairTable table.now }
     requires list { IsNodeList distances.now at.now }
     requires from { from ≤ distances.now.chips }
     ensures way { result ≡ way_from table.now distances.now at.now from (distances.now.chips + 1) }
@@ -34,7 +34,7 @@ fn way_from(table: &[u32], distances: &Distances, at: &[u32], from: usize) -> u6
 
 /// How far all pairs go.
 pub fn whole_way(table: &[u32], distances: &Distances, at: &[u32]) -> u64
-    requires table { IsTable table.now }
+    requires table { IsPairTable table.now }
     requires list { IsNodeList distances.now at.now }
     ensures { result ≡ way table.now distances.now at.now }
 {

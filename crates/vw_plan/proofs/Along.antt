@@ -8,9 +8,8 @@ use Rattle.std.proofs.lemmas.List.Sums.{AllPass-from_list_all}
 use Rattle.vw_net.specs.declared.cell.Cell.{Cell}
 use Rattle.vw_net.specs.declared.cell.Cell.TheVariants.{Gate, Latch}
 use Rattle.vw_net.specs.declared.ordered.Ordered.{Ordered}
-use Rattle.vw_net.specs.Order.{is_gate, is_latch, is_among, is_ready, read_nets_at}
-use Rattle.vw_plan.specs.Nets.{driver}
-use Rattle.vw_plan.specs.Ways.{gate_reads}
+use Rattle.vw_net.specs.Order.{is_gate, is_latch, is_among, is_ready, read_nets_at, gate_inputs}
+use Rattle.vw_plan.specs.Nets.{driving_cell}
 
 -- a latch is no gate
 is_gate-latch : (cell : Option Cell) → is_latch cell ≡ true → is_gate cell ≡ false
@@ -19,18 +18,18 @@ is_gate-latch (Some (Gate ins cover)) latch = absurd (true≢false (sym latch))
 is_gate-latch (Some (Latch d init)) latch = refl
 
 -- what holds of all that a cell reads holds of all that it reads as a gate
-pub All-gate_reads : (P : ℕ → Type 0) (cell : Option Cell) → All P (read_nets_at cell) → All P (gate_reads cell)
+pub All-gate_reads : (P : ℕ → Type 0) (cell : Option Cell) → All P (read_nets_at cell) → All P (gate_inputs cell)
 All-gate_reads P None all = all
 All-gate_reads P (Some (Gate ins cover)) all = all
 All-gate_reads P (Some (Latch d init)) all = λ place default within. absurd (omega arith)
 
 -- what is no gate reads nothing as a gate
-All-no_gate : (P : ℕ → Type 0) (cell : Option Cell) → is_gate cell ≡ false → All P (gate_reads cell)
+All-no_gate : (P : ℕ → Type 0) (cell : Option Cell) → is_gate cell ≡ false → All P (gate_inputs cell)
 All-no_gate P None no_gate = λ place default within. absurd (omega arith)
 All-no_gate P (Some (Gate ins cover)) no_gate = absurd (true≢false no_gate)
 All-no_gate P (Some (Latch d init)) no_gate = λ place default within. absurd (omega arith)
 
-module _ (ordered : Ordered) (P : ℕ → ℕ → Type 0) (later : (from to net : ℕ) → from ≤ to → P from net → P to net) (step : (from net : ℕ) → All (P from) (gate_reads (driver ordered.flat net)) → P (suc from) net) where
+module _ (ordered : Ordered) (P : ℕ → ℕ → Type 0) (later : (from to net : ℕ) → from ≤ to → P from net → P to net) (step : (from net : ℕ) → All (P from) (gate_inputs (driving_cell ordered.flat net)) → P (suc from) net) where
   abbrev inputs : ℕ
   inputs = ordered.flat.inputs
 
@@ -42,14 +41,14 @@ module _ (ordered : Ordered) (P : ℕ → ℕ → Type 0) (later : (from to net 
 
   -- a net has it one round later than all that the cell reads at whose number it is
   by_reads : (from net : ℕ) → All (P from) (read_nets_at (slice_get cells (net - inputs))) → P (suc from) net
-  by_reads from net all = step from net (elim (nat_lt net inputs) as (λ input. All (P from) (gate_reads (if input then None else slice_get cells (net - inputs)))) [
+  by_reads from net all = step from net (elim (nat_lt net inputs) as (λ input. All (P from) (gate_inputs (if input then None else slice_get cells (net - inputs)))) [
     | true ↦ λ place default within. absurd (omega arith)
     | false ↦ All-gate_reads (P from) (slice_get cells (net - inputs)) all
   ])
 
   -- what isn't driven by a gate has it after one round
   by_no_gate : (net : ℕ) → is_gate (slice_get cells (net - inputs)) ≡ false → P 1 net
-  by_no_gate net no_gate = step 0 net (elim (nat_lt net inputs) as (λ input. All (P 0) (gate_reads (if input then None else slice_get cells (net - inputs)))) [
+  by_no_gate net no_gate = step 0 net (elim (nat_lt net inputs) as (λ input. All (P 0) (gate_inputs (if input then None else slice_get cells (net - inputs)))) [
     | true ↦ λ place default within. absurd (omega arith)
     | false ↦ All-no_gate (P 0) (slice_get cells (net - inputs)) no_gate
   ])

@@ -7,19 +7,19 @@ use Rattle.vw_net.specs.declared.cell.Cell.{Cell}
 use Rattle.vw_net.specs.declared.cell.Cell.TheVariants.{Gate, Latch}
 use Rattle.vw_net.specs.declared.flat.Flat.{Flat}
 use Rattle.vw_net.specs.declared.ordered.Ordered.{Ordered}
-use Rattle.vw_net.specs.Order.{is_among}
+use Rattle.vw_net.specs.Order.{is_among, gate_inputs}
 use Rattle.vw_net.proofs.Orders.{length-order}
-use Rattle.vw_plan.specs.Lead.{greatest}
+use Rattle.vw_net.specs.Lists.{greatest}
 use Rattle.vw_plan.specs.Needs.{crossing, depth, driven_depth, level_depth}
-use Rattle.vw_plan.specs.Nets.{driver, node_of}
-use Rattle.vw_plan.specs.Ways.{IsDeepest, IsInlet, IsWayBack, gate_reads, is_read_by}
+use Rattle.vw_plan.specs.Nets.{driving_cell, node_of}
+use Rattle.vw_plan.specs.Ways.{IsDeepest, IsInlet, IsWayBack, is_read_by}
 use Rattle.vw_plan.proofs.Along.{every_net}
 use Rattle.vw_plan.proofs.Leads.{map_agree}
 
 -- ---- what a cell gives its net
 
 -- it depends on the nets that a gate reads, and on no other
-pub driven_depth_agree : (one other : ℕ → ℕ) (cell : Option Cell) → All (λ net. one net ≡ other net) (gate_reads cell) → driven_depth one cell ≡ driven_depth other cell
+pub driven_depth_agree : (one other : ℕ → ℕ) (cell : Option Cell) → All (λ net. one net ≡ other net) (gate_inputs cell) → driven_depth one cell ≡ driven_depth other cell
 driven_depth_agree one other None agree = refl
 driven_depth_agree one other (Some (Gate ins cover)) agree = ap greatest (map_agree one other ins agree)
 driven_depth_agree one other (Some (Latch d init)) agree = refl
@@ -32,7 +32,7 @@ among_greatest f (first ∷ nets) net among =
     let if_later = λ (there : is_among nets net ≡ true). let below : f net ≤ max (f first) (greatest (map f nets)) = omega (arith, among_greatest f nets net there) in below in
     ⊎_elim if_first if_later (or_cases (eqb first net) (is_among nets net) among)
 
-driven_least : (f : ℕ → ℕ) (cell : Option Cell) (net : ℕ) → is_among (gate_reads cell) net ≡ true → f net ≤ driven_depth f cell
+driven_least : (f : ℕ → ℕ) (cell : Option Cell) (net : ℕ) → is_among (gate_inputs cell) net ≡ true → f net ≤ driven_depth f cell
 driven_least f None net among = absurd (true≢false (sym among))
 driven_least f (Some (Gate ins cover)) net among = among_greatest f ins net among
 driven_least f (Some (Latch d init)) net among = absurd (true≢false (sym among))
@@ -60,7 +60,7 @@ greatest_attained f P (first ∷ nets) all =
     or-true true = refl
     or-true false = refl
 
-driven_attained : (f : ℕ → ℕ) (P : ℕ → Type 0) (cell : Option Cell) → All P (gate_reads cell) → (driven_depth f cell ≡ 0) ⊎ Attained f P (gate_reads cell) (driven_depth f cell)
+driven_attained : (f : ℕ → ℕ) (P : ℕ → Type 0) (cell : Option Cell) → All P (gate_inputs cell) → (driven_depth f cell ≡ 0) ⊎ Attained f P (gate_inputs cell) (driven_depth f cell)
 driven_attained f P None all = inl refl
 driven_attained f P (Some (Gate ins cover)) all = greatest_attained f P ins all
 driven_attained f P (Some (Latch d init)) all = inl refl
@@ -82,7 +82,7 @@ crossing_small flat chip_of net read = elim (eqb (node_of flat chip_of read) (no
 level_depth-small : (level : ℕ) (flat : Flat) (chip_of : List ℕ) (net : ℕ) → level_depth level flat chip_of net ≤ level
 level_depth-small zero flat chip_of net = omega arith
 level_depth-small (suc level) flat chip_of net =
-    driven_small (λ read. level_depth level flat chip_of read + crossing flat chip_of net read) (suc level) (λ read. omega (arith, level_depth-small level flat chip_of read, crossing_small flat chip_of net read)) (driver flat net)
+    driven_small (λ read. level_depth level flat chip_of read + crossing flat chip_of net read) (suc level) (λ read. omega (arith, level_depth-small level flat chip_of read, crossing_small flat chip_of net read)) (driving_cell flat net)
 
 pub depth-small : (flat : Flat) (chip_of : List ℕ) (net : ℕ) → depth flat chip_of net ≤ length flat.cells + 1
 unfolding depth
@@ -99,15 +99,15 @@ module _ (ordered : Ordered) (chip_of : List ℕ) where
   settled_later from to net after settled = record { same = λ one other one_late other_late. settled.same one other (omega arith) (omega arith) }
 
   -- a net is settled one level up if the nets that its gate reads are settled
-  reads_settled : (from net : ℕ) → All (IsSettled from) (gate_reads (driver ordered.flat net)) → IsSettled (suc from) net
+  reads_settled : (from net : ℕ) → All (IsSettled from) (gate_inputs (driving_cell ordered.flat net)) → IsSettled (suc from) net
   reads_settled from net settled = record { same = same_above } where
     same_above : (one other : ℕ) → suc from ≤ one → suc from ≤ other → level_depth one ordered.flat chip_of net ≡ level_depth other ordered.flat chip_of net
     same_above zero other one_late other_late = absurd (omega arith)
     same_above (suc one) zero one_late other_late = absurd (omega arith)
     same_above (suc one) (suc other) one_late other_late =
         let at = λ (level read : ℕ). level_depth level ordered.flat chip_of read + crossing ordered.flat chip_of net read in
-        let reads = gate_reads (driver ordered.flat net) in
-        driven_depth_agree (at one) (at other) (driver ordered.flat net) (λ place default within. ap (λ (number : ℕ). number + crossing ordered.flat chip_of net (get_or reads place default)) ((settled place default within).same one other (omega arith) (omega arith)))
+        let reads = gate_inputs (driving_cell ordered.flat net) in
+        driven_depth_agree (at one) (at other) (driving_cell ordered.flat net) (λ place default within. ap (λ (number : ℕ). number + crossing ordered.flat chip_of net (get_or reads place default)) ((settled place default within).same one other (omega arith) (omega arith)))
 
   -- following more drivers in a row than there are cells changes no depth
   level_depth-past_cells : (level net : ℕ) → length ordered.flat.cells + 1 ≤ level → level_depth level ordered.flat chip_of net ≡ depth ordered.flat chip_of net
@@ -121,17 +121,17 @@ module _ (ordered : Ordered) (chip_of : List ℕ) where
   depth_at net read = depth ordered.flat chip_of read + crossing ordered.flat chip_of net read
 
   -- the depth of a net is that of what drives it
-  pub depth-by_driver : (net : ℕ) → depth ordered.flat chip_of net ≡ driven_depth (depth_at net) (driver ordered.flat net)
+  pub depth-by_driver : (net : ℕ) → depth ordered.flat chip_of net ≡ driven_depth (depth_at net) (driving_cell ordered.flat net)
   depth-by_driver net =
       let level = length ordered.flat.cells + 1 in
       let above = level_depth-past_cells (suc level) net (omega arith) in
-      sym above ∙ ap (λ (depth_of : ℕ → ℕ). driven_depth (λ read. depth_of read + crossing ordered.flat chip_of net read) (driver ordered.flat net)) (fun_ext (λ other. level_depth-past_cells level other (omega arith)))
+      sym above ∙ ap (λ (depth_of : ℕ → ℕ). driven_depth (λ read. depth_of read + crossing ordered.flat chip_of net read) (driving_cell ordered.flat net)) (fun_ext (λ other. level_depth-past_cells level other (omega arith)))
 
   -- ---- inlets
 
   -- a gate's net is at least as deep as a net that it reads
   read_below : (net read : ℕ) → is_read_by ordered.flat net read ≡ true → depth_at net read ≤ depth ordered.flat chip_of net
-  read_below net read is_read = omega (arith, depth-by_driver net, driven_least (depth_at net) (driver ordered.flat net) read is_read)
+  read_below net read is_read = omega (arith, depth-by_driver net, driven_least (depth_at net) (driving_cell ordered.flat net) read is_read)
 
   -- so it is deeper than each inlet
   inlet_below : (net : ℕ) (nets : List ℕ) (end inlet : ℕ) → IsWayBack ordered.flat chip_of net nets end → is_read_by ordered.flat end inlet ≡ true → (node_of ordered.flat chip_of inlet ≡ node_of ordered.flat chip_of end → ⊥) → depth ordered.flat chip_of inlet + 1 ≤ depth ordered.flat chip_of net
@@ -146,7 +146,7 @@ module _ (ordered : Ordered) (chip_of : List ℕ) where
   Reached net = (depth ordered.flat chip_of net ≡ 0) ⊎ ((inlet : ℕ) × IsInlet ordered.flat chip_of net inlet × (depth ordered.flat chip_of net ≡ depth ordered.flat chip_of inlet + 1))
 
   -- as the net that gives the greatest depth comes from another node, or has an inlet itself
-  reached_by : (net : ℕ) → Attained (depth_at net) Reached (gate_reads (driver ordered.flat net)) (driven_depth (depth_at net) (driver ordered.flat net)) → Reached net
+  reached_by : (net : ℕ) → Attained (depth_at net) Reached (gate_inputs (driving_cell ordered.flat net)) (driven_depth (depth_at net) (driving_cell ordered.flat net)) → Reached net
   reached_by net found =
       let read = found.net in
       let is : depth ordered.flat chip_of net ≡ depth_at net read = depth-by_driver net ∙ found.is in
@@ -162,10 +162,10 @@ module _ (ordered : Ordered) (chip_of : List ℕ) where
       let got : Reached net = inr (read, record { nets = []; end = net; way = refl; read = found.among; crosses = other }, omega (arith, is, one)) in got in
       ⊎_elim if_same if_other (cases_eq (node_of ordered.flat chip_of read) (node_of ordered.flat chip_of net))
 
-  reached_step : (from net : ℕ) → All Reached (gate_reads (driver ordered.flat net)) → Reached net
+  reached_step : (from net : ℕ) → All Reached (gate_inputs (driving_cell ordered.flat net)) → Reached net
   reached_step from net all =
-      let if_none = λ (none : driven_depth (depth_at net) (driver ordered.flat net) ≡ 0). let got : Reached net = inl (depth-by_driver net ∙ none) in got in
-      ⊎_elim if_none (reached_by net) (driven_attained (depth_at net) Reached (driver ordered.flat net) all)
+      let if_none = λ (none : driven_depth (depth_at net) (driving_cell ordered.flat net) ≡ 0). let got : Reached net = inl (depth-by_driver net ∙ none) in got in
+      ⊎_elim if_none (reached_by net) (driven_attained (depth_at net) Reached (driving_cell ordered.flat net) all)
 
   -- the depth of a net is one more than the greatest of its inlets, or 0 where it has none
   pub depth_is_deepest : (net : ℕ) → IsDeepest ordered.flat chip_of net (depth ordered.flat chip_of net)

@@ -5,10 +5,11 @@ use Rattle.std.proofs.lemmas.List.Elements.{All-head, All-tail}
 use Rattle.vw_net.specs.declared.cell.Cell.{Cell}
 use Rattle.vw_net.specs.declared.cell.Cell.TheVariants.{Gate, Latch}
 use Rattle.vw_net.proofs.Orders.{length-order}
-use Rattle.vw_plan.specs.Nets.{driver}
+use Rattle.vw_plan.specs.Nets.{driving_cell}
 use Rattle.vw_plan.specs.Setting.{Setting, home}
-use Rattle.vw_plan.specs.Lead.{greatest, driven_lead, level_lead, lead, brought_at}
-use Rattle.vw_plan.specs.Ways.{gate_reads}
+use Rattle.vw_plan.specs.Lead.{driven_lead, level_lead, lead, brought_at}
+use Rattle.vw_net.specs.Lists.{greatest}
+use Rattle.vw_net.specs.Order.{gate_inputs}
 use Rattle.vw_plan.proofs.Along.{every_net}
 
 -- two ways to give nets leads that agree on each of these nets give one list
@@ -20,7 +21,7 @@ map_agree one other (net ∷ nets) agree =
     ap₂ (λ (first : ℕ) (more : List ℕ). first ∷ more) here (map_agree one other nets rest)
 
 -- what a cell gives its net depends on the nets that a gate reads, and on no other
-driven_lead_agree : (one other : ℕ → ℕ) (cell : Option Cell) → All (λ net. one net ≡ other net) (gate_reads cell) → driven_lead one cell ≡ driven_lead other cell
+driven_lead_agree : (one other : ℕ → ℕ) (cell : Option Cell) → All (λ net. one net ≡ other net) (gate_inputs cell) → driven_lead one cell ≡ driven_lead other cell
 driven_lead_agree one other None agree = refl
 driven_lead_agree one other (Some (Gate ins cover)) agree = ap greatest (map_agree one other ins agree)
 driven_lead_agree one other (Some (Latch d init)) agree = refl
@@ -38,13 +39,13 @@ module _ (setting : Setting) (node : ℕ) where
   settled_later from to net after settled = record { same = λ one other one_late other_late. settled.same one other (omega arith) (omega arith) }
 
   -- a net is settled one level up if the nets that its gate reads are settled
-  reads_settled : (from net : ℕ) → All (IsSettled from) (gate_reads (driver setting.ordered.flat net)) → IsSettled (suc from) net
+  reads_settled : (from net : ℕ) → All (IsSettled from) (gate_inputs (driving_cell setting.ordered.flat net)) → IsSettled (suc from) net
   reads_settled from net settled = record { same = same_above } where
     same_above : (one other : ℕ) → suc from ≤ one → suc from ≤ other → level_lead one setting node net ≡ level_lead other setting node net
     same_above zero other one_late other_late = absurd (omega arith)
     same_above (suc one) zero one_late other_late = absurd (omega arith)
     same_above (suc one) (suc other) one_late other_late =
-        let driven = driven_lead_agree (level_lead one setting node) (level_lead other setting node) (driver setting.ordered.flat net) (λ place default within. (settled place default within).same one other (omega arith) (omega arith)) in
+        let driven = driven_lead_agree (level_lead one setting node) (level_lead other setting node) (driving_cell setting.ordered.flat net) (λ place default within. (settled place default within).same one other (omega arith) (omega arith)) in
         ap (λ (own : ℕ). if eqb (home setting net) node then own else brought_at setting node net) driven
 
   -- following more drivers in a row than there are cells changes no lead
@@ -56,8 +57,8 @@ module _ (setting : Setting) (node : ℕ) where
       (every_net ordered IsSettled settled_later reads_settled net).same level (length cells + 1) (omega arith) (omega arith)
 
   -- the lead of a net is that of what drives it at its own node, and elsewhere one past its arrival
-  pub lead-by_driver : (net : ℕ) → lead setting node net ≡ (if eqb (home setting net) node then driven_lead (lead setting node) (driver setting.ordered.flat net) else brought_at setting node net)
+  pub lead-by_driver : (net : ℕ) → lead setting node net ≡ (if eqb (home setting net) node then driven_lead (lead setting node) (driving_cell setting.ordered.flat net) else brought_at setting node net)
   lead-by_driver net =
       let level = length cells + 1 in
       let above = level_lead-past_cells (suc level) net (omega arith) in
-      sym above ∙ ap (λ (lead_at : ℕ → ℕ). if eqb (home setting net) node then driven_lead lead_at (driver setting.ordered.flat net) else brought_at setting node net) (fun_ext (λ other. level_lead-past_cells level other (omega arith)))
+      sym above ∙ ap (λ (lead_at : ℕ → ℕ). if eqb (home setting net) node then driven_lead lead_at (driving_cell setting.ordered.flat net) else brought_at setting node net) (fun_ext (λ other. level_lead-past_cells level other (omega arith)))

@@ -6,7 +6,8 @@ use Rattle.vw_plan.specs.declared.board.Board.{Board}
 use Rattle.vw_plan.specs.declared.plan.Plan.{Plan}
 use Rattle.vw_plan.specs.declared.wire.Hop.{Hop}
 use Rattle.vw_plan.specs.declared.wire.Wire.{Wire}
-use Rattle.vw_plan.specs.Lead.{after_last, arrival, greatest, usable}
+use Rattle.vw_plan.specs.Lead.{after_last, arrival, usable}
+use Rattle.vw_net.specs.Lists.{greatest}
 use Rattle.vw_plan.specs.Needs.{depth}
 use Rattle.vw_plan.specs.Setting.{Setting, setting_of, home}
 use Rattle.vw_plan.specs.Sound.{IsSound, has_pin, hops_of, share_pin}

@@ -1,5 +1,6 @@
 -- When a net has its value at a node. Source: the rules of a virtual wire (a wire may be sent only after the values that
 -- it depends on have arrived), as this project states them.
+use Rattle.vw_net.specs.Lists.{greatest}
 use Rattle.std.specs.Prelude.{◌==◌, ◌+◌, ℕ, zero, suc, Bool, ◌&&◌, List, [], ◌∷◌, length, map, max, Option, Some, None, if◌then◌else◌}
 use Rattle.std.specs.List.{find}
 use Rattle.std.specs.Option.{option_map_or}
@@ -9,7 +10,7 @@ use Rattle.vw_net.specs.Order.{is_gate}
 use Rattle.vw_plan.specs.declared.board.Board.{Board}
 use Rattle.vw_plan.specs.declared.wire.Hop.{Hop}
 use Rattle.vw_plan.specs.declared.wire.Wire.{Wire}
-use Rattle.vw_plan.specs.Nets.{driver}
+use Rattle.vw_plan.specs.Nets.{driving_cell}
 use Rattle.vw_plan.specs.Setting.{Setting, home}
 
 -- the microcycle in which the bit of a hop arrives: the one in which it is sent
@@ -30,11 +31,6 @@ brings net node wire = wire.net == net && wire.to == node
 abbrev pub brought_at : Setting → ℕ → ℕ → ℕ
 brought_at setting node net = option_map_or (λ wire. after_last setting.board wire.hops) (find (brings net node) setting.plan.wires) 0
 
--- the greatest of some numbers, 0 where there is none
-abbrev pub greatest : List ℕ → ℕ
-greatest [] = 0
-greatest (number ∷ numbers) = max number (greatest numbers)
-
 -- the lead of what a node drives itself: 0 for an input or a latch, and for a gate the greatest lead of its inputs
 abbrev pub driven_lead : (ℕ → ℕ) → Option Cell → ℕ
 driven_lead lead_at None = 0
@@ -45,7 +41,7 @@ driven_lead lead_at (Some (Latch d init)) = 0
 abbrev pub level_lead : ℕ → Setting → ℕ → ℕ → ℕ
 level_lead zero setting node net = 0
 level_lead (suc level) setting node net =
-    if home setting net == node then driven_lead (level_lead level setting node) (driver setting.ordered.flat net)
+    if home setting net == node then driven_lead (level_lead level setting node) (driving_cell setting.ordered.flat net)
     else brought_at setting node net
 
 -- the lead of a net at a node: the microcycle from which on what the net rests on is there. One level more than there
@@ -55,7 +51,7 @@ lead setting node net = level_lead (length setting.ordered.flat.cells + 1) setti
 
 -- whether a net is a gate's, and the gate is on this node
 abbrev pub is_gate_at : Setting → ℕ → ℕ → Bool
-is_gate_at setting node net = is_gate (driver setting.ordered.flat net) && home setting net == node
+is_gate_at setting node net = is_gate (driving_cell setting.ordered.flat net) && home setting net == node
 
 -- the microcycle from which on a node can use a net: a gate on the node needs time to settle
 abbrev pub usable : Setting → ℕ → ℕ → ℕ

@@ -5,8 +5,8 @@ use Rattle.vw_net.specs.declared.cell.Cell.{Cell}
 use Rattle.vw_net.specs.declared.cell.Cell.TheVariants.{Gate, Latch}
 use Rattle.vw_net.specs.declared.flat.Flat.{Flat}
 use Rattle.vw_plan.specs.declared.need.Need.{Need}
-use Rattle.vw_plan.specs.Lead.{greatest}
-use Rattle.vw_plan.specs.Nets.{driver, is_needed, node_of}
+use Rattle.vw_net.specs.Lists.{greatest}
+use Rattle.vw_plan.specs.Nets.{driving_cell, is_needed, node_of}
 
 -- the nodes at which a net is needed, by their numbers; no node above the greatest chip has cells
 abbrev pub needed_nodes : Flat → List ℕ → ℕ → List ℕ
@@ -30,7 +30,7 @@ driven_depth depth_of (Some (Latch d init)) = 0
 abbrev pub level_depth : ℕ → Flat → List ℕ → ℕ → ℕ
 level_depth zero flat chip_of net = 0
 level_depth (suc level) flat chip_of net =
-    driven_depth (λ read. level_depth level flat chip_of read + crossing flat chip_of net read) (driver flat net)
+    driven_depth (λ read. level_depth level flat chip_of read + crossing flat chip_of net read) (driving_cell flat net)
 
 -- the depth of a net, and of each pair of it: how many wires must come one after the other, within one clock, before the
 -- net has its value. 0 for an input or a latch. One level more than there are cells is enough, since gates don't read in

@@ -8,8 +8,8 @@ use Rattle.vw_net.specs.Cells.{read_nets}
 use Rattle.vw_net.specs.Order.{is_among}
 
 -- what drives a net: nothing where it is an input, else a cell
-abbrev pub driver : Flat → ℕ → Option Cell
-driver flat net = if nat_lt net flat.inputs then None else slice_get flat.cells (net - flat.inputs)
+abbrev pub driving_cell : Flat → ℕ → Option Cell
+driving_cell flat net = if nat_lt net flat.inputs then None else slice_get flat.cells (net - flat.inputs)
 
 -- the node of a net, given the chip of each cell: the host where it is an input, else the chip of the cell that drives it
 abbrev pub node_of : Flat → List ℕ → ℕ → ℕ

@@ -3,19 +3,13 @@ use Rattle.std.specs.Prelude.{◌≡◌, ◌≢◌, ◌≤◌, ◌+◌, ◌⊎�
 use Rattle.vw_net.specs.declared.cell.Cell.{Cell}
 use Rattle.vw_net.specs.declared.cell.Cell.TheVariants.{Gate, Latch}
 use Rattle.vw_net.specs.declared.flat.Flat.{Flat}
-use Rattle.vw_net.specs.Order.{is_among}
+use Rattle.vw_net.specs.Order.{is_among, gate_inputs}
 use Rattle.vw_plan.specs.Needs.{depth}
-use Rattle.vw_plan.specs.Nets.{driver, node_of}
-
--- the nets that a gate reads; an input and a latch rest on none within a clock
-abbrev pub gate_reads : Option Cell → List ℕ
-gate_reads None = []
-gate_reads (Some (Gate ins cover)) = ins
-gate_reads (Some (Latch d init)) = []
+use Rattle.vw_plan.specs.Nets.{driving_cell, node_of}
 
 -- whether a net is a gate's that reads another net
 abbrev pub is_read_by : Flat → ℕ → ℕ → Bool
-is_read_by flat net read = is_among (gate_reads (driver flat net)) read
+is_read_by flat net read = is_among (gate_inputs (driving_cell flat net)) read
 
 -- a way back over gates of one node: each of these nets is of the node, and is read by the gate of the one before it,
 -- the first of them by that of the net; the last of them is where the way ends

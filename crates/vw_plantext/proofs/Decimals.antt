@@ -9,13 +9,13 @@ use Rattle.std.proofs.lemmas.Fmt.{digits_decimal, digits_value-decimal, decimal-
 use Rattle.std.proofs.lemmas.Str.Parse.{IsNumeralModel, numerals_by_fold}
 use Rattle.std.proofs.lemmas.List.Sums.{AllPass-from_list_all}
 use Rattle.vw_text.proofs.NumberWords.{number_spelled}
-use Rattle.vw_text.specs.Number.{is_digit, is_number, value_from, number_of}
+use Rattle.vw_text.specs.Number.{is_digit, is_number, value_from, spelled_number}
 
 own : IsNumeralModel (λ digits. list_all is_digit digits ≡ true) (value_from 0)
 own = numerals_by_fold _ (search rules) value_from (search rules)
 
 -- a number below 2 ^ 64 is read back
-pub number_of-decimal : (number : ℕ) → number < 2 ^ 64 → number_of (decimal number) ≡ Some number
+pub number_of-decimal : (number : ℕ) → number < 2 ^ 64 → spelled_number (decimal number) ≡ Some number
 number_of-decimal number small =
     let digits = digits_decimal own number small in
     let value : value_from 0 (decimal number) ≡ number = digits_value-decimal own number small in
@@ -57,7 +57,7 @@ found_decimal word number true passes found =
     let are : AreDigits word = digits_from word parts.0 in
     record { is = sym (decimal-digits_value own word are.digits are.some are.first small) ∙ ap decimal value; small = omega arith }
 
-pub decimal-number_of : (word : List ℕ) (number : ℕ) → number_of word ≡ Some number → IsDecimal word number
+pub decimal-number_of : (word : List ℕ) (number : ℕ) → spelled_number word ≡ Some number → IsDecimal word number
 decimal-number_of word number found = found_decimal word number (is_number word && nat_lt (value_from 0 word) (2 ^ 64)) refl found
 
 -- no byte of it is below `0`, so none is a space or the end of a line

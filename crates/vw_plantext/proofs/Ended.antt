@@ -9,20 +9,20 @@ use Rattle.vw_plantext.specs.declared.fault.PlanTextFault.{PlanTextFault}
 use Rattle.vw_plantext.specs.Content.{Content, hop_count, IsInRange}
 use Rattle.vw_plantext.specs.Grammar.{body_lines, plan_lines, spelling}
 use Rattle.vw_plantext.specs.CanStand.{CanStand, IsFirstBadLine}
-use Rattle.vw_plantext.specs.Steps.Cuts.{IsOneLine, IsCut}
-use Rattle.vw_plantext.specs.Steps.Bodies.{Part, State, FollowsWires, IsLeft, part_hops, part_count, is_complete, is_complete_but, RefusesLine}
-use Rattle.vw_plantext.specs.Steps.Starts.{IsReadTo, IsFaultOf}
-use Rattle.vw_plantext.specs.Steps.Finished.{content_read, Ends, EndsBadly, IsSpelled}
+use Rattle.vw_plantext.specs.Steps.Cuts.{IsOneLine, IsLineCut}
+use Rattle.vw_plantext.specs.Steps.Bodies.{UnfinishedWire, State, FollowsWires, IsLeft, part_hops, part_count, is_complete, is_complete_but, RefusesLine}
+use Rattle.vw_plantext.specs.Steps.Starts.{IsReadTo, IsFaultOfText}
+use Rattle.vw_plantext.specs.Steps.Finished.{content_read, EndsPlan, EndsBadly, IsSpelled}
 use Rattle.vw_plantext.proofs.Taken.{moved}
 use Rattle.vw_plantext.proofs.Faults.{first_bad}
 use Rattle.vw_plantext.proofs.Reached.{whole_more, fault_line}
 
 -- no wire is being read, and none is left
-record IsComplete (part : Option Part) (left : ℕ) : Type 0 where
+record IsComplete (part : Option UnfinishedWire) (left : ℕ) : Type 0 where
   none : part ≡ None
   all : left ≡ 0
 
-complete_parts : (part : Option Part) (left : ℕ) → is_complete_but part left ≡ true → IsComplete part left
+complete_parts : (part : Option UnfinishedWire) (left : ℕ) → is_complete_but part left ≡ true → IsComplete part left
 complete_parts None left is = record { none = refl; all = eqb-true left 0 is }
 complete_parts (Some part) left is = absurd (true≢false (sym is))
 
@@ -33,7 +33,7 @@ only_end left done all lines none follows = by_rest follows.rest follows.count f
   by_rest [] size are = are
   by_rest (wire ∷ rest) size are = absurd (omega arith)
 
-module _ (text : List ℕ) (state : State) (rest : List ℕ) (number : ℕ) (to : IsReadTo text state rest number) (complete : is_complete state ≡ true) (line after : List ℕ) (cut : IsCut rest line after) where
+module _ (text : List ℕ) (state : State) (rest : List ℕ) (number : ℕ) (to : IsReadTo text state rest number) (complete : is_complete state ≡ true) (line after : List ℕ) (cut : IsLineCut rest line after) where
   are : IsComplete state.part state.left
   are = complete_parts state.part state.left complete
 
@@ -48,8 +48,8 @@ module _ (text : List ℕ) (state : State) (rest : List ℕ) (number : ℕ) (to 
 
   in_range : IsInRange (content_read state)
   in_range =
-      let few : length state.wires + (0 + state.left) < 2 ^ 32 = subst (λ (p : Option Part). length state.wires + (part_count p + state.left) < 2 ^ 32) are.none to.read.fits.few_wires in
-      let hops : hop_count state.wires + (0 + (state.room + 1)) ≡ 2 ^ 30 = subst (λ (p : Option Part). hop_count state.wires + (part_hops p + (state.room + 1)) ≡ 2 ^ 30) are.none to.read.fits.hops in
+      let few : length state.wires + (0 + state.left) < 2 ^ 32 = subst (λ (p : Option UnfinishedWire). length state.wires + (part_count p + state.left) < 2 ^ 32) are.none to.read.fits.few_wires in
+      let hops : hop_count state.wires + (0 + (state.room + 1)) ≡ 2 ^ 30 = subst (λ (p : Option UnfinishedWire). hop_count state.wires + (part_hops p + (state.room + 1)) ≡ 2 ^ 30) are.none to.read.fits.hops in
       record { few_cells = to.read.fits.few_cells; few_wires = omega arith; few_hops = omega arith; chips = to.read.fits.chips; wires = to.read.fits.wires; short = to.read.fits.short }
 
   -- the text is all there
@@ -81,10 +81,10 @@ module _ (text : List ℕ) (state : State) (rest : List ℕ) (number : ℕ) (to 
       let same : line ≡ codes "end" = cc in
       other same
 
-  pub spelled_at_end : (result : Result Plan PlanTextFault) → IfOk result (Ends state line after) → IfOk result (IsSpelled text)
+  pub spelled_at_end : (result : Result Plan PlanTextFault) → IfOk result (EndsPlan state line after) → IfOk result (IsSpelled text)
   spelled_at_end (Err fault) ends = tt
   spelled_at_end (Ok plan) ends = record { in_range = subst IsInRange (sym ends.is) in_range; spelled = ap spelling ends.is ∙ end_spelled ends.line_ ends.nothing }
 
-  pub fault_at_end : (result : Result Plan PlanTextFault) → IfErr result (EndsBadly line after number) → IfErr result (IsFaultOf text)
+  pub fault_at_end : (result : Result Plan PlanTextFault) → IfErr result (EndsBadly line after number) → IfErr result (IsFaultOfText text)
   fault_at_end (Ok plan) ends = tt
-  fault_at_end (Err fault) ends = ⊎_elim (λ more. subst (IsFaultOf text) (sym more.0) (end_more more.1 more.2)) (λ other. subst (IsFaultOf text) (sym other.0) (fault_line text state rest number to line after cut (other_refused other.1))) ends
+  fault_at_end (Err fault) ends = ⊎_elim (λ more. subst (IsFaultOfText text) (sym more.0) (end_more more.1 more.2)) (λ other. subst (IsFaultOfText text) (sym other.0) (fault_line text state rest number to line after cut (other_refused other.1))) ends

@@ -7,7 +7,7 @@ use Rattle.vw_text.specs.Physical.{lines_text}
 use Rattle.vw_plantext.specs.Content.{Content, IsInRange}
 use Rattle.vw_plantext.specs.Grammar.{plan_lines, spelling}
 use Rattle.vw_plantext.specs.CanStand.{CanStand, IsFirstBadLine}
-use Rattle.vw_plantext.specs.Steps.Cuts.{IsOneLine, IsCut}
+use Rattle.vw_plantext.specs.Steps.Cuts.{IsOneLine, IsLineCut}
 use Rattle.vw_plantext.proofs.Ends.{AreLines, IsMore, lines_within, SameCut, cut_once}
 use Rattle.vw_plantext.proofs.Lines.{plan_lines_are}
 
@@ -53,7 +53,7 @@ module _ (text : List ℕ) (lines : List (List ℕ)) (rest : List ℕ) (number :
   no_further_line one_line incomplete = first_bad (λ next after is next_line. absurd (no_end next after (subst IsOneLine is one_line))) (λ content fits all none. incomplete content fits all)
 
   -- the next line can't stand there
-  pub bad_line : (line after : List ℕ) → IsCut rest line after → ¬ (CanStand (lines ++ line ∷ [])) → IsFirstBadLine text number
+  pub bad_line : (line after : List ℕ) → IsLineCut rest line after → ¬ (CanStand (lines ++ line ∷ [])) → IsFirstBadLine text number
   bad_line line after cut can_not = first_bad no_next (λ content fits all none. not_empty line after (sym cut.whole ∙ none)) where
     not_empty : (front behind : List ℕ) → front ++ 10 ∷ behind ≡ [] → ⊥
     not_empty [] behind empty = cc

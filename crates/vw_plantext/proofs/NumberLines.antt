@@ -7,9 +7,9 @@ use Rattle.std.specs.Str.{bytes_eq}
 use Rattle.std.proofs.lemmas.Bool.{and_parts}
 use Rattle.std.proofs.lemmas.List.Elements.{All-head, All-tail, All-nil, All-cons}
 use Rattle.std.proofs.lemmas.List.Splits.{slice_split_at, slice_split_none, join_with_byte-slice_split}
-use Rattle.vw_text.specs.Number.{number_of}
+use Rattle.vw_text.specs.Number.{spelled_number}
 use Rattle.vw_plantext.specs.Grammar.{numbers_text, number_line}
-use Rattle.vw_plantext.specs.Steps.Words.{words_of, with_first, numbers_of, numbers_behind, line_numbers}
+use Rattle.vw_plantext.specs.Steps.Words.{words_between_spaces, with_next_number, numbers_of, numbers_behind, line_numbers}
 use Rattle.vw_plantext.proofs.Decimals.{number_of-decimal, IsDecimal, decimal-number_of, decimal_above}
 
 -- a word has no space
@@ -24,8 +24,8 @@ no_space : (number : ℕ) → number < 2 ^ 64 → HasNoSpace (decimal number)
 no_space number small place default within = let above : 48 ≤ get_or (decimal number) place default = decimal_above number small place default within in ne_eqb (get_or (decimal number) place default) 32 (λ same. omega arith)
 
 -- a word and numbers are cut into the word and their digits
-words_of-number_line : (word : List ℕ) (numbers : List ℕ) → HasNoSpace word → AreSmall numbers → words_of (word ++ numbers_text numbers) ≡ word ∷ map decimal numbers
-words_of-number_line word [] plain small = ap words_of (append-nil word) ∙ slice_split_none (λ b. b == 32) word plain
+words_of-number_line : (word : List ℕ) (numbers : List ℕ) → HasNoSpace word → AreSmall numbers → words_between_spaces (word ++ numbers_text numbers) ≡ word ∷ map decimal numbers
+words_of-number_line word [] plain small = ap words_between_spaces (append-nil word) ∙ slice_split_none (λ b. b == 32) word plain
 words_of-number_line word (number ∷ numbers) plain small =
     let here : number < 2 ^ 64 = All-head (λ n. n < 2 ^ 64) number numbers small in
     let rest : AreSmall numbers = All-tail (λ n. n < 2 ^ 64) number numbers small in
@@ -35,9 +35,9 @@ words_of-number_line word (number ∷ numbers) plain small =
 numbers_of-decimals : (numbers : List ℕ) → AreSmall numbers → numbers_of (map decimal numbers) ≡ Some numbers
 numbers_of-decimals [] small = refl
 numbers_of-decimals (number ∷ numbers) small =
-    let here : number_of (decimal number) ≡ Some number = number_of-decimal number (All-head (λ n. n < 2 ^ 64) number numbers small) in
+    let here : spelled_number (decimal number) ≡ Some number = number_of-decimal number (All-head (λ n. n < 2 ^ 64) number numbers small) in
     let rest : numbers_of (map decimal numbers) ≡ Some numbers = numbers_of-decimals numbers (All-tail (λ n. n < 2 ^ 64) number numbers small) in
-    ap₂ with_first here rest
+    ap₂ with_next_number here rest
 
 -- so a line of a word and numbers is read back
 pub line_numbers-number_line : (word : List ℕ) (numbers : List ℕ) → HasNoSpace word → bytes_eq word word ≡ true → AreSmall numbers → line_numbers word (number_line word numbers) ≡ Some numbers
@@ -49,7 +49,7 @@ record AreDecimals (words : List (List ℕ)) (numbers : List ℕ) : Type 0 where
   are : words ≡ map decimal numbers
   small : AreSmall numbers
 
-one_more : (word : List ℕ) (words : List (List ℕ)) (first : Option ℕ) (rest : Option (List ℕ)) (numbers : List ℕ) → number_of word ≡ first → ((more : List ℕ) → rest ≡ Some more → AreDecimals words more) → with_first first rest ≡ Some numbers → AreDecimals (word ∷ words) numbers
+one_more : (word : List ℕ) (words : List (List ℕ)) (first : Option ℕ) (rest : Option (List ℕ)) (numbers : List ℕ) → spelled_number word ≡ first → ((more : List ℕ) → rest ≡ Some more → AreDecimals words more) → with_next_number first rest ≡ Some numbers → AreDecimals (word ∷ words) numbers
 one_more word words None rest numbers is behind found = absurd (cc)
 one_more word words (Some number) None numbers is behind found = absurd (cc)
 one_more word words (Some number) (Some more) numbers is behind found =
@@ -65,7 +65,7 @@ decimals_found [] numbers found =
     let none : [] ≡ numbers = ap (λ (o : Option (List ℕ)). unwrap_or o []) found in
     let whole : AreDecimals [] [] = record { are = refl; small = All-nil (λ n. n < 2 ^ 64) } in
     subst (AreDecimals []) none whole
-decimals_found (word ∷ words) numbers found = one_more word words (number_of word) (numbers_of words) numbers refl (decimals_found words) found
+decimals_found (word ∷ words) numbers found = one_more word words (spelled_number word) (numbers_of words) numbers refl (decimals_found words) found
 
 -- words joined by spaces
 join-decimals : (word : List ℕ) (numbers : List ℕ) → join_with_byte 32 (word ∷ map decimal numbers) ≡ word ++ numbers_text numbers
@@ -96,7 +96,7 @@ behind_word word (first ∷ words) numbers found = by_test (bytes_eq first word)
       record { is = ap₂ (λ (w : List ℕ) (ws : List (List ℕ)). join_with_byte 32 (w ∷ ws)) same decimals.are ∙ join-decimals word numbers; small = decimals.small }
 
 pub line_numbers-Some : (word line numbers : List ℕ) → line_numbers word line ≡ Some numbers → IsNumberLine word line numbers
-line_numbers-Some word line numbers found = subst (λ (bytes : List ℕ). IsNumberLine word bytes numbers) (join_with_byte-slice_split 32 line) (behind_word word (words_of line) numbers found)
+line_numbers-Some word line numbers found = subst (λ (bytes : List ℕ). IsNumberLine word bytes numbers) (join_with_byte-slice_split 32 line) (behind_word word (words_between_spaces line) numbers found)
 
 -- two lines of one word that are the same have the same numbers
 pub number_line_injective : (word one other : List ℕ) → HasNoSpace word → bytes_eq word word ≡ true → AreSmall one → AreSmall other → number_line word one ≡ number_line word other → one ≡ other

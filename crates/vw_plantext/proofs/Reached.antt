@@ -11,8 +11,8 @@ use Rattle.vw_plan.specs.declared.wire.Wire.{Wire}
 use Rattle.vw_plantext.specs.Content.{Content, hop_count, IsHopInRange, IsWireInRange, IsInRange}
 use Rattle.vw_plantext.specs.Grammar.{number_line, head_line, chips_line, hop_line, wire_lines, body_lines, plan_lines}
 use Rattle.vw_plantext.specs.CanStand.{CanStand, IsFirstBadLine}
-use Rattle.vw_plantext.specs.Steps.Cuts.{IsOneLine, IsCut}
-use Rattle.vw_plantext.specs.Steps.Bodies.{Part, State, FollowsWires, FollowsHops, Follows, IsLeft, part_hops, part_count, IsPartInRange, FitsPart, Fits, HasRead, Takes, RefusesLine, Closes}
+use Rattle.vw_plantext.specs.Steps.Cuts.{IsOneLine, IsLineCut}
+use Rattle.vw_plantext.specs.Steps.Bodies.{UnfinishedWire, State, FollowsWires, FollowsHops, FollowsPart, IsLeft, part_hops, part_count, IsPartInRange, FitsPart, Fits, HasRead, TakesPlanLine, RefusesLine, ClosesWire}
 use Rattle.vw_plantext.specs.Steps.Starts.{head_numbers, IsReadTo, IsHeadLine, IsNoHeadLine, IsChipsLine, IsNoChipsLine}
 use Rattle.vw_plantext.specs.declared.start.Head.{Head}
 use Rattle.vw_plantext.proofs.NumberLines.{number_line_injective}
@@ -48,8 +48,8 @@ module _ (lines : List (List ℕ)) (state : State) (read : HasRead lines state) 
       let rest = replicate state.left no_wire in
       let size : length rest ≡ state.left = length-replicate state.left no_wire in
       let follows : FollowsWires state.left state.wires (state.wires ++ rest) (body_lines rest) = record { rest = rest; count = size; are = refl; lines_are = refl } in
-      let few : length state.wires + (0 + state.left) < 2 ^ 32 = subst (λ (p : Option Part). length state.wires + (part_count p + state.left) < 2 ^ 32) is read.fits.few_wires in
-      let hops : hop_count state.wires + (0 + (state.room + 1)) ≡ 2 ^ 30 = subst (λ (p : Option Part). hop_count state.wires + (part_hops p + (state.room + 1)) ≡ 2 ^ 30) is read.fits.hops in
+      let few : length state.wires + (0 + state.left) < 2 ^ 32 = subst (λ (p : Option UnfinishedWire). length state.wires + (part_count p + state.left) < 2 ^ 32) is read.fits.few_wires in
+      let hops : hop_count state.wires + (0 + (state.room + 1)) ≡ 2 ^ 30 = subst (λ (p : Option UnfinishedWire). hop_count state.wires + (part_hops p + (state.room + 1)) ≡ 2 ^ 30) is read.fits.hops in
       record {
         content = content_with (state.wires ++ rest);
         in_range = record {
@@ -65,7 +65,7 @@ module _ (lines : List (List ℕ)) (state : State) (read : HasRead lines state) 
       }
 
   -- further hops, and such wires, can follow
-  amid : (part : Part) → state.part ≡ Some part → CanStand lines
+  amid : (part : UnfinishedWire) → state.part ≡ Some part → CanStand lines
   amid part is =
       let hops = replicate part.left no_hop in
       let hops_left : length hops ≡ part.left = length-replicate part.left no_hop in
@@ -75,8 +75,8 @@ module _ (lines : List (List ℕ)) (state : State) (read : HasRead lines state) 
       let all = state.wires ++ record { net = part.net; to = part.to; hops = part.hops ++ hops } ∷ rest in
       let follows : FollowsHops part state.left state.wires all (map hop_line hops ++ body_lines rest) = record { hops = hops; hops_left = hops_left; rest = rest; count = size; are = refl; lines_are = refl } in
       let part_fits : IsPartInRange part = subst FitsPart is read.fits.part in
-      let few : length state.wires + (1 + state.left) < 2 ^ 32 = subst (λ (p : Option Part). length state.wires + (part_count p + state.left) < 2 ^ 32) is read.fits.few_wires in
-      let all_hops : hop_count state.wires + ((length part.hops + part.left) + (state.room + 1)) ≡ 2 ^ 30 = subst (λ (p : Option Part). hop_count state.wires + (part_hops p + (state.room + 1)) ≡ 2 ^ 30) is read.fits.hops in
+      let few : length state.wires + (1 + state.left) < 2 ^ 32 = subst (λ (p : Option UnfinishedWire). length state.wires + (part_count p + state.left) < 2 ^ 32) is read.fits.few_wires in
+      let all_hops : hop_count state.wires + ((length part.hops + part.left) + (state.room + 1)) ≡ 2 ^ 30 = subst (λ (p : Option UnfinishedWire). hop_count state.wires + (part_hops p + (state.room + 1)) ≡ 2 ^ 30) is read.fits.hops in
       let wire_fits : IsWireInRange (record { net = part.net; to = part.to; hops = part.hops ++ hops }) = record { net = part_fits.net; to = part_fits.to; hops = All-append IsHopInRange part.hops hops part_fits.hops (All-replicate IsHopInRange part.left no_hop no_hop_fits) } in
       record {
         content = content_with all;
@@ -92,7 +92,7 @@ module _ (lines : List (List ℕ)) (state : State) (read : HasRead lines state) 
         begins = read.makes (content_with all) (map hop_line hops ++ body_lines rest) (record { chip_of = refl; period = refl; wires = moved (Some part) state.part (sym is) state.left state.wires all (map hop_line hops ++ body_lines rest) follows });
       }
 
-  by_part : (part : Option Part) → state.part ≡ part → CanStand lines
+  by_part : (part : Option UnfinishedWire) → state.part ≡ part → CanStand lines
   by_part None is = between is
   by_part (Some part) is = amid part is
 
@@ -101,7 +101,7 @@ module _ (lines : List (List ℕ)) (state : State) (read : HasRead lines state) 
   can_stand_read = by_part state.part refl
 
   -- a plan has further lines
-  some_line : (part : Option Part) (left : ℕ) (done all : List Wire) → Follows part left done all [] → ⊥
+  some_line : (part : Option UnfinishedWire) (left : ℕ) (done all : List Wire) → FollowsPart part left done all [] → ⊥
   some_line None left done all follows = none (flat_map wire_lines follows.rest) (sym follows.lines_are) where
     none : (front : List (List ℕ)) → front ++ codes "end" ∷ [] ≡ [] → ⊥
     none [] empty = cc
@@ -120,7 +120,7 @@ module _ (lines : List (List ℕ)) (state : State) (read : HasRead lines state) 
   refused_behind line refuses can = refuses can.content can.rest can.in_range (read.tells can.content (line ∷ can.rest) can.in_range (sym (append_assoc lines (line ∷ []) can.rest) ∙ can.begins))
 
   -- one line more
-  pub read_more : (line : List ℕ) (mid new : State) → Takes state line mid → Closes mid new → HasRead (lines ++ line ∷ []) new
+  pub read_more : (line : List ℕ) (mid new : State) → TakesPlanLine state line mid → ClosesWire mid new → HasRead (lines ++ line ∷ []) new
   read_more line mid new takes closes = record { fits = closes.fits; some_left = closes.some_left; tells = tells; makes = makes } where
     tells : (content : Content) (more : List (List ℕ)) → IsInRange content → (lines ++ line ∷ []) ++ more ≡ plan_lines content → IsLeft new content more
     tells content more fits same = closes.tells content more (takes.tells content more fits (read.tells content (line ∷ more) fits (sym (append_assoc lines (line ∷ []) more) ∙ same)))
@@ -215,20 +215,20 @@ whole_more text lines rest line after whole cut =
 pub fault_no_line : (text : List ℕ) → IsOneLine text → IsFirstBadLine text 1
 fault_no_line text one_line = no_further_line text [] text 1 refl refl nothing_can_stand one_line not_nothing
 
-pub fault_head : (text line rest : List ℕ) → IsCut text line rest → IsNoHeadLine line → IsFirstBadLine text 1
+pub fault_head : (text line rest : List ℕ) → IsLineCut text line rest → IsNoHeadLine line → IsFirstBadLine text 1
 fault_head text line rest cut none = bad_line text [] text 1 refl refl nothing_can_stand line rest cut (first_can_not line none)
 
-module _ (text line rest : List ℕ) (cut : IsCut text line rest) (head : Head) (is : IsHeadLine line head) where
+module _ (text line rest : List ℕ) (cut : IsLineCut text line rest) (head : Head) (is : IsHeadLine line head) where
   one_can : CanStand (line ∷ [])
   one_can = subst (λ (first : List ℕ). CanStand (first ∷ [])) (sym is.is) (first_can_stand head.cells head.wires head.period is.few_cells is.few_wires is.short)
 
   pub fault_no_second : IsOneLine rest → IsFirstBadLine text 2
   fault_no_second one_line_ = no_further_line text (line ∷ []) rest 2 refl (whole_more text [] text line rest refl cut.whole) one_can one_line_ (λ content fits same. not_alone head.cells head.wires head.period is.few_cells is.few_wires is.short content fits (ap (λ (first : List ℕ). first ∷ []) (sym is.is) ∙ same))
 
-  pub fault_chips : (second after : List ℕ) → IsCut rest second after → IsNoChipsLine head.cells second → IsFirstBadLine text 2
+  pub fault_chips : (second after : List ℕ) → IsLineCut rest second after → IsNoChipsLine head.cells second → IsFirstBadLine text 2
   fault_chips second after second_cut none = bad_line text (line ∷ []) rest 2 refl (whole_more text [] text line rest refl cut.whole) one_can second after second_cut (λ can. second_can_not head.cells head.wires head.period is.few_cells is.few_wires is.short second none (subst (λ (first : List ℕ). CanStand (first ∷ second ∷ [])) is.is can))
 
-  pub begun_to : (second after chips : List ℕ) → IsCut rest second after → IsChipsLine head.cells second chips → (room : ℕ) → room + 1 ≡ 2 ^ 30 → IsReadTo text (record { chip_of = chips; period = head.period; wires = []; part = None; left = head.wires; room = room }) after 3
+  pub begun_to : (second after chips : List ℕ) → IsLineCut rest second after → IsChipsLine head.cells second chips → (room : ℕ) → room + 1 ≡ 2 ^ 30 → IsReadTo text (record { chip_of = chips; period = head.period; wires = []; part = None; left = head.wires; room = room }) after 3
   begun_to second after chips second_cut are room all_room =
       let read = read_two head.cells head.wires head.period is.few_cells is.few_wires is.short chips are.each are.fit room all_room in
       let lines : number_line (codes "plan") (head_numbers head.cells head.wires head.period) ∷ number_line (codes "chips") chips ∷ [] ≡ line ∷ second ∷ [] = ap₂ (λ (a b : List ℕ). a ∷ b ∷ []) (sym is.is) (sym are.is) in
@@ -243,10 +243,10 @@ module _ (text : List ℕ) (state : State) (rest : List ℕ) (number : ℕ) (to 
   pub fault_no_further : IsOneLine rest → IsFirstBadLine text number
   fault_no_further one_line_ = no_further_line text to.lines rest number to.number_ to.whole (can_stand_read to.lines state to.read) one_line_ (incomplete to.lines state to.read)
 
-  pub fault_line : (line after : List ℕ) → IsCut rest line after → RefusesLine state line → IsFirstBadLine text number
+  pub fault_line : (line after : List ℕ) → IsLineCut rest line after → RefusesLine state line → IsFirstBadLine text number
   fault_line line after cut refuses = bad_line text to.lines rest number to.number_ to.whole (can_stand_read to.lines state to.read) line after cut (refused_behind to.lines state to.read line refuses)
 
-  pub read_further : (line after : List ℕ) (mid new : State) → IsCut rest line after → Takes state line mid → Closes mid new → IsReadTo text new after (number + 1)
+  pub read_further : (line after : List ℕ) (mid new : State) → IsLineCut rest line after → TakesPlanLine state line mid → ClosesWire mid new → IsReadTo text new after (number + 1)
   read_further line after mid new cut takes closes = record {
     lines = to.lines ++ line ∷ [];
     read = read_more to.lines state to.read line mid new takes closes;

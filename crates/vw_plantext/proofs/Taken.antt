@@ -9,7 +9,7 @@ use Rattle.vw_plan.specs.declared.wire.Wire.{Wire}
 use Rattle.vw_plantext.specs.Content.{Content, hop_count, IsHopInRange, IsWireInRange, IsInRange}
 use Rattle.vw_plantext.specs.Grammar.{number_line, hop_line, wire_line, body_lines}
 use Rattle.vw_plantext.specs.Steps.Hops.{IsHopLine, IsNoHopLine, IsNoWireHeadLine}
-use Rattle.vw_plantext.specs.Steps.Bodies.{Part, State, part_with_hop, FollowsWires, FollowsHops, Follows, IsLeft, part_hops, part_count, IsPartInRange, FitsPart, Fits, Takes, RefusesLine, Closes}
+use Rattle.vw_plantext.specs.Steps.Bodies.{UnfinishedWire, State, part_with_hop, FollowsWires, FollowsHops, FollowsPart, IsLeft, part_hops, part_count, IsPartInRange, FitsPart, Fits, TakesPlanLine, RefusesLine, ClosesWire}
 use Rattle.vw_plantext.proofs.NumberLines.{AreSmall, number_line_injective}
 use Rattle.vw_plantext.proofs.Lines.{IsSmall, small_wire, hop_count-cons}
 use Rattle.vw_plantext.proofs.Spellings.{plain_wire, hop_line_injective, body_lines-cons}
@@ -24,7 +24,7 @@ hop_count-append wires more = sum_by-append (λ wire. length wire.hops) wires mo
 
 -- ---- within a wire
 
-module _ (part : Part) (left : ℕ) (done all : List Wire) (line : List ℕ) (more : List (List ℕ)) where
+module _ (part : UnfinishedWire) (left : ℕ) (done all : List Wire) (line : List ℕ) (more : List (List ℕ)) where
   abbrev made : List Hop → Wire
   made hops = record { net = part.net; to = part.to; hops = hops }
 
@@ -102,7 +102,7 @@ module _ (left : ℕ) (done all : List Wire) (line : List ℕ) (more : List (Lis
       none first.wire.net first.wire.to (length first.wire.hops) wire.net wire.to (omega (arith, first_hops first few)) first.is
 
   module _ (net to count : ℕ) (is : line ≡ number_line (codes "wire") (net ∷ to ∷ count ∷ [])) (some : 1 ≤ left) (net_fits : net < 2 ^ 32) (to_fits : to < 2 ^ 32) (count_fits : count < 2 ^ 30) where
-    abbrev part : Part
+    abbrev part : UnfinishedWire
     part = record { net = net; to = to; hops = []; left = count }
 
     abbrev head : Wire → List ℕ
@@ -128,7 +128,7 @@ module _ (left : ℕ) (done all : List Wire) (line : List ℕ) (more : List (Lis
 
 -- ---- a wire that has all its hops
 
-module _ (part : Part) (full : part.left ≡ 0) (left : ℕ) (done all : List Wire) (lines : List (List ℕ)) where
+module _ (part : UnfinishedWire) (full : part.left ≡ 0) (left : ℕ) (done all : List Wire) (lines : List (List ℕ)) where
   abbrev whole : List Hop → Wire
   whole hops = record { net = part.net; to = part.to; hops = hops }
 
@@ -147,11 +147,11 @@ hop_count-nil = refl
 -- ---- the states of a plan that is being read
 
 -- the wires that follow, by what stands in the state
-pub moved : (part other : Option Part) → part ≡ other → (left : ℕ) (done all : List Wire) (lines : List (List ℕ)) → Follows part left done all lines → Follows other left done all lines
-moved part_ other same left done all lines follows = subst (λ (p : Option Part). Follows p left done all lines) same follows
+pub moved : (part other : Option UnfinishedWire) → part ≡ other → (left : ℕ) (done all : List Wire) (lines : List (List ℕ)) → FollowsPart part left done all lines → FollowsPart other left done all lines
+moved part_ other same left done all lines follows = subst (λ (p : Option UnfinishedWire). FollowsPart p left done all lines) same follows
 
-module _ (state : State) (fits : Fits state) (part : Part) (is : state.part ≡ Some part) where
-  abbrev with_part : Part → State
+module _ (state : State) (fits : Fits state) (part : UnfinishedWire) (is : state.part ≡ Some part) where
+  abbrev with_part : UnfinishedWire → State
   with_part made = record { chip_of = state.chip_of; period = state.period; wires = state.wires; part = Some made; left = state.left; room = state.room }
 
   part_fits : IsPartInRange part
@@ -160,7 +160,7 @@ module _ (state : State) (fits : Fits state) (part : Part) (is : state.part ≡ 
   pub refuses_hop : (line : List ℕ) → 1 ≤ part.left → IsNoHopLine line → RefusesLine state line
   refuses_hop line some none content more in_range is_left = refused_hop part state.left state.wires content.wires line more some in_range.wires none (moved state.part (Some part) is state.left state.wires content.wires (line ∷ more) is_left.wires)
 
-  pub takes_hop : (line : List ℕ) (hop : Hop) → 1 ≤ part.left → IsHopLine line hop → Takes state line (with_part (part_with_hop part hop))
+  pub takes_hop : (line : List ℕ) (hop : Hop) → 1 ≤ part.left → IsHopLine line hop → TakesPlanLine state line (with_part (part_with_hop part hop))
   takes_hop line hop some is_hop = record { fits = new_fits; tells = tells; makes = makes } where
     old : state.part ≡ Some part
     old = is
@@ -172,8 +172,8 @@ module _ (state : State) (fits : Fits state) (part : Part) (is : state.part ≡ 
       short = fits.short;
       wires = fits.wires;
       part = record { net = part_fits.net; to = part_fits.to; hops = All-push IsHopInRange part.hops hop part_fits.hops is_hop.in_range };
-      few_wires = let few : length state.wires + (1 + state.left) < 2 ^ 32 = subst (λ (p : Option Part). length state.wires + (part_count p + state.left) < 2 ^ 32) old fits.few_wires in few;
-      hops = let hops : hop_count state.wires + ((length part.hops + part.left) + (state.room + 1)) ≡ 2 ^ 30 = subst (λ (p : Option Part). hop_count state.wires + (part_hops p + (state.room + 1)) ≡ 2 ^ 30) old fits.hops in omega (arith, length-append part.hops (hop ∷ []));
+      few_wires = let few : length state.wires + (1 + state.left) < 2 ^ 32 = subst (λ (p : Option UnfinishedWire). length state.wires + (part_count p + state.left) < 2 ^ 32) old fits.few_wires in few;
+      hops = let hops : hop_count state.wires + ((length part.hops + part.left) + (state.room + 1)) ≡ 2 ^ 30 = subst (λ (p : Option UnfinishedWire). hop_count state.wires + (part_hops p + (state.room + 1)) ≡ 2 ^ 30) old fits.hops in omega (arith, length-append part.hops (hop ∷ []));
     }
 
     tells : (content : Content) (more : List (List ℕ)) → IsInRange content → IsLeft state content (line ∷ more) → IsLeft (with_part (part_with_hop part hop)) content more
@@ -186,7 +186,7 @@ module _ (state : State) (fits : Fits state) (part : Part) (is : state.part ≡ 
   abbrev done : State
   done = record { chip_of = state.chip_of; period = state.period; wires = state.wires ++ record { net = part.net; to = part.to; hops = part.hops } ∷ []; part = None; left = state.left; room = state.room }
 
-  pub closes_full : part.left ≡ 0 → Closes state done
+  pub closes_full : part.left ≡ 0 → ClosesWire state done
   closes_full full = record { fits = new_fits; some_left = tt; tells = tells; makes = makes } where
     wire : Wire
     wire = record { net = part.net; to = part.to; hops = part.hops }
@@ -201,8 +201,8 @@ module _ (state : State) (fits : Fits state) (part : Part) (is : state.part ≡ 
       short = fits.short;
       wires = All-push IsWireInRange state.wires (record { net = part.net; to = part.to; hops = part.hops }) fits.wires (record { net = part_fits.net; to = part_fits.to; hops = part_fits.hops });
       part = tt;
-      few_wires = let few : length state.wires + (1 + state.left) < 2 ^ 32 = subst (λ (p : Option Part). length state.wires + (part_count p + state.left) < 2 ^ 32) old fits.few_wires in omega (arith, length-append state.wires (record { net = part.net; to = part.to; hops = part.hops } ∷ []));
-      hops = let hops : hop_count state.wires + ((length part.hops + part.left) + (state.room + 1)) ≡ 2 ^ 30 = subst (λ (p : Option Part). hop_count state.wires + (part_hops p + (state.room + 1)) ≡ 2 ^ 30) old fits.hops in omega (arith, hop_count-append state.wires (record { net = part.net; to = part.to; hops = part.hops } ∷ []), hop_count-cons (record { net = part.net; to = part.to; hops = part.hops }) [], hop_count-nil);
+      few_wires = let few : length state.wires + (1 + state.left) < 2 ^ 32 = subst (λ (p : Option UnfinishedWire). length state.wires + (part_count p + state.left) < 2 ^ 32) old fits.few_wires in omega (arith, length-append state.wires (record { net = part.net; to = part.to; hops = part.hops } ∷ []));
+      hops = let hops : hop_count state.wires + ((length part.hops + part.left) + (state.room + 1)) ≡ 2 ^ 30 = subst (λ (p : Option UnfinishedWire). hop_count state.wires + (part_hops p + (state.room + 1)) ≡ 2 ^ 30) old fits.hops in omega (arith, hop_count-append state.wires (record { net = part.net; to = part.to; hops = part.hops } ∷ []), hop_count-cons (record { net = part.net; to = part.to; hops = part.hops }) [], hop_count-nil);
     }
 
     tells : (content : Content) (more : List (List ℕ)) → IsLeft state content more → IsLeft done content more
@@ -212,16 +212,16 @@ module _ (state : State) (fits : Fits state) (part : Part) (is : state.part ≡ 
     makes content more is_left = record { chip_of = is_left.chip_of; period = is_left.period; wires = moved (Some part) state.part (sym old) state.left state.wires content.wires more (opened_wires part full state.left state.wires content.wires more is_left.wires) }
 
 module _ (state : State) (fits : Fits state) (is : state.part ≡ None) where
-  abbrev with_wire : Part → State
+  abbrev with_wire : UnfinishedWire → State
   with_wire made = record { chip_of = state.chip_of; period = state.period; wires = state.wires; part = Some made; left = state.left - 1; room = state.room - made.left }
 
   all_hops : hop_count state.wires + (state.room + 1) ≡ 2 ^ 30
-  all_hops = let hops : hop_count state.wires + (0 + (state.room + 1)) ≡ 2 ^ 30 = subst (λ (p : Option Part). hop_count state.wires + (part_hops p + (state.room + 1)) ≡ 2 ^ 30) is fits.hops in omega arith
+  all_hops = let hops : hop_count state.wires + (0 + (state.room + 1)) ≡ 2 ^ 30 = subst (λ (p : Option UnfinishedWire). hop_count state.wires + (part_hops p + (state.room + 1)) ≡ 2 ^ 30) is fits.hops in omega arith
 
   pub refuses_wire : (line : List ℕ) → 1 ≤ state.left → IsNoWireHeadLine state.room line → RefusesLine state line
   refuses_wire line some none content more in_range is_left = refused_wire state.left state.wires content.wires line more state.room some all_hops in_range.wires in_range.few_hops none (moved state.part None is state.left state.wires content.wires (line ∷ more) is_left.wires)
 
-  pub takes_wire : (line : List ℕ) (net to count : ℕ) → 1 ≤ state.left → line ≡ number_line (codes "wire") (net ∷ to ∷ count ∷ []) → net < 2 ^ 32 → to < 2 ^ 32 → count ≤ state.room → Takes state line (with_wire (record { net = net; to = to; hops = []; left = count }))
+  pub takes_wire : (line : List ℕ) (net to count : ℕ) → 1 ≤ state.left → line ≡ number_line (codes "wire") (net ∷ to ∷ count ∷ []) → net < 2 ^ 32 → to < 2 ^ 32 → count ≤ state.room → TakesPlanLine state line (with_wire (record { net = net; to = to; hops = []; left = count }))
   takes_wire line net to count some is_line net_fits to_fits few = record { fits = new_fits; tells = tells; makes = makes } where
     old : state.part ≡ None
     old = is
@@ -233,7 +233,7 @@ module _ (state : State) (fits : Fits state) (is : state.part ≡ None) where
       short = fits.short;
       wires = fits.wires;
       part = record { net = net_fits; to = to_fits; hops = All-nil IsHopInRange };
-      few_wires = let all_few : length state.wires + (0 + state.left) < 2 ^ 32 = subst (λ (p : Option Part). length state.wires + (part_count p + state.left) < 2 ^ 32) old fits.few_wires in omega arith;
+      few_wires = let all_few : length state.wires + (0 + state.left) < 2 ^ 32 = subst (λ (p : Option UnfinishedWire). length state.wires + (part_count p + state.left) < 2 ^ 32) old fits.few_wires in omega arith;
       hops = let all : hop_count state.wires + (state.room + 1) ≡ 2 ^ 30 = all_hops in omega arith;
     }
 

@@ -3,7 +3,7 @@ ghost use Rattle.std.specs.Prelude.{◌≡◌, ◌<◌, ◌≤◌, ◌^◌, fals
 ghost use Rattle.vw_plantext.specs.Steps.Hops.{IsHop, IsNoHop, IsHopLine, IsNoHopLine};
 ghost use Rattle.vw_plantext.specs.Steps.Hops.{IsWireHead, IsNoWireHead, IsWireHeadLine, IsNoWireHeadLine};
 ghost use Rattle.vw_plantext.specs.Steps.Bodies.{part_of, part_with_hop, state_of, is_complete, HasSomeLeft};
-ghost use Rattle.vw_plantext.specs.Steps.Bodies.{Fits, Takes, RefusesLine, Closes};
+ghost use Rattle.vw_plantext.specs.Steps.Bodies.{Fits, TakesPlanLine, RefusesLine, ClosesWire};
 
 use crate::line::read_numbers;
 use std::alloc::{AllocError, Global};
@@ -127,7 +127,7 @@ impl Body {
     /// The same, where a wire that has all its hops is put to the others.
     pub fn closed(self) -> Result<Self, AllocError>
         requires { Fits (state_of self) }
-        ensures { IfOk result (λ body. Closes (state_of self) (state_of body)) }
+        ensures { IfOk result (λ body. ClosesWire (state_of self) (state_of body)) }
     {
         let Body {
             chip_of,
@@ -177,7 +177,7 @@ impl Body {
         requires some_left { HasSomeLeft (option_map part_of self.wire) }
         requires incomplete { is_complete (state_of self) ≡ false }
         ensures { IfOk result (λ taken. MatchOption taken (RefusesLine (state_of self) line.now)
-            (λ body. Takes (state_of self) line.now (state_of body))) }
+            (λ body. TakesPlanLine (state_of self) line.now (state_of body))) }
     {
         let Body {
             chip_of,

@@ -1,7 +1,7 @@
 //! Lines of a plan text, and the numbers in them.
 ghost use Rattle.std.specs.Prelude.{◌≡◌, ◌∷◌, ◌++◌, IfOk, IfNone, IfSome, option_map, Some, None, if◌then◌else◌};
-ghost use Rattle.vw_plantext.specs.Steps.Words.{words_of, words_behind, line_numbers};
-ghost use Rattle.vw_plantext.specs.Steps.Cuts.{IsOneLine, IsCut};
+ghost use Rattle.vw_plantext.specs.Steps.Words.{words_between_spaces, words_behind, line_numbers};
+ghost use Rattle.vw_plantext.specs.Steps.Cuts.{IsOneLine, IsLineCut};
 
 use bstr::ByteSlice;
 use std::alloc::AllocError;
@@ -10,7 +10,7 @@ use vw_text::number_in;
 /// The first line of a text that has an end, and what stands behind it.
 pub fn next_line(text: &[u8]) -> Option<(&[u8], &[u8])>
     ensures none { IfNone result (IsOneLine text.now) }
-    ensures cut { IfSome result (λ parts. IsCut text.now parts.0.now parts.1.now) }
+    ensures cut { IfSome result (λ parts. IsLineCut text.now parts.0.now parts.1.now) }
 {
     let end = text.find_byte(b'\n')?;
     Some((&text[..end], &text[end + 1..]))
@@ -18,7 +18,7 @@ pub fn next_line(text: &[u8]) -> Option<(&[u8], &[u8])>
 
 /// The first word of a line, up to a space, and what stands behind the space, where there is one.
 fn first_word(line: &[u8]) -> (&[u8], Option<&[u8]>)
-    ensures { words_of line.now
+    ensures { words_between_spaces line.now
         ≡ result.0.now ∷ words_behind (option_map (λ rest. rest.now) result.1) }
 {
     match line.find_byte(b' ') {

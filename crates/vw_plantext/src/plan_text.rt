@@ -3,8 +3,8 @@ ghost use Rattle.std.specs.Prelude.{◌≡◌, ◌≤◌, ◌<◌, ◌^◌, true
 ghost use Rattle.vw_plantext.specs.Content.{content_of};
 ghost use Rattle.vw_plantext.specs.PlanText.{Spells, Refuses};
 ghost use Rattle.vw_plantext.specs.Steps.Bodies.{state_of, is_complete, Fits};
-ghost use Rattle.vw_plantext.specs.Steps.Starts.{IsFaultOf};
-ghost use Rattle.vw_plantext.specs.Steps.Finished.{content_read, Ends, EndsBadly, IsSpelled};
+ghost use Rattle.vw_plantext.specs.Steps.Starts.{IsFaultOfText};
+ghost use Rattle.vw_plantext.specs.Steps.Finished.{content_read, EndsPlan, EndsBadly, IsSpelled};
 
 use crate::body::Body;
 use crate::fault::PlanTextFault;
@@ -36,7 +36,7 @@ fn end_of(body: Body, line: &[u8], after: &[u8], number: u64) -> Result<Plan, Pl
     requires fits { Fits (state_of body) }
     requires complete { is_complete (state_of body) ≡ true }
     requires small { number < 2 ^ 63 }
-    ensures ends { IfOk result (Ends (state_of body) line.now after.now) }
+    ensures ends { IfOk result (EndsPlan (state_of body) line.now after.now) }
     ensures fault { IfErr result (EndsBadly line.now after.now number) }
 {
     if line != b"end".as_slice() {
@@ -52,7 +52,7 @@ fn end_of(body: Body, line: &[u8], after: &[u8], number: u64) -> Result<Plan, Pl
 fn read_lines(alloc: Global, bytes: &[u8]) -> Result<Plan, PlanTextFault>
     requires { length bytes.now ≤ 67108864 }
     ensures spelled { IfOk result (IsSpelled bytes.now) }
-    ensures fault { IfErr result (IsFaultOf bytes.now) }
+    ensures fault { IfErr result (IsFaultOfText bytes.now) }
 {
     let mut numbers = Vec::new(alloc);
     let (mut body, mut rest) = begin(alloc, bytes, &mut numbers)?;

@@ -1,9 +1,9 @@
 //! The first two lines of a plan text.
 ghost use Rattle.std.specs.Prelude.{◌≡◌, MatchOption, IfOk, IfErr, IfSome, IfNone};
 ghost use Rattle.vw_plantext.specs.Steps.Bodies.{state_of};
-ghost use Rattle.vw_plantext.specs.Steps.Starts.{IsHead, IsNoHead, IsHeadLine, IsNoHeadLine};
+ghost use Rattle.vw_plantext.specs.Steps.Starts.{IsPlanHead, IsNoHead, IsHeadLine, IsNoHeadLine};
 ghost use Rattle.vw_plantext.specs.Steps.Starts.{AreChips, AreNoChips, IsChipsLine, IsNoChipsLine};
-ghost use Rattle.vw_plantext.specs.Steps.Starts.{IsReadTo, IsFaultOf};
+ghost use Rattle.vw_plantext.specs.Steps.Starts.{IsReadTo, IsFaultOfText};
 
 use crate::body::Body;
 use crate::fault::PlanTextFault;
@@ -20,7 +20,7 @@ pub struct Head {
 
 /// The head of numbers, where they are in their ranges.
 fn head_of(numbers: &[u64]) -> Option<Head>
-    ensures { MatchOption result (IsNoHead numbers.now) (IsHead numbers.now) }
+    ensures { MatchOption result (IsNoHead numbers.now) (IsPlanHead numbers.now) }
 {
     let [1, cells, wires, period] = numbers else {
         return None;
@@ -88,7 +88,7 @@ pub fn begin<'a>(
 ) -> Result<(Body, &'a [u8]), PlanTextFault>
     ensures begun { IfOk result (λ parts.
         IsReadTo bytes.now (state_of parts.0) parts.1.now 3) }
-    ensures fault { IfErr result (IsFaultOf bytes.now) }
+    ensures fault { IfErr result (IsFaultOfText bytes.now) }
 {
     let Some((line, rest)) = next_line(bytes) else {
         return Err(PlanTextFault::BadLine(1));

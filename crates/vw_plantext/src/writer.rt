@@ -3,7 +3,7 @@ ghost use Rattle.std.specs.Prelude.{◌≡◌, ◌++◌, ◌∷◌, [], codes, d
 ghost use Rattle.vw_plan.specs.declared.plan.Plan.{Plan};
 ghost use Rattle.vw_plantext.specs.Content.{content_of};
 ghost use Rattle.vw_plantext.specs.Grammar.{numbers_text, number_line, chips_line, spelling};
-ghost use Rattle.vw_plantext.specs.Steps.Pieces.{ended, hops_text, wire_text, wires_text};
+ghost use Rattle.vw_plantext.specs.Steps.Pieces.{with_newline, hops_text, wire_text, wires_text};
 
 use itoa::Buffer;
 use std::alloc::{AllocError, Global};
@@ -22,7 +22,7 @@ fn push_number(text: &mut Vec<u8>, number: u64) -> Result<(), AllocError>
 /// Appends a line of a word and numbers.
 fn push_line(text: &mut Vec<u8>, word: &[u8], numbers: &[u64]) -> Result<(), AllocError>
     ensures { OnOk result (text.new.items
-        ≡ text.old.items ++ ended (number_line word.now numbers.now)) }
+        ≡ text.old.items ++ with_newline (number_line word.now numbers.now)) }
 {
     text.extend_from_slice(word)?;
     for number in numbers {
@@ -34,7 +34,7 @@ fn push_line(text: &mut Vec<u8>, word: &[u8], numbers: &[u64]) -> Result<(), All
 
 /// Appends the line of the chips of cells.
 fn push_chips(text: &mut Vec<u8>, chip_of: &[u32]) -> Result<(), AllocError>
-    ensures { OnOk result (text.new.items ≡ text.old.items ++ ended (chips_line chip_of.now)) }
+    ensures { OnOk result (text.new.items ≡ text.old.items ++ with_newline (chips_line chip_of.now)) }
 {
     text.extend_from_slice(b"chips")?;
     for chip in chip_of {

@@ -5,7 +5,7 @@ use Rattle.vw_plan.specs.Walks.{IsWalk}
 use Rattle.vw_plan.specs.Distance.{IsDistance, distance}
 use Rattle.vw_plan.proofs.Shortest.{reached, distance_is_least}
 use Rattle.vw_board.specs.FirstStep.{IsFirstStep}
-use Rattle.vw_route.specs.Routes.{GoByFirstSteps, IsRoute}
+use Rattle.vw_route.specs.Routes.{GoByFirstSteps, IsRouteBySteps}
 use Rattle.vw_route.specs.Steps.OnTheWay.{IsOnTheWay}
 
 module _ (board : Board) (to : ℕ) where
@@ -38,7 +38,7 @@ module _ (board : Board) (to : ℕ) where
   }
 
   -- the walk at its end
-  pub at_end : (from node : ℕ) (nodes : List ℕ) → to ≤ board.chips → node ≡ to → IsOnTheWay board from to node nodes → IsRoute board from to nodes
+  pub at_end : (from node : ℕ) (nodes : List ℕ) → to ≤ board.chips → node ≡ to → IsOnTheWay board from to node nodes → IsRouteBySteps board from to nodes
   at_end from node nodes to_node end way =
       let steps : GoByFirstSteps board to from way.rest to = subst (λ (last : ℕ). GoByFirstSteps board to from way.rest last) end way.steps in
       record { rest = way.rest; begins = way.begins; walk = walked from way.rest to steps; count = omega (arith, nearer from way.rest to steps, here to_node); steps = steps }

@@ -1,5 +1,5 @@
 ghost use Rattle.std.specs.Prelude.{◌≡◌, ◌≢◌, ◌≤◌, IfOk};
-ghost use Rattle.vw_route.specs.Routes.{IsRoute};
+ghost use Rattle.vw_route.specs.Routes.{IsRouteBySteps};
 
 use std::alloc::{AllocError, Global};
 use vw_board::Distances;
@@ -16,7 +16,7 @@ pub fn walk(
     requires from { from ≤ distances.now.chips }
     requires to { to ≤ distances.now.chips }
     requires apart { from ≢ to }
-    ensures { IfOk result (IsRoute distances.now from to) }
+    ensures { IfOk result (IsRouteBySteps distances.now from to) }
 {
     let mut nodes = Vec::with_capacity(alloc, distances.distance(from, to) as usize + 1)?;
     nodes.push(from)?;

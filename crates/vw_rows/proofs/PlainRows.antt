@@ -11,7 +11,7 @@ use Rattle.vw_text.specs.Physical.{text_lines}
 use Rattle.vw_text.specs.WordLines.{is_empty, words_of}
 use Rattle.vw_text.proofs.FoundBytes.{HasNo}
 use Rattle.vw_text.proofs.FirstLine.{line_first}
-use Rattle.vw_rows.specs.Stimulus.{line_words, is_bits, bits_of, row_of_bits, row_before, rows_added, joined_rows, with_line, and_then, with_lines, stimulus_rows}
+use Rattle.vw_rows.specs.Stimulus.{line_words, is_bits, bits_of, row_of_bits, row_before, rows_added, joined_rows, with_rows_of, and_then, with_lines, stimulus_rows}
 use Rattle.vw_rows.specs.Trace.{bits_text}
 use Rattle.vw_rows.specs.Written.{rows_written}
 
@@ -68,7 +68,7 @@ row_again width number before row wide =
     ∙ cond-true (length row == width) _ _ (eq-eqb (length row) width wide)
 
 line_again : (width number : ℕ) (rows : List (List Bool)) (row : List Bool) → length row ≡ width → length rows + 1 ≤ 4294967295
-    → with_line width number rows (bits_text row) ≡ Ok (rows ++ row ∷ [])
+    → with_rows_of width number rows (bits_text row) ≡ Ok (rows ++ row ∷ [])
 line_again width number rows row wide few =
     ap (joined_rows rows) (row_again width number (row_before width rows) row wide)
     ∙ cond-false _ _ _ (le-ltb 4294967295 (length rows + 1) few)

@@ -4,7 +4,7 @@ use Rattle.std.specs.List.{list_all}
 use Rattle.std.specs.Option.{option_and_then}
 use Rattle.std.specs.Str.{bytes_eq}
 use Rattle.vw_text.specs.Bare.{without_comment}
-use Rattle.vw_text.specs.Number.{number_of}
+use Rattle.vw_text.specs.Number.{spelled_number}
 use Rattle.vw_text.specs.Physical.{text_lines}
 use Rattle.vw_text.specs.WordLines.{words_of}
 use Rattle.vw_rows.specs.declared.stimulus.StimFault.{StimFault}
@@ -34,7 +34,7 @@ clocks_within number = if nat_le number 4294967295 then Some number else None
 -- how often two words, `hold` and a number, repeat the row before them
 abbrev pub held_times : List ℕ → List ℕ → Option ℕ
 held_times verb count =
-    if bytes_eq verb (codes "hold") then option_and_then clocks_within (number_of count) else None
+    if bytes_eq verb (codes "hold") then option_and_then clocks_within (spelled_number count) else None
 
 -- ---- lines
 
@@ -75,8 +75,8 @@ joined_rows rows (Ok added) =
     else Ok (rows ++ added)
 
 -- rows and those of a line behind them
-abbrev pub with_line : ℕ → ℕ → List (List Bool) → List ℕ → Result (List (List Bool)) StimFault
-with_line width number rows line =
+abbrev pub with_rows_of : ℕ → ℕ → List (List Bool) → List ℕ → Result (List (List Bool)) StimFault
+with_rows_of width number rows line =
     joined_rows rows (rows_added width number (row_before width rows) (line_words line))
 
 -- what comes of rows, unless there is a fault
@@ -88,7 +88,7 @@ and_then (Err fault) further = Err fault
 abbrev pub with_lines : ℕ → ℕ → List (List Bool) → List (List ℕ) → Result (List (List Bool)) StimFault
 with_lines width number rows [] = Ok rows
 with_lines width number rows (line ∷ lines) =
-    and_then (with_line width number rows line) (λ all. with_lines width (number + 1) all lines)
+    and_then (with_rows_of width number rows line) (λ all. with_lines width (number + 1) all lines)
 
 -- the rows of a text; that it is too large is decided before all lines
 abbrev pub stimulus_rows : ℕ → List ℕ → Result (List (List Bool)) StimFault

@@ -3,7 +3,7 @@ ghost use Rattle.std.specs.List.{All};
 ghost use Rattle.vw_outside.specs.Told.{absent, OfText};
 ghost use Rattle.vw_outside.specs.Reads.{CountsFault};
 ghost use Rattle.vw_text.specs.Physical.{text_lines};
-ghost use Rattle.vw_rows.specs.Stimulus.{row_before, joined_rows, with_line, with_lines, stimulus_rows, is_of_text};
+ghost use Rattle.vw_rows.specs.Stimulus.{row_before, joined_rows, with_rows_of, with_lines, stimulus_rows, is_of_text};
 ghost use Rattle.vw_rows.specs.Steps.{Answers, rows_asked, FitsRun, AnswersNew};
 
 use crate::line::{Asked, CLOCKS_LIMIT, read_line};
@@ -55,7 +55,7 @@ fn add_line(
 ) -> Result<(), StimFault>
     requires widths { All (λ row. length row ≡ width) rows.old }
     requires clocks { length rows.old ≤ 4294967295 }
-    ensures rows { AnswersNew (with_line width number rows.old line.now) rows.new result }
+    ensures rows { AnswersNew (with_rows_of width number rows.old line.now) rows.new result }
     ensures widths { OnOk result (All (λ row. length row ≡ width) rows.new) }
     ensures clocks { OnOk result (length rows.new ≤ 4294967295) }
     ensures reads_nothing { result ≢ Err StimFault.ReadFault }

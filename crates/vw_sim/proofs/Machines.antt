@@ -6,32 +6,32 @@ use Rattle.vw_net.specs.declared.cell.Cell.{Cell}
 use Rattle.vw_net.specs.declared.cell.Cell.TheVariants.{Gate, Latch}
 use Rattle.vw_net.specs.declared.cover.Cover.{Cover}
 use Rattle.vw_net.specs.Cells.{IsWellFormed}
-use Rattle.vw_net.specs.Order.{IsOrder, is_gate}
+use Rattle.vw_net.specs.Order.{IsOrder, is_gate, gate_inputs}
 use Rattle.vw_net.specs.Word.{place_of}
 use Rattle.vw_net.proofs.Words.{place_of-below}
 use Rattle.vw_sim.specs.declared.machine.GateStep.{GateStep}
-use Rattle.vw_sim.specs.Machine.{step_of, gate_nets, steps_of, reads_of}
+use Rattle.vw_sim.specs.Machine.{step_of, gate_steps, gathered_reads}
 use Rattle.vw_sim.proofs.Gates.{gate_fits}
 use Rattle.vw_net.proofs.Ready.{order_gate}
 
 module _ (cells : List Cell) (order : List ℕ) (place : ℕ) (within : place < length order) where
   -- one more gate is kept
-  pub steps_more : (cell : Cell) (gates after : List GateStep) → slice_get cells (get_or order place 0) ≡ Some cell → after ≡ gates ++ step_of (get_or order place 0) (Some cell) ∷ [] → after ++ steps_of cells (drop (place + 1) order) ≡ gates ++ steps_of cells (drop place order)
+  pub steps_more : (cell : Cell) (gates after : List GateStep) → slice_get cells (get_or order place 0) ≡ Some cell → after ≡ gates ++ step_of (get_or order place 0) (Some cell) ∷ [] → after ++ gate_steps cells (drop (place + 1) order) ≡ gates ++ gate_steps cells (drop place order)
   steps_more cell gates after here is =
       let number = get_or order place 0 in
-      let left = steps_of cells (drop (place + 1) order) in
-      let opened : steps_of cells (drop place order) ≡ step_of number (slice_get cells number) ∷ left = ap (steps_of cells) (drop_more order place 0 within) in
+      let left = gate_steps cells (drop (place + 1) order) in
+      let opened : gate_steps cells (drop place order) ≡ step_of number (slice_get cells number) ∷ left = ap (gate_steps cells) (drop_more order place 0 within) in
       let first : step_of number (slice_get cells number) ∷ left ≡ step_of number (Some cell) ∷ left = ap (λ (c : Option Cell). step_of number c ∷ left) here in
       ap (λ (gs : List GateStep). gs ++ left) is ∙ append_assoc gates (step_of number (Some cell) ∷ []) left ∙ ap (λ (gs : List GateStep). gates ++ gs) (sym (opened ∙ first))
 
   -- and the nets that it reads
-  pub reads_more : (cell : Cell) (reads after : List ℕ) → slice_get cells (get_or order place 0) ≡ Some cell → after ≡ reads ++ gate_nets (Some cell) → after ++ reads_of cells (drop (place + 1) order) ≡ reads ++ reads_of cells (drop place order)
+  pub reads_more : (cell : Cell) (reads after : List ℕ) → slice_get cells (get_or order place 0) ≡ Some cell → after ≡ reads ++ gate_inputs (Some cell) → after ++ gathered_reads cells (drop (place + 1) order) ≡ reads ++ gathered_reads cells (drop place order)
   reads_more cell reads after here is =
       let number = get_or order place 0 in
-      let left = reads_of cells (drop (place + 1) order) in
-      let opened : reads_of cells (drop place order) ≡ gate_nets (slice_get cells number) ++ left = ap (reads_of cells) (drop_more order place 0 within) in
-      let first : gate_nets (slice_get cells number) ++ left ≡ gate_nets (Some cell) ++ left = ap (λ (c : Option Cell). gate_nets c ++ left) here in
-      ap (λ (ns : List ℕ). ns ++ left) is ∙ append_assoc reads (gate_nets (Some cell)) left ∙ ap (λ (ns : List ℕ). reads ++ ns) (sym (opened ∙ first))
+      let left = gathered_reads cells (drop (place + 1) order) in
+      let opened : gathered_reads cells (drop place order) ≡ gate_inputs (slice_get cells number) ++ left = ap (gathered_reads cells) (drop_more order place 0 within) in
+      let first : gate_inputs (slice_get cells number) ++ left ≡ gate_inputs (Some cell) ++ left = ap (λ (c : Option Cell). gate_inputs c ++ left) here in
+      ap (λ (ns : List ℕ). ns ++ left) is ∙ append_assoc reads (gate_inputs (Some cell)) left ∙ ap (λ (ns : List ℕ). reads ++ ns) (sym (opened ∙ first))
 
 -- a cell that is a gate
 record GateThere (cell : Option Cell) : Type 0 where
@@ -55,10 +55,10 @@ pub record AtGate (nets : ℕ) (cells : List Cell) (order : List ℕ) (place : �
   pub inside : All (λ net. net < nets) ins
   pub enough : gate.width ≤ length rest
   pub now : take gate.width rest ≡ ins
-  pub left : drop gate.width rest ≡ reads_of cells (drop (place + 1) order)
+  pub left : drop gate.width rest ≡ gathered_reads cells (drop (place + 1) order)
 
 pub at_gate : {inputs : ℕ} {cells : List Cell} {order : List ℕ} (is_order : IsOrder inputs cells order) (nets : ℕ) → All (IsWellFormed nets) cells → (place : ℕ) → place < length order → (gate none : GateStep) (gates : List GateStep) (rest : List ℕ)
-    → gates ≡ steps_of cells order → gate ≡ get_or gates place none → rest ≡ reads_of cells (drop place order) → AtGate nets cells order place gate rest
+    → gates ≡ gate_steps cells order → gate ≡ get_or gates place none → rest ≡ gathered_reads cells (drop place order) → AtGate nets cells order place gate rest
 at_gate {inputs} {cells} {order} is_order nets fit place within gate none gates rest all here left =
     let number = get_or order place 0 in
     let there = gate_there (slice_get cells number) (order_gate is_order place within) in
@@ -67,8 +67,8 @@ at_gate {inputs} {cells} {order} is_order nets fit place within gate none gates 
     let its_number : gate.number ≡ number = ap (λ (g : GateStep). g.number) is in
     let well = gate_fits nets cells number there.ins there.cover fit there.is in
     let arity : length there.ins ≡ gate.width = well.0 ∙ sym (ap (λ (g : GateStep). g.width) is) in
-    let further = reads_of cells (drop (place + 1) order) in
-    let opened : rest ≡ there.ins ++ further = left ∙ ap (reads_of cells) (drop_more order place 0 within) ∙ ap (λ (c : Option Cell). gate_nets c ++ further) there.is in
+    let further = gathered_reads cells (drop (place + 1) order) in
+    let opened : rest ≡ there.ins ++ further = left ∙ ap (gathered_reads cells) (drop_more order place 0 within) ∙ ap (λ (c : Option Cell). gate_inputs c ++ further) there.is in
     record {
       ins = there.ins;
       cover = there.cover;

@@ -1,4 +1,5 @@
 -- What a machine keeps of a netlist with an order.
+use Rattle.vw_net.specs.Order.{gate_inputs}
 use Rattle.std.specs.Prelude.{ℕ, ◌+◌, ◌≡◌, Bool, List, [], ◌∷◌, map, flat_map, slice_get, slice_set, Option, Some, None}
 use Rattle.vw_net.specs.declared.cell.Cell.{Cell}
 use Rattle.vw_net.specs.declared.cell.Cell.TheVariants.{Gate, Latch}
@@ -13,18 +14,12 @@ step_of number None = record { number = number; width = 0; word = 0 }
 step_of number (Some (Gate ins cover)) = record { number = number; width = cover.inputs; word = table_word cover.inputs cover.on cover.rows }
 step_of number (Some (Latch d init)) = record { number = number; width = 0; word = 0 }
 
--- the nets that a gate reads
-abbrev pub gate_nets : Option Cell → List ℕ
-gate_nets None = []
-gate_nets (Some (Gate ins cover)) = ins
-gate_nets (Some (Latch d init)) = []
-
 -- the gates of an order, and the nets that they read, gate after gate
-abbrev pub steps_of : List Cell → List ℕ → List GateStep
-steps_of cells order = map (λ number. step_of number (slice_get cells number)) order
+abbrev pub gate_steps : List Cell → List ℕ → List GateStep
+gate_steps cells order = map (λ number. step_of number (slice_get cells number)) order
 
-abbrev pub reads_of : List Cell → List ℕ → List ℕ
-reads_of cells order = flat_map (λ number. gate_nets (slice_get cells number)) order
+abbrev pub gathered_reads : List Cell → List ℕ → List ℕ
+gathered_reads cells order = flat_map (λ number. gate_inputs (slice_get cells number)) order
 
 -- the nets of the latches among cells whose first one drives this net
 abbrev pub latch_nets : ℕ → List Cell → List ℕ
@@ -40,7 +35,7 @@ with_bits (net ∷ nets) (bit ∷ bits) values = with_bits nets bits (slice_set 
 
 -- the gates, the nets that they read, the nets of the latches, and the nets that the latches take, of an ordered netlist
 pub record IsReady (ordered : Ordered) (steps : List GateStep) (read drive take : List ℕ) : Type 0 where
-  pub gates : steps ≡ steps_of ordered.flat.cells ordered.order
-  pub reads : read ≡ reads_of ordered.flat.cells ordered.order
+  pub gates : steps ≡ gate_steps ordered.flat.cells ordered.order
+  pub reads : read ≡ gathered_reads ordered.flat.cells ordered.order
   pub latches : drive ≡ latch_nets ordered.flat.inputs ordered.flat.cells
   pub taken : take ≡ latch_inputs ordered.flat.cells

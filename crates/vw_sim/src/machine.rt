@@ -6,11 +6,11 @@ ghost use Rattle.vw_net.specs.declared.cover.Cover.{Cover};
 ghost use Rattle.vw_net.specs.Cells.{latch_count, latch_inputs};
 ghost use Rattle.vw_net.specs.Cover.{cover_value};
 ghost use Rattle.vw_net.specs.History.{next_state};
-ghost use Rattle.vw_net.specs.Order.{is_ready};
+ghost use Rattle.vw_net.specs.Order.{is_ready, gate_inputs};
 ghost use Rattle.vw_net.specs.Value.{net_value};
 ghost use Rattle.vw_net.specs.Word.{place_of};
 ghost use Rattle.vw_sim.specs.Values.{bits_at};
-ghost use Rattle.vw_sim.specs.Machine.{step_of, gate_nets, steps_of, reads_of, latch_nets, with_bits, IsReady};
+ghost use Rattle.vw_sim.specs.Machine.{step_of, gate_steps, gathered_reads, latch_nets, with_bits, IsReady};
 
 use crate::clock::{gate_value, put_inputs};
 use std::alloc::{AllocError, Global};
@@ -115,7 +115,7 @@ fn gate_step(number: u32, cell: &Cell) -> GateStep
 /// The gates of a netlist, in order.
 fn gate_steps(alloc: Global, ordered: &Ordered) -> Result<Vec<GateStep>, AllocError>
     ensures { IfOk result (λ gates. gates.items
-        ≡ steps_of ordered.now.flat.cells ordered.now.order) }
+        ≡ gate_steps ordered.now.flat.cells ordered.now.order) }
 {
     let cells = ordered.flat().cells();
     let mut gates = Vec::new(alloc);
@@ -128,7 +128,7 @@ fn gate_steps(alloc: Global, ordered: &Ordered) -> Result<Vec<GateStep>, AllocEr
 /// The nets that the gates of a netlist read, gate after gate.
 fn gate_reads(alloc: Global, ordered: &Ordered) -> Result<Vec<u32>, AllocError>
     ensures { IfOk result (λ reads. reads.items
-        ≡ reads_of ordered.now.flat.cells ordered.now.order) }
+        ≡ gathered_reads ordered.now.flat.cells ordered.now.order) }
 {
     let cells = ordered.flat().cells();
     let mut reads = Vec::new(alloc);
@@ -194,8 +194,8 @@ fn take_bits(nets: &[u32], values: &Bits, bits: &mut Bits)
 /// Puts the value of each gate into the place of its net, in order.
 fn run_gates(ordered: &Ordered, gates: &[GateStep], reads: &[u32], values: &mut Bits)
     requires nets { length values.old ≡ ordered.now.flat.inputs + length ordered.now.flat.cells }
-    requires gates { gates.now ≡ steps_of ordered.now.flat.cells ordered.now.order }
-    requires reads { reads.now ≡ reads_of ordered.now.flat.cells ordered.now.order }
+    requires gates { gates.now ≡ gate_steps ordered.now.flat.cells ordered.now.order }
+    requires reads { reads.now ≡ gathered_reads ordered.now.flat.cells ordered.now.order }
     ensures nets { length values.new ≡ length values.old }
     ensures values { (value : ℕ → Bool)
         → ((net : ℕ) → IsTrue (is_ready ordered.now.flat.inputs ordered.now.flat.cells [] net)

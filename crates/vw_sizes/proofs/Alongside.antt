@@ -13,7 +13,7 @@ use Rattle.vw_design.specs.Paths.{Word, placings}
 use Rattle.vw_design.specs.Counts.{placed_one, placed_weight}
 use Rattle.vw_design.specs.ModelFaults.{place_in_file}
 use Rattle.vw_design.specs.ModelNumbers.{IsNumberOfModel, AreTargets}
-use Rattle.vw_design.proofs.Lists.{AllZip-at}
+use Rattle.vw_design.proofs.FilteredLists.{AllZip-at}
 use Rattle.vw_models.specs.Reach.{Targets}
 use Rattle.vw_models.proofs.Unknowns.{AreAlong}
 use Rattle.vw_design.proofs.ModelNumbers.{place_of_model, model_of_place, name_of_named}

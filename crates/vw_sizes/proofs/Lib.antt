@@ -1,4 +1,3 @@
-pub mod NameSets
 pub mod Sums
 pub mod Alongside
 pub mod Filling

@@ -7,7 +7,7 @@ use Rattle.vw_design.specs.declared.design.Design.{Design}
 use Rattle.vw_design.specs.Distinct.{has_name}
 use Rattle.vw_design.specs.Limits.{Counted, inputs, outputs, placed, bindings, gates_and_latches, levels, limit_of, count_of, too_big, input_count, output_count, instance_count, binding_count, cell_count, greatest_depth, binding_weight}
 use Rattle.vw_design.specs.Counts.{placed_one, cell_one, items_weight, model_weight}
-use Rattle.vw_design.specs.Paths.{Word, model_at, model_named, items_of, outputs_of}
+use Rattle.vw_design.specs.Paths.{Word, model_at, model_named, items_of, model_outputs}
 use Rattle.vw_design.specs.ModelFaults.{is_reached}
 use Rattle.vw_design.specs.Clocks.{inputs_of, clocks_of}
 use Rattle.vw_design.specs.Preorder.{sites, paths_of}
@@ -56,7 +56,7 @@ module _ (design : Design) (root : Model) (is : model_at design [] ≡ Some root
   inputs_are found same = same ∙ sym (ap (λ (m : Option Model). length (filter (λ (name : Word). not (has_name (clocks_of m) name)) (inputs_of m))) is)
 
   pub outputs_are : (found : List Word) → found ≡ root.outputs → length found ≡ output_count design
-  outputs_are found same = ap (λ (l : List Word). length l) same ∙ sym (ap (λ (m : Option Model). length (outputs_of m)) is)
+  outputs_are found same = ap (λ (l : List Word). length l) same ∙ sym (ap (λ (m : Option Model). length (model_outputs m)) is)
 
 -- a count with an end is above a limit below that end where the count is
 above_same : (limit end count : ℕ) → limit < end → nat_lt limit (min end count) ≡ nat_lt limit count

@@ -80,7 +80,7 @@ pub record IsRanked (design : Design) : Type 0 where
   pub low : (name : Word) → IsTrue (is_reached design name) → rank name < length design.models
 
 -- the tables of a design
-pub record AreTables (design : Design) (tables : Tables) : Type 0 where
+pub record AreCountingTables (design : Design) (tables : Tables) : Type 0 where
   pub ranked : IsRanked design
   pub instances : AreCounts design Instances tables.instances.items
   pub bindings : AreCounts design Bindings tables.bindings.items

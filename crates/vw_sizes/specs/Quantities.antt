@@ -14,10 +14,10 @@ counted_of Cells = gates_and_latches
 counted_of Depth = levels
 
 -- its word in messages
-abbrev pub name_of : Quantity → List ℕ
-name_of Inputs = codes "inputs"
-name_of Outputs = codes "outputs"
-name_of Instances = codes "instances"
-name_of Bindings = codes "bindings"
-name_of Cells = codes "cells"
-name_of Depth = codes "depth"
+abbrev pub quantity_word : Quantity → List ℕ
+quantity_word Inputs = codes "inputs"
+quantity_word Outputs = codes "outputs"
+quantity_word Instances = codes "instances"
+quantity_word Bindings = codes "bindings"
+quantity_word Cells = codes "cells"
+quantity_word Depth = codes "depth"

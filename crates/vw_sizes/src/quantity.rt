@@ -1,7 +1,7 @@
 //! The quantities with a limit.
 ghost use Rattle.std.specs.Prelude.{◌≡◌};
 ghost use Rattle.vw_design.specs.Limits.{limit_of};
-ghost use Rattle.vw_sizes.specs.Quantities.{counted_of, name_of};
+ghost use Rattle.vw_sizes.specs.Quantities.{counted_of, quantity_word};
 
 /// A quantity of a design that has a limit, in the order in which they are tried.
 #[derive(Clone, Copy, Debug, PartialEq, Eq)]
@@ -37,7 +37,7 @@ impl Quantity {
 
     /// The word by which messages call it.
     pub fn name(self) -> &'static [u8]
-        ensures { result.now ≡ name_of self }
+        ensures { result.now ≡ quantity_word self }
     {
         match self {
             Quantity::Inputs => b"inputs",

@@ -1,7 +1,7 @@
 //! The counts of all models.
 ghost use Rattle.std.specs.Prelude.{IfOk};
 ghost use Rattle.vw_design.specs.ModelNumbers.{AreTargets, IsModelOrder};
-ghost use Rattle.vw_sizes.specs.Counting.{AreTables};
+ghost use Rattle.vw_sizes.specs.Counting.{AreCountingTables};
 
 use crate::amounts::counts_of;
 use crate::measure::Measure;
@@ -31,7 +31,7 @@ pub fn tables_of(
 ) -> Result<Tables, AllocError>
     requires targets { AreTargets design.now targets.now }
     requires order { IsModelOrder design.now order.now }
-    ensures { IfOk result (AreTables design.now) }
+    ensures { IfOk result (AreCountingTables design.now) }
 {
     Ok(Tables {
         instances: counts_of(alloc, design, Measure::Instances, targets, order)?,

@@ -1,7 +1,7 @@
 //! The quantities of a design.
 ghost use Rattle.std.specs.Prelude.{◌≡◌, IfOk, find, nat_lt, option_map};
 ghost use Rattle.vw_design.specs.Limits.{limit_of};
-ghost use Rattle.vw_sizes.specs.Counting.{AreTables};
+ghost use Rattle.vw_sizes.specs.Counting.{AreCountingTables};
 ghost use Rattle.vw_sizes.specs.Quantities.{counted_of};
 ghost use Rattle.vw_sizes.specs.Quantified.{total_of, first_above, AreTotals};
 
@@ -69,7 +69,7 @@ impl Totals {
 
 /// The quantities of a design, from its root's.
 pub fn totals_of(alloc: Global, design: &Design, tables: &Tables) -> Result<Totals, AllocError>
-    requires { AreTables design.now tables.now }
+    requires { AreCountingTables design.now tables.now }
     ensures { IfOk result (AreTotals design.now) }
 {
     let root = &design.models()[0];

@@ -3,7 +3,7 @@ ghost use Rattle.std.specs.Prelude.{◌≡◌, ◌||◌, not, false, OnOk, filte
 ghost use Rattle.std.specs.Str.{bytes_eq};
 ghost use Rattle.vw_design.specs.Distinct.{has_name};
 ghost use Rattle.vw_design.specs.Paths.{Word};
-ghost use Rattle.vw_sizes.specs.WordSets.{has_word};
+ghost use Rattle.vw_design.specs.WordSets.{has_word};
 
 use std::alloc::{AllocError, Global};
 use std::collections::HashMap;

@@ -4,13 +4,13 @@ use Rattle.std.specs.Prelude.{IsSome}
 use Rattle.std.specs.HashMap.{get}
 use Rattle.std.proofs.lemmas.Bool.{and_parts}
 use Rattle.vw_slots.specs.declared.moment.Moment.{Moment}
-use Rattle.vw_slots.specs.Steps.Moments.{Moments, is_same, moment_at, used_of, next_of, used_at, next_at}
+use Rattle.vw_slots.specs.Steps.Moments.{Moments, is_same, moment_at, used_of, next_moment, used_at, next_at}
 
 used_of-cond : (b : Bool) (x y : Option Moment) → used_of (cond b x y) ≡ cond b (used_of x) (used_of y)
 used_of-cond true x y = refl
 used_of-cond false x y = refl
 
-next_of-cond : (at : ℕ) (b : Bool) (x y : Option Moment) → next_of at (cond b x y) ≡ cond b (next_of at x) (next_of at y)
+next_of-cond : (at : ℕ) (b : Bool) (x y : Option Moment) → next_moment at (cond b x y) ≡ cond b (next_moment at x) (next_moment at y)
 next_of-cond at true x y = refl
 next_of-cond at false x y = refl
 
@@ -35,7 +35,7 @@ module _ (before after : Moments) (link at : ℕ) (new : Moment) (put : (key : �
   used_put one other = ap used_of (put (one, other)) ∙ used_of-cond (link == one && at == other) (Some new) (moment_at before one other)
 
   pub next_put : (one other : ℕ) → next_at after one other ≡ (if link == one && at == other then new.next else next_at before one other)
-  next_put one other = ap (next_of other) (put (one, other)) ∙ next_of-cond other (link == one && at == other) (Some new) (moment_at before one other)
+  next_put one other = ap (next_moment other) (put (one, other)) ∙ next_of-cond other (link == one && at == other) (Some new) (moment_at before one other)
 
   -- as many pins are taken as before
   pub used_kept : new.used ≡ used_at before link at → (one other : ℕ) → used_at after one other ≡ used_at before one other

@@ -5,17 +5,17 @@ use Rattle.std.proofs.lemmas.Bool.{lt-ltb, le-ltb, false≢true}
 use Rattle.vw_slots.specs.declared.slot.Slot.{Slot}
 use Rattle.vw_slots.specs.declared.slot.Taken.{Taken}
 use Rattle.vw_slots.specs.Slots.{Slots, is_taken, IsFirstFree}
-use Rattle.vw_slots.specs.Steps.Moments.{Moments, is_same, used_of, next_of, used_at, next_at, AreBusy, IsChained}
-use Rattle.vw_slots.specs.Steps.Tables.{IsTable}
+use Rattle.vw_slots.specs.Steps.Moments.{Moments, is_same, used_of, next_moment, used_at, next_at, AreBusy, IsChained}
+use Rattle.vw_slots.specs.Steps.Tables.{IsMomentTable}
 use Rattle.vw_slots.proofs.Changed.{same_key}
 use Rattle.vw_slots.proofs.Chained.{filled_chained}
 use Rattle.vw_slots.proofs.Counted.{as_many_taken, taken_more}
 
 -- the order of the entries doesn't count
-pub reordered_table : (widths : List ℕ) (taken : List Taken) (capacity more_capacity : ℕ) (before after : Moments) (spare more : ℕ) → IsTable widths taken capacity before spare → ((key : ℕ × ℕ) → hash.get is_same after key ≡ hash.get is_same before key) → more ≤ hash.spare after → length taken + more ≤ more_capacity → IsTable widths taken more_capacity after more
+pub reordered_table : (widths : List ℕ) (taken : List Taken) (capacity more_capacity : ℕ) (before after : Moments) (spare more : ℕ) → IsMomentTable widths taken capacity before spare → ((key : ℕ × ℕ) → hash.get is_same after key ≡ hash.get is_same before key) → more ≤ hash.spare after → length taken + more ≤ more_capacity → IsMomentTable widths taken more_capacity after more
 reordered_table widths taken capacity more_capacity before after spare more table same places room = record {
   wide = table.wide;
-  chained = filled_chained widths before after table.chained (λ one other. omega (arith, used one other)) (λ one other. ap (next_of other) (same (one, other)));
+  chained = filled_chained widths before after table.chained (λ one other. omega (arith, used one other)) (λ one other. ap (next_moment other) (same (one, other)));
   used = λ one pin other. table.used one pin other ∙ ap (λ (n : ℕ). nat_lt pin n) (sym (used one other));
   within = λ one other. subst (λ (n : ℕ). n ≤ slice_index widths one) (sym (used one other)) (table.within one other);
   places = places;
@@ -24,7 +24,7 @@ reordered_table widths taken capacity more_capacity before after spare more tabl
   used : (one other : ℕ) → used_at after one other ≡ used_at before one other
   used one other = ap used_of (same (one, other))
 
-module _ (widths : List ℕ) (taken : List Taken) (capacity : ℕ) (moments : Moments) (spare : ℕ) (table : IsTable widths taken capacity moments spare) (link : ℕ) (within : link < length widths) where
+module _ (widths : List ℕ) (taken : List Taken) (capacity : ℕ) (moments : Moments) (spare : ℕ) (table : IsMomentTable widths taken capacity moments spare) (link : ℕ) (within : link < length widths) where
   -- a full microcycle has a taken pin, so not more are full than slots are taken
   pub soon : (from to : ℕ) → from ≤ to → AreBusy widths moments link from to → to ≤ from + length taken
   soon from to later busy =
@@ -68,7 +68,7 @@ module _ (widths : List ℕ) (taken : List Taken) (capacity : ℕ) (moments : Mo
     still_within one other = subst (λ (n : ℕ). n ≤ slice_index widths one) (sym (used_after one other)) (by_case (link == one && at == other) (used_at middle link at + 1) (used_at middle one other) (λ n. n ≤ slice_index widths one) (λ same. let is = same_key link at one other (λ l a. slice_index widths l) same in let whole : used_at middle link at + 1 ≤ slice_index widths one = omega (arith, is, used_middle link at) in whole) (omega (arith, used_middle one other, table.within one other)))
 
     -- what the table keeps, it keeps with the slot
-    pub taken_table : capacity ≤ more_capacity → 1 ≤ spare → hash.spare middle ≡ hash.spare moments → hash.spare middle ≤ hash.spare after + 1 → IsTable widths (taken ++ record { link = link; pin = pin; at = at } ∷ []) more_capacity after (spare - 1)
+    pub taken_table : capacity ≤ more_capacity → 1 ≤ spare → hash.spare middle ≡ hash.spare moments → hash.spare middle ≤ hash.spare after + 1 → IsMomentTable widths (taken ++ record { link = link; pin = pin; at = at } ∷ []) more_capacity after (spare - 1)
     taken_table large some spare_middle spare_after = record {
       wide = table.wide;
       chained = filled_chained widths middle after chained more next_after;

@@ -30,11 +30,11 @@ impl Model for SlotTable {
     ghost Value = { Slots };
 
     ghost use Rattle.std.specs.Prelude.{vec_capacity};
-    ghost use Rattle.vw_slots.specs.Steps.Tables.{IsTable};
+    ghost use Rattle.vw_slots.specs.Steps.Tables.{IsMomentTable};
 
     ghost view = { λ t. record { widths = t.widths; taken = t.taken.items; spare = t.spare } };
 
-    ghost invariant = { λ t. IsTable t.widths t.taken.items
+    ghost invariant = { λ t. IsMomentTable t.widths t.taken.items
         (vec_capacity t.taken) t.moments t.spare };
 }
 

@@ -9,9 +9,9 @@ use Rattle.std.proofs.lemmas.List.Splits.{slice_split_none, slice_split_at}
 use Rattle.std.proofs.lemmas.List.Sums.{position_or_len_is, suffix_len_is}
 use Rattle.vw_text.specs.Physical.{text_lines}
 use Rattle.vw_text.specs.Bare.{is_blank, trimmed, bare}
-use Rattle.vw_text.specs.Logical.{before_backslash, joined, with_line}
+use Rattle.vw_text.specs.Logical.{before_backslash, joined_lines, with_line}
 use Rattle.vw_text.specs.WordLines.{is_empty, words_of, word_lines_of}
-use Rattle.vw_text.specs.PlainLines.{is_special, is_plain, IsPlainLine, plain_text, numbered}
+use Rattle.vw_text.specs.PlainLines.{is_special, is_plain, IsPlainLine, plain_text, numbered_lines}
 use Rattle.vw_text.proofs.FoundBytes.{HasNo, has_neither}
 use Rattle.vw_text.proofs.FirstLine.{line_first}
 use Rattle.vw_text.proofs.LastByte.{no_backslash}
@@ -98,22 +98,22 @@ none_is_empty (word ∷ words) plain =
 
 -- one line comes off the text
 line_read : (number : ℕ) (word : List ℕ) (words : List (List ℕ)) (rest : List ℕ) → list_all is_plain (word ∷ words) ≡ true → not (is_empty (word ∷ words)) ≡ true
-    → word_lines_of (joined number (map bare (text_lines (join_with_byte 32 (word ∷ words) ++ 10 ∷ [] ++ rest))))
-    ≡ record { number = number; words = word ∷ words } ∷ word_lines_of (joined (number + 1) (map bare (text_lines rest)))
+    → word_lines_of (joined_lines number (map bare (text_lines (join_with_byte 32 (word ∷ words) ++ 10 ∷ [] ++ rest))))
+    ≡ record { number = number; words = word ∷ words } ∷ word_lines_of (joined_lines (number + 1) (map bare (text_lines rest)))
 line_read number word words rest plain some =
     let line = join_with_byte 32 (word ∷ words) in
     let is = words_line word words plain in
     let no_end = (has_neither (λ b. b == 10) (λ b. b == 35 || b == 92) line is.unmarked).0 in
-    let behind = joined (number + 1) (map bare (text_lines rest)) in
+    let behind = joined_lines (number + 1) (map bare (text_lines rest)) in
     let made : words_of line ≡ word ∷ words = ap (filter (λ part. not (is_empty part))) (words_again word words plain) ∙ none_is_empty (word ∷ words) plain in
-    ap (λ lines. word_lines_of (joined number (map bare lines))) (ap text_lines (append_assoc line (10 ∷ []) rest) ∙ line_first line rest no_end)
+    ap (λ lines. word_lines_of (joined_lines number (map bare lines))) (ap text_lines (append_assoc line (10 ∷ []) rest) ∙ line_first line rest no_end)
     ∙ ap (λ line. word_lines_of (with_line number line (before_backslash line) behind)) (stays_bare line is)
     ∙ ap (λ front. word_lines_of (with_line number line front behind)) (goes_not_on line is)
     ∙ ap (λ words. cond (not (is_empty words)) (record { number = number; words = words } ∷ word_lines_of behind) (word_lines_of behind)) made
     ∙ cond-true (not (is_empty (word ∷ words))) _ _ some
 
 pub lines_read : (number : ℕ) (lines : List (List (List ℕ))) → AllByRecursion IsPlainLine lines
-    → word_lines_of (joined number (map bare (text_lines (plain_text lines)))) ≡ numbered number lines
+    → word_lines_of (joined_lines number (map bare (text_lines (plain_text lines)))) ≡ numbered_lines number lines
 lines_read number [] plain = refl
 lines_read number ([] ∷ lines) plain = absurd (false≢true (and_parts false true plain.0).0)
 lines_read number ((word ∷ words) ∷ lines) plain =

@@ -26,10 +26,10 @@ with_line number line None lines = record { number = number; bytes = line } ∷ 
 with_line number line (Some front) lines = continued number front lines
 
 -- the logical lines of bare physical lines, of which the first has this number
-abbrev pub joined : ℕ → List (List ℕ) → List Logical
-joined number [] = []
-joined number (line ∷ lines) = with_line number line (before_backslash line) (joined (number + 1) lines)
+abbrev pub joined_lines : ℕ → List (List ℕ) → List Logical
+joined_lines number [] = []
+joined_lines number (line ∷ lines) = with_line number line (before_backslash line) (joined_lines (number + 1) lines)
 
 -- those of a text; physical lines are numbered from 1
 abbrev pub logical_lines : List ℕ → List Logical
-logical_lines text = joined 1 (map bare (text_lines text))
+logical_lines text = joined_lines 1 (map bare (text_lines text))

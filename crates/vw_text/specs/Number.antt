@@ -18,6 +18,6 @@ value_from before [] = before
 value_from before (b ∷ bs) = value_from (before * 10 + (b - 48)) bs
 
 -- the number that a word spells, below 2 ^ 64
-abbrev pub number_of : List ℕ → Option ℕ
-number_of word =
+abbrev pub spelled_number : List ℕ → Option ℕ
+spelled_number word =
     if is_number word && nat_lt (value_from 0 word) (2 ^ 64) then Some (value_from 0 word) else None

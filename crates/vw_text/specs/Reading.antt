@@ -4,12 +4,12 @@ use Rattle.vw_text.specs.declared.line.Line.{Line}
 use Rattle.vw_text.specs.declared.reader.LineReader.{LineReader}
 use Rattle.vw_text.specs.Physical.{text_lines}
 use Rattle.vw_text.specs.Bare.{bare}
-use Rattle.vw_text.specs.Logical.{joined}
+use Rattle.vw_text.specs.Logical.{joined_lines}
 use Rattle.vw_text.specs.WordLines.{word_lines_of}
 
 -- the logical lines with words that are left
 abbrev pub lines_left : LineReader → List Line
-lines_left r = word_lines_of (joined r.number (map bare (text_lines r.rest.now)))
+lines_left r = word_lines_of (joined_lines r.number (map bare (text_lines r.rest.now)))
 
 -- the first of them was read, and less of the text is left; or there was none
 abbrev pub ReadsNext : LineReader → Option Line → LineReader → Type 0

@@ -12,14 +12,14 @@ use Rattle.vw_net.specs.Order.{is_gate, is_among, read_nets_at}
 use Rattle.vw_design.specs.declared.item.Item.{Item}
 use Rattle.vw_design.specs.declared.item.Item.TheVariants.{Names, Latch as LatchItem, Sub}
 use Rattle.vw_design.specs.declared.design.Design.{Design}
-use Rattle.vw_design.specs.Lists.{turned}
+use Rattle.vw_net.specs.Lists.{turned}
 use Rattle.vw_design.specs.Paths.{Word}
 use Rattle.vw_design.specs.Preorder.{Site, cells}
 use Rattle.vw_design.specs.Limits.{cell_count}
 use Rattle.vw_design.specs.Flattened.{IsFlatOf, IsCellOf}
 use Rattle.vw_design.specs.Loops.{Gate as GateAt, gate_at, gate_reads}
 use Rattle.vw_design.proofs.FlatReads.{reads_agree}
-use Rattle.vw_design.proofs.Lists.{AllZip-length}
+use Rattle.vw_design.proofs.FilteredLists.{AllZip-length}
 use Rattle.vw_design.proofs.Has.{Has, Has-at}
 use Rattle.vw_flat.specs.Printed.{printed_site}
 use Rattle.vw_order.specs.Loops as orders

@@ -13,9 +13,9 @@ use Rattle.vw_top.specs.declared.reason.Reason.TheVariants.{Usage, Stimulus}
 use Rattle.vw_top.specs.Reasons.{reason_status}
 use Rattle.vw_top.specs.Designs.{IsDesignOf, RefusesDesign, IsNoDesign, spells_once, design_apart}
 use Rattle.vw_top.specs.Course.{Course, refuses, Outside, outside, MayWrite, MayRefuse, MayRead, AtFile, writing, refusing, missing, ComesTo}
-use Rattle.vw_top.specs.Statuses.{Statuses, IsRefusal, IsWantOfMemory}
+use Rattle.vw_top.specs.Statuses.{Statuses, IsRefused, IsWantOfMemory}
 use Rattle.vw_top.specs.Commands.{sim_course, trace_of}
-use Rattle.vw_top.specs.CommandStatuses.{IsAccepted, SimStatuses, UsageStatuses, Yields}
+use Rattle.vw_top.specs.CommandStatuses.{AreAccepted, SimStatuses, UsageStatuses, Yields}
 use Rattle.vw_top.specs.CheckStatuses.{YieldsTwo}
 use Rattle.vw_top.proofs.StageLaws.{same_outside}
 use Rattle.vw_top.proofs.CourseEnds.{refused_with, refused_or_stopped, yields_one, fault_of_two, yields_two, want_untouched, absent_leaves, part_of, carried_out}
@@ -168,7 +168,7 @@ module _ (design stimulus : List ℕ) (unknown : Bool) (before after : Outside) 
   five_comes d spelled reason held_d its_design (bad_rows text rest other fault text_is its_netlist rest_is is said) = ap reason_status is
 
   -- what `sim` writes is the trace of the design and the rows that its files have
-  text_of : (spelled : Spelled) (rows : List (List Bool)) (text : List ℕ) (accepted : IsAccepted design stimulus before spelled rows) → MayWrite (sim_course design stimulus unknown) told text → text ≡ trace_of unknown spelled rows
+  text_of : (spelled : Spelled) (rows : List (List Bool)) (text : List ℕ) (accepted : AreAccepted design stimulus before spelled rows) → MayWrite (sim_course design stimulus unknown) told text → text ≡ trace_of unknown spelled rows
   text_of spelled rows text accepted may =
       let w = what design stimulus unknown told text may in
       let its_design : IsDesignOf accepted.design_text w.spelled = subst (λ (t : List ℕ). IsDesignOf t w.spelled) (its_text (told design) w.d accepted.design_text accepted.design_held w.d_is) w.its_design in
@@ -228,7 +228,7 @@ module _ (design stimulus : List ℕ) (unknown : Bool) (before after : Outside) 
 
 -- words that spell no command
 module _ (place : ℕ) (before after : Outside) (status : ℕ) (table : Statuses (refuses (Usage place)) before after status) where
-  refusal_ends : IsRefusal (refuses (Usage place)) before after status → UsageStatuses before after status
+  refusal_ends : IsRefused (refuses (Usage place)) before after status → UsageStatuses before after status
   refusal_ends refusal = record { comes = inl (refusal.its_status ∙ ap reason_status refusal.may); leaves = refusal.leaves }
 
   want_ends : IsWantOfMemory (refuses (Usage place)) before after → status ≡ 9 → UsageStatuses before after status

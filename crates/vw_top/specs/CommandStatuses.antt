@@ -18,7 +18,7 @@ abbrev pub Holds : Outside → List ℕ → List ℕ → Type 0
 Holds before name text = before.shelf.told name ≡ held text
 
 -- the texts are held, and stand for this design and these rows
-pub record IsAccepted (design stimulus : List ℕ) (before : Outside) (spelled : Design) (rows : List (List Bool)) : Type 0 where
+pub record AreAccepted (design stimulus : List ℕ) (before : Outside) (spelled : Design) (rows : List (List Bool)) : Type 0 where
   pub design_text : List ℕ
   pub stimulus_text : List ℕ
   pub design_held : Holds before design design_text
@@ -54,14 +54,14 @@ pub record SimStatuses (design stimulus : List ℕ) (unknown : Bool) (before aft
   -- these aren't statuses of `sim`
   pub others : (status ≢ 2) × (status ≢ 3) × (status ≢ 4) × (status ≢ 6)
   -- whatever the status, out has a part of what status 0 would have written
-  pub part : (spelled : Design) (rows : List (List Bool)) → IsAccepted design stimulus before spelled rows
+  pub part : (spelled : Design) (rows : List (List Bool)) → AreAccepted design stimulus before spelled rows
       → LeavesPart (trace_of unknown spelled rows) before.out after.out
   -- a file that is told to be absent
   pub absent_design : before.shelf.told design ≡ absent → (after.out ≡ before.out) × ((status ≡ 7) ⊎ (status ≡ 9))
   pub absent_stimulus : (d : List ℕ) (spelled : Design) → Holds before design d → IsDesignOf d spelled
       → before.shelf.told stimulus ≡ absent → (after.out ≡ before.out) × ((status ≡ 7) ⊎ (status ≡ 9))
   -- where no count rose, accepted texts are run, unless memory runs out
-  pub complete : (spelled : Design) (rows : List (List Bool)) → IsAccepted design stimulus before spelled rows
+  pub complete : (spelled : Design) (rows : List (List Bool)) → AreAccepted design stimulus before spelled rows
       → (IsOneMore (before.shelf.faults design) (after.shelf.faults design) → ⊥)
       → (IsOneMore (before.shelf.faults stimulus) (after.shelf.faults stimulus) → ⊥)
       → (IsOneMore before.out.faults after.out.faults → ⊥) → (status ≡ 0) ⊎ (status ≡ 9)

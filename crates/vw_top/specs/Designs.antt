@@ -21,12 +21,12 @@ use Rattle.vw_top.specs.declared.reason.Reason.{Reason}
 use Rattle.vw_top.specs.declared.reason.Reason.TheVariants as reasons
 
 -- the text spells the design, and no other one
-abbrev pub Spells : List ℕ → Design → Type 0
-Spells text design = design_of text ≡ Ok (map spelled_model design.models)
+abbrev pub SpellsDesign : List ℕ → Design → Type 0
+SpellsDesign text design = design_of text ≡ Ok (map spelled_model design.models)
 
 -- the design of a text that runs: it has no fault, and its gates don't read each other in a circle
 pub record IsDesignOf (text : List ℕ) (design : Design) : Type 0 where
-  pub spelled : Spells text design
+  pub spelled : SpellsDesign text design
   pub accepted : IsAccepted design
   pub loop_free : IsLoopFree design
 
@@ -64,7 +64,7 @@ RefusesLoop design reason = (names : List Word) × (reason ≡ reasons.Loop name
 abbrev pub RefusesDesign : List ℕ → Reason → Type 0
 RefusesDesign text reason =
     RefusesText text reason
-    ⊎ ((design : Design) × Spells text design × (RefusesElaboration design reason ⊎ (IsAccepted design × RefusesLoop design reason)))
+    ⊎ ((design : Design) × SpellsDesign text design × (RefusesElaboration design reason ⊎ (IsAccepted design × RefusesLoop design reason)))
 
 -- there is such a reason
 abbrev pub IsNoDesign : List ℕ → Type 0
@@ -72,19 +72,19 @@ IsNoDesign text = (reason : Reason) × RefusesDesign text reason
 
 -- ---- one text has one design, and a text with a design that runs is not refused
 
-abbrev pub HasModels : List SpelledModel → Result (List SpelledModel) TextFault → Type 0
-HasModels models (Ok others) = models ≡ others
-HasModels models (Err fault) = ⊥
+abbrev pub SpellsModels : List SpelledModel → Result (List SpelledModel) TextFault → Type 0
+SpellsModels models (Ok others) = models ≡ others
+SpellsModels models (Err fault) = ⊥
 
-abbrev pub models_said : (text : List ℕ) (design : Design) → Spells text design → HasModels (map spelled_model design.models) (design_of text)
-models_said text design is = subst (HasModels (map spelled_model design.models)) (sym is) refl
+abbrev pub models_said : (text : List ℕ) (design : Design) → SpellsDesign text design → SpellsModels (map spelled_model design.models) (design_of text)
+models_said text design is = subst (SpellsModels (map spelled_model design.models)) (sym is) refl
 
-abbrev pub spells_once : (text : List ℕ) (one other : Design) → Spells text one → Spells text other → one ≡ other
-spells_once text one other is its = spelled_once one other (subst (HasModels (map spelled_model one.models)) its (models_said text one is))
+abbrev pub spells_once : (text : List ℕ) (one other : Design) → SpellsDesign text one → SpellsDesign text other → one ≡ other
+spells_once text one other is its = spelled_once one other (subst (SpellsModels (map spelled_model one.models)) its (models_said text one is))
 
 abbrev pub design_apart : (text : List ℕ) (design : Design) (reason : Reason) → IsDesignOf text design → RefusesDesign text reason → ⊥
 design_apart text design reason is (inl refused) =
-    subst (HasModels (map spelled_model design.models)) refused.2 (models_said text design is.spelled)
+    subst (SpellsModels (map spelled_model design.models)) refused.2 (models_said text design is.spelled)
 design_apart text design reason is (inr (other, spelled, inl refused)) =
     let same = spells_once text other design spelled is.spelled in
     accepted_unrefused design is.accepted refused.0 refused.2 (subst (λ (d : Design). IsRefusal d refused.0) same refused.3)

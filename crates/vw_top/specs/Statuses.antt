@@ -14,7 +14,7 @@ pub record IsDone (course : Course) (before after : Outside) : Type 0 where
   pub leaves : after ≡ outside before.shelf (appended before.out text)
 
 -- 1 to 6: the course refuses for a reason with this status, and nothing changed
-pub record IsRefusal (course : Course) (before after : Outside) (status : ℕ) : Type 0 where
+pub record IsRefused (course : Course) (before after : Outside) (status : ℕ) : Type 0 where
   pub reason : Reason
   pub its_status : status ≡ reason_status reason
   pub may : MayRefuse course before.shelf.told reason
@@ -48,7 +48,7 @@ LeavesPart text before after = WrotePart text before after ⊎ FailedAfterPart t
 -- the table of statuses
 pub record Statuses (course : Course) (before after : Outside) (status : ℕ) : Type 0 where
   pub done : status ≡ 0 → IsDone course before after
-  pub refused : 0 < status → status < 7 → IsRefusal course before after status
+  pub refused : 0 < status → status < 7 → IsRefused course before after status
   pub read_fault : status ≡ 7 → IsReadFault course before after
   pub write_fault : status ≡ 8 → IsWriteFault course before after
   pub want_of_memory : status ≡ 9 → IsWantOfMemory course before after

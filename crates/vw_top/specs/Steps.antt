@@ -2,5 +2,5 @@
 pub mod Commands
 pub mod Stage
 pub mod FlatTrace
-pub mod Made
+pub mod OrderedDesigns
 pub mod Plans

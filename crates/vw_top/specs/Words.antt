@@ -14,30 +14,30 @@ fits (keyword wanted) word = bytes_eq word wanted
 fits file word = not (length word == 0)
 
 -- what may be set: the value that free latches start at
-pub data Setting : Type 0 where
-  unknown_bit : Setting
+pub data WordSetting : Type 0 where
+  unknown_bit : WordSetting
 
 -- whether a word gives a setting one of its values
-abbrev pub gives : Setting → List ℕ → Bool
+abbrev pub gives : WordSetting → List ℕ → Bool
 gives unknown_bit word = bytes_eq word (codes "unknown=0") || bytes_eq word (codes "unknown=1")
 
 -- the places of a command, and its settings, which stand behind them in any order
 pub record Form : Type 0 where
   pub places : List Place
-  pub settings : List Setting
+  pub settings : List WordSetting
 
 -- whether a word gives a setting that no word before it gives
-abbrev pub is_new_setting : List Setting → List (List ℕ) → List ℕ → Bool
+abbrev pub is_new_setting : List WordSetting → List (List ℕ) → List ℕ → Bool
 is_new_setting settings before word = list_any (λ setting. gives setting word && not (list_any (gives setting) before)) settings
 
 -- how many words, from the first, give settings, each at most once
-abbrev pub matched_settings : List Setting → List (List ℕ) → List (List ℕ) → ℕ
+abbrev pub matched_settings : List WordSetting → List (List ℕ) → List (List ℕ) → ℕ
 matched_settings settings before [] = zero
 matched_settings settings before (word ∷ words) =
     if is_new_setting settings before word then suc (matched_settings settings (before ++ word ∷ []) words) else zero
 
 -- how many words, from the first, are as a command has them
-abbrev pub matched : List Place → List Setting → List (List ℕ) → ℕ
+abbrev pub matched : List Place → List WordSetting → List (List ℕ) → ℕ
 matched [] settings words = matched_settings settings [] words
 matched (place ∷ places) settings [] = zero
 matched (place ∷ places) settings (word ∷ words) = if fits place word then suc (matched places settings words) else zero

@@ -3,7 +3,7 @@ ghost use Rattle.std.specs.Prelude.{◌≡◌, IfOk};
 ghost use Rattle.vw_plan.specs.Setting.{setting_of};
 ghost use Rattle.vw_top.specs.Course.{Follows, outside};
 ghost use Rattle.vw_top.specs.Commands.{RefusesPlan, check_board_course, check_course, check_plan_course, sound_course, sound_text};
-ghost use Rattle.vw_top.specs.Steps.Plans.{IsSoundPlan};
+ghost use Rattle.vw_top.specs.Steps.Plans.{IsCheckedPlan};
 ghost use Rattle.vw_top.specs.Steps.Stage.{JudgesText, WritesOut};
 
 use crate::endings::Unfinished;
@@ -44,7 +44,7 @@ fn sound_plan(
     board: Board,
     plan: Plan,
 ) -> Result<Checked, Unfinished>
-    ensures { JudgesText (IsSoundPlan (setting_of ordered board plan))
+    ensures { JudgesText (IsCheckedPlan (setting_of ordered board plan))
         (RefusesPlan (setting_of ordered board plan)) result }
 {
     match check_plan(alloc, ordered, board, plan) {

@@ -7,8 +7,8 @@ ghost use Rattle.vw_design.specs.Limits.{cell_count};
 ghost use Rattle.vw_design.specs.Preorder.{cells};
 ghost use Rattle.vw_flat.specs.Printed.{printed_site};
 ghost use Rattle.vw_order.specs.Faults.{IsOrderFault};
-ghost use Rattle.vw_top.specs.Designs.{Spells, IsNetlistOf, RefusesDesign, RefusesLoop};
-ghost use Rattle.vw_top.specs.Steps.Made.{IsOrderedOf, EndsLoop};
+ghost use Rattle.vw_top.specs.Designs.{SpellsDesign, IsNetlistOf, RefusesDesign, RefusesLoop};
+ghost use Rattle.vw_top.specs.Steps.OrderedDesigns.{IsOrderedOf, EndsLoop};
 ghost use Rattle.vw_top.specs.Steps.Stage.{JudgesText};
 
 use crate::endings::Unfinished;
@@ -26,7 +26,7 @@ use vw_outside::Name;
 
 /// The elaborated design of a text.
 fn elaborated_of_text(alloc: Global, text: &[u8]) -> Result<Elaborated, Unfinished>
-    ensures { JudgesText (λ elaborated. Spells text.now elaborated × IsAccepted elaborated)
+    ensures { JudgesText (λ elaborated. SpellsDesign text.now elaborated × IsAccepted elaborated)
         (RefusesDesign text.now) result }
 {
     let design = match read(alloc, text) {

@@ -31,24 +31,24 @@ pub enum Command<'a> {
 
 /// What may be set by a word behind the names of the files.
 #[derive(Clone, Copy, Debug, PartialEq, Eq)]
-pub enum Setting {
+pub enum WordSetting {
     /// `unknown=0` or `unknown=1`: the value that free latches start at.
     Unknown,
 }
 
 /// Whether a word gives a setting one of its values.
-fn gives(setting: Setting, word: &Name) -> bool
+fn gives(setting: WordSetting, word: &Name) -> bool
     ensures { result ≡ gives (setting_view setting) word.now }
 {
     match setting {
-        Setting::Unknown => {
+        WordSetting::Unknown => {
             word.as_slice() == b"unknown=0".as_slice() || word.as_slice() == b"unknown=1".as_slice()
         }
     }
 }
 
 /// Whether one of these words gives a setting.
-fn is_given(setting: Setting, words: &[Name]) -> bool
+fn is_given(setting: WordSetting, words: &[Name]) -> bool
     ensures { result ≡ list_any (gives (setting_view setting)) words.now }
 {
     for word in words {
@@ -60,7 +60,7 @@ fn is_given(setting: Setting, words: &[Name]) -> bool
 }
 
 /// Whether a word gives a setting that no word before it gives.
-fn is_new_setting(settings: &[Setting], before: &[Name], word: &Name) -> bool
+fn is_new_setting(settings: &[WordSetting], before: &[Name], word: &Name) -> bool
     ensures { result ≡ is_new_setting (settings_view settings.now) before.now word.now }
 {
     for setting in settings {
@@ -72,7 +72,7 @@ fn is_new_setting(settings: &[Setting], before: &[Name], word: &Name) -> bool
 }
 
 /// How many words, from the first, give settings, each at most once.
-fn matched_settings(settings: &[Setting], words: &[Name]) -> usize
+fn matched_settings(settings: &[WordSetting], words: &[Name]) -> usize
     ensures count { result ≡ matched_settings (settings_view settings.now) [] words.now }
     ensures within { result ≤ length words.now }
 {
@@ -102,7 +102,7 @@ fn sim_of(rest: &[Name]) -> Command<'_>
 {
     match rest {
         [design, stimulus, settings @ ..] if !design.is_empty() && !stimulus.is_empty() => {
-            let count = matched_settings(&[Setting::Unknown], settings);
+            let count = matched_settings(&[WordSetting::Unknown], settings);
             if count != settings.len() {
                 return Command::Nothing(count as u64 + 4);
             }

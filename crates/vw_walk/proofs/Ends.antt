@@ -8,9 +8,9 @@ use Rattle.vw_design.specs.Preorder.{Site, sites_below, sites}
 use Rattle.vw_walk.specs.declared.tables.Placed.{Placed}
 use Rattle.vw_walk.specs.declared.tables.CellSite.{CellSite}
 use Rattle.vw_walk.specs.declared.frame.Frame.{Frame}
-use Rattle.vw_walk.specs.Tables.{AreNumbered, StandsAt, IsPlaced, IsCellSite, ArePlaced, AreCellSites}
-use Rattle.vw_walk.specs.Steps.Frames.{Level, sites_left, listed_with, cells_among, IsFrame, IsWalk}
-use Rattle.vw_walk.proofs.Lists.{none_numbered, more_numbered}
+use Rattle.vw_walk.specs.Tables.{AreNumbered, StandsAt, IsEntryAt, IsCellSite, ArePlaced, AreCellSites}
+use Rattle.vw_walk.specs.Steps.Frames.{Level, sites_left, listed_with, cells_among, IsFrame, IsUnderWay}
+use Rattle.vw_walk.proofs.GrownLists.{none_numbered, more_numbered}
 use Rattle.vw_walk.proofs.Levels.{level_of, sites_start}
 
 module _ (design : Design) where
@@ -21,7 +21,7 @@ module _ (design : Design) where
     by [] is some = absurd (omega arith)
     by (model ∷ models) is some = (model, ap (λ (list : List Model). slice_get list 0) is)
 
-  pub starts : IsWalk design (record { model = 0; parent = 0; place = 0; cells = 0 } ∷ []) [] (record { instance = 0; model = 0; item = 0; before = 0 } ∷ [])
+  pub starts : IsUnderWay design (record { model = 0; parent = 0; place = 0; cells = 0 } ∷ []) [] (record { instance = 0; model = 0; item = 0; before = 0 } ∷ [])
   unfolding sites
   starts =
       let root = root_model in
@@ -37,7 +37,7 @@ module _ (design : Design) where
         cells_before = refl;
         number_is = refl;
       } in
-      let placed : IsPlaced design ([] ∷ []) 0 [] entry = record { model = root.0; stands = root.1; model_is = root.1; by = (refl, refl); at = at } in
+      let placed : IsEntryAt design ([] ∷ []) 0 [] entry = record { model = root.0; stands = root.1; model_is = root.1; by = (refl, refl); at = at } in
       let frame : IsFrame design ([] ∷ []) 0 level first = record {
         model = root.0;
         stands = root.1;
@@ -52,12 +52,12 @@ module _ (design : Design) where
         done = [];
         levels = level ∷ [];
         all = append-nil (sites_left design level) ∙ sym (sites_start design [] root.0 root.1 (omega arith)) ∙ sym all;
-        placed = more_numbered (IsPlaced design ([] ∷ [])) (IsPlaced design ([] ∷ [])) (λ number path e is. is) [] [] [] entry (none_numbered (IsPlaced design ([] ∷ []))) placed;
+        placed = more_numbered (IsEntryAt design ([] ∷ [])) (IsEntryAt design ([] ∷ [])) (λ number path e is. is) [] [] [] entry (none_numbered (IsEntryAt design ([] ∷ []))) placed;
         cells = tt;
         stack = (frame, tt);
       }
 
-  module _ (table : List Placed) (made : List CellSite) (frames : List Frame) (walk : IsWalk design table made frames) (count : ℕ) (others : List Frame)
+  module _ (table : List Placed) (made : List CellSite) (frames : List Frame) (walk : IsUnderWay design table made frames) (count : ℕ) (others : List Frame)
       (whole : frames ≡ others ++ []) (none_left : count ≡ 0) (are : others ≡ take (count - 1) frames) where
     -- where no frame is left, all is done
     no_frames : frames ≡ []
@@ -74,7 +74,7 @@ module _ (design : Design) where
 
     -- and the tables are those of the design
     pub ends_placed : ArePlaced design table
-    ends_placed = subst (λ (done : List Site). AreNumbered (IsPlaced design (listed_with done)) (listed_with done) table) all_done walk.placed
+    ends_placed = subst (λ (done : List Site). AreNumbered (IsEntryAt design (listed_with done)) (listed_with done) table) all_done walk.placed
 
     pub ends_cells : AreCellSites design made
     ends_cells = subst (λ (done : List Site). AllZip (IsCellSite (listed_with done)) (cells_among done) made) all_done walk.cells

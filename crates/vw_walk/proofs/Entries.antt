@@ -9,7 +9,7 @@ use Rattle.vw_design.specs.Limits.{IsSmall, weight_of}
 use Rattle.vw_design.specs.Counts.{placed_one, cell_one}
 use Rattle.vw_design.proofs.Reached.{shallow}
 use Rattle.vw_walk.specs.declared.tables.Placed.{Placed}
-use Rattle.vw_walk.specs.Tables.{ArePlaced, IsPlaced}
+use Rattle.vw_walk.specs.Tables.{ArePlaced, IsEntryAt}
 
 pub record StandsBehind (design : Design) (path : Path) (cells number : ℕ) : Type 0 where
   pub before : List Site
@@ -22,7 +22,7 @@ module _ (design : Design) (table : List Placed) (small : IsSmall design) (are :
   pub stands_behind : (entry : Placed) → slice_get table number ≡ Some entry → StandsBehind design path entry.cells number
   stands_behind entry at =
       let found = are.each number path listed in
-      let is : IsPlaced design (instances design) number path found.0 = found.2 in
+      let is : IsEntryAt design (instances design) number path found.0 = found.2 in
       let same : found.0 ≡ entry = same_Some found.0 entry (sym found.1 ∙ at) in
       let short : length path < 64 = ⊎_elim (λ low. low) (λ deep. absurd (none-some is.model (sym ((shallow design small.depth).shallow path deep) ∙ is.stands))) (cases_lt (length path) 64) in
       let levels : 65 + length design.models - length path ≡ suc (64 + length design.models - length path) = omega arith in

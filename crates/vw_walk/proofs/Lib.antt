@@ -1,8 +1,8 @@
-pub mod Lists
+pub mod GrownLists
 pub mod Nexts
 pub mod Counted
 pub mod Levels
-pub mod Steps
+pub mod WalkSteps
 pub mod StepCases
 pub mod Ends
 pub mod Entries

@@ -13,7 +13,7 @@ use Rattle.vw_design.specs.ModelFaults.{unknown_model}
 use Rattle.vw_design.specs.ModelNumbers.{IsNumberOfModel, AreTargets}
 use Rattle.vw_design.specs.Limits.{IsSmall}
 use Rattle.vw_design.proofs.Has.{Has, Has-right}
-use Rattle.vw_design.proofs.Lists.{AllZip-at}
+use Rattle.vw_design.proofs.FilteredLists.{AllZip-at}
 use Rattle.vw_design.proofs.Reached.{shallow, nothing_placed}
 use Rattle.vw_walk.specs.declared.frame.Frame.{Frame}
 use Rattle.vw_walk.specs.Steps.Nexts.{target_at, next_by, next_of}

@@ -17,7 +17,7 @@ use Rattle.vw_design.proofs.Has.{Has-at, Has-map}
 use Rattle.vw_design.proofs.Names.{has_name-Has}
 use Rattle.vw_walk.specs.declared.tables.Placed.{Placed}
 use Rattle.vw_walk.specs.declared.tables.CellSite.{CellSite}
-use Rattle.vw_walk.specs.Tables.{IsPlacedBy, IsJustBehind, IsPlaced, ArePlaced, IsCellSite, AreCellSites}
+use Rattle.vw_walk.specs.Tables.{IsPlacedBy, IsJustBehind, IsEntryAt, ArePlaced, IsCellSite, AreCellSites}
 
 module _ {A : Type 0} where
   -- lists of one length with the same elements
@@ -116,7 +116,7 @@ module _ (design : Design) (once : (place : ℕ) (path : Path) → slice_get (in
   by_once number [] one other is are = (is.0 ∙ sym are.0, is.1 ∙ sym are.1)
   by_once number (place ∷ path) one other is are = (listed_once one.parent other.parent path is.1 are.1, is.0 ∙ sym are.0)
 
-  entry_once : (number : ℕ) (path : Path) (one other : Placed) → IsPlaced design (instances design) number path one → IsPlaced design (instances design) number path other → one ≡ other
+  entry_once : (number : ℕ) (path : Path) (one other : Placed) → IsEntryAt design (instances design) number path one → IsEntryAt design (instances design) number path other → one ≡ other
   entry_once number path one other is are =
       let models : is.model ≡ are.model = same_Some is.model are.model (sym is.stands ∙ are.stands) in
       let model : one.model ≡ other.model =

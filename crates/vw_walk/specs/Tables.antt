@@ -39,7 +39,7 @@ pub record StandsAt (design : Design) (path : Path) (cells number : ℕ) : Type 
   pub number_is : number ≡ weight_of placed_one before
 
 -- the entry of the instance with a number
-pub record IsPlaced (design : Design) (listed : List Path) (number : ℕ) (path : Path) (entry : Placed) : Type 0 where
+pub record IsEntryAt (design : Design) (listed : List Path) (number : ℕ) (path : Path) (entry : Placed) : Type 0 where
   pub model : Model
   pub stands : model_at design path ≡ Some model
   pub model_is : slice_get design.models entry.model ≡ Some model
@@ -48,7 +48,7 @@ pub record IsPlaced (design : Design) (listed : List Path) (number : ℕ) (path 
 
 -- the entries of all instances, in preorder
 abbrev pub ArePlaced : Design → List Placed → Type 0
-ArePlaced design table = AreNumbered (IsPlaced design (instances design)) (instances design) table
+ArePlaced design table = AreNumbered (IsEntryAt design (instances design)) (instances design) table
 
 -- the entry of a gate or a latch: its instance, among listed paths, and its item there
 pub record IsCellSite (listed : List Path) (site : Site) (entry : CellSite) : Type 0 where

@@ -1,6 +1,6 @@
 //! What a walk over a design has listed so far.
 ghost use Rattle.std.specs.Prelude.{◌≡◌, ◌<◌, ◌+◌, ◌^◌, ◌++◌, [], ◌∷◌, length, OnOk, IfOk};
-ghost use Rattle.vw_walk.specs.Steps.Frames.{entered, behind_item, cell_of, placed_by};
+ghost use Rattle.vw_walk.specs.Steps.Frames.{entered, behind_item, site_of_frame, placed_in_frame};
 
 use crate::frame::Frame;
 use crate::tables::{CellSite, Placed};
@@ -62,7 +62,7 @@ impl State {
         requires { frame.item + 1 < 2 ^ 32 }
         ensures instances { self.new.instances.items ≡ self.old.instances.items }
         ensures cells { OnOk result (self.new.cells.items ≡ self.old.cells.items
-            ++ (cell_of frame ∷ [])) }
+            ++ (site_of_frame frame ∷ [])) }
         ensures frames { OnOk result (self.new.frames.items ≡ self.old.frames.items
             ++ (behind_item frame frame.before ∷ [])) }
     {
@@ -85,7 +85,7 @@ impl State {
         requires cells { length self.old.cells.items < 2 ^ 32 }
         ensures instances { OnOk result (
             self.new.instances.items ≡ self.old.instances.items
-            ++ (placed_by frame model (length self.old.cells.items) ∷ [])) }
+            ++ (placed_in_frame frame model (length self.old.cells.items) ∷ [])) }
         ensures cells { self.new.cells.items ≡ self.old.cells.items }
         ensures frames { OnOk result (self.new.frames.items ≡ self.old.frames.items
             ++ (behind_item frame (frame.before + 1)

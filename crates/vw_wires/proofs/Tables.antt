@@ -12,7 +12,7 @@ use Rattle.vw_net.specs.declared.ordered.Ordered.{Ordered}
 use Rattle.vw_net.specs.Order.{is_ready, read_nets_at}
 use Rattle.vw_net.proofs.Ready.{order_within, ready_before, all_ready}
 use Rattle.vw_plan.specs.Needs.{crossing, depth, driven_depth}
-use Rattle.vw_plan.specs.Nets.{driver}
+use Rattle.vw_plan.specs.Nets.{driving_cell}
 use Rattle.vw_plan.proofs.Along.{All-gate_reads}
 use Rattle.vw_plan.proofs.Depths.{driven_depth_agree}
 
@@ -26,7 +26,7 @@ same_depth own flat chip_of items table other number at net same_flat same_table
 
 -- the law of depths
 abbrev pub Settles : Flat → List ℕ → Type 0
-Settles flat chip_of = (net : ℕ) → depth flat chip_of net ≡ driven_depth (λ read. depth flat chip_of read + crossing flat chip_of net read) (driver flat net)
+Settles flat chip_of = (net : ℕ) → depth flat chip_of net ≡ driven_depth (λ read. depth flat chip_of read + crossing flat chip_of net read) (driving_cell flat net)
 
 module _ (ordered : Ordered) where
   abbrev flat : Flat
@@ -68,7 +68,7 @@ module _ (ordered : Ordered) where
         let agree : All (λ read. table_at table net read ≡ at read) (read_nets_at cell) = All-weaker (λ read. is_done read ≡ true) (λ read. table_at table net read ≡ at read) (λ read done. ap (λ (own : ℕ). own + crossing flat chip_of net read) (right read done)) (read_nets_at cell) ready in
         let no_input : nat_lt net inputs ≡ false = le-ltb net inputs (omega arith) in
         let its_number : net - inputs ≡ number = omega arith in
-        let its_driver : driver flat net ≡ cell = ap (λ (input : Bool). if input then None else slice_get cells (net - inputs)) no_input ∙ ap (λ (at_number : ℕ). slice_get cells at_number) its_number in
+        let its_driver : driving_cell flat net ≡ cell = ap (λ (input : Bool). if input then None else slice_get cells (net - inputs)) no_input ∙ ap (λ (at_number : ℕ). slice_get cells at_number) its_number in
         driven_depth_agree (table_at table net) at cell (All-gate_reads (λ read. table_at table net read ≡ at read) cell agree) ∙ ap (driven_depth at) (sym its_driver) ∙ sym (settles net)
 
     -- so one more net is right when it is written
@@ -102,6 +102,6 @@ module _ (ordered : Ordered) where
         let at = λ (read : ℕ). depth flat chip_of read + crossing flat chip_of net read in
         let if_past = λ (past : inputs + length cells ≤ net).
         let no_input : nat_lt net inputs ≡ false = le-ltb net inputs (omega arith) in
-        let no_driver : driver flat net ≡ None = ap (λ (input : Bool). if input then None else slice_get cells (net - inputs)) no_input ∙ slice_get_past cells (net - inputs) (omega arith) in
+        let no_driver : driving_cell flat net ≡ None = ap (λ (input : Bool). if input then None else slice_get cells (net - inputs)) no_input ∙ slice_get_past cells (net - inputs) (omega arith) in
         get_or_past table net 0 (omega arith) ∙ sym (settles net ∙ ap (driven_depth at) no_driver) in
         ⊎_elim (λ there. right net (rw (take_all place order whole) (all_ready ordered.is_order net there))) if_past (cases_lt net (inputs + length cells))

@@ -1,7 +1,7 @@
 //! The depth of each net.
 ghost use Rattle.std.specs.Prelude.{◌≡◌, ◌≤◌, ◌==◌, ◌+◌, if◌then◌else◌, ℕ, length, map, slice_index, slice_get, IfOk};
 ghost use Rattle.std.specs.List.{All};
-ghost use Rattle.vw_plan.specs.Lead.{greatest};
+ghost use Rattle.vw_net.specs.Lists.{greatest};
 ghost use Rattle.vw_plan.specs.Needs.{crossing, depth, driven_depth};
 ghost use Rattle.vw_plan.specs.Nets.{node_of};
 

@@ -6,7 +6,7 @@ use Rattle.vw_text.specs.declared.line.Line.{Line}
 use Rattle.vw_blif.specs.declared.fault.TextFault.{TextFault}
 use Rattle.vw_blif.specs.declared.table.Table.{Table}
 use Rattle.vw_blif.specs.declared.block.Block.{Block}
-use Rattle.vw_blif.specs.Words.{Word}
+use Rattle.vw_design.specs.Paths.{Word}
 use Rattle.vw_blif.specs.Kinds.{input, output, clocked}
 use Rattle.vw_blif.specs.Spelled.{SpelledItem, table, SpelledModel, spelled_item}
 use Rattle.vw_blif.specs.Rows.{value_word, row_marks, are_on_set}
@@ -73,7 +73,7 @@ abbrev pub items_so_far : Block → List SpelledItem
 items_so_far b = map spelled_item b.items.items ++ table_items b.table []
 
 -- the open table came to the items
-pub record Closes (old new : Block) : Type 0 where
+pub record ClosesTable (old new : Block) : Type 0 where
   pub ports : KeepsPorts old new
   pub items : map spelled_item new.items.items ≡ items_so_far old
   pub table_ : new.table ≡ None
@@ -85,7 +85,7 @@ pub record HasItem (old : Block) (item : Item) (new : Block) : Type 0 where
   pub table_ : new.table ≡ None
 
 -- what the lines before say is what the model has
-pub record Told (before : List Line) (b : Block) : Type 0 where
+pub record IsAsBefore (before : List Line) (b : Block) : Type 0 where
   pub open_ : is_open before ≡ true
   pub table_ : open_table before ≡ option_map table_told b.table
   pub inputs : ports_before input before ≡ b.inputs.names.items
@@ -93,12 +93,12 @@ pub record Told (before : List Line) (b : Block) : Type 0 where
   pub clocks : ports_before clocked before ≡ b.clocks.names.items
 
 -- a line was taken into a model
-pub record Takes (old : Block) (line : Line) (new : Block) : Type 0 where
-  pub tells : (before : List Line) → Told before old → Told (line ∷ before) new
-  pub fine : (before : List Line) → Told before old → fault_at before line ≡ None
+pub record TakesLine (old : Block) (line : Line) (new : Block) : Type 0 where
+  pub tells : (before : List Line) → IsAsBefore before old → IsAsBefore (line ∷ before) new
+  pub fine : (before : List Line) → IsAsBefore before old → fault_at before line ≡ None
   pub makes : (rest : List Line) → block_made new rest ≡ block_made old (line ∷ rest)
   pub name : new.name ≡ old.name
 
 -- a line was refused
-abbrev pub Refuses : Block → Line → TextFault → Type 0
-Refuses old line fault = (before : List Line) → Told before old → Says fault (fault_at before line)
+abbrev pub RefusesInModel : Block → Line → TextFault → Type 0
+RefusesInModel old line fault = (before : List Line) → IsAsBefore before old → Says fault (fault_at before line)

@@ -2,7 +2,7 @@
 use Rattle.std.specs.Prelude.{List, [], ◌∷◌, ◌++◌, map, Option, Some, None, Box}
 use Rattle.vw_design.specs.declared.model.Model.{Model}
 use Rattle.vw_blif.specs.declared.block.Block.{Block}
-use Rattle.vw_blif.specs.Words.{Word}
+use Rattle.vw_design.specs.Paths.{Word}
 
 -- the model that is open, out of its box
 abbrev pub opened : {A : Type 0} → Option (Box Block A) → Option Block

@@ -18,7 +18,7 @@ use Rattle.vw_blif.specs.Faults.{fault_at}
 use Rattle.vw_blif.specs.Read.{is_text_fault}
 use Rattle.vw_blif.specs.Steps.Names.{opened, names_so_far}
 use Rattle.vw_blif.specs.Steps.Says.{Says}
-use Rattle.vw_blif.specs.Steps.Blocks.{block_made, Told}
+use Rattle.vw_blif.specs.Steps.Blocks.{block_made, IsAsBefore}
 
 -- the models that the open model and what a cut has make
 abbrev pub models_with : Option Block → Cut Line → List SpelledModel
@@ -32,7 +32,7 @@ models_made r lines = map spelled_model r.models.items ++ models_with (opened r.
 -- what the lines before say is what the open model has
 abbrev pub ToldOpen : List Line → Option Block → Type 0
 ToldOpen before None = Unit {0}
-ToldOpen before (Some b) = Told before b
+ToldOpen before (Some b) = IsAsBefore before b
 
 -- what the lines before say is what the design has
 pub record ToldAll (before : List Line) (r : Reader) : Type 0 where
@@ -46,7 +46,7 @@ pub record IsAtStart (r : Reader) : Type 0 where
   pub block : opened r.block ≡ None
 
 -- the open model came to the models
-pub record Ends (old new : Reader) : Type 0 where
+pub record EndsModel (old new : Reader) : Type 0 where
   pub made : map spelled_model new.models.items ≡ models_made old []
   pub names : names_so_far new.models.items (opened new.block) ≡ names_so_far old.models.items (opened old.block)
   pub block : opened new.block ≡ None

@@ -6,15 +6,12 @@ use Rattle.vw_blif.specs.declared.fault.TextFault.{TextFault}
 use Rattle.vw_blif.specs.declared.fault.TextFault.TheVariants.{TooLarge, NoModel, Unsupported, BadWords, BadRow, MixedRows, TooWide, BadLatchType, BadInit, DuplicateModel, DuplicatePort, BadBind, NoMemory}
 use Rattle.vw_design.specs.declared.item.Bind.{Bind}
 use Rattle.vw_design.specs.Distinct.{are_distinct}
-use Rattle.vw_blif.specs.Words.{Word, further_words}
+use Rattle.vw_blif.specs.Words.{further_words}
+use Rattle.vw_design.specs.Paths.{Word}
 use Rattle.vw_blif.specs.Spelled.{spelled_bind}
 use Rattle.vw_blif.specs.Bindings.{formal_of, is_no_bind, bind_of, repeats}
 use Rattle.vw_blif.specs.Latches.{has_bad_type, has_bad_init}
 use Rattle.vw_blif.specs.Read.{is_text_fault}
-
--- a word that may be there, wherever it lies
-abbrev pub word_at : Option (Bor (List ℕ)) → Option Word
-word_at word = option_map (λ (name : Bor (List ℕ)). name.now) word
 
 -- the fault of the line is this one, unless memory ran out
 abbrev pub Says : TextFault → Option TextFault → Type 0

@@ -4,7 +4,7 @@ use Rattle.std.specs.Str.{bytes_eq}
 use Rattle.std.specs.HashMap as hash
 use Rattle.std.specs.Borrow.{Bor}
 use Rattle.vw_design.specs.Distinct.{has_name}
-use Rattle.vw_blif.specs.Words.{Word}
+use Rattle.vw_design.specs.Paths.{Word}
 use Rattle.vw_blif.specs.Bindings.{repeats}
 
 abbrev pub has_seen : {X S : Type 0} → hash.HashMap (Bor (List ℕ)) X S → Word → Bool

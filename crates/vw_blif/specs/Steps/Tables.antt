@@ -35,10 +35,10 @@ SaysNames line (BadBind at) = ⊥
 SaysNames line NoMemory = Unit {0}
 
 -- whether rows end in another digit than this value
-abbrev pub is_other : Option Bool → Bool → Bool
-is_other None value = false
-is_other (Some true) value = not value
-is_other (Some false) value = value
+abbrev pub is_other_value : Option Bool → Bool → Bool
+is_other_value None value = false
+is_other_value (Some true) value = not value
+is_other_value (Some false) value = value
 
 -- a row was added to a table
 pub record AddsRow (old : Table) (line : Line) (new : Table) : Type 0 where

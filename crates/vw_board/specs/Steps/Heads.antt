@@ -5,7 +5,7 @@ use Rattle.vw_board.specs.declared.head.Head.{Head}
 use Rattle.vw_board.specs.Headers.{headers_fault, chips_of, cells_of, settle_of, pins_of}
 
 -- numbers that a board can have
-pub record IsInRange (head : Head) : Type 0 where
+pub record IsHeadInRange (head : Head) : Type 0 where
   pub some_chips : 1 ≤ head.chips
   pub few_chips : head.chips ≤ 32
   pub some_cells : 1 ≤ head.cells
@@ -13,11 +13,11 @@ pub record IsInRange (head : Head) : Type 0 where
   pub quick : head.settle ≤ 15
 
 -- none of the lines is at fault, and these are their numbers
-pub record IsHead (lines : List Line) (head : Head) : Type 0 where
+pub record IsBoardHead (lines : List Line) (head : Head) : Type 0 where
   pub fine : headers_fault lines ≡ None
   pub chips : head.chips ≡ chips_of lines
   pub cells : head.cells ≡ cells_of lines
   pub settle : head.settle ≡ settle_of lines
   pub pins : head.pins ≡ pins_of lines
-  pub in_range : IsInRange head
+  pub in_range : IsHeadInRange head
   pub long : 5 ≤ length lines

@@ -13,8 +13,8 @@ first_below test zero = None
 first_below test (suc limit) = option_or (first_below test limit) (if test limit then Some limit else None)
 
 -- each link leads from a node to a node
-abbrev pub AreWithin : ℕ → List Link → Type 0
-AreWithin nodes links = All (λ link. (link.from < nodes) × (link.to < nodes)) links
+abbrev pub AreNodeLinks : ℕ → List Link → Type 0
+AreNodeLinks nodes links = All (λ link. (link.from < nodes) × (link.to < nodes)) links
 
 -- for each node, whether a link leads from it to one of these nodes
 pub record IsOneLinkMore (links : List Link) (nodes more : List Bool) : Type 0 where
@@ -73,7 +73,7 @@ pub record StepsSoFar (board : Board) (to place : ℕ) (steps : List ℕ) : Type
   pub step : (from : ℕ) → from < place → from ≢ to → IsFirstStep board from to (slice_index steps from)
 
 -- one list for each node that is led to
-pub record IsTable (board : Board) (distances steps : List (List ℕ)) : Type 0 where
+pub record AreDistanceTables (board : Board) (distances steps : List (List ℕ)) : Type 0 where
   pub distance_lists : length distances ≡ board.chips + 1
   pub step_lists : length steps ≡ board.chips + 1
   pub are_distances : (to : ℕ) → to ≤ board.chips → AreDistances board to (slice_index_or distances to [])

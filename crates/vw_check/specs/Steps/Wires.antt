@@ -12,11 +12,11 @@ use Rattle.vw_check.specs.Steps.Tables.{pair_in}
 abbrev pub first_missing : {S : Type 0} → hash.HashMap (ℕ × ℕ) ℕ S → List Need → Option PlanFault
 first_missing wires needs = first_at (λ _ need. found_unless (is_some (pair_in wires need.net need.to)) (MissingWire need.net need.to)) 0 needs
 
-abbrev pub is_number : ℕ → Option ℕ → Bool
-is_number number found = option_eq (λ one other. one == other) found (Some number)
+abbrev pub is_given_number : ℕ → Option ℕ → Bool
+is_given_number number found = option_eq (λ one other. one == other) found (Some number)
 
 abbrev pub is_extra : {S : Type 0} → hash.HashMap (ℕ × ℕ) ℕ S → hash.HashMap (ℕ × ℕ) ℕ S → ℕ → Wire → Bool
-is_extra needs wires number wire = not (is_some (pair_in needs wire.net wire.to)) || not (is_number number (pair_in wires wire.net wire.to))
+is_extra needs wires number wire = not (is_some (pair_in needs wire.net wire.to)) || not (is_given_number number (pair_in wires wire.net wire.to))
 
 abbrev pub first_extra : {S : Type 0} → hash.HashMap (ℕ × ℕ) ℕ S → hash.HashMap (ℕ × ℕ) ℕ S → List Wire → Option PlanFault
 first_extra needs wires list = first_at (λ number wire. found_if (is_extra needs wires number wire) (ExtraWire number)) 0 list

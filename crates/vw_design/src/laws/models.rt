@@ -3,7 +3,7 @@ ghost use Rattle.std.specs.Prelude.{◌≡◌, ℕ, Bool, List, [], Some, is_som
 ghost use Rattle.vw_design.specs.declared.design.Design.{Design};
 ghost use Rattle.vw_design.specs.declared.model.Model.{Model};
 ghost use Rattle.vw_design.specs.Paths.{Word, Path, model_named, model_at};
-ghost use Rattle.vw_design.specs.ModelFaults.{is_reached, model_places, IsCircle};
+ghost use Rattle.vw_design.specs.ModelFaults.{is_reached, model_places, IsModelCircle};
 ghost use Rattle.vw_design.specs.Counts.{IsRanking};
 
 /// The models that are reached are the root, those that a reached model places, and no others.
@@ -24,5 +24,5 @@ pub fn reached_models()
 /// Where the models that are reached have ranks that fall to what they place, they don't place each other in a circle.
 pub fn ranked_models()
     ensures { (design : Design) (rank : Word → ℕ) → IsRanking design (is_reached design) rank
-        → (names : List Word) → IsCircle design names → ⊥ }
+        → (names : List Word) → IsModelCircle design names → ⊥ }
 {}

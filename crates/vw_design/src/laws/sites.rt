@@ -4,7 +4,7 @@ ghost use Rattle.vw_design.specs.declared.design.Design.{Design};
 ghost use Rattle.vw_design.specs.declared.item.Item.{Item};
 ghost use Rattle.vw_design.specs.declared.model.Model.{Model};
 ghost use Rattle.vw_design.specs.Paths.{Path, model_at};
-ghost use Rattle.vw_design.specs.Preorder.{Site, is_latch, instances, sites, cells, latches};
+ghost use Rattle.vw_design.specs.Preorder.{Site, is_latch_item, instances, sites, cells, latches};
 ghost use Rattle.vw_design.specs.PathValue.{item_at, place_of_path, place_of_site};
 ghost use Rattle.vw_design.specs.Accepted.{HasNoModelFault};
 
@@ -22,7 +22,7 @@ pub fn sites_are_items()
     ensures items { (design : Design) (site : Site) → Contains (sites design) site
         → item_at design site.path site.number ≡ Some site.item }
     ensures latches { (design : Design)
-        → filter (λ site. is_latch site.item) (cells design) ≡ latches design }
+        → filter (λ site. is_latch_item site.item) (cells design) ≡ latches design }
 {}
 
 /// Without a fault of models each item of an instance is a site.

@@ -30,11 +30,11 @@ slots_of board taken = record { widths = map (λ link. link.width) board.links; 
 abbrev pub slot_of : Hop → Slot
 slot_of hop = record { pin = hop.pin; at = hop.at }
 
-abbrev pub place_of : Board → Hop → ℕ
-place_of board hop = link_place board.links hop.from hop.to
+abbrev pub hop_link : Board → Hop → ℕ
+hop_link board hop = link_place board.links hop.from hop.to
 
 abbrev pub taken_by : Board → Hop → Taken
-taken_by board hop = record { link = place_of board hop; pin = hop.pin; at = hop.at }
+taken_by board hop = record { link = hop_link board hop; pin = hop.pin; at = hop.at }
 
 -- hops go these steps, one after the other: each takes the first free slot of its link, the first of them not before a
 -- moment, and each later one not before the one before it has arrived
@@ -43,5 +43,5 @@ AreSent board taken ready [] [] = Unit {0}
 AreSent board taken ready [] (hop ∷ hops) = ⊥
 AreSent board taken ready (step ∷ steps) [] = ⊥
 AreSent board taken ready (step ∷ steps) (hop ∷ hops) =
-    ((hop.from, hop.to) ≡ step) × IsFirstFree (slots_of board taken) (place_of board hop) ready (slot_of hop)
+    ((hop.from, hop.to) ≡ step) × IsFirstFree (slots_of board taken) (hop_link board hop) ready (slot_of hop)
     × AreSent board (taken ++ taken_by board hop ∷ []) (hop.at + 1) steps hops

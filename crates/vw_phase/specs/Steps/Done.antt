@@ -12,7 +12,8 @@ use Rattle.vw_plan.specs.declared.plan.Plan.{Plan}
 use Rattle.vw_plan.specs.declared.wire.Hop.{Hop}
 use Rattle.vw_plan.specs.declared.wire.Wire.{Wire}
 use Rattle.vw_plan.specs.Earliest.{AreEarliest, phase_start, ready_in_phase, wire_depth}
-use Rattle.vw_plan.specs.Lead.{after_last, greatest, lead}
+use Rattle.vw_plan.specs.Lead.{after_last, lead}
+use Rattle.vw_net.specs.Lists.{greatest}
 use Rattle.vw_plan.specs.Routes.{steps_of}
 use Rattle.vw_plan.specs.Setting.{Setting, home, setting_of}
 use Rattle.vw_plan.specs.Sound.{IsSentWhenUsable, has_pin, rises, share_pin}
@@ -46,7 +47,7 @@ pub record IsSentWell (setting : Setting) (wire : Wire) : Type 0 where
   pub begun : ForSome (slice_get wire.hops 0) (λ hop. phase_start setting (wire_depth setting wire) ≤ hop.at)
   pub earliest : AreEarliest setting.board setting.plan (ready_in_phase setting wire) wire.hops
 
-pub record IsDone (ordered : Ordered) (board : Board) (chip_of : List ℕ) (routes : List Route) (draft : Draft) : Type 0 where
+pub record IsTasksDone (ordered : Ordered) (board : Board) (chip_of : List ℕ) (routes : List Route) (draft : Draft) : Type 0 where
   pub fit : IsFit ordered board routes draft
   pub along : AllZip (IsAlong board) routes draft.hops.items
   pub once : (hop : Hop) → uses hop (all_hops draft.hops.items) ≤ 1

@@ -78,7 +78,7 @@ IsReadyKind ordered board routes true number draft =
     × (length draft.table.taken + length (steps_of route.nodes) < 2 ^ 30)
     × ((first : ℕ) (further : List ℕ) → route.nodes ≡ first ∷ further → AreLinked board.links first further))
 
-pub record IsReady (ordered : Ordered) (board : Board) (chip_of : List ℕ) (routes : List Route) (sends : Bool) (place start : ℕ) (draft : Draft) : Type 0 where
+pub record IsDraftReady (ordered : Ordered) (board : Board) (chip_of : List ℕ) (routes : List Route) (sends : Bool) (place start : ℕ) (draft : Draft) : Type 0 where
   pub fit : IsFit ordered board routes draft
   pub begun : start ≤ limit (length draft.table.taken)
   pub its : IsReadyKind ordered board routes sends place draft

@@ -5,8 +5,8 @@ use Rattle.vw_net.specs.declared.cell.Cell.{Cell}
 use Rattle.vw_plan.specs.declared.wire.Hop.{Hop}
 use Rattle.vw_phase.specs.declared.draft.Draft.{Draft}
 use Rattle.vw_phase.specs.declared.given.Given.{Given}
-use Rattle.vw_phase.specs.Steps.Done.{IsDone, latch_moment}
-use Rattle.vw_phase.specs.Steps.Drafts.{Does, IsFit, IsReady, IsUntouched}
+use Rattle.vw_phase.specs.Steps.Done.{IsTasksDone, latch_moment}
+use Rattle.vw_phase.specs.Steps.Drafts.{Does, IsFit, IsDraftReady, IsUntouched}
 use Rattle.vw_phase.specs.Steps.Leads.{lead_by, usable_by}
 
 -- how many nets there are
@@ -35,7 +35,7 @@ IsFitFor given draft = IsFit given.ordered.now given.board.now given.routes.now 
 
 -- what a task needs of a draft, in a phase that begins at a moment
 abbrev pub IsReadyFor : Given → Bool → ℕ → ℕ → Draft → Type 0
-IsReadyFor given sends place start draft = IsReady given.ordered.now given.board.now given.chip_of.now given.routes.now sends place start draft
+IsReadyFor given sends place start draft = IsDraftReady given.ordered.now given.board.now given.chip_of.now given.routes.now sends place start draft
 
 -- what a task makes of a draft, in a phase that begins at a moment
 abbrev pub DoesFor : Given → Bool → ℕ → ℕ → Draft → Draft → Type 0
@@ -43,4 +43,4 @@ DoesFor given sends place start old new = Does given.ordered.now given.board.now
 
 -- all is done but the period
 abbrev pub IsDoneFor : Given → Draft → Type 0
-IsDoneFor given draft = IsDone given.ordered.now given.board.now given.chip_of.now given.routes.now draft
+IsDoneFor given draft = IsTasksDone given.ordered.now given.board.now given.chip_of.now given.routes.now draft

@@ -7,7 +7,7 @@ use Rattle.vw_plan.specs.declared.need.Route.{Route}
 use Rattle.vw_plan.specs.declared.wire.Hop.{Hop}
 use Rattle.vw_plan.specs.declared.wire.Wire.{Wire}
 use Rattle.vw_plan.specs.Lead.{after_last}
-use Rattle.vw_plan.specs.Nets.{driver, node_of}
+use Rattle.vw_plan.specs.Nets.{driving_cell, node_of}
 
 -- the pairs of a net and a node that some routes are for
 abbrev pub route_pairs : List Route → List (ℕ × ℕ)
@@ -33,4 +33,4 @@ lead_by flat board chip_of routes hops leads node net =
 -- the microcycle from which on a node can use a net, from the same
 abbrev pub usable_by : Flat → Board → List ℕ → List Route → List (List Hop) → List ℕ → ℕ → ℕ → ℕ
 usable_by flat board chip_of routes hops leads node net =
-    lead_by flat board chip_of routes hops leads node net + (if is_gate (driver flat net) && node_of flat chip_of net == node then board.settle else 0)
+    lead_by flat board chip_of routes hops leads node net + (if is_gate (driving_cell flat net) && node_of flat chip_of net == node then board.settle else 0)

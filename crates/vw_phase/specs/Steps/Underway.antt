@@ -7,15 +7,16 @@ use Rattle.vw_net.specs.Order.{is_gate}
 use Rattle.vw_plan.specs.declared.board.Board.{Board}
 use Rattle.vw_plan.specs.declared.need.Route.{Route}
 use Rattle.vw_plan.specs.declared.wire.Hop.{Hop}
-use Rattle.vw_plan.specs.Lead.{after_last, driven_lead, greatest}
+use Rattle.vw_plan.specs.Lead.{after_last, driven_lead}
+use Rattle.vw_net.specs.Lists.{greatest}
 use Rattle.vw_plan.specs.Needs.{depth}
-use Rattle.vw_plan.specs.Nets.{driver, node_of}
+use Rattle.vw_plan.specs.Nets.{driving_cell, node_of}
 use Rattle.vw_plan.specs.Routes.{steps_of}
 use Rattle.vw_slots.specs.declared.slot.Taken.{Taken}
 use Rattle.vw_slots.specs.Slots.{is_taken}
 use Rattle.vw_phase.specs.declared.draft.Draft.{Draft}
 use Rattle.vw_phase.specs.declared.task.Task.{Task}
-use Rattle.vw_phase.specs.Steps.Along.{AreSent, place_of, taken_by}
+use Rattle.vw_phase.specs.Steps.Along.{AreSent, hop_link, taken_by}
 use Rattle.vw_phase.specs.Steps.Done.{all_hops, uses}
 use Rattle.vw_phase.specs.Steps.Drafts.{IsFit, hops_at, limit}
 use Rattle.vw_phase.specs.Steps.Leads.{lead_by, usable_by}
@@ -86,10 +87,10 @@ pub record IsUnderway (ordered : Ordered) (board : Board) (chip_of : List ℕ) (
   pub sent : (number : ℕ) (route : Route) → slice_get routes number ≡ Some route → is_done tasks count true number ≡ true → IsSentOff ordered board chip_of routes draft route (hops_at draft number)
   pub worked : (place : ℕ) → place < length ordered.order → is_done tasks count false place ≡ true
       → slice_index draft.leads.items (ordered.flat.inputs + slice_index ordered.order place) ≡ lead_at_place ordered board chip_of routes draft.hops.items draft.leads.items place
-  pub zero : (net : ℕ) → is_gate (driver ordered.flat net) ≡ false → slice_index draft.leads.items net ≡ 0
+  pub zero : (net : ℕ) → is_gate (driving_cell ordered.flat net) ≡ false → slice_index draft.leads.items net ≡ 0
   pub last : draft.after ≡ greatest (map (after_last board) draft.hops.items)
   pub size : length draft.table.taken ≡ length (all_hops draft.hops.items)
-  pub slots : (hop : Hop) → uses hop (all_hops draft.hops.items) ≡ (if is_taken draft.table.taken (place_of board hop) hop.pin hop.at then 1 else 0)
+  pub slots : (hop : Hop) → uses hop (all_hops draft.hops.items) ≡ (if is_taken draft.table.taken (hop_link board hop) hop.pin hop.at then 1 else 0)
   pub begin : start ≡ start_by ordered.flat board chip_of level routes draft.hops.items
   pub begun : start ≤ limit (length draft.table.taken)
   pub shallow : (place : ℕ) → place < count → (task_at tasks place).depth ≤ level

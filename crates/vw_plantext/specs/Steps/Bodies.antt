@@ -9,7 +9,7 @@ use Rattle.vw_plantext.specs.Content.{Content, hop_count, IsHopInRange, IsWireIn
 use Rattle.vw_plantext.specs.Grammar.{hop_line, body_lines, plan_lines}
 
 -- a wire whose hops are being read: the hops so far, and how many are left
-pub record Part : Type 0 where
+pub record UnfinishedWire : Type 0 where
   pub net : ℕ
   pub to : ℕ
   pub hops : List Hop
@@ -21,18 +21,18 @@ pub record State : Type 0 where
   pub chip_of : List ℕ
   pub period : ℕ
   pub wires : List Wire
-  pub part : Option Part
+  pub part : Option UnfinishedWire
   pub left : ℕ
   pub room : ℕ
 
-abbrev pub part_of : OpenWire → Part
+abbrev pub part_of : OpenWire → UnfinishedWire
 part_of wire = record { net = wire.net; to = wire.to; hops = wire.hops.items; left = wire.left }
 
 abbrev pub state_of : Body → State
 state_of body = record { chip_of = body.chip_of.items; period = body.period; wires = body.wires.items; part = option_map part_of body.wire; left = body.left; room = body.room }
 
 -- one more hop
-abbrev pub part_with_hop : Part → Hop → Part
+abbrev pub part_with_hop : UnfinishedWire → Hop → UnfinishedWire
 part_with_hop part hop = record { net = part.net; to = part.to; hops = part.hops ++ hop ∷ []; left = part.left - 1 }
 
 -- between two wires: these wires follow, and these lines are theirs
@@ -43,7 +43,7 @@ pub record FollowsWires (left : ℕ) (done all : List Wire) (lines : List (List 
   pub lines_are : lines ≡ body_lines rest
 
 -- within a wire: these hops follow, and then these wires
-pub record FollowsHops (part : Part) (left : ℕ) (done all : List Wire) (lines : List (List ℕ)) : Type 0 where
+pub record FollowsHops (part : UnfinishedWire) (left : ℕ) (done all : List Wire) (lines : List (List ℕ)) : Type 0 where
   pub hops : List Hop
   pub hops_left : length hops ≡ part.left
   pub rest : List Wire
@@ -52,31 +52,31 @@ pub record FollowsHops (part : Part) (left : ℕ) (done all : List Wire) (lines 
   pub lines_are : lines ≡ map hop_line hops ++ body_lines rest
 
 -- the wires of a plan, and the lines that are left of it
-abbrev pub Follows : Option Part → ℕ → List Wire → List Wire → List (List ℕ) → Type 0
-Follows None left done all lines = FollowsWires left done all lines
-Follows (Some part) left done all lines = FollowsHops part left done all lines
+abbrev pub FollowsPart : Option UnfinishedWire → ℕ → List Wire → List Wire → List (List ℕ) → Type 0
+FollowsPart None left done all lines = FollowsWires left done all lines
+FollowsPart (Some part) left done all lines = FollowsHops part left done all lines
 
 -- a plan that was read up to here, and the lines that are left of it
 pub record IsLeft (state : State) (content : Content) (lines : List (List ℕ)) : Type 0 where
   pub chip_of : content.chip_of ≡ state.chip_of
   pub period : content.period ≡ state.period
-  pub wires : Follows state.part state.left state.wires content.wires lines
+  pub wires : FollowsPart state.part state.left state.wires content.wires lines
 
 -- the hops of a wire that are read and left, and whether there is such a wire
-abbrev pub part_hops : Option Part → ℕ
+abbrev pub part_hops : Option UnfinishedWire → ℕ
 part_hops None = 0
 part_hops (Some part) = length part.hops + part.left
 
-abbrev pub part_count : Option Part → ℕ
+abbrev pub part_count : Option UnfinishedWire → ℕ
 part_count None = 0
 part_count (Some part) = 1
 
-pub record IsPartInRange (part : Part) : Type 0 where
+pub record IsPartInRange (part : UnfinishedWire) : Type 0 where
   pub net : part.net < 2 ^ 32
   pub to : part.to < 2 ^ 32
   pub hops : All IsHopInRange part.hops
 
-abbrev pub FitsPart : Option Part → Type 0
+abbrev pub FitsPart : Option UnfinishedWire → Type 0
 FitsPart None = Unit {0}
 FitsPart (Some part) = IsPartInRange part
 
@@ -91,12 +91,12 @@ pub record Fits (state : State) : Type 0 where
   pub hops : hop_count state.wires + (part_hops state.part + (state.room + 1)) ≡ 2 ^ 30
 
 -- a wire whose hops are being read has some left
-abbrev pub HasSomeLeft : Option Part → Type 0
+abbrev pub HasSomeLeft : Option UnfinishedWire → Type 0
 HasSomeLeft None = Unit {0}
 HasSomeLeft (Some part) = 1 ≤ part.left
 
 -- whether all wires are there, with their hops
-abbrev pub is_complete_but : Option Part → ℕ → Bool
+abbrev pub is_complete_but : Option UnfinishedWire → ℕ → Bool
 is_complete_but None left = left == 0
 is_complete_but (Some part) left = false
 
@@ -111,7 +111,7 @@ pub record HasRead (lines : List (List ℕ)) (state : State) : Type 0 where
   pub makes : (content : Content) (more : List (List ℕ)) → IsLeft state content more → lines ++ more ≡ plan_lines content
 
 -- a line was taken
-pub record Takes (old : State) (line : List ℕ) (new : State) : Type 0 where
+pub record TakesPlanLine (old : State) (line : List ℕ) (new : State) : Type 0 where
   pub fits : Fits new
   pub tells : (content : Content) (more : List (List ℕ)) → IsInRange content → IsLeft old content (line ∷ more) → IsLeft new content more
   pub makes : (content : Content) (more : List (List ℕ)) → IsLeft new content more → IsLeft old content (line ∷ more)
@@ -121,7 +121,7 @@ abbrev pub RefusesLine : State → List ℕ → Type 0
 RefusesLine old line = (content : Content) (more : List (List ℕ)) → IsInRange content → ¬ (IsLeft old content (line ∷ more))
 
 -- a wire that has all its hops is put to the others
-pub record Closes (old new : State) : Type 0 where
+pub record ClosesWire (old new : State) : Type 0 where
   pub fits : Fits new
   pub some_left : HasSomeLeft new.part
   pub tells : (content : Content) (more : List (List ℕ)) → IsLeft old content more → IsLeft new content more

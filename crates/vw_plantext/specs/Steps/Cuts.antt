@@ -7,6 +7,6 @@ abbrev pub IsOneLine : List ℕ → Type 0
 IsOneLine line = list_any (λ b. b == 10) line ≡ false
 
 -- a line with its end, and what stands behind it
-pub record IsCut (text line after : List ℕ) : Type 0 where
+pub record IsLineCut (text line after : List ℕ) : Type 0 where
   pub whole : text ≡ line ++ 10 ∷ after
   pub one_line : IsOneLine line

@@ -12,7 +12,7 @@ abbrev pub content_read : State → Content
 content_read state = record { chip_of = state.chip_of; wires = state.wires; period = state.period }
 
 -- the last line, with nothing behind it, and the plan that was read
-pub record Ends (state : State) (line after : List ℕ) (plan : Plan) : Type 0 where
+pub record EndsPlan (state : State) (line after : List ℕ) (plan : Plan) : Type 0 where
   pub line_ : line ≡ codes "end"
   pub nothing : after ≡ []
   pub is : content_of plan ≡ content_read state

@@ -6,14 +6,14 @@ use Rattle.vw_plan.specs.declared.wire.Wire.{Wire}
 use Rattle.vw_plantext.specs.Grammar.{hop_line, wire_line}
 
 -- a line with its end
-abbrev pub ended : List ℕ → List ℕ
-ended line = line ++ 10 ∷ []
+abbrev pub with_newline : List ℕ → List ℕ
+with_newline line = line ++ 10 ∷ []
 
 abbrev pub hops_text : List Hop → List ℕ
-hops_text hops = flat_map (λ hop. ended (hop_line hop)) hops
+hops_text hops = flat_map (λ hop. with_newline (hop_line hop)) hops
 
 abbrev pub wire_text : Wire → List ℕ
-wire_text wire = ended (wire_line wire) ++ hops_text wire.hops
+wire_text wire = with_newline (wire_line wire) ++ hops_text wire.hops
 
 abbrev pub wires_text : List Wire → List ℕ
 wires_text wires = flat_map wire_text wires

@@ -13,7 +13,7 @@ use Rattle.vw_plantext.specs.Steps.Bodies.{State, HasRead}
 abbrev pub head_numbers : ℕ → ℕ → ℕ → List ℕ
 head_numbers cells wires period = 1 ∷ cells ∷ wires ∷ period ∷ []
 
-pub record IsHead (numbers : List ℕ) (head : Head) : Type 0 where
+pub record IsPlanHead (numbers : List ℕ) (head : Head) : Type 0 where
   pub are : numbers ≡ head_numbers head.cells head.wires head.period
   pub few_cells : head.cells < 2 ^ 32
   pub few_wires : head.wires < 2 ^ 32
@@ -56,7 +56,7 @@ pub record IsReadTo (text : List ℕ) (state : State) (rest : List ℕ) (number 
   pub whole : text ≡ lines_text lines ++ rest
 
 -- a fault of a text that isn't too large
-abbrev pub IsFaultOf : List ℕ → PlanTextFault → Type 0
-IsFaultOf text TooLarge = ⊥
-IsFaultOf text (BadLine line) = IsFirstBadLine text line
-IsFaultOf text NoMemory = Unit {0}
+abbrev pub IsFaultOfText : List ℕ → PlanTextFault → Type 0
+IsFaultOfText text TooLarge = ⊥
+IsFaultOfText text (BadLine line) = IsFirstBadLine text line
+IsFaultOfText text NoMemory = Unit {0}

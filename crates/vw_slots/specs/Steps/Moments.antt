@@ -20,9 +20,9 @@ abbrev pub used_of : Option Moment → ℕ
 used_of None = 0
 used_of (Some moment) = moment.used
 
-abbrev pub next_of : ℕ → Option Moment → ℕ
-next_of at None = at + 1
-next_of at (Some moment) = moment.next
+abbrev pub next_moment : ℕ → Option Moment → ℕ
+next_moment at None = at + 1
+next_moment at (Some moment) = moment.next
 
 -- how many pins of a link are taken in a microcycle
 abbrev pub used_at : Moments → ℕ → ℕ → ℕ
@@ -30,7 +30,7 @@ used_at moments link at = used_of (moment_at moments link at)
 
 -- the later microcycle that is noted; else the next one
 abbrev pub next_at : Moments → ℕ → ℕ → ℕ
-next_at moments link at = next_of at (moment_at moments link at)
+next_at moments link at = next_moment at (moment_at moments link at)
 
 -- a link has 1 to 64 pins
 abbrev pub AreWide : List ℕ → Type 0

@@ -5,7 +5,7 @@ use Rattle.vw_slots.specs.declared.slot.Taken.{Taken}
 use Rattle.vw_slots.specs.Slots.{is_taken}
 use Rattle.vw_slots.specs.Steps.Moments.{Moments, used_at, AreWide, IsChained}
 
-pub record IsTable (widths : List ℕ) (taken : List Taken) (capacity : ℕ) (moments : Moments) (spare : ℕ) : Type 0 where
+pub record IsMomentTable (widths : List ℕ) (taken : List Taken) (capacity : ℕ) (moments : Moments) (spare : ℕ) : Type 0 where
   pub wide : AreWide widths
   pub chained : IsChained widths moments
   -- the pins fill from the least on

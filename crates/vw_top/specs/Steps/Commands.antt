@@ -2,15 +2,15 @@
 use Rattle.std.specs.Prelude.{List, map}
 use Rattle.vw_top.specs.declared.words.Command.{Command}
 use Rattle.vw_top.specs.declared.words.Command.TheVariants.{Sim, Check, Plan, Nothing}
-use Rattle.vw_top.specs.declared.words.Setting.{Setting as Held}
-use Rattle.vw_top.specs.declared.words.Setting.TheVariants.{Unknown}
-use Rattle.vw_top.specs.Words.{Setting, unknown_bit, Spelled}
+use Rattle.vw_top.specs.declared.words.WordSetting.{WordSetting as Held}
+use Rattle.vw_top.specs.declared.words.WordSetting.TheVariants.{Unknown}
+use Rattle.vw_top.specs.Words.{WordSetting, unknown_bit, Spelled}
 use Rattle.vw_top.specs.Words as words
 
-abbrev pub setting_view : Held → Setting
+abbrev pub setting_view : Held → WordSetting
 setting_view Unknown = unknown_bit
 
-abbrev pub settings_view : List Held → List Setting
+abbrev pub settings_view : List Held → List WordSetting
 settings_view settings = map setting_view settings
 
 abbrev pub command_view : Command → Spelled

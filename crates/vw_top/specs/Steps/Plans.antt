@@ -5,6 +5,6 @@ use Rattle.vw_plan.specs.Setting.{Setting}
 use Rattle.vw_plan.specs.Sound.{IsSound}
 
 -- the plan of the setting, which is sound
-pub record IsSoundPlan (setting : Setting) (checked : Checked) : Type 0 where
+pub record IsCheckedPlan (setting : Setting) (checked : Checked) : Type 0 where
   pub sound : IsSound setting
   pub plan : checked.plan ≡ setting.plan

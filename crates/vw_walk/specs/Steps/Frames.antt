@@ -11,7 +11,7 @@ use Rattle.vw_design.specs.Limits.{instance_count, cell_count}
 use Rattle.vw_walk.specs.declared.tables.Placed.{Placed}
 use Rattle.vw_walk.specs.declared.tables.CellSite.{CellSite}
 use Rattle.vw_walk.specs.declared.frame.Frame.{Frame}
-use Rattle.vw_walk.specs.Tables.{AreNumbered, IsPlaced, IsCellSite}
+use Rattle.vw_walk.specs.Tables.{AreNumbered, IsEntryAt, IsCellSite}
 
 -- an instance whose items are being listed: those that are listed, and those that are left
 pub record Level : Type 0 where
@@ -52,18 +52,18 @@ abbrev pub behind_item : Frame → ℕ → Frame
 behind_item frame before = record { instance = frame.instance; model = frame.model; item = frame.item + 1; before = before }
 
 -- the entry of the next item of a frame: of a gate or a latch, and of an instance of a model, behind so many cells
-abbrev pub cell_of : Frame → CellSite
-cell_of frame = record { instance = frame.instance; item = frame.item }
+abbrev pub site_of_frame : Frame → CellSite
+site_of_frame frame = record { instance = frame.instance; item = frame.item }
 
-abbrev pub placed_by : Frame → ℕ → ℕ → Placed
-placed_by frame model cells = record { model = model; parent = frame.instance; place = frame.before + 1; cells = cells }
+abbrev pub placed_in_frame : Frame → ℕ → ℕ → Placed
+placed_in_frame frame model cells = record { model = model; parent = frame.instance; place = frame.before + 1; cells = cells }
 
 -- the tables have the sites that are done, and the frames, of which the last one comes first, have the others
-pub record IsWalk (design : Design) (table : List Placed) (made : List CellSite) (frames : List Frame) : Type 0 where
+pub record IsUnderWay (design : Design) (table : List Placed) (made : List CellSite) (frames : List Frame) : Type 0 where
   pub done : List Site
   pub levels : List Level
   pub all : done ++ flat_map (sites_left design) levels ≡ sites design
-  pub placed : AreNumbered (IsPlaced design (listed_with done)) (listed_with done) table
+  pub placed : AreNumbered (IsEntryAt design (listed_with done)) (listed_with done) table
   pub cells : AllZip (IsCellSite (listed_with done)) (cells_among done) made
   pub stack : AllZip (IsFrame design (listed_with done) (length done)) levels (reverse frames)
 

@@ -2,11 +2,11 @@ use Rattle.std.proofs.Common.{◌∙◌, Some, length, find, refl, sym, ap}
 use Rattle.std.proofs.lemmas.Option.{slice_get_read, slice_get_within}
 use Rattle.vw_design.specs.Paths.{Word, is_port}
 use Rattle.vw_bindings.specs.Placed.{at_placement}
-use Rattle.vw_bindings.specs.Formals.{IsBoth}
-use Rattle.vw_bindings.specs.Found.{both_ways_at}
+use Rattle.vw_bindings.specs.Formals.{IsBothWays}
+use Rattle.vw_bindings.specs.PlacedFaults.{both_ways_at}
 use Rattle.vw_bindings.proofs.Numbered.{model_at_place, within_models}
 use Rattle.vw_bindings.proofs.Searched.{the_output, model_of, both_is}
-use Rattle.vw_bindings.proofs.Steps.{none_is, zip_at, nothing_at, something_at, nothing_left, made_none, made_some}
+use Rattle.vw_bindings.proofs.AtPlacedModel.{none_is, zip_at, nothing_at, something_at, nothing_left, made_none, made_some}
 use Rattle.vw_bindings.proofs.both.first_both.Goals as goal
 
 pub bounds-outputs-placement : goal.bounds-outputs-placement
@@ -14,7 +14,7 @@ bounds-outputs-placement c =
     let design = c.args.design.now in
     let placement = c.placement-item.result in
     let model = model_of design c.args.placed.now c.loop-placement.placement-index placement c.requires.placed c.loop-placement-test.true c.placement-item.is in
-    (zip_at IsBoth design.models c.args.outputs.now placement.number model.0 c.requires.outputs model.1).0
+    (zip_at IsBothWays design.models c.args.outputs.now placement.number model.0 c.requires.outputs model.1).0
 
 pub bounds-models-placement : goal.bounds-models-placement
 bounds-models-placement c =
@@ -35,7 +35,7 @@ returns-in-Some c =
     let there = model_of design placed i placement c.requires.placed c.loop-placement-test.true c.placement-item.is in
     let inside = within_models c.models.result.now design.models placement.number (sym c.models.ensures) (slice_get_within design.models placement.number there.0 there.1) in
     let stands = model_at_place design.models c.models.result.now placement.number model c.models.ensures inside c.index-models-placement.is in
-    let zip = zip_at IsBoth design.models outputs placement.number model c.requires.outputs stands in
+    let zip = zip_at IsBothWays design.models outputs placement.number model c.requires.outputs stands in
     let says = zip.1 found (slice_get_read outputs (length outputs) placement.number found refl zip.0 c.index-outputs-placement.is) in
     let made = λ (w : Word). the_output model.name w in
     something_at design both_ways_at placed i placement c.loop-placement-test.true c.placement-item.is model stands (the_output c.in_ok-copy.field-0 c.in_ok-copy-2.field-0)
@@ -52,7 +52,7 @@ loop-placement-preserved c =
     let outputs = c.args.outputs.now in
     let found = c.index-outputs-placement.result in
     let model = model_of design placed i placement c.requires.placed c.loop-placement-test.true c.placement-item.is in
-    let zip = zip_at IsBoth design.models outputs placement.number model.0 c.requires.outputs model.1 in
+    let zip = zip_at IsBothWays design.models outputs placement.number model.0 c.requires.outputs model.1 in
     let says = zip.1 found (slice_get_read outputs (length outputs) placement.number found refl zip.0 c.index-outputs-placement.is) in
     nothing_at design both_ways_at placed i placement c.loop-placement-test.true c.placement-item.is model.0 model.1
     (made_none (λ (w : Word). the_output model.0.name w) found (find (is_port model.0) model.0.outputs) says (none_is found c.in_default.not-Some)) c.loop-placement.invariant

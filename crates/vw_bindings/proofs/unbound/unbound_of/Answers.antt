@@ -1,7 +1,7 @@
 use Rattle.std.proofs.Common.{◌∙◌, sym, ap, find, not, List}
 use Rattle.vw_design.specs.Paths.{Word}
-use Rattle.vw_bindings.specs.Words.{has_word}
-use Rattle.vw_bindings.proofs.Steps.{in_inputs, in_clocks}
+use Rattle.vw_design.specs.WordSets.{has_word}
+use Rattle.vw_bindings.proofs.AtPlacedModel.{in_inputs, in_clocks}
 use Rattle.vw_bindings.proofs.unbound.unbound_of.Goals as goal
 
 pub returns-then-is_some : goal.returns-then-is_some

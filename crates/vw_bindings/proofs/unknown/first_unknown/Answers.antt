@@ -2,12 +2,12 @@ use Rattle.std.proofs.Common.{◌∙◌, refl, length}
 use Rattle.std.proofs.lemmas.Option.{slice_get_read}
 use Rattle.vw_design.specs.Paths.{Word}
 use Rattle.vw_design.specs.ModelFaults.{unknown_formal_in}
-use Rattle.vw_bindings.specs.Words.{has_word}
+use Rattle.vw_design.specs.WordSets.{has_word}
 use Rattle.vw_bindings.specs.Placed.{at_placement}
 use Rattle.vw_bindings.specs.Formals.{AreFormals}
-use Rattle.vw_bindings.specs.Found.{unknown_formal_at}
+use Rattle.vw_bindings.specs.PlacedFaults.{unknown_formal_at}
 use Rattle.vw_bindings.proofs.Searched.{the_name, model_of, unknown_is}
-use Rattle.vw_bindings.proofs.Steps.{none_is, zip_at, nothing_at, something_at, nothing_left, made_none, made_some, unknown_by}
+use Rattle.vw_bindings.proofs.AtPlacedModel.{none_is, zip_at, nothing_at, something_at, nothing_left, made_none, made_some, unknown_by}
 use Rattle.vw_bindings.proofs.unknown.first_unknown.Goals as goal
 
 pub bounds-formals-placement : goal.bounds-formals-placement

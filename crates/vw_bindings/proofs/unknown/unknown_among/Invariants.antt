@@ -1,6 +1,6 @@
 -- all so far are in it
 use Rattle.std.proofs.Common.{◌≡◌, drop, find, not}
-use Rattle.vw_bindings.specs.Words.{has_word}
+use Rattle.vw_design.specs.WordSets.{has_word}
 use Rattle.vw_bindings.proofs.unknown.unknown_among.Given as goal
 
 abbrev pub invariant-loop-bind : goal.invariant-loop-bind

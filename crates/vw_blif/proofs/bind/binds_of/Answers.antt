@@ -5,8 +5,8 @@ use Rattle.std.proofs.Math.Bool.{or_comm}
 use Rattle.std.proofs.lemmas.List.{map-append}
 use Rattle.vw_design.specs.declared.item.Bind.{Bind}
 use Rattle.vw_design.specs.Distinct.{has_name}
-use Rattle.vw_blif.specs.Words.{Word}
-use Rattle.vw_blif.specs.Bindings.{formal_of, actual_of, is_no_bind, repeats}
+use Rattle.vw_design.specs.Paths.{Word}
+use Rattle.vw_blif.specs.Bindings.{formal_of, actual_part, is_no_bind, repeats}
 use Rattle.vw_blif.specs.Steps.Says.{AreBinds}
 use Rattle.vw_blif.specs.Steps.Seen.{has_seen}
 use Rattle.vw_blif.proofs.Repeats.{more_words, cut_at, has_name-push}
@@ -45,7 +45,7 @@ loop-word-preserved c =
     let word = c.word-item.result in
     let more = more_words words i word c.loop-word-test.true c.word-item.is in
     let formal : c.in-Some.formal.now ≡ formal_of word = c.in-Some.ensures.1 ∙ ap formal_of c.as_slice.ensures in
-    let actual : c.in-Some.actual.now ≡ actual_of word = c.in-Some.ensures.2 ∙ ap actual_of c.as_slice.ensures in
+    let actual : c.in-Some.actual.now ≡ actual_part word = c.in-Some.ensures.2 ∙ ap actual_part c.as_slice.ensures in
     let sides : is_no_bind word ≡ false = ap is_no_bind (sym c.as_slice.ensures) ∙ c.in-Some.ensures.0 in
     let unseen = if_so c.in_ok-insert.field-0 (has_seen c.loop-word.seen.words c.in-Some.formal.now) c.in_ok-insert.ensures.is_new c.if-not-branch.false in
     let new : has_name (map formal_of (take i words)) (formal_of word) ≡ false = sym (c.loop-word.invariant.knows (formal_of word)) ∙ ap (λ (w : Word). has_seen c.loop-word.seen.words w) (sym formal) ∙ unseen in

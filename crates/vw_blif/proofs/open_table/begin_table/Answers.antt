@@ -1,5 +1,6 @@
 use Rattle.std.proofs.Common.{rules, ◌≡◌, ◌<◌, ◌≤◌, List, length, refl, ◌∙◌, ap, subst, arith}
-use Rattle.vw_blif.specs.Words.{Word, front_words, last_word}
+use Rattle.vw_blif.specs.Words.{front_words, last_word}
+use Rattle.vw_design.specs.Paths.{Word}
 use Rattle.vw_blif.specs.Kinds.{further}
 use Rattle.vw_blif.proofs.TableSteps.{length-front_words, some_words, begins}
 use Rattle.vw_blif.proofs.open_table.begin_table.Goals as goal

@@ -1,11 +1,11 @@
 -- the count so far, and that of the rest
 use Rattle.std.proofs.Common.{◌≡◌, ◌≤◌, ◌+◌, ◌==◌, drop}
 use Rattle.std.specs.Prelude.{count_by}
-use Rattle.vw_check.specs.CellFaults.{cells_on}
+use Rattle.vw_plan.specs.Good.{cells_on}
 use Rattle.vw_check.proofs.cells.cells_on.Given as goal
 
 abbrev pub invariant-loop-other : goal.invariant-loop-other
 invariant-loop-other l = record {
-  counted : l.count + count_by (λ other. other == l.chip) (drop l.other-index l.plan.chip_of) ≡ cells_on l.plan l.chip;
+  counted : l.count + count_by (λ other. other == l.chip) (drop l.other-index l.plan.chip_of) ≡ cells_on l.plan.chip_of l.chip;
   few : l.count ≤ l.other-index;
 }

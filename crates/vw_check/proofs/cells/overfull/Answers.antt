@@ -2,7 +2,7 @@ use Rattle.std.proofs.Common.{◌≡◌, ◌+◌, ◌∙◌, ℕ, Bool, true, fa
 use Rattle.std.proofs.lemmas.Bool.{le-leb, lt-leb}
 use Rattle.vw_check.specs.declared.fault.PlanFault.TheVariants.{Overfull}
 use Rattle.vw_check.specs.Firsts.{found_unless}
-use Rattle.vw_check.specs.CellFaults.{cells_on}
+use Rattle.vw_plan.specs.Good.{cells_on}
 use Rattle.vw_check.proofs.ChipRange.{chip_found, chip_next}
 use Rattle.vw_check.proofs.cells.overfull.Goals as goal
 
@@ -12,7 +12,7 @@ returns-then-count-cells c =
     let board = c.args.board.now in
     let plan = c.args.plan.now in
     let chip = c.loop-chip.chip in
-    let count = λ (one : ℕ). cells_on plan one in
+    let count = λ (one : ℕ). cells_on plan.chip_of one in
     let found = λ (one : ℕ). found_unless (nat_le (count one) board.cells) (Overfull one (count one)) in
     let over : nat_le (count chip) board.cells ≡ false = lt-leb (count chip) board.cells (omega arith) in
     let is : found chip ≡ Some (Overfull chip (count chip)) = ap (λ (fits : Bool). found_unless fits (Overfull chip (count chip))) over in
@@ -23,7 +23,7 @@ loop-chip-preserved c =
     let board = c.args.board.now in
     let plan = c.args.plan.now in
     let chip = c.loop-chip.chip in
-    let count = λ (one : ℕ). cells_on plan one in
+    let count = λ (one : ℕ). cells_on plan.chip_of one in
     let found = λ (one : ℕ). found_unless (nat_le (count one) board.cells) (Overfull one (count one)) in
     let fits : nat_le (count chip) board.cells ≡ true = le-leb (count chip) board.cells (omega arith) in
     let none : found chip ≡ None = ap (λ (is : Bool). found_unless is (Overfull chip (count chip))) fits in

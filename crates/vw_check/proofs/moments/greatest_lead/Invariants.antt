@@ -1,6 +1,6 @@
 -- the greatest so far, or of the rest
 use Rattle.std.proofs.Common.{◌≡◌, ◌≤◌, ◌+◌, ◌^◌, drop, map, max}
-use Rattle.vw_plan.specs.Lead.{greatest}
+use Rattle.vw_net.specs.Lists.{greatest}
 use Rattle.vw_plan.specs.Setting.{setting_of}
 use Rattle.vw_check.specs.Steps.Moments.{lead_by}
 use Rattle.vw_check.proofs.moments.greatest_lead.Given as goal

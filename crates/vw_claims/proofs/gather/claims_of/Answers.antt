@@ -3,12 +3,12 @@ use Rattle.std.proofs.lemmas.Option.{same_Some}
 use Rattle.vw_design.specs.declared.item.Item.{Item}
 use Rattle.vw_design.specs.declared.model.Model.{Model}
 use Rattle.vw_design.specs.Paths.{placings}
-use Rattle.vw_design.proofs.Lists.{AllZip-length, AllZip-at}
+use Rattle.vw_design.proofs.FilteredLists.{AllZip-length, AllZip-at}
 use Rattle.vw_claims.specs.declared.model_claims.ModelClaims.{ModelClaims}
 use Rattle.vw_claims.specs.Claimed.{AreClaims}
-use Rattle.vw_claims.specs.Steps.{ArePlaced, with_items, ports_only}
+use Rattle.vw_claims.specs.Steps.{AreModelNumbers, with_items, ports_only}
 use Rattle.vw_claims.proofs.FirstClaims.{gathered_firsts}
-use Rattle.vw_claims.proofs.Agains.{gathered_again}
+use Rattle.vw_claims.proofs.ClaimedAgain.{gathered_again}
 use Rattle.vw_claims.proofs.Targets.{at_place}
 use Rattle.vw_claims.proofs.gather.claims_of.Goals as goal
 
@@ -28,8 +28,8 @@ add_items-requires-clause-placed c =
     let placed : slice_get targets number ≡ Some c.index-targets-model.result = at_place targets number c.index-targets-model.result within c.index-targets-model.is in
     let found = AllZip-at _ design.models targets number model c.requires.targets at in
     let same : found.0 ≡ c.index-targets-model.result = same_Some found.0 c.index-targets-model.result (sym found.1 ∙ placed) in
-    subst (λ (items : List Item). ArePlaced design (placings items) c.as_slice-placed.result.now) (sym c.items.ensures)
-    (subst (ArePlaced design (placings model.items)) (same ∙ sym c.as_slice-placed.ensures) found.2)
+    subst (λ (items : List Item). AreModelNumbers design (placings items) c.as_slice-placed.result.now) (sym c.items.ensures)
+    (subst (AreModelNumbers design (placings model.items)) (same ∙ sym c.as_slice-placed.ensures) found.2)
 
 pub returns : goal.returns
 returns c =

@@ -1,6 +1,6 @@
 use Rattle.std.proofs.Common.{◌≡◌, ℕ, List, ◌++◌, ◌∷◌, [], codes, ◌∙◌, ap, ap₂, append_assoc}
 use Rattle.std.specs.Fmt.{decimal}
-use Rattle.vw_sizes.specs.Quantities.{name_of}
+use Rattle.vw_sizes.specs.Quantities.{quantity_word}
 use Rattle.vw_elab.proofs.fault.of_limit.Goals as goal
 
 -- the pieces in the order in which they are joined
@@ -11,4 +11,4 @@ pub returns : goal.returns
 returns c =
     c.in_ok-add_last.ensures
     ∙ ap₂ (λ (front word : List ℕ). front ++ word ++ 10 ∷ []) (ap (λ text. text.items) c.into_bytes-text.ensures.value ∙ c.in_ok-format.ensures.ok) c.name.ensures
-    ∙ limit_pieces (decimal c.args.limit) (name_of c.args.quantity)
+    ∙ limit_pieces (decimal c.args.limit) (quantity_word c.args.quantity)

@@ -2,7 +2,7 @@ use Rattle.std.proofs.Common.{◌<◌, ◌++◌, ◌∷◌, [], ℕ, Some, map, 
 use Rattle.std.proofs.lemmas.List.{map-append}
 use Rattle.vw_design.specs.Preorder.{cells}
 use Rattle.vw_flat.specs.Numbers.{nets, numbers_at}
-use Rattle.vw_flat.proofs.Lists.{take_more, all_more}
+use Rattle.vw_flat.proofs.LongerLists.{take_more, all_more}
 use Rattle.vw_flat.proofs.cell.numbers_read.Goals as goal
 
 -- one number more

@@ -6,7 +6,7 @@ use Rattle.vw_design.specs.Limits.{cell_count}
 use Rattle.vw_design.specs.Preorder.{Site, cells}
 use Rattle.vw_flat.specs.Numbers.{nets, IsCellAt}
 use Rattle.vw_flat.proofs.Items.{cell_is}
-use Rattle.vw_flat.proofs.Lists.{all_more, zip_more}
+use Rattle.vw_flat.proofs.LongerLists.{all_more, zip_more}
 use Rattle.vw_flat.proofs.netlist.cells_of.Goals as goal
 
 -- one cell more

@@ -4,7 +4,7 @@ use Rattle.vw_net.specs.declared.cell.Cell.{Cell}
 use Rattle.vw_net.specs.Cells.{IsWellFormed}
 use Rattle.vw_design.specs.Flattened.{IsCellOf, IsFlatOf}
 use Rattle.vw_design.specs.Preorder.{Site, cells}
-use Rattle.vw_design.proofs.Lists.{AllZip-length}
+use Rattle.vw_design.proofs.FilteredLists.{AllZip-length}
 use Rattle.vw_design.proofs.Sizes.{few_columns}
 use Rattle.vw_flat.specs.Numbers.{nets}
 use Rattle.vw_flat.proofs.netlist.flatten.Goals.{After-of}

@@ -2,11 +2,11 @@ use Rattle.std.proofs.Common.{◌≡◌, ◌<◌, ℕ, List, [], Some, length, s
 use Rattle.std.proofs.lemmas.Option.{slice_get-map, slice_get_read}
 use Rattle.vw_design.specs.declared.design.Design.{Design}
 use Rattle.vw_design.specs.declared.model.Model.{Model}
-use Rattle.vw_design.specs.Paths.{Word, Net, model_at, outputs_of}
+use Rattle.vw_design.specs.Paths.{Word, Net, model_at, model_outputs}
 use Rattle.vw_design.specs.Reads.{net_at, root_outputs}
 use Rattle.vw_design.specs.Flattened.{number_of}
 use Rattle.vw_flat.specs.Numbers.{nets}
-use Rattle.vw_flat.proofs.Lists.{maps_more, all_more}
+use Rattle.vw_flat.proofs.LongerLists.{maps_more, all_more}
 use Rattle.vw_flat.proofs.netlist.outputs_of.Goals as goal
 
 -- one number more
@@ -20,9 +20,9 @@ loop-place-preserved c =
     let root : slice_get design.models 0 ≡ Some c.index-models-0.result =
     slice_get_read design.models (length design.models) 0 c.index-models-0.result refl design.some
     (c.index-models-0.is ∙ ap (λ (models : List Model). get_or models 0 c.index-models-0.result) (c.models.ensures ∙ ap (λ (d : Design). d.models) c.design.ensures)) in
-    let names : c.outputs-names.result.now ≡ outputs_of (model_at design []) = c.outputs-names.ensures ∙ ap outputs_of (sym root) in
+    let names : c.outputs-names.result.now ≡ model_outputs (model_at design []) = c.outputs-names.ensures ∙ ap model_outputs (sym root) in
     let at : slice_get (root_outputs design) place ≡ Some (net_at [] name) =
-    slice_get-map (net_at []) (outputs_of (model_at design [])) place ∙ ap (option_map (net_at [])) (ap (λ (list : List Word). slice_get list place) (sym names) ∙ listed) in
+    slice_get-map (net_at []) (model_outputs (model_at design [])) place ∙ ap (option_map (net_at [])) (ap (λ (list : List Word). slice_get list place) (sym names) ∙ listed) in
     record {
       are =
           maps_more (λ (n : Net). number_of design n.path n.name) (λ (n : ℕ). Some n) (root_outputs design) c.loop-place.outputs.items c.push.new.self.items place (net_at [] name) c.number_output.result at

@@ -1,6 +1,6 @@
 use Rattle.std.proofs.Common.{ℕ, List, get_or, sym, subst}
 use Rattle.vw_design.specs.Paths.{Word}
-use Rattle.vw_design.specs.ModelFaults.{IsCircle}
+use Rattle.vw_design.specs.ModelFaults.{IsModelCircle}
 use Rattle.vw_design.specs.ModelNumbers.{IsModelOrder}
 use Rattle.vw_models.specs.declared.depth.NumberOrder.{NumberOrder}
 use Rattle.vw_models.specs.Search.{IsNumberOrder, IsNumberCircle, IsSearched}
@@ -37,4 +37,4 @@ returns-in_ok-circle_names-in-Circle c =
     let found : IsNumberCircle targets c.in-Circle.circle.items = subst (λ (r : NumberOrder). IsSearched targets r) c.in-Circle.is c.in_ok-order.ensures in
     let here : IsNumberCircle targets circle = subst (λ (l : List ℕ). IsNumberCircle targets l) (sym c.as_slice.ensures.value) found in
     let made = c.in_ok-circle_names-in-Circle.ensures in
-    subst (λ (l : List Word). IsCircle design l) (sym made.2) (is_circle_of_names design targets c.requires.targets circle here made.0 made.1)
+    subst (λ (l : List Word). IsModelCircle design l) (sym made.2) (is_circle_of_names design targets c.requires.targets circle here made.0 made.1)

@@ -8,8 +8,8 @@ use Rattle.vw_design.specs.declared.design.Design.{Design}
 use Rattle.vw_design.specs.Lists.{first_found}
 use Rattle.vw_design.specs.Paths.{placings}
 use Rattle.vw_design.specs.ModelFaults.{is_reached}
-use Rattle.vw_design.specs.ModelNumbers.{IsNumberOfModel, AreTargets, AreMarks}
-use Rattle.vw_design.proofs.Lists.{AllZip-at, AllZip-length}
+use Rattle.vw_design.specs.ModelNumbers.{IsNumberOfModel, AreTargets, AreModelMarks}
+use Rattle.vw_design.proofs.FilteredLists.{AllZip-at, AllZip-length}
 use Rattle.vw_models.specs.Reach.{Targets}
 use Rattle.vw_models.specs.Unknown.{unknown_of}
 use Rattle.vw_models.proofs.Unknowns.{AreAlong}
@@ -18,7 +18,7 @@ use Rattle.vw_models.proofs.unknown.unknown_model.Goals as goal
 use Rattle.vw_models.proofs.unknown.unknown_model.Goals.{then-marks-number+else-is_some, else-marks-number}
 
 -- there are as many marks and targets as models
-marks_each : (design : Design) (marks : List Bool) → AreMarks design marks → length design.models ≡ length marks
+marks_each : (design : Design) (marks : List Bool) → AreModelMarks design marks → length design.models ≡ length marks
 marks_each design marks are = AllZip-length (λ (model : Model) (mark : Bool). mark ≡ is_reached design model.name) design.models marks are
 
 targets_each : (design : Design) (targets : Targets) → AreTargets design targets → length design.models ≡ length targets
@@ -28,7 +28,7 @@ targets_each design targets are = AllZip-length (λ model numbers. AllZip (λ pl
 model_at_place : (models others : List Model) (i : ℕ) (model : Model) → others ≡ models → i < length others → model ≡ get_or others i model → slice_get models i ≡ Some model
 model_at_place models others i model are within at = ap (λ (l : List Model). slice_get l i) (sym are) ∙ slice_get_read others (length others) i model refl within at
 
-mark_at : (design : Design) (marks : List Bool) (i : ℕ) (model : Model) → AreMarks design marks → slice_get design.models i ≡ Some model → get_or marks i false ≡ is_reached design model.name
+mark_at : (design : Design) (marks : List Bool) (i : ℕ) (model : Model) → AreModelMarks design marks → slice_get design.models i ≡ Some model → get_or marks i false ≡ is_reached design model.name
 mark_at design marks i model are at =
     let mark = AllZip-at (λ (model : Model) (mark : Bool). mark ≡ is_reached design model.name) design.models marks i model are at in
     get_or_from_slice_get marks i mark.0 false mark.1 ∙ mark.2
@@ -65,7 +65,7 @@ unknown_item-line-requires c =
     (subst (λ (l : List (Option ℕ)). AreAlong design model.items l) (sym list) (along_at design targets number model c.requires.targets at))
 
 -- the facts of a turn
-module _ (design : Design) (marks : List Bool) (others : List Model) (i : ℕ) (model : Model) (are_marks : AreMarks design marks) (are : others ≡ design.models) (within : i < length others) (at : model ≡ get_or others i model) where
+module _ (design : Design) (marks : List Bool) (others : List Model) (i : ℕ) (model : Model) (are_marks : AreModelMarks design marks) (are : others ≡ design.models) (within : i < length others) (at : model ≡ get_or others i model) where
   listed : model ≡ get_or design.models i model
   listed = subst (λ (l : List Model). model ≡ get_or l i model) are at
 

@@ -1,6 +1,6 @@
 use Rattle.std.proofs.Common.{length, refl}
 use Rattle.std.proofs.lemmas.Option.{slice_get_read}
-use Rattle.vw_nets.proofs.Places.{parent_before, further_up}
+use Rattle.vw_nets.proofs.InstancePlaces.{parent_before, further_up}
 use Rattle.vw_nets.proofs.print.places_of.Goals as goal
 
 pub loop-at-smaller : goal.loop-at-smaller

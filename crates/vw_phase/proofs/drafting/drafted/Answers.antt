@@ -1,11 +1,11 @@
 use Rattle.std.proofs.Common.{sym, subst, arith}
 use Rattle.vw_phase.specs.Steps.Underway.{AreTasks, task_at}
 use Rattle.vw_phase.proofs.Agenda.{are_tasks}
-use Rattle.vw_phase.proofs.Started.{started}
+use Rattle.vw_phase.proofs.NothingDone.{started}
 use Rattle.vw_phase.proofs.Phases.{phase_begun}
 use Rattle.vw_phase.proofs.TaskReady.{task_ready}
-use Rattle.vw_phase.proofs.MoreDone.{done_more}
-use Rattle.vw_phase.proofs.Finished.{finished}
+use Rattle.vw_phase.proofs.TaskDone.{done_more}
+use Rattle.vw_phase.proofs.AllTasksDone.{finished}
 use Rattle.vw_phase.proofs.drafting.drafted.Goals as goal
 
 pub loop-task-init : goal.loop-task-init

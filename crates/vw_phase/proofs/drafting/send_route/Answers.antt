@@ -4,7 +4,7 @@ use Rattle.std.proofs.lemmas.Option.{slice_get_read}
 use Rattle.vw_net.specs.declared.flat.Flat.{Flat}
 use Rattle.vw_plan.specs.declared.need.Route.{Route}
 use Rattle.vw_plan.specs.Nets.{node_of}
-use Rattle.vw_phase.proofs.Sent.{on_ok, same_sent, same_usable, some_same}
+use Rattle.vw_phase.proofs.TaskWords.{on_ok, same_sent, same_usable, some_same}
 use Rattle.vw_phase.proofs.drafting.send_route.Goals as goal
 
 -- the route at a number

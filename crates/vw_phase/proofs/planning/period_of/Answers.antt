@@ -2,7 +2,7 @@ use Rattle.std.proofs.Common.{◌≡◌, ◌<◌, ◌∙◌, List, length, get_o
 use Rattle.vw_net.specs.declared.cell.Cell.{Cell}
 use Rattle.vw_net.specs.declared.flat.Flat.{Flat}
 use Rattle.vw_phase.specs.Steps.Done.{latch_moment}
-use Rattle.vw_phase.proofs.Latest.{latest_step}
+use Rattle.vw_phase.proofs.LatestLatch.{latest_step}
 use Rattle.vw_phase.proofs.planning.period_of.Goals as goal
 
 pub loop-number-preserved : goal.loop-number-preserved

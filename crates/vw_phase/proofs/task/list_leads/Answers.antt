@@ -1,5 +1,5 @@
 use Rattle.std.proofs.Common.{◌≡◌, ◌<◌, length, get_or, ap, arith}
-use Rattle.vw_phase.proofs.Places.{few_places}
+use Rattle.vw_phase.proofs.GatePlaces.{few_places}
 use Rattle.vw_net.proofs.Ready.{order_within}
 use Rattle.vw_phase.proofs.task.list_leads.Goals as goal
 

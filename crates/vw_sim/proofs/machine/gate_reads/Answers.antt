@@ -1,6 +1,6 @@
 use Rattle.std.proofs.Common.{◌≡◌, ◌<◌, ◌++◌, ℕ, List, length, get_or, slice_get, Some, ap, ap₂, ◌∙◌, sym, append-nil, arith}
 use Rattle.vw_net.specs.declared.cell.Cell.{Cell}
-use Rattle.vw_sim.specs.Machine.{gate_nets}
+use Rattle.vw_net.specs.Order.{gate_inputs}
 use Rattle.vw_sim.proofs.Gates.{order_cell}
 use Rattle.vw_net.proofs.Ready.{order_within}
 use Rattle.vw_sim.proofs.Machines.{reads_more}
@@ -29,7 +29,7 @@ loop-number-preserved c =
     let same : cells ≡ ordered.flat.cells = cc in
     let here = order_cell ordered.is_order place _ _ _ within c.order-number-items.ensures same c.index-cells-number.is in
     let there : slice_get cells (get_or order place 0) ≡ Some c.index-cells-number.result = ap₂ slice_get same number ∙ here in
-    let more = λ (cell : Cell) (is : c.index-cells-number.result ≡ cell) (added : c.match-cells-number.reads.items ≡ c.loop-number.reads.items ++ gate_nets (Some cell)). reads_more cells order place c.loop-number-test.true cell c.loop-number.reads.items c.match-cells-number.reads.items (there ∙ ap Some is) added ∙ c.loop-number.invariant in
+    let more = λ (cell : Cell) (is : c.index-cells-number.result ≡ cell) (added : c.match-cells-number.reads.items ≡ c.loop-number.reads.items ++ gate_inputs (Some cell)). reads_more cells order place c.loop-number-test.true cell c.loop-number.reads.items c.match-cells-number.reads.items (there ∙ ap Some is) added ∙ c.loop-number.invariant in
     elim c.match-cells-number.branch [
       | in-Gate+in_ok-extend_from_slice w ↦ more _ w.in-Gate.is (ap (λ v. v.items) w.reads-is ∙ w.in_ok-extend_from_slice.ensures.items ∙ ap (λ (ns : List ℕ). c.loop-number.reads.items ++ ns) w.as_slice.ensures)
       | in_default w ↦ more _ w.in_default.is (ap (λ v. v.items) w.reads-is ∙ sym (append-nil c.loop-number.reads.items))

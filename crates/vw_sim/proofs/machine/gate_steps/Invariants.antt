@@ -1,7 +1,7 @@
 -- the gates so far, and those that are left
 use Rattle.std.proofs.Common.{◌≡◌, ◌++◌, drop}
-use Rattle.vw_sim.specs.Machine.{steps_of}
+use Rattle.vw_sim.specs.Machine.{gate_steps}
 use Rattle.vw_sim.proofs.machine.gate_steps.Given as goal
 
 abbrev pub invariant-loop-number : goal.invariant-loop-number
-invariant-loop-number l = l.gates.items ++ steps_of l.cells (drop l.number-index l.number-items) ≡ steps_of l.cells l.number-items
+invariant-loop-number l = l.gates.items ++ gate_steps l.cells (drop l.number-index l.number-items) ≡ gate_steps l.cells l.number-items

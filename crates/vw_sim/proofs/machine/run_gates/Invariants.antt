@@ -4,13 +4,13 @@ use Rattle.vw_net.specs.declared.cell.Cell.TheVariants.{Gate}
 use Rattle.vw_net.specs.declared.cover.Cover.{Cover}
 use Rattle.vw_net.specs.Cover.{cover_value}
 use Rattle.vw_net.specs.Order.{is_ready}
-use Rattle.vw_sim.specs.Machine.{reads_of}
+use Rattle.vw_sim.specs.Machine.{gathered_reads}
 use Rattle.vw_sim.proofs.machine.run_gates.Given as goal
 
 abbrev pub invariant-loop-gate : goal.invariant-loop-gate
 invariant-loop-gate l = record {
   nets : length l.values ≡ length l.initial.values;
-  rest : l.rest ≡ reads_of l.ordered.flat.cells (drop l.gate-index l.ordered.order);
+  rest : l.rest ≡ gathered_reads l.ordered.flat.cells (drop l.gate-index l.ordered.order);
   values : (value : ℕ → Bool)
       → ((net : ℕ) → is_ready l.ordered.flat.inputs l.ordered.flat.cells [] net ≡ true → slice_index_or l.initial.values net false ≡ value net)
       → ((number : ℕ) (ins : List ℕ) (cover : Cover) → slice_get l.ordered.flat.cells number ≡ Some (Gate ins cover) → value (l.ordered.flat.inputs + number) ≡ cover_value cover (map value ins))

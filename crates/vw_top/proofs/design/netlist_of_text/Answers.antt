@@ -5,12 +5,12 @@ use Rattle.vw_design.specs.Accepted.{IsAccepted}
 use Rattle.vw_top.specs.declared.endings.Unfinished.{Unfinished}
 use Rattle.vw_top.specs.declared.endings.Unfinished.TheVariants.{Stopped, Refused}
 use Rattle.vw_top.specs.declared.stop.Stop.TheVariants.{ReadFault, WriteFault, NoMemory}
-use Rattle.vw_top.specs.Designs.{Spells, IsNetlistOf, RefusesDesign, RefusesLoop}
-use Rattle.vw_top.specs.Steps.Made.{IsOrderedOf}
+use Rattle.vw_top.specs.Designs.{SpellsDesign, IsNetlistOf, RefusesDesign, RefusesLoop}
+use Rattle.vw_top.specs.Steps.OrderedDesigns.{IsOrderedOf}
 use Rattle.vw_top.specs.Steps.Stage.{JudgesText}
 use Rattle.vw_top.proofs.design.netlist_of_text.Goals as goal
 
-module _ (text : List ℕ) (design : Design) (spelled : Spells text design) (accepted : IsAccepted design) where
+module _ (text : List ℕ) (design : Design) (spelled : SpellsDesign text design) (accepted : IsAccepted design) where
   -- what is made of the design is made of its text
   of_design : (result : Result Ordered Unfinished) → JudgesText (IsOrderedOf design) (RefusesLoop design) result → JudgesText (IsNetlistOf text) (RefusesDesign text) result
   of_design (Ok ordered) is = record {

@@ -3,7 +3,7 @@ use Rattle.std.proofs.lemmas.Option.{slice_get-get_or}
 use Rattle.vw_design.specs.Paths.{Word}
 use Rattle.vw_design.specs.Preorder.{cells}
 use Rattle.vw_flat.specs.Printed.{printed_site}
-use Rattle.vw_flat.proofs.Lists.{zip_more}
+use Rattle.vw_flat.proofs.LongerLists.{zip_more}
 use Rattle.vw_top.proofs.design.nets_of.Goals as goal
 
 -- one net more

@@ -1,9 +1,9 @@
-use Rattle.vw_walk.specs.Steps.Frames.{IsWalk, steps_left}
+use Rattle.vw_walk.specs.Steps.Frames.{IsUnderWay, steps_left}
 use Rattle.vw_walk.proofs.preorder.walk.Given as goal
 
 -- the tables have what was listed, and the frames have the rest
 abbrev pub invariant-loop-frame : goal.invariant-loop-frame
-invariant-loop-frame l = IsWalk l.design l.state.instances.items l.state.cells.items l.state.frames.items
+invariant-loop-frame l = IsUnderWay l.design l.state.instances.items l.state.cells.items l.state.frames.items
 
 -- each step lists an item or leaves a frame out
 abbrev pub decreases-loop-frame : goal.decreases-loop-frame

@@ -1,6 +1,6 @@
 -- the greatest so far, or that of the nets that are left
 use Rattle.std.proofs.Common.{◌≡◌, ◌+◌, ℕ, max, drop, map, slice_index}
-use Rattle.vw_plan.specs.Lead.{greatest}
+use Rattle.vw_net.specs.Lists.{greatest}
 use Rattle.vw_plan.specs.Needs.{crossing}
 use Rattle.vw_wires.proofs.table.deepest.Given as goal
 

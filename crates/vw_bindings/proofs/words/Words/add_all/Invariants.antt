@@ -2,7 +2,7 @@
 use Rattle.std.proofs.Common.{◌≡◌, ◌||◌, drop}
 use Rattle.vw_design.specs.Distinct.{has_name}
 use Rattle.vw_design.specs.Paths.{Word}
-use Rattle.vw_bindings.specs.Words.{has_word}
+use Rattle.vw_design.specs.WordSets.{has_word}
 use Rattle.vw_bindings.proofs.words.Words.add_all.Given as goal
 
 abbrev pub invariant-loop-name : goal.invariant-loop-name

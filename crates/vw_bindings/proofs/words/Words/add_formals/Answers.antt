@@ -1,6 +1,6 @@
 use Rattle.std.proofs.Common.{◌∙◌}
-use Rattle.vw_bindings.specs.Words.{has_word}
-use Rattle.vw_bindings.proofs.Sets.{formal_added}
+use Rattle.vw_design.specs.WordSets.{has_word}
+use Rattle.vw_design.proofs.WordSets.{formal_added}
 use Rattle.vw_bindings.proofs.words.Words.add_formals.Goals as goal
 
 pub loop-bind-preserved : goal.loop-bind-preserved

@@ -2,7 +2,7 @@
 use Rattle.std.proofs.Common.{◌≡◌, ◌||◌, drop, map}
 use Rattle.vw_design.specs.Distinct.{has_name}
 use Rattle.vw_design.specs.Paths.{Word}
-use Rattle.vw_bindings.specs.Words.{has_word}
+use Rattle.vw_design.specs.WordSets.{has_word}
 use Rattle.vw_bindings.proofs.words.Words.add_formals.Given as goal
 
 abbrev pub invariant-loop-bind : goal.invariant-loop-bind

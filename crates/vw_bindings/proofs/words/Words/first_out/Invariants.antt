@@ -1,6 +1,6 @@
 -- all so far are in it
 use Rattle.std.proofs.Common.{◌≡◌, drop, find, not}
-use Rattle.vw_bindings.specs.Words.{has_word}
+use Rattle.vw_design.specs.WordSets.{has_word}
 use Rattle.vw_bindings.proofs.words.Words.first_out.Given as goal
 
 abbrev pub invariant-loop-name : goal.invariant-loop-name

@@ -1,7 +1,7 @@
 use Rattle.std.proofs.Common.{◌≡◌, ◌++◌, false, List, sym, ◌∙◌, ap, append-nil}
 use Rattle.std.proofs.lemmas.List.{take_all}
 use Rattle.vw_design.specs.Distinct.{has_name, are_distinct}
-use Rattle.vw_blif.specs.Words.{Word}
+use Rattle.vw_design.specs.Paths.{Word}
 use Rattle.vw_blif.specs.Bindings.{repeats}
 use Rattle.vw_blif.proofs.DistinctSteps.{are_distinct-append, none_again, names_more}
 use Rattle.vw_blif.proofs.ports.Ports.add.Goals as goal

@@ -3,7 +3,7 @@ use Rattle.std.specs.Str.{bytes_eq}
 use Rattle.vw_design.specs.Distinct.{has_name, are_distinct}
 use Rattle.vw_blif.specs.declared.fault.TextFault.TheVariants.{BadWords, DuplicateModel}
 use Rattle.vw_blif.specs.declared.seen.Seen.{Seen}
-use Rattle.vw_blif.specs.Words.{Word}
+use Rattle.vw_design.specs.Paths.{Word}
 use Rattle.vw_blif.specs.Kinds.{further}
 use Rattle.vw_blif.specs.Steps.Names.{opened, names_so_far}
 use Rattle.vw_blif.specs.Steps.Blocks.{IsNew}

@@ -1,7 +1,7 @@
 use Rattle.std.proofs.Common.{[], List, refl, sym, ◌∙◌, ap}
 use Rattle.vw_design.specs.Distinct.{has_name, are_distinct}
 use Rattle.vw_blif.specs.declared.block.Block.{Block}
-use Rattle.vw_blif.specs.Words.{Word}
+use Rattle.vw_design.specs.Paths.{Word}
 use Rattle.vw_blif.specs.Steps.Blocks.{block_made}
 use Rattle.vw_blif.specs.Steps.Names.{opened}
 use Rattle.vw_blif.proofs.ReaderSteps.{Ended, ended-some, ended-none}

@@ -2,7 +2,7 @@ use Rattle.std.proofs.Common.{◌≡◌, ◌+◌, ◌++◌, true, not, ◌||◌,
 use Rattle.std.specs.Str.{bytes_eq}
 use Rattle.std.proofs.lemmas.List.{take_all}
 use Rattle.vw_design.specs.Distinct.{has_name}
-use Rattle.vw_blif.specs.Words.{Word}
+use Rattle.vw_design.specs.Paths.{Word}
 use Rattle.vw_blif.specs.Bindings.{repeats}
 use Rattle.vw_blif.specs.Steps.Seen.{has_seen}
 use Rattle.vw_blif.proofs.Repeats.{more_words, cut_at, new_word, known_words, old_word}

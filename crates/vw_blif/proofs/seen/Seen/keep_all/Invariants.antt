@@ -1,6 +1,6 @@
 -- the words so far are new and were added
 use Rattle.std.proofs.Common.{◌≡◌, false, List, ◌++◌, take}
-use Rattle.vw_blif.specs.Words.{Word}
+use Rattle.vw_design.specs.Paths.{Word}
 use Rattle.vw_blif.specs.Bindings.{repeats}
 use Rattle.vw_blif.specs.Steps.Seen.{Knows}
 use Rattle.vw_blif.proofs.seen.Seen.keep_all.Given as goal

@@ -2,7 +2,7 @@ use Rattle.std.proofs.Common.{◌∙◌, ◌++◌, ◌+◌, List, Some, None, dr
 use Rattle.vw_design.specs.Preorder.{Site, cells}
 use Rattle.vw_claims.specs.Firsts.{number_named}
 use Rattle.vw_drivers.specs.Tables.{root_firsts}
-use Rattle.vw_nets.specs.Ports.{ports_of}
+use Rattle.vw_nets.specs.Ports.{item_ports}
 use Rattle.vw_nets.proofs.Along.{IsHere, no_cell, here, past}
 use Rattle.vw_nets.proofs.PortNumbers.{somes, of_cells, more_ports, ports_are}
 use Rattle.vw_nets.proofs.nets.Nets.control_ports.Goals as goal
@@ -19,10 +19,10 @@ loop-cell-preserved c =
     let far = ap (λ (list : List Site). somes ports ++ map (number_named root) (of_cells design list)) (sym is.cut) ∙ c.loop-cell.invariant in
     elim c.match-control_port.branch [
       | in-Some+in_ok-push w ↦
-          more_ports root ports c.match-control_port.ports.items (Some w.in-Some.port) (ports_of design is.site.path is.site.item) rest (ap (λ v. v.items) w.ports-is ∙ w.in_ok-push.ensures.items)
+          more_ports root ports c.match-control_port.ports.items (Some w.in-Some.port) (item_ports design is.site.path is.site.item) rest (ap (λ v. v.items) w.ports-is ∙ w.in_ok-push.ensures.items)
           (w.in-Some.ensures is.site.path is.site.item is.listed is.item_is) ∙ far
       | in_default w ↦
-          more_ports root ports c.match-control_port.ports.items None (ports_of design is.site.path is.site.item) rest (ap (λ v. v.items) w.ports-is ∙ sym (append-nil ports))
+          more_ports root ports c.match-control_port.ports.items None (item_ports design is.site.path is.site.item) rest (ap (λ v. v.items) w.ports-is ∙ sym (append-nil ports))
           (w.in_default.ensures is.site.path is.site.item is.listed is.item_is) ∙ far
     ]
 

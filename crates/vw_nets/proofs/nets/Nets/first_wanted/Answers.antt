@@ -1,6 +1,6 @@
 use Rattle.std.proofs.Common.{◌≡◌, ◌∙◌, [], Option, None, Some, is_some, false, option_map, sym, ap, refl, true≢false}
 use Rattle.std.specs.Option.{option_or}
-use Rattle.vw_design.specs.Paths.{Word, Net, printed, model_at, outputs_of}
+use Rattle.vw_design.specs.Paths.{Word, Net, printed, model_at, model_outputs}
 use Rattle.vw_design.specs.Reads.{net_at}
 use Rattle.vw_nets.specs.Nets.{printed_net}
 use Rattle.vw_nets.specs.Wanted.{wanted_among, wanted_read}
@@ -16,5 +16,5 @@ pub returns-in-Some : goal.returns-in-Some
 returns-in-Some c =
     let design = c.args.self.now.design.now in
     let wanted = c.args.wanted.now in
-    of_root (wanted_read design wanted) c.in_ok-read.read c.in_ok-read.ensures (sym c.is_some.ensures ∙ c.if-is_some.false) (wanted_among design wanted [] (outputs_of (model_at design []))) c.in-Some.name.now
+    of_root (wanted_read design wanted) c.in_ok-read.read c.in_ok-read.ensures (sym c.is_some.ensures ∙ c.if-is_some.false) (wanted_among design wanted [] (model_outputs (model_at design []))) c.in-Some.name.now
     c.in-Some.ensures c.in_ok-net-in-Some.net (c.in_ok-net-in-Some.ensures [] refl)

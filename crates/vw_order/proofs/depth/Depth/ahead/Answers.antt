@@ -4,7 +4,8 @@ use Rattle.std.proofs.lemmas.Option.{none-some, same_Some}
 use Rattle.vw_order.specs.declared.mark.Mark.{Mark}
 use Rattle.vw_order.specs.declared.mark.Mark.TheVariants.{Fresh, Open, Done}
 use Rattle.vw_order.specs.Ahead.{is_done_mark, undone}
-use Rattle.vw_order.specs.Inputs.{gate_of, gate_inputs}
+use Rattle.vw_order.specs.Inputs.{gate_of}
+use Rattle.vw_net.specs.Order.{gate_inputs}
 use Rattle.vw_order.proofs.depth.Depth.ahead.Goals as goal
 
 -- what is answered of the number at a place

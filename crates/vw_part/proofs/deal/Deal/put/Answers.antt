@@ -1,8 +1,8 @@
 use Rattle.std.proofs.Common.{◌≡◌, ◌<◌, ◌≤◌, ◌∙◌, ℕ, List, [], length, get_or, ap, refl, sym, subst, arith}
 use Rattle.std.proofs.lemmas.List.{get_or_default}
 use Rattle.vw_part.specs.declared.load.Load.{Load}
-use Rattle.vw_part.specs.Deals.{nets_at}
-use Rattle.vw_part.specs.Pins.{number_of}
+use Rattle.vw_part.specs.Deals.{cell_nets}
+use Rattle.vw_part.specs.Pins.{times_among}
 use Rattle.vw_part.proofs.Dealing.{IsMore, dealt_more, loaded}
 use Rattle.vw_part.proofs.Held.{held-le}
 use Rattle.vw_part.proofs.deal.Deal.put.Goals as goal
@@ -14,8 +14,8 @@ add-requires-clause-fits c = λ net.
     let chips = c.args.self.now.chip_of.items in
     let load = loaded c.args.board.now pins c.args.self.now c.args.chip c.index_mut.result.now c.requires.deal c.requires.chip.1 c.index_mut.ensures.value in
     let next : c.len.result ≡ length chips = omega (arith, c.len.ensures, c.args.self.now.chip_of.ok) in
-    let own : c.at-own.result.now ≡ nets_at pins (length chips) = c.at-own.ensures ∙ ap (λ (cell : ℕ). nets_at pins cell) next in
-    let once : number_of c.at-own.result.now net ≤ 1 = subst (λ (nets : List ℕ). number_of nets net ≤ 1) (sym own) (pins.once (length chips) [] c.requires.next net) in
+    let own : c.at-own.result.now ≡ cell_nets pins (length chips) = c.at-own.ensures ∙ ap (λ (cell : ℕ). cell_nets pins cell) next in
+    let once : times_among c.at-own.result.now net ≤ 1 = subst (λ (nets : List ℕ). times_among nets net ≤ 1) (sym own) (pins.once (length chips) [] c.requires.next net) in
     omega (arith, load.counts net, held-le chips pins.of_cells.items c.args.chip net pins.once, once, c.requires.next, pins.few_cells)
 
 pub returns-clause-deal : goal.returns-clause-deal
@@ -26,9 +26,9 @@ returns-clause-deal c =
     let old = c.index_mut.result.now in
     let new = c.add.new.self in
     let next : c.len.result ≡ length chips = omega (arith, c.len.ensures, c.args.self.now.chip_of.ok) in
-    let own : c.at-own.result.now ≡ nets_at pins (length chips) = c.at-own.ensures ∙ ap (λ (cell : ℕ). nets_at pins cell) next in
+    let own : c.at-own.result.now ≡ cell_nets pins (length chips) = c.at-own.ensures ∙ ap (λ (cell : ℕ). cell_nets pins cell) next in
     let within : c.args.chip < length loads = omega (arith, c.requires.deal.nodes, c.requires.chip.1) in
     let found : old ≡ get_or loads c.args.chip new = c.index_mut.ensures.value ∙ get_or_default loads c.args.chip old new within in
     let raw : IsMore c.at-own.result.now old new = record { cells = c.add.ensures.cells; long = omega (arith, c.add.ensures.long, old.counts.ok, new.counts.ok); counts = c.add.ensures.counts } in
-    let more : IsMore (nets_at pins (length chips)) (get_or loads c.args.chip new) new = subst (λ (nets : List ℕ). IsMore nets (get_or loads c.args.chip new) new) own (subst (λ (load : Load). IsMore c.at-own.result.now load new) found raw) in
+    let more : IsMore (cell_nets pins (length chips)) (get_or loads c.args.chip new) new = subst (λ (nets : List ℕ). IsMore nets (get_or loads c.args.chip new) new) own (subst (λ (load : Load). IsMore c.at-own.result.now load new) found raw) in
     dealt_more c.args.board.now pins c.args.self.now _ c.args.chip new c.requires.deal c.requires.next c.requires.chip c.requires.room c.in_ok-push.ensures.items refl more

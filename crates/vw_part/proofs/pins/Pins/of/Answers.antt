@@ -2,7 +2,7 @@ use Rattle.std.proofs.Common.{◌≡◌, ◌<◌, ◌≤◌, ◌+◌, ◌∙◌,
 use Rattle.std.proofs.lemmas.List.{length-take-le, take_all, take_more}
 use Rattle.vw_net.specs.declared.cell.Cell.{Cell}
 use Rattle.vw_part.specs.Pins.{AreNetsOf, ArePins}
-use Rattle.vw_part.proofs.Own.{pins_long, pins_once, pins_push, pins_within}
+use Rattle.vw_part.proofs.CellNets.{pins_long, pins_once, pins_push, pins_within}
 use Rattle.vw_part.proofs.pins.Pins.of.Goals as goal
 
 pub loop-number-preserved : goal.loop-number-preserved

@@ -1,6 +1,6 @@
 -- those so far
 use Rattle.std.proofs.Common.{◌≡◌, ◌≤◌, ◌+◌, drop, filter, length, not}
-use Rattle.vw_sizes.specs.WordSets.{has_word}
+use Rattle.vw_design.specs.WordSets.{has_word}
 use Rattle.vw_sizes.proofs.words.Words.count_out.Given as goal
 
 abbrev pub invariant-loop-name : goal.invariant-loop-name

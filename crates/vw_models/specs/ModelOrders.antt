@@ -1,6 +1,6 @@
 -- What is answered of the models that are reached.
 use Rattle.vw_design.specs.declared.design.Design.{Design}
-use Rattle.vw_design.specs.ModelFaults.{IsCircle}
+use Rattle.vw_design.specs.ModelFaults.{IsModelCircle}
 use Rattle.vw_design.specs.ModelNumbers.{IsModelOrder}
 use Rattle.vw_models.specs.declared.order.ModelOrder.{ModelOrder}
 use Rattle.vw_models.specs.declared.order.ModelOrder.TheVariants.{Order, Circle}
@@ -8,4 +8,4 @@ use Rattle.vw_models.specs.declared.order.ModelOrder.TheVariants.{Order, Circle}
 -- an order of them, or a circle
 abbrev pub IsFound : Design → ModelOrder → Type 0
 IsFound design (Order order) = IsModelOrder design order
-IsFound design (Circle names) = IsCircle design names
+IsFound design (Circle names) = IsModelCircle design names

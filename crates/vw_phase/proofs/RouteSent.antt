@@ -12,27 +12,28 @@ use Rattle.vw_net.specs.Order.{is_gate}
 use Rattle.vw_plan.specs.declared.board.Board.{Board}
 use Rattle.vw_plan.specs.declared.need.Route.{Route}
 use Rattle.vw_plan.specs.declared.wire.Hop.{Hop}
-use Rattle.vw_plan.specs.Lead.{after_last, greatest}
+use Rattle.vw_plan.specs.Lead.{after_last}
+use Rattle.vw_net.specs.Lists.{greatest}
 use Rattle.vw_plan.specs.Needs.{depth}
-use Rattle.vw_plan.specs.Nets.{driver, node_of}
+use Rattle.vw_plan.specs.Nets.{driving_cell, node_of}
 use Rattle.vw_plan.specs.Routes.{AreRoutes, IsRoute, steps_of}
 use Rattle.vw_slots.specs.declared.slot.Taken.{Taken}
 use Rattle.vw_slots.specs.Slots.{is_taken}
 use Rattle.vw_phase.specs.declared.draft.Draft.{Draft}
 use Rattle.vw_phase.specs.declared.task.Task.{Task}
-use Rattle.vw_phase.specs.Steps.Along.{AreSent, place_of, taken_by}
+use Rattle.vw_phase.specs.Steps.Along.{AreSent, hop_link, taken_by}
 use Rattle.vw_phase.specs.Steps.Done.{all_hops, uses}
 use Rattle.vw_phase.specs.Steps.Drafts.{Does, IsSentMore, hops_at, limit}
 use Rattle.vw_phase.specs.Steps.Leads.{usable_by}
 use Rattle.vw_phase.specs.Steps.Underway.{AreTasks, IsOfKind, IsSentOff, IsUnderway, is_done, is_task, ready_by, start_by, task_at}
 use Rattle.vw_phase.proofs.DoneTasks.{is_done-more, is_task-own, is_task-true, kind_at, not_done_before}
-use Rattle.vw_phase.proofs.Kept.{AreKept, place_kept, ready_kept, start_same}
-use Rattle.vw_phase.proofs.Low.{last_low, lead_low}
+use Rattle.vw_phase.proofs.UntouchedMoments.{AreKept, place_kept, ready_kept, start_same}
+use Rattle.vw_phase.proofs.LeadLimits.{last_low, lead_low}
 use Rattle.vw_phase.proofs.TaskReady.{its_route, room, route_linked, sent_long}
-use Rattle.vw_phase.proofs.Sent.{some_same}
+use Rattle.vw_phase.proofs.TaskWords.{some_same}
 use Rattle.vw_phase.proofs.SettledReads.{home_before, shallow_before}
 use Rattle.vw_phase.proofs.Tally.{tally_sent, uses_set}
-use Rattle.vw_phase.proofs.WorkedMore.{done_other, home_done, lesser_done, reads_done, shallow_more}
+use Rattle.vw_phase.proofs.LeadWorked.{done_other, home_done, lesser_done, reads_done, shallow_more}
 
 -- hops that are written where none were
 long_set : (hops : List (List Hop)) (number : ℕ) (sent : List Hop) → number < length hops → get_or hops number [] ≡ [] → length (all_hops (set hops number sent)) ≡ length (all_hops hops) + length sent
@@ -122,7 +123,7 @@ module _ (ordered : Ordered) (board : Board) (chip_of : List ℕ) (routes : List
       taken_long = let long : length (map (taken_by board) sent_hops) ≡ length sent_hops = length-map sent_hops (taken_by board) in omega (arith, ap length has.taken, length-append draft.table.taken (map (taken_by board) sent_hops), long)
 
       ready_low : ready ≤ limit (length draft.table.taken) + 15
-      ready_low = omega (arith, way.begun, lead_low ordered.flat board chip_of routes draft.hops.items draft.leads.items (limit (length draft.table.taken)) way.fit.long way.fit.early.sent way.fit.early.soon (node_of ordered.flat chip_of route.net) route.net, settle_low board (is_gate (driver ordered.flat route.net) && eqb (node_of ordered.flat chip_of route.net) (node_of ordered.flat chip_of route.net)))
+      ready_low = omega (arith, way.begun, lead_low ordered.flat board chip_of routes draft.hops.items draft.leads.items (limit (length draft.table.taken)) way.fit.long way.fit.early.sent way.fit.early.soon (node_of ordered.flat chip_of route.net) route.net, settle_low board (is_gate (driving_cell ordered.flat route.net) && eqb (node_of ordered.flat chip_of route.net) (node_of ordered.flat chip_of route.net)))
 
       sent_low : All (λ hop. hop.at + 1 ≤ top) sent_hops
       sent_low place default early = omega (arith, has.soon place default early, ready_low, as_long, taken_long, early)
@@ -156,14 +157,14 @@ module _ (ordered : Ordered) (board : Board) (chip_of : List ℕ) (routes : List
           subst (λ (r : Route). IsSentOff ordered board chip_of routes new r (hops_at new other)) one (subst (λ (n : ℕ). IsSentOff ordered board chip_of routes new route (hops_at new n)) same own_off) in
           ⊎_elim (λ before. off other its_own is before (way.sent other its_own is before)) here (or_cases (is_done tasks count true other) (is_task true other (task_at tasks count)) (sym (is_done-more tasks count true other within) ∙ done))
 
-      slots_at : (hop : Hop) → uses hop (all_hops new.hops.items) ≡ (if is_taken new.table.taken (place_of board hop) hop.pin hop.at then 1 else 0)
+      slots_at : (hop : Hop) → uses hop (all_hops new.hops.items) ≡ (if is_taken new.table.taken (hop_link board hop) hop.pin hop.at then 1 else 0)
       slots_at hop =
           let from = node_of ordered.flat chip_of route.net in
           let sent_from : AreSent board draft.table.taken ready (steps_of (from ∷ its.further)) sent_hops = subst (λ (nodes : List ℕ). AreSent board draft.table.taken ready (steps_of nodes) sent_hops) its.nodes has.sent in
           ap (λ (list : List (List Hop)). uses hop (all_hops list)) has.hops
           ∙ uses_set hop draft.hops.items number sent_hops inside none_yet
           ∙ tally_sent board (λ (one : Hop). uses one (all_hops draft.hops.items)) draft.table.taken ready from its.further sent_hops (route_linked ordered board chip_of route its from its.further its.nodes) sent_from way.slots hop
-          ∙ ap (λ (list : List Taken). if is_taken list (place_of board hop) hop.pin hop.at then 1 else 0) (sym has.taken)
+          ∙ ap (λ (list : List Taken). if is_taken list (hop_link board hop) hop.pin hop.at then 1 else 0) (sym has.taken)
 
       sent_one : IsUnderway ordered board chip_of routes tasks (count + 1) new level start
       sent_one = record {

@@ -13,9 +13,10 @@ use Rattle.vw_plan.specs.declared.plan.Plan.{Plan}
 use Rattle.vw_plan.specs.declared.wire.Hop.{Hop}
 use Rattle.vw_plan.specs.declared.wire.Wire.{Wire}
 use Rattle.vw_plan.specs.Earliest.{AreEarliest, is_in_use, phase_start}
-use Rattle.vw_plan.specs.Lead.{after_last, greatest, lead, usable}
+use Rattle.vw_plan.specs.Lead.{after_last, lead, usable}
+use Rattle.vw_net.specs.Lists.{greatest}
 use Rattle.vw_plan.specs.Needs.{depth}
-use Rattle.vw_plan.specs.Nets.{driver, is_read_at, node_of}
+use Rattle.vw_plan.specs.Nets.{driving_cell, is_read_at, node_of}
 use Rattle.vw_plan.specs.Routes.{AreRoutes, steps_of}
 use Rattle.vw_plan.specs.Setting.{Setting, home, setting_of}
 use Rattle.vw_plan.specs.Sound.{share_pin}
@@ -23,8 +24,8 @@ use Rattle.vw_plan.specs.Walks.{IsWalk}
 use Rattle.vw_slots.specs.Slots.{is_taken}
 use Rattle.vw_phase.specs.declared.draft.Draft.{Draft}
 use Rattle.vw_phase.specs.declared.task.Task.{Task}
-use Rattle.vw_phase.specs.Steps.Along.{AreSent, place_of}
-use Rattle.vw_phase.specs.Steps.Done.{IsAlong, IsDone, IsSentWell, all_hops, uses}
+use Rattle.vw_phase.specs.Steps.Along.{AreSent, hop_link}
+use Rattle.vw_phase.specs.Steps.Done.{IsAlong, IsTasksDone, IsSentWell, all_hops, uses}
 use Rattle.vw_phase.specs.Steps.Drafts.{hops_at}
 use Rattle.vw_phase.specs.Steps.Leads.{usable_by, wires_of}
 use Rattle.vw_phase.specs.Steps.Underway.{AreTasks, IsSentOff, IsUnderway, is_done, is_task, lead_at_place, ready_by, start_by}
@@ -94,7 +95,7 @@ module _ (ordered : Ordered) (board : Board) (plan : Plan) (routes : List Route)
   plan_leads net = leads_right ordered board plan routes draft.hops.items draft.leads.items way.fit.long wires worked way.zero net
 
   -- a slot that is taken is used by a hop of the plan
-  in_use : (hop : Hop) → is_taken draft.table.taken (place_of board hop) hop.pin hop.at ≡ true → is_in_use plan hop ≡ true
+  in_use : (hop : Hop) → is_taken draft.table.taken (hop_link board hop) hop.pin hop.at ≡ true → is_in_use plan hop ≡ true
   in_use hop taken =
       let one : uses hop (all_hops draft.hops.items) ≡ 1 = way.slots hop ∙ ap (λ (bit : Bool). if bit then 1 else 0) taken in
       ap (λ (list : List Wire). list_any (share_pin hop) (flat_map (λ wire. wire.hops) list)) wires
@@ -103,7 +104,7 @@ module _ (ordered : Ordered) (board : Board) (plan : Plan) (routes : List Route)
 
   -- when a net is usable, and when its phase begins
   usable_same : (net : ℕ) → usable setting (home setting net) net ≡ usable_by ordered.flat board plan.chip_of routes draft.hops.items draft.leads.items (node_of ordered.flat plan.chip_of net) net
-  usable_same net = ap (λ (lead : ℕ). lead + (if is_gate (driver ordered.flat net) && eqb (home setting net) (home setting net) then board.settle else 0)) (right_at ordered board plan routes draft.hops.items draft.leads.items way.fit.long wires worked way.zero (home setting net) net (plan_leads net))
+  usable_same net = ap (λ (lead : ℕ). lead + (if is_gate (driving_cell ordered.flat net) && eqb (home setting net) (home setting net) then board.settle else 0)) (right_at ordered board plan routes draft.hops.items draft.leads.items way.fit.long wires worked way.zero (home setting net) net (plan_leads net))
 
   begin_same : (limit : ℕ) → phase_start setting limit ≡ start_by ordered.flat board plan.chip_of limit routes draft.hops.items
   begin_same limit = ap (λ (list : List Wire). greatest (map (λ wire. if nat_lt (depth ordered.flat plan.chip_of wire.net) limit then after_last board wire.hops else 0) list)) wires ∙ phase_same ordered board plan limit routes draft.hops.items way.fit.long
@@ -127,11 +128,11 @@ module _ (ordered : Ordered) (board : Board) (plan : Plan) (routes : List Route)
 
 -- ---- all of it
 
-pub finished : (ordered : Ordered) (board : Board) (chip_of : List ℕ) (routes : List Route) (tasks : List Task) (count : ℕ) (draft : Draft) (level start : ℕ) → AreRoutes ordered.flat board chip_of routes → AreTasks ordered chip_of routes tasks → length tasks ≤ count → IsUnderway ordered board chip_of routes tasks count draft level start → IsDone ordered board chip_of routes draft
+pub finished : (ordered : Ordered) (board : Board) (chip_of : List ℕ) (routes : List Route) (tasks : List Task) (count : ℕ) (draft : Draft) (level start : ℕ) → AreRoutes ordered.flat board chip_of routes → AreTasks ordered chip_of routes tasks → length tasks ≤ count → IsUnderway ordered board chip_of routes tasks count draft level start → IsTasksDone ordered board chip_of routes draft
 finished ordered board chip_of routes tasks count draft level start are_routes are whole way = record {
   fit = way.fit;
   along = all_zip (IsAlong board) routes draft.hops.items way.fit.long (along ordered board chip_of routes tasks count draft level start are_routes are whole way);
-  once = λ hop. omega (arith, way.slots hop, low_bit (is_taken draft.table.taken (place_of board hop) hop.pin hop.at));
+  once = λ hop. omega (arith, way.slots hop, low_bit (is_taken draft.table.taken (hop_link board hop) hop.pin hop.at));
   sent_well = λ plan has. all_well ordered board plan routes tasks count draft level start
       (subst (λ (chips : List ℕ). AreRoutes ordered.flat board chips routes) (sym has.chips) are_routes)
       (subst (λ (chips : List ℕ). AreTasks ordered chips routes tasks) (sym has.chips) are) whole

@@ -6,14 +6,14 @@ use Rattle.vw_net.specs.declared.cell.Cell.{Cell}
 use Rattle.vw_net.specs.declared.cell.Cell.TheVariants.{Gate, Latch}
 use Rattle.vw_net.specs.declared.flat.Flat.{Flat}
 use Rattle.vw_net.specs.declared.ordered.Ordered.{Ordered}
-use Rattle.vw_net.specs.Order.{is_gate}
+use Rattle.vw_net.specs.Order.{is_gate, gate_inputs}
 use Rattle.vw_plan.specs.declared.board.Board.{Board}
 use Rattle.vw_plan.specs.declared.need.Route.{Route}
 use Rattle.vw_plan.specs.declared.wire.Hop.{Hop}
-use Rattle.vw_plan.specs.Lead.{after_last, driven_lead, greatest}
+use Rattle.vw_plan.specs.Lead.{after_last, driven_lead}
+use Rattle.vw_net.specs.Lists.{greatest}
 use Rattle.vw_plan.specs.Needs.{depth}
-use Rattle.vw_plan.specs.Nets.{driver, node_of}
-use Rattle.vw_plan.specs.Ways.{gate_reads}
+use Rattle.vw_plan.specs.Nets.{driving_cell, node_of}
 use Rattle.vw_plan.proofs.Leads.{map_agree}
 use Rattle.vw_phase.specs.declared.task.Task.{Task}
 use Rattle.vw_phase.specs.Steps.Leads.{hops_to, lead_by, usable_by}
@@ -37,7 +37,7 @@ hops_to-place (route ∷ routes) (sent ∷ hops) node net long =
     ]
 
 -- two ways to give nets leads that agree on what a gate reads
-pub driven_same : (one other : ℕ → ℕ) (cell : Option Cell) → All (λ net. one net ≡ other net) (gate_reads cell) → driven_lead one cell ≡ driven_lead other cell
+pub driven_same : (one other : ℕ → ℕ) (cell : Option Cell) → All (λ net. one net ≡ other net) (gate_inputs cell) → driven_lead one cell ≡ driven_lead other cell
 driven_same one other None agree = refl
 driven_same one other (Some (Gate ins cover)) agree = ap greatest (map_agree one other ins agree)
 driven_same one other (Some (Latch d init)) agree = refl
@@ -61,7 +61,7 @@ start_same flat board chip_of limit (route ∷ routes) (sent ∷ hops) (later �
 module _ (ordered : Ordered) (board : Board) (chip_of : List ℕ) (routes : List Route) (tasks : List Task) (count : ℕ) where
   -- if a gate drives a net, its lead is worked out
   abbrev pub IsHomeDone : ℕ → Type 0
-  IsHomeDone net = is_gate (driver ordered.flat net) ≡ true → (place : ℕ) × (place < length ordered.order) × (net ≡ ordered.flat.inputs + slice_index ordered.order place) × (is_done tasks count false place ≡ true)
+  IsHomeDone net = is_gate (driving_cell ordered.flat net) ≡ true → (place : ℕ) × (place < length ordered.order) × (net ≡ ordered.flat.inputs + slice_index ordered.order place) × (is_done tasks count false place ≡ true)
 
   -- the lead of a net at a node rests on what is done
   abbrev pub IsSettled : ℕ → ℕ → Type 0
@@ -90,7 +90,7 @@ module _ (ordered : Ordered) (board : Board) (chip_of : List ℕ) (routes : List
         ⊎_elim if_home if_away (cases_Bool (eqb own node))
 
     -- the lead of a gate that reads what is settled
-    pub place_kept : (place : ℕ) → All (IsSettled (slice_index chip_of (slice_index ordered.order place))) (gate_reads (slice_get ordered.flat.cells (slice_index ordered.order place)))
+    pub place_kept : (place : ℕ) → All (IsSettled (slice_index chip_of (slice_index ordered.order place))) (gate_inputs (slice_get ordered.flat.cells (slice_index ordered.order place)))
         → lead_at_place ordered board chip_of routes more later place ≡ lead_at_place ordered board chip_of routes hops leads place
     place_kept place settled =
         let node = slice_index chip_of (slice_index ordered.order place) in
@@ -100,7 +100,7 @@ module _ (ordered : Ordered) (board : Board) (chip_of : List ℕ) (routes : List
     pub usable_kept : (net : ℕ) → IsHomeDone net → usable_by ordered.flat board chip_of routes more later (node_of ordered.flat chip_of net) net ≡ usable_by ordered.flat board chip_of routes hops leads (node_of ordered.flat chip_of net) net
     usable_kept net home =
         let node = node_of ordered.flat chip_of net in
-        ap (λ (lead : ℕ). lead + (if is_gate (driver ordered.flat net) && eqb node node then board.settle else 0)) (lead_kept node net (λ _. home, λ apart. absurd (apart refl)))
+        ap (λ (lead : ℕ). lead + (if is_gate (driving_cell ordered.flat net) && eqb node node then board.settle else 0)) (lead_kept node net (λ _. home, λ apart. absurd (apart refl)))
 
     pub ready_kept : (net : ℕ) → IsHomeDone net → ((number : ℕ) (route : Route) → slice_get routes number ≡ Some route → depth ordered.flat chip_of route.net < depth ordered.flat chip_of net → is_done tasks count true number ≡ true)
         → ready_by ordered board chip_of routes more later net ≡ ready_by ordered board chip_of routes hops leads net

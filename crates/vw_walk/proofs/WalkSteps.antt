@@ -11,16 +11,16 @@ use Rattle.vw_design.specs.Paths.{Word, Path, placings}
 use Rattle.vw_design.specs.Claims.{and_behind}
 use Rattle.vw_design.specs.Preorder.{Site, inside, sites_below, sites, instances_at, is_cell}
 use Rattle.vw_design.specs.Limits.{IsSmall}
-use Rattle.vw_design.proofs.Lists.{AllZip-length}
+use Rattle.vw_design.proofs.FilteredLists.{AllZip-length}
 use Rattle.vw_design.proofs.Reached.{shallow}
 use Rattle.vw_design.proofs.Weights.{instances_weigh, cells_weigh}
 use Rattle.vw_walk.specs.declared.tables.Placed.{Placed}
 use Rattle.vw_walk.specs.declared.tables.CellSite.{CellSite}
 use Rattle.vw_walk.specs.declared.frame.Frame.{Frame}
-use Rattle.vw_walk.specs.Tables.{AreNumbered, IsPlacedBy, StandsAt, IsPlaced, IsCellSite}
-use Rattle.vw_walk.specs.Steps.Frames.{Level, sites_left, listed_with, cells_among, IsFrame, entered, behind_item, cell_of, placed_by, IsWalk}
+use Rattle.vw_walk.specs.Tables.{AreNumbered, IsPlacedBy, StandsAt, IsEntryAt, IsCellSite}
+use Rattle.vw_walk.specs.Steps.Frames.{Level, sites_left, listed_with, cells_among, IsFrame, entered, behind_item, site_of_frame, placed_in_frame, IsUnderWay}
 use Rattle.vw_design.proofs.ListPlaces.{in_front, behind}
-use Rattle.vw_walk.proofs.Lists.{last_first, two_last_first, wider, one_more, more_numbered}
+use Rattle.vw_walk.proofs.GrownLists.{last_first, two_last_first, wider, one_more, more_numbered}
 use Rattle.vw_walk.proofs.Nexts.{IsPlacedNext}
 use Rattle.vw_walk.proofs.Levels.{level_of, site_of, placings_behind, listed_more, cells_more, below_of, sites_cut, sites_start, levels_same}
 
@@ -37,10 +37,10 @@ still_by : (listed longer : List Path) → ((number : ℕ) (path : Path) → sli
 still_by listed longer still number [] entry is = is
 still_by listed longer still number (place ∷ path) entry is = (is.0, still entry.parent path is.1, is.2)
 
-module _ (design : Design) (table : List Placed) (made : List CellSite) (frames : List Frame) (frame : Frame) (walk : IsWalk design table made (frames ++ (frame ∷ [])))
+module _ (design : Design) (table : List Placed) (made : List CellSite) (frames : List Frame) (frame : Frame) (walk : IsUnderWay design table made (frames ++ (frame ∷ [])))
     (path : Path) (front : List Item) (levels : List Level) (below : AllZip (IsFrame design (listed_with walk.done) (length walk.done)) levels (reverse frames)) where
   -- where no item is left, the frame stands for nothing
-  pub ended : walk.done ++ flat_map (sites_left design) (level_of path front [] ∷ levels) ≡ sites design → IsWalk design table made frames
+  pub ended : walk.done ++ flat_map (sites_left design) (level_of path front [] ∷ levels) ≡ sites design → IsUnderWay design table made frames
   ended all = record { done = walk.done; levels = levels; all = all; placed = walk.placed; cells = walk.cells; stack = below }
 
   module _ (item : Item) (rest : List Item) (all : walk.done ++ flat_map (sites_left design) (level_of path front (item ∷ rest) ∷ levels) ≡ sites design)
@@ -100,7 +100,7 @@ module _ (design : Design) (table : List Placed) (made : List CellSite) (frames 
       short = omega (arith, top.short, longer, length-append front (item ∷ []));
     }
 
-    still_placed : (number : ℕ) (p : Path) (entry : Placed) → IsPlaced design (listed_with walk.done) number p entry → IsPlaced design (listed_with more_done) number p entry
+    still_placed : (number : ℕ) (p : Path) (entry : Placed) → IsEntryAt design (listed_with walk.done) number p entry → IsEntryAt design (listed_with more_done) number p entry
     still_placed number p entry is =
         record { model = is.model; stands = is.stands; model_is = is.model_is; by = still_by (listed_with walk.done) (listed_with more_done) still number p entry is.by; at = is.at }
 
@@ -112,9 +112,9 @@ module _ (design : Design) (table : List Placed) (made : List CellSite) (frames 
 
     -- a gate or a latch is listed, and the items behind it are left
     pub cell_listed : IsCellItem item
-        → IsWalk design table (made ++ (cell_of frame ∷ [])) (frames ++ (behind_item frame frame.before ∷ []))
+        → IsUnderWay design table (made ++ (site_of_frame frame ∷ [])) (frames ++ (behind_item frame frame.before ∷ []))
     cell_listed is =
-        let entry : CellSite = cell_of frame in
+        let entry : CellSite = site_of_frame frame in
         let next : Frame = behind_item frame frame.before in
         let level = level_of path (front ++ (item ∷ [])) rest in
         let same : listed_with more_done ≡ listed_with walk.done =
@@ -126,7 +126,7 @@ module _ (design : Design) (table : List Placed) (made : List CellSite) (frames 
           done = more_done;
           levels = level ∷ levels;
           all = ap (λ (list : List Site). more_done ++ (list ++ others)) (sym (is.within (below_of design path) path (length (placings front)))) ∙ all_more;
-          placed = subst (λ (paths : List Path). AreNumbered (IsPlaced design paths) paths table) (sym same) walk.placed;
+          placed = subst (λ (paths : List Path). AreNumbered (IsEntryAt design paths) paths table) (sym same) walk.placed;
           cells = subst (λ (list : List Site). AllZip (IsCellSite (listed_with more_done)) list (made ++ (entry ∷ []))) (sym kept)
               (one_more (IsCellSite (listed_with more_done)) (cells_among walk.done) made site entry still_cells here);
           stack = subst (λ (list : List Frame). AllZip (IsFrame design (listed_with more_done) (length more_done)) (level ∷ levels) list) (sym (last_first frames next))
@@ -142,11 +142,11 @@ module _ (design : Design) (table : List Placed) (made : List CellSite) (frames 
 
     -- the instance is listed, and all of its items are left, and then the items behind the one that places it
     instance_listed : (targets : List (List (Option ℕ))) → IsSmall design → (next : IsPlacedNext design targets path (length (placings front)) frame) → IsPlacingItem
-        → IsWalk design (table ++ (placed_by frame next.number (length made) ∷ [])) made
+        → IsUnderWay design (table ++ (placed_in_frame frame next.number (length made) ∷ [])) made
         (frames ++ (behind_item frame (frame.before + 1) ∷ entered (length table) next.number ∷ []))
     instance_listed targets small next is =
         let here = suc (length (placings front)) ∷ path in
-        let entry : Placed = placed_by frame next.number (length made) in
+        let entry : Placed = placed_in_frame frame next.number (length made) in
         let one : Frame = behind_item frame (frame.before + 1) in
         let other : Frame = entered (length table) next.number in
         let level = level_of path (front ++ (item ∷ [])) rest in
@@ -173,7 +173,7 @@ module _ (design : Design) (table : List Placed) (made : List CellSite) (frames 
               sym (AllZip-length (IsCellSite (listed_with walk.done)) (cells_among walk.done) made walk.cells) ∙ ap (λ (list : List Site). length list) (sym kept) ∙ cells_weigh more_done;
           number_is = omega (arith, count, instances_weigh more_done);
         } in
-        let new : IsPlaced design (listed_with more_done) (length (listed_with walk.done)) here entry = record {
+        let new : IsEntryAt design (listed_with more_done) (length (listed_with walk.done)) here entry = record {
           model = next.model;
           stands = next.stands;
           model_is = next.model_is;
@@ -197,8 +197,8 @@ module _ (design : Design) (table : List Placed) (made : List CellSite) (frames 
           done = more_done;
           levels = inner ∷ level ∷ levels;
           all = ap (λ (list : List Site). more_done ++ (list ++ others)) (sym started) ∙ whole;
-          placed = subst (λ (paths : List Path). AreNumbered (IsPlaced design (listed_with more_done)) paths (table ++ (entry ∷ []))) (sym listed)
-              (more_numbered (IsPlaced design (listed_with walk.done)) (IsPlaced design (listed_with more_done)) still_placed (listed_with walk.done) table here entry walk.placed new);
+          placed = subst (λ (paths : List Path). AreNumbered (IsEntryAt design (listed_with more_done)) paths (table ++ (entry ∷ []))) (sym listed)
+              (more_numbered (IsEntryAt design (listed_with walk.done)) (IsEntryAt design (listed_with more_done)) still_placed (listed_with walk.done) table here entry walk.placed new);
           cells = subst (λ (list : List Site). AllZip (IsCellSite (listed_with more_done)) list made) (sym kept) still_cells;
           stack = subst (λ (list : List Frame). AllZip (IsFrame design (listed_with more_done) (length more_done)) (inner ∷ level ∷ levels) list) (sym (two_last_first frames one other))
               (opened, (next_frame (frame.before + 1) (omega (arith, top.before_is) ∙ sym is.counts), still_below));
@@ -208,7 +208,7 @@ module _ (design : Design) (table : List Placed) (made : List CellSite) (frames 
       → walk.done ++ flat_map (sites_left design) (level_of path front (Sub line name binds ∷ rest) ∷ levels) ≡ sites design
       → IsFrame design (listed_with walk.done) (length walk.done) (level_of path front (Sub line name binds ∷ rest)) frame
       → (targets : List (List (Option ℕ))) → IsSmall design → (next : IsPlacedNext design targets path (length (placings front)) frame)
-      → IsWalk design (table ++ (placed_by frame next.number (length made) ∷ [])) made
+      → IsUnderWay design (table ++ (placed_in_frame frame next.number (length made) ∷ [])) made
       (frames ++ (behind_item frame (frame.before + 1) ∷ entered (length table) next.number ∷ []))
   placed_listed line name binds rest all top targets small next =
       instance_listed (Sub line name binds) rest all top targets small next (record { cell = refl; placed = refl; within = refl; counts = refl })

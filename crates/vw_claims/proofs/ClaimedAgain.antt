@@ -11,7 +11,7 @@ use Rattle.vw_design.specs.declared.item.Item.TheVariants.{Names, Latch, Sub}
 use Rattle.vw_design.specs.declared.model.Model.{Model}
 use Rattle.vw_design.specs.declared.design.Design.{Design}
 use Rattle.vw_design.specs.Distinct.{has_name}
-use Rattle.vw_design.specs.Paths.{Word, model_named, outputs_of}
+use Rattle.vw_design.specs.Paths.{Word, model_named, model_outputs}
 use Rattle.vw_design.specs.Claims.{and_behind}
 use Rattle.vw_design.specs.NetFaults.{bound_actual, claimed_by, first_again}
 use Rattle.vw_claims.specs.declared.claim.Again.{Again}
@@ -39,7 +39,7 @@ binds_names outputs place number (bind ∷ binds) = by (has_name outputs bind.fo
 made_names : (design : Design) (number before : ℕ) (item : Item) → names_of (item_made design number before item) ≡ claimed_by design item
 made_names design number before (Names line ins out cover) = refl
 made_names design number before (Latch line d q edge control init) = refl
-made_names design number before (Sub line model binds) = binds_names (outputs_of (model_named design.models model)) (suc before) 0 binds
+made_names design number before (Sub line model binds) = binds_names (model_outputs (model_named design.models model)) (suc before) 0 binds
 
 -- names and claims that are the same
 abbrev Knows : List Word → List First → Type 0

@@ -11,8 +11,8 @@ use Rattle.vw_bindings.specs.declared.output_of.OutputOf.{OutputOf}
 abbrev pub name_at : FormalAt → NameAt
 name_at found = record { line = found.line; name = found.formal }
 
-abbrev pub name_of : OutputOf → NameOf
-name_of found = record { model = found.model; name = found.output }
+abbrev pub named_output : OutputOf → NameOf
+named_output found = record { model = found.model; name = found.output }
 
 abbrev pub unknown_formal_at : ℕ → Model → List Bind → Option NameAt
 unknown_formal_at line model binds = option_map (λ formal. record { line = line; name = formal }) (unknown_formal_in model binds)

@@ -7,11 +7,10 @@ use Rattle.std.proofs.lemmas.List.{get_or-set_other, length-set}
 use Rattle.std.proofs.lemmas.List.Elements.{All-set}
 use Rattle.std.proofs.lemmas.List.Folds.{list_any_at}
 use Rattle.vw_net.specs.declared.ordered.Ordered.{Ordered}
-use Rattle.vw_net.specs.Order.{is_gate}
+use Rattle.vw_net.specs.Order.{is_gate, gate_inputs}
 use Rattle.vw_plan.specs.declared.board.Board.{Board}
 use Rattle.vw_plan.specs.declared.need.Route.{Route}
-use Rattle.vw_plan.specs.Nets.{driver}
-use Rattle.vw_plan.specs.Ways.{gate_reads}
+use Rattle.vw_plan.specs.Nets.{driving_cell}
 use Rattle.vw_plan.specs.Routes.{AreRoutes, steps_of}
 use Rattle.vw_phase.specs.declared.draft.Draft.{Draft}
 use Rattle.vw_phase.specs.declared.task.Task.{Task}
@@ -19,8 +18,8 @@ use Rattle.vw_phase.specs.Steps.Along.{AreSent}
 use Rattle.vw_phase.specs.Steps.Drafts.{HasLead, hops_at, limit}
 use Rattle.vw_phase.specs.Steps.Underway.{AreTasks, IsSentOff, IsUnderway, is_done, is_task, lead_at_place, task_at}
 use Rattle.vw_phase.proofs.DoneTasks.{done_at, is_done-more, is_task-true, kind_at, not_done_before}
-use Rattle.vw_phase.proofs.Kept.{AreKept, IsHomeDone, IsSettled, place_kept, ready_kept}
-use Rattle.vw_phase.proofs.Low.{driven_low}
+use Rattle.vw_phase.proofs.UntouchedMoments.{AreKept, IsHomeDone, IsSettled, place_kept, ready_kept}
+use Rattle.vw_phase.proofs.LeadLimits.{driven_low}
 use Rattle.vw_net.proofs.Ready.{order_within}
 use Rattle.vw_phase.proofs.SettledReads.{done_by, home_before, home_later, settled_before, settled_later, shallow_before}
 use Rattle.vw_plan.specs.Needs.{depth}
@@ -31,7 +30,7 @@ done_other tasks count sends place within differs done =
     ⊎_elim (λ before. before) (λ here. let its = is_task-true sends place (task_at tasks count) here in absurd (differs its.0 its.1)) (or_cases (is_done tasks count sends place) (is_task sends place (task_at tasks count)) (sym (is_done-more tasks count sends place within) ∙ done))
 
 -- a gate of the order drives its net
-pub gate_at : (ordered : Ordered) (place : ℕ) → place < length ordered.order → is_gate (driver ordered.flat (ordered.flat.inputs + slice_index ordered.order place)) ≡ true
+pub gate_at : (ordered : Ordered) (place : ℕ) → place < length ordered.order → is_gate (driving_cell ordered.flat (ordered.flat.inputs + slice_index ordered.order place)) ≡ true
 gate_at ordered place within =
     let number = slice_index ordered.order place in
     let no_input : nat_lt (ordered.flat.inputs + number) ordered.flat.inputs ≡ false = le-ltb _ _ (omega arith) in
@@ -62,7 +61,7 @@ module _ (ordered : Ordered) (board : Board) (chip_of : List ℕ) (routes : List
       done_by tasks found.0 count true other (omega (arith, found.1)) (omega (arith, within)) (shallow_before ordered board chip_of routes tasks each are are_routes found.0 inside other other_route other_is (omega (arith, less, deep)))
 
   -- what the gate of a done task reads is settled
-  pub reads_done : (place : ℕ) → is_done tasks count false place ≡ true → All (IsSettled ordered board chip_of routes tasks count (slice_index chip_of (slice_index ordered.order place))) (gate_reads (slice_get ordered.flat.cells (slice_index ordered.order place)))
+  pub reads_done : (place : ℕ) → is_done tasks count false place ≡ true → All (IsSettled ordered board chip_of routes tasks count (slice_index chip_of (slice_index ordered.order place))) (gate_inputs (slice_get ordered.flat.cells (slice_index ordered.order place)))
   reads_done place done =
       let found = done_at tasks count false place (omega (arith, within)) done in
       let settled = settled_before ordered board chip_of routes tasks each are are_routes found.0 place (omega (arith, found.1, within)) found.2 found.3 in
@@ -100,7 +99,7 @@ module _ (ordered : Ordered) (board : Board) (chip_of : List ℕ) (routes : List
       long = way.fit.long;
       long_more = ap (λ hops. length hops.items) has.hops ∙ way.fit.long;
       leads_same = λ net home. other_lead net (λ same.
-          let found = home (ap (λ (n : ℕ). is_gate (driver ordered.flat n)) same ∙ gate_at ordered own own_within) in
+          let found = home (ap (λ (n : ℕ). is_gate (driving_cell ordered.flat n)) same ∙ gate_at ordered own own_within) in
           let places : found.0 ≡ own = one_place ordered found.0 own found.1 own_within (let numbers : slice_index ordered.order found.0 ≡ slice_index ordered.order own = omega (arith, found.2, same) in numbers) in
           true≢false (sym (ap (is_done tasks count false) (sym places) ∙ found.3) ∙ own_not_done));
       hops_same = λ number done. ap (λ hops. slice_index_or hops.items number []) has.hops;
@@ -117,7 +116,7 @@ module _ (ordered : Ordered) (board : Board) (chip_of : List ℕ) (routes : List
       stays = rw (has.hops, has.table) sent.stays;
     }
 
-    place_same : (place : ℕ) → All (IsSettled ordered board chip_of routes tasks count (slice_index chip_of (slice_index ordered.order place))) (gate_reads (slice_get ordered.flat.cells (slice_index ordered.order place))) → lead_at_place ordered board chip_of routes new.hops.items new.leads.items place ≡ lead_at_place ordered board chip_of routes draft.hops.items draft.leads.items place
+    place_same : (place : ℕ) → All (IsSettled ordered board chip_of routes tasks count (slice_index chip_of (slice_index ordered.order place))) (gate_inputs (slice_get ordered.flat.cells (slice_index ordered.order place))) → lead_at_place ordered board chip_of routes new.hops.items new.leads.items place ≡ lead_at_place ordered board chip_of routes draft.hops.items draft.leads.items place
     place_same place settled = place_kept ordered board chip_of routes tasks count draft.hops.items new.hops.items draft.leads.items new.leads.items kept place settled
 
     worked_at : (place : ℕ) → place < length ordered.order → is_done tasks (count + 1) false place ≡ true → slice_index new.leads.items (ordered.flat.inputs + slice_index ordered.order place) ≡ lead_at_place ordered board chip_of routes new.hops.items new.leads.items place
@@ -148,7 +147,7 @@ module _ (ordered : Ordered) (board : Board) (chip_of : List ℕ) (routes : List
       none = λ number not. ap (λ hops. slice_index_or hops.items number []) has.hops ∙ way.none number (not_done_before tasks count true number within not);
       sent = λ number route is done. off number route is (no_sending number done) (way.sent number route is (no_sending number done));
       worked = worked_at;
-      zero = λ net no. other_lead net (λ same. true≢false (sym (ap (λ (n : ℕ). is_gate (driver ordered.flat n)) same ∙ gate_at ordered own own_within) ∙ no)) ∙ way.zero net no;
+      zero = λ net no. other_lead net (λ same. true≢false (sym (ap (λ (n : ℕ). is_gate (driving_cell ordered.flat n)) same ∙ gate_at ordered own own_within) ∙ no)) ∙ way.zero net no;
       last = rw (has.last, has.hops) way.last;
       size = rw (has.table, has.hops) way.size;
       slots = rw (has.table, has.hops) way.slots;

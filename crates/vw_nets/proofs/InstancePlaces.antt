@@ -6,7 +6,7 @@ use Rattle.vw_design.specs.Paths.{Path}
 use Rattle.vw_design.specs.Preorder.{instances}
 use Rattle.vw_design.proofs.OncePaths.{instance_once}
 use Rattle.vw_walk.specs.declared.tables.Placed.{Placed}
-use Rattle.vw_walk.specs.Tables.{ArePlaced, IsPlaced, IsPlacedBy}
+use Rattle.vw_walk.specs.Tables.{ArePlaced, IsEntryAt, IsPlacedBy}
 
 -- an element within a list
 pub element : {A : Type 0} (xs : List A) (k : ℕ) → k < length xs → (x : A) × (slice_get xs k ≡ Some x)
@@ -16,10 +16,10 @@ element (x ∷ xs) (suc k) within = element xs k (omega arith)
 
 module _ (design : Design) (table : List Placed) (are : ArePlaced design table) where
   -- the entry of a listed instance
-  pub entry_is : (k : ℕ) (path : Path) (entry : Placed) → slice_get (instances design) k ≡ Some path → slice_get table k ≡ Some entry → IsPlaced design (instances design) k path entry
+  pub entry_is : (k : ℕ) (path : Path) (entry : Placed) → slice_get (instances design) k ≡ Some path → slice_get table k ≡ Some entry → IsEntryAt design (instances design) k path entry
   entry_is k path entry listed at =
       let found = are.each k path listed in
-      subst (λ (e : Placed). IsPlaced design (instances design) k path e) (same_Some found.0 entry (sym found.1 ∙ at)) found.2
+      subst (λ (e : Placed). IsEntryAt design (instances design) k path e) (same_Some found.0 entry (sym found.1 ∙ at)) found.2
 
   by_parent : (k : ℕ) (path : Path) (entry : Placed) → IsPlacedBy (instances design) k path entry → k ≢ 0 → entry.parent < k
   by_parent k [] entry by some = omega (arith, by.0)

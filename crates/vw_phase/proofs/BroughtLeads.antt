@@ -11,12 +11,12 @@ use Rattle.vw_plan.specs.declared.plan.Plan.{Plan}
 use Rattle.vw_plan.specs.declared.wire.Hop.{Hop}
 use Rattle.vw_plan.specs.declared.wire.Wire.{Wire}
 use Rattle.vw_plan.specs.Lead.{after_last, brings, brought_at, driven_lead, lead, usable}
-use Rattle.vw_plan.specs.Nets.{driver}
+use Rattle.vw_plan.specs.Nets.{driving_cell}
 use Rattle.vw_plan.specs.Setting.{Setting, home, setting_of}
 use Rattle.vw_phase.specs.Steps.Leads.{hops_to, lead_by, usable_by, wires_of}
 
 abbrev pub Settles : Setting → Type 0
-Settles setting = (node net : ℕ) → lead setting node net ≡ (if eqb (home setting net) node then driven_lead (lead setting node) (driver setting.ordered.flat net) else brought_at setting node net)
+Settles setting = (node net : ℕ) → lead setting node net ≡ (if eqb (home setting net) node then driven_lead (lead setting node) (driving_cell setting.ordered.flat net) else brought_at setting node net)
 
 pub brought_wires : (board : Board) (node net : ℕ) (routes : List Route) (hops : List (List Hop)) → option_map_or (λ (wire : Wire). after_last board wire.hops) (find (brings net node) (wires_of routes hops)) 0 ≡ after_last board (hops_to routes hops node net)
 brought_wires board node net [] hops = refl
@@ -40,8 +40,8 @@ module _ (ordered : Ordered) (board : Board) (plan : Plan) (routes : List Route)
       let here : home setting net ≡ node = eqb-true (home setting net) node is in
       ap (λ (at : ℕ). lead setting at net) (sym here) ∙ right ∙ sym (ap by is) in
       let if_away = λ (is : eqb (home setting net) node ≡ false).
-      settles node net ∙ ap (λ (own : Bool). if own then driven_lead (lead setting node) (driver ordered.flat net) else brought_at setting node net) is ∙ brought_is node net ∙ sym (ap by is) in
+      settles node net ∙ ap (λ (own : Bool). if own then driven_lead (lead setting node) (driving_cell ordered.flat net) else brought_at setting node net) is ∙ brought_is node net ∙ sym (ap by is) in
       ⊎_elim if_home if_away (cases_Bool (eqb (home setting net) node))
 
   pub usable_is : (node net : ℕ) → lead setting (home setting net) net ≡ slice_index leads net → usable setting node net ≡ usable_by ordered.flat board plan.chip_of routes hops leads node net
-  usable_is node net right = ap (λ (at : ℕ). at + (if is_gate (driver ordered.flat net) && eqb (home setting net) node then board.settle else 0)) (lead_is node net right)
+  usable_is node net right = ap (λ (at : ℕ). at + (if is_gate (driving_cell ordered.flat net) && eqb (home setting net) node then board.settle else 0)) (lead_is node net right)

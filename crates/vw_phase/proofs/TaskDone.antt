@@ -8,8 +8,8 @@ use Rattle.vw_phase.specs.declared.draft.Draft.{Draft}
 use Rattle.vw_phase.specs.declared.task.Task.{Task}
 use Rattle.vw_phase.specs.Steps.Drafts.{Does}
 use Rattle.vw_phase.specs.Steps.Underway.{AreTasks, IsUnderway, task_at}
-use Rattle.vw_phase.proofs.SentMore.{sent_more}
-use Rattle.vw_phase.proofs.WorkedMore.{worked_more}
+use Rattle.vw_phase.proofs.RouteSent.{sent_more}
+use Rattle.vw_phase.proofs.LeadWorked.{worked_more}
 
 module _ (ordered : Ordered) (board : Board) (chip_of : List ℕ) (routes : List Route) (tasks : List Task) (each : length chip_of ≡ length ordered.flat.cells) (are : AreTasks ordered chip_of routes tasks) (are_routes : AreRoutes ordered.flat board chip_of routes) (count : ℕ) (draft : Draft) (within : count < length tasks) where
   pub done_more : (start : ℕ) (new : Draft) → IsUnderway ordered board chip_of routes tasks count draft (task_at tasks count).depth start → Does ordered board chip_of routes (task_at tasks count).sends (task_at tasks count).place start draft new → IsUnderway ordered board chip_of routes tasks (count + 1) new (task_at tasks count).depth start

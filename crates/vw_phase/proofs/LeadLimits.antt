@@ -10,10 +10,11 @@ use Rattle.vw_net.specs.declared.flat.Flat.{Flat}
 use Rattle.vw_plan.specs.declared.board.Board.{Board}
 use Rattle.vw_plan.specs.declared.need.Route.{Route}
 use Rattle.vw_plan.specs.declared.wire.Hop.{Hop}
-use Rattle.vw_plan.specs.Lead.{after_last, driven_lead, greatest}
+use Rattle.vw_plan.specs.Lead.{after_last, driven_lead}
+use Rattle.vw_net.specs.Lists.{greatest}
 use Rattle.vw_plan.specs.Nets.{node_of}
 use Rattle.vw_phase.specs.Steps.Leads.{hops_to, lead_by}
-use Rattle.vw_phase.proofs.Kept.{hops_to-place, route_place}
+use Rattle.vw_phase.proofs.UntouchedMoments.{hops_to-place, route_place}
 
 pub last_low : (board : Board) (top : ℕ) (hops : List Hop) → All (λ hop. hop.at + 1 ≤ top) hops → after_last board hops ≤ top
 last_low board top [] low = omega arith

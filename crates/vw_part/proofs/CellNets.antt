@@ -12,26 +12,26 @@ use Rattle.std.proofs.lemmas.Map.Keys.{IsStrictlyIncreasing-dedup}
 use Rattle.vw_net.specs.declared.cell.Cell.{Cell}
 use Rattle.vw_net.specs.Cells.{IsWellFormed, read_nets}
 use Rattle.vw_net.specs.Order.{is_among}
-use Rattle.vw_part.specs.Pins.{AreNetsOf, ArePins, number_of}
+use Rattle.vw_part.specs.Pins.{AreNetsOf, ArePins, times_among}
 use Rattle.vw_part.proofs.Totals.{at_other, at_same}
 
 -- ---- numbers that rise
 
-rising_none : (first : ℕ) (numbers : List ℕ) (number : ℕ) → AllPairs (λ x y. x < y) (first ∷ numbers) → number ≤ first → number_of numbers number ≡ 0
+rising_none : (first : ℕ) (numbers : List ℕ) (number : ℕ) → AllPairs (λ x y. x < y) (first ∷ numbers) → number ≤ first → times_among numbers number ≡ 0
 rising_none first [] number rise low = refl
 rising_none first (next ∷ numbers) number rise low =
     let above : first < next = rise 0 1 0 (omega arith) (omega arith) in
     let rest = rising_none next numbers number (λ i j default before within. rise (suc i) (suc j) default (omega arith) (omega arith)) (omega arith) in
     omega (arith, at_other next 1 number (λ is. omega arith), rest)
 
-rising_once : (numbers : List ℕ) (number : ℕ) → AllPairs (λ x y. x < y) numbers → number_of numbers number ≤ 1
+rising_once : (numbers : List ℕ) (number : ℕ) → AllPairs (λ x y. x < y) numbers → times_among numbers number ≤ 1
 rising_once [] number rise = omega arith
 rising_once (first ∷ numbers) number rise =
     let if_here = λ (here : first ≡ number).
-    let unit : number_of (first ∷ []) number ≡ 1 = subst (λ (x : ℕ). number_of (first ∷ []) x ≡ 1) here (omega (arith, at_same first 1)) in
-    let sum : number_of (first ∷ numbers) number ≤ 1 = omega (arith, unit, rising_none first numbers number rise (omega arith)) in sum in
+    let unit : times_among (first ∷ []) number ≡ 1 = subst (λ (x : ℕ). times_among (first ∷ []) x ≡ 1) here (omega (arith, at_same first 1)) in
+    let sum : times_among (first ∷ numbers) number ≤ 1 = omega (arith, unit, rising_none first numbers number rise (omega arith)) in sum in
     let if_not = λ (apart : first ≡ number → ⊥).
-    let sum : number_of (first ∷ numbers) number ≤ 1 = omega (arith, at_other first 1 number apart, rising_once numbers number (λ i j default before within. rise (suc i) (suc j) default (omega arith) (omega arith))) in sum in
+    let sum : times_among (first ∷ numbers) number ≤ 1 = omega (arith, at_other first 1 number apart, rising_once numbers number (λ i j default before within. rise (suc i) (suc j) default (omega arith) (omega arith))) in sum in
     ⊎_elim if_here if_not (cases_eq first number)
 
 -- ---- one cell
@@ -70,7 +70,7 @@ kept_once own cell reads listed sorted kept read is moved in_order once = record
       ∙ list_any-append (λ (other : ℕ). eqb other net) reads (own ∷ [])
       ∙ turned (is_among reads net) (eqb own net)
       ∙ ap (λ (l : List ℕ). eqb own net || is_among l net) read;
-  once = λ net. subst (λ (l : List ℕ). number_of l net ≤ 1) (sym once) (rising_once (dedup eqb sorted) net (AllPairs-from_increasing (dedup eqb sorted) (IsStrictlyIncreasing-dedup sorted in_order)));
+  once = λ net. subst (λ (l : List ℕ). times_among l net ≤ 1) (sym once) (rising_once (dedup eqb sorted) net (AllPairs-from_increasing (dedup eqb sorted) (IsStrictlyIncreasing-dedup sorted in_order)));
 }
 
 -- ---- all cells
@@ -87,11 +87,11 @@ pins_long own [] (nets ∷ pins) are = absurd are
 pins_long own (cell ∷ cells) [] are = absurd are
 pins_long own (cell ∷ cells) (nets ∷ pins) are = omega (arith, pins_long (own + 1) cells pins are.1)
 
-pub pins_once : (own : ℕ) (cells : List Cell) (pins : List (List ℕ)) → ArePins own cells pins → All (λ nets. (net : ℕ) → number_of nets net ≤ 1) pins
-pins_once own [] [] are = All-nil (λ nets. (net : ℕ) → number_of nets net ≤ 1)
+pub pins_once : (own : ℕ) (cells : List Cell) (pins : List (List ℕ)) → ArePins own cells pins → All (λ nets. (net : ℕ) → times_among nets net ≤ 1) pins
+pins_once own [] [] are = All-nil (λ nets. (net : ℕ) → times_among nets net ≤ 1)
 pins_once own [] (nets ∷ pins) are = absurd are
 pins_once own (cell ∷ cells) [] are = absurd are
-pins_once own (cell ∷ cells) (nets ∷ pins) are = All-cons (λ nets. (net : ℕ) → number_of nets net ≤ 1) nets pins are.0.once (pins_once (own + 1) cells pins are.1)
+pins_once own (cell ∷ cells) (nets ∷ pins) are = All-cons (λ nets. (net : ℕ) → times_among nets net ≤ 1) nets pins are.0.once (pins_once (own + 1) cells pins are.1)
 
 itself : (numbers : List ℕ) (place default : ℕ) → place < length numbers → is_among numbers (get_or numbers place default) ≡ true
 itself [] place default within = absurd (omega arith)
