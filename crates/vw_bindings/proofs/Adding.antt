@@ -10,16 +10,11 @@ use Rattle.vw_design.specs.declared.model.Model.{Model}
 use Rattle.vw_design.specs.declared.design.Design.{Design}
 use Rattle.vw_design.specs.Paths.{Word, placings, model_named}
 use Rattle.vw_design.specs.ModelNumbers.{IsNumberOfModel}
+use Rattle.vw_design.proofs.FilteredLists.{AllZip-append}
 use Rattle.vw_models.proofs.Places.{at_within}
 use Rattle.vw_models.proofs.Unknowns.{AreAlong}
 use Rattle.vw_bindings.specs.declared.placement.Placement.{Placement}
 use Rattle.vw_bindings.specs.Placed.{Placed, placed_by, IsPlacement, AreAdded}
-
-pub AllZip-append : {A B : Type 0} (R : A → B → Type 0) (xs more : List A) (ys others : List B) → AllZip R xs ys → AllZip R more others → AllZip R (xs ++ more) (ys ++ others)
-AllZip-append R [] more [] others along rest = rest
-AllZip-append R [] more (y ∷ ys) others along rest = absurd along
-AllZip-append R (x ∷ xs) more [] others along rest = absurd along
-AllZip-append R (x ∷ xs) more (y ∷ ys) others along rest = (along.0, AllZip-append R xs more ys others along.1 rest)
 
 -- those of some placed models were added, and some are left
 pub record IsAdding (design : Design) (start : List Placement) (left todo : List Placed) (now : List Placement) : Type 0 where

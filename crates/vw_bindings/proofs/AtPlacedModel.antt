@@ -12,10 +12,10 @@ use Rattle.vw_design.specs.Distinct.{has_name}
 use Rattle.vw_design.specs.Lists.{first_found}
 use Rattle.vw_design.specs.Paths.{Word, lent}
 use Rattle.vw_design.specs.ModelFaults.{unknown_formal_in, is_formal_of, unbound_input_in}
-use Rattle.vw_design.proofs.FilteredLists.{AllZip-at}
+use Rattle.vw_design.proofs.FilteredLists.{AllZip-at, find_same}
 use Rattle.vw_bindings.specs.declared.placement.Placement.{Placement}
 use Rattle.vw_bindings.specs.Placed.{at_placement}
-use Rattle.vw_bindings.proofs.Searched.{find_same, found_next, found_now}
+use Rattle.vw_bindings.proofs.Searched.{found_next, found_now}
 
 -- no value
 pub none_is : {A : Type 0} (found : Option A) → ((x : A) → found ≡ Some x → ⊥) → found ≡ None

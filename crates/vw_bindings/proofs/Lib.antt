@@ -1,4 +1,3 @@
-pub mod Numbered
 pub mod Adding
 pub mod Searched
 pub mod AtPlacedModel

@@ -24,11 +24,6 @@ the_name line formal = record { line = line; name = formal }
 abbrev pub the_output : Word → Word → NameOf
 the_output model output = record { model = model; name = output }
 
--- tests that agree find the same
-pub find_same : {A : Type 0} (one other : A → Bool) → ((x : A) → one x ≡ other x) → (xs : List A) → find one xs ≡ find other xs
-find_same one other same [] = refl
-find_same one other same (x ∷ xs) = ap₂ (λ (b : Bool) (rest : Option _). cond b (Some x) rest) (same x) (find_same one other same xs)
-
 or_assoc : {A : Type 0} (a b c : Option A) → option_or (option_or a b) c ≡ option_or a (option_or b c)
 or_assoc None b c = refl
 or_assoc (Some x) b c = refl

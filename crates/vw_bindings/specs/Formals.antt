@@ -4,11 +4,11 @@ use Rattle.std.specs.Borrow.{Bor}
 use Rattle.vw_design.specs.declared.model.Model.{Model}
 use Rattle.vw_design.specs.Paths.{Word, is_port, lent}
 use Rattle.vw_design.specs.ModelFaults.{is_formal_of}
-use Rattle.vw_bindings.specs.declared.words.Words.{Words}
+use Rattle.vw_design.specs.declared.word_set.WordSet.{WordSet}
 use Rattle.vw_design.specs.WordSets.{has_word}
 
 -- the inputs, clocks and outputs of a model
-abbrev pub AreFormals : Model → Words → Type 0
+abbrev pub AreFormals : Model → WordSet → Type 0
 AreFormals model formals = (name : Word) → has_word formals.words name ≡ is_formal_of model name
 
 -- the first output of a model that is an input or clock of it, too

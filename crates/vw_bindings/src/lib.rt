@@ -9,7 +9,6 @@ mod output_of;
 mod placement;
 mod unbound;
 mod unknown;
-mod words;
 
 pub use both::both_ways;
 pub use formal_at::FormalAt;

@@ -10,9 +10,8 @@ ghost use Rattle.vw_bindings.specs.PlacedFaults.{name_at};
 use crate::copy::copy;
 use crate::formal_at::FormalAt;
 use crate::placement::{Placement, placed_models};
-use crate::words::Words;
 use std::alloc::{AllocError, Global};
-use vw_design::{Bind, Design, Model};
+use vw_design::{Bind, Design, Model, WordSet};
 use vw_net::Sequence;
 use vw_outside::Name;
 
@@ -62,7 +61,7 @@ fn unbound_of<'a>(
 ) -> Result<Option<&'a Name>, AllocError>
     ensures { IfOk result (λ found. lent found ≡ unbound_input_in model.now binds.now) }
 {
-    let mut bound = Words::none(alloc);
+    let mut bound = WordSet::none(alloc);
     bound.add_formals(binds)?;
     let input = bound.first_out(model.inputs());
     if input.is_some() {

@@ -13,9 +13,8 @@ use crate::copy::copy;
 use crate::formal_at::FormalAt;
 use crate::formals::all_formals;
 use crate::placement::{Placement, placed_models};
-use crate::words::Words;
 use std::alloc::{AllocError, Global};
-use vw_design::{Bind, Design};
+use vw_design::{Bind, Design, WordSet};
 use vw_net::Sequence;
 use vw_outside::Name;
 
@@ -41,7 +40,7 @@ fn first_unknown(
     alloc: Global,
     design: &Design,
     placed: &[Placement],
-    formals: &[Words],
+    formals: &[WordSet],
 ) -> Result<Option<FormalAt>, AllocError>
     requires placed { AllZip (IsPlacement design.now) (placed_models design.now) placed.now }
     requires formals { AllZip AreFormals design.now.models formals.now }
@@ -60,7 +59,7 @@ fn first_unknown(
 }
 
 /// The first formal of some bindings that isn't in a set.
-fn unknown_among<'a>(formals: &Words, binds: &'a [Bind]) -> Option<&'a Name>
+fn unknown_among<'a>(formals: &WordSet, binds: &'a [Bind]) -> Option<&'a Name>
     ensures { lent result ≡ option_map (λ bind. bind.formal)
         (find (λ bind. not (has_word formals.now.words bind.formal)) binds.now) }
 {

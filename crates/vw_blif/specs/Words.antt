@@ -1,6 +1,6 @@
 -- Words of a line.
-use Rattle.vw_design.specs.Paths.{Word}
 use Rattle.std.specs.Prelude.{ℕ, Bool, false, ◌==◌, List, [], ◌∷◌}
+use Rattle.vw_design.specs.Paths.{Word}
 
 -- the first word; no byte where there is none
 abbrev pub first_word : List Word → Word

@@ -1,11 +1,11 @@
 -- What is wrong with the chips of the cells, and with the period. Each cell has to have a chip, and no chip more cells than
 -- it has room for.
-use Rattle.vw_plan.specs.Good.{cells_on}
 use Rattle.std.specs.Prelude.{◌==◌, ℕ, Bool, not, ◌&&◌, length, count_by, Option, nat_le}
 use Rattle.std.specs.List.{range_with_len}
 use Rattle.vw_net.specs.declared.flat.Flat.{Flat}
 use Rattle.vw_plan.specs.declared.board.Board.{Board}
 use Rattle.vw_plan.specs.declared.plan.Plan.{Plan}
+use Rattle.vw_plan.specs.Good.{cells_on}
 use Rattle.vw_check.specs.declared.fault.PlanFault.{PlanFault}
 use Rattle.vw_check.specs.declared.fault.PlanFault.TheVariants.{WrongCells, ZeroPeriod, BadChip, Overfull}
 use Rattle.vw_check.specs.Firsts.{first_at, found_if, found_unless}

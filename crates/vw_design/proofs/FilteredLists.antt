@@ -87,3 +87,15 @@ module _ {A : Type 0} where
       let first : number x ≡ Some n = cc in
       let rest : map number xs ≡ map (λ (m : ℕ). Some m) ns = cc in
       ap₂ (λ (v : V) (vs : List V). v ∷ vs) (agree x n first) (map_numbered number value other agree xs ns rest)
+
+-- tests that agree find the same
+pub find_same : {A : Type 0} (one other : A → Bool) → ((x : A) → one x ≡ other x) → (xs : List A) → find one xs ≡ find other xs
+find_same one other same [] = refl
+find_same one other same (x ∷ xs) = ap₂ (λ (b : Bool) (rest : Option _). cond b (Some x) rest) (same x) (find_same one other same xs)
+
+-- lists that go along with each other, one behind the other
+pub AllZip-append : {A B : Type 0} (R : A → B → Type 0) (xs more : List A) (ys others : List B) → AllZip R xs ys → AllZip R more others → AllZip R (xs ++ more) (ys ++ others)
+AllZip-append R [] more [] others along rest = rest
+AllZip-append R [] more (y ∷ ys) others along rest = absurd along
+AllZip-append R (x ∷ xs) more [] others along rest = absurd along
+AllZip-append R (x ∷ xs) more (y ∷ ys) others along rest = (along.0, AllZip-append R xs more ys others along.1 rest)

@@ -29,10 +29,10 @@ some_or_none : (design : Design) (path : Path) (found : Option Model) → model_
 some_or_none design path None is = inr is
 some_or_none design path (Some model) is = inl (record { model = model; stands = is })
 
--- a model that an item names is known
-known : (design : Design) (line : ℕ) (found : Option Model) → (if is_none found then Some line else None) ≡ None → (model : Model) × (found ≡ Some model)
-known design line None none = absurd (none-some line (sym none))
-known design line (Some model) none = (model, refl)
+-- a model that an item names is known_model
+pub known_model : (design : Design) (line : ℕ) (found : Option Model) → (if is_none found then Some line else None) ≡ None → (model : Model) × (found ≡ Some model)
+known_model design line None none = absurd (none-some line (sym none))
+known_model design line (Some model) none = (model, refl)
 
 module _ (design : Design) (is_shallow : IsShallow design 64) (none : unknown_model design ≡ None) where
   -- what an item of an instance places has a model
@@ -42,7 +42,7 @@ module _ (design : Design) (is_shallow : IsShallow design 64) (none : unknown_mo
       let of_model = entry_of model.items entry has in
       let sub : Has (Sub line name binds) model.items = subst (λ (i : Item). Has i model.items) is (Has-at entry.item model.items entry.number of_model.item) in
       let nothing = nothing_placed design is_shallow (λ l m bs. if is_none (model_named design.models m) then Some l else None) none path model stands line name binds sub in
-      let found = known design line (model_named design.models name) nothing in
+      let found = known_model design line (model_named design.models name) nothing in
       record {
         model = found.0;
         stands = ap (option_and_then (model_placed design (suc entry.before))) stands ∙ ap (option_and_then (λ (p : Placing). model_named design.models p.model)) (of_model.placing line name binds is) ∙ found.1;

@@ -5,6 +5,7 @@ mod design;
 mod item;
 mod laws;
 mod model;
+mod word_set;
 
 pub use design::Design;
 pub use item::{Bind, Edge, Item};
@@ -16,6 +17,7 @@ pub use laws::{
     sites_are_items, sizes_are_small, values_agree, weights_are_counted,
 };
 pub use model::Model;
+pub use word_set::WordSet;
 
 #[cfg(test)]
 mod tests;

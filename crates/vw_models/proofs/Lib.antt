@@ -10,3 +10,4 @@ pub mod ReachMarks
 pub mod FirstUnknown
 pub mod Orders
 pub mod CircleNames
+pub mod NumberedModels

@@ -28,7 +28,7 @@ use Rattle.vw_models.proofs.FirstUnknown.{unknown_is}
 use Rattle.vw_design.proofs.ModelNumbers.{model_of_place, same_number, name_of_named}
 use Rattle.vw_models.proofs.Models.{number_placed, reached_closed_numbers, reached_least_numbers}
 use Rattle.vw_models.proofs.Places.{at_within, all_pass}
-use Rattle.vw_models.proofs.ReachMarks.{both_ways}
+use Rattle.vw_net.proofs.Booleans.{same_truth}
 
 -- what stands at the front of an order stands in it
 front_among : (order : List ℕ) (i number : ℕ) → is_among (take i order) number ≡ true → is_among order number ≡ true
@@ -102,7 +102,7 @@ module _ (design : Design) where
 
     pub model_order : IsModelOrder design order
     model_order = record {
-      each = λ number. both_ways (is_among order number) (is_reached_model design (slice_get design.models number)) (in_order number) (λ reached. reached_least_numbers design targets are (is_among order) closed number reached);
+      each = λ number. same_truth (is_among order number) (is_reached_model design (slice_get design.models number)) (in_order number) (λ reached. reached_least_numbers design targets are (is_among order) closed number reached);
       once = once_apart order is_order.once;
       behind = λ i within. all_before i within (slice_get design.models (get_or order i 0)) refl;
     } where

@@ -1,3 +1,4 @@
+pub mod Booleans
 pub mod Counts
 pub mod Histories
 pub mod Orders

@@ -12,7 +12,7 @@ use Rattle.vw_net.specs.declared.cell.Cell.TheVariants.{Gate, Latch}
 use Rattle.vw_net.specs.Order.{IsOrder, is_gate, is_latch, is_among}
 
 -- a test of two numbers goes both ways
-eqb_comm : (a b : ℕ) → eqb a b ≡ eqb b a
+pub eqb_comm : (a b : ℕ) → eqb a b ≡ eqb b a
 eqb_comm a b = grind (arith, common_steps)
 
 -- a number is among others whichever side of the test it stands on

@@ -9,6 +9,7 @@ use Rattle.vw_net.specs.declared.flat.Flat.{Flat}
 use Rattle.vw_net.specs.Order.{IsOrder, is_gate, is_latch, is_among, is_ready, read_nets_at, gate_inputs}
 use Rattle.vw_net.specs.Cells.{read_nets}
 use Rattle.vw_net.proofs.Orders.{gate_or_latch}
+use Rattle.vw_net.proofs.Booleans.{same_truth}
 use Rattle.vw_order.specs.declared.mark.Mark.{Mark}
 use Rattle.vw_order.specs.Inputs.{gate_of}
 use Rattle.vw_order.specs.Search.{Graph, gates, ReadsAt, IsSearch, IsNumberOrder}
@@ -23,11 +24,6 @@ ended graph marks cursors order far all = record {
   once = subst (λ (s : List ℕ). IsDistinct eqb s) (append-nil order) far.once;
   behind = far.behind;
 }
-
-both_ways : (a b : Bool) → (a ≡ true → b ≡ true) → (b ≡ true → a ≡ true) → a ≡ b
-both_ways true b there back = sym (there refl)
-both_ways false true there back = back refl
-both_ways false false there back = refl
 
 -- all pass, where each one that has a place does
 all_at : (test : ℕ → Bool) (nets : List ℕ) → ((place net : ℕ) → slice_get nets place ≡ Some net → test net ≡ true) → list_all test nets ≡ true
@@ -86,7 +82,7 @@ module _ (flat : Flat) (order : List ℕ) (far : IsNumberOrder (gates flat) orde
 
   pub is_order : IsOrder flat.inputs flat.cells order
   is_order = record {
-    each = λ number. both_ways (is_gate (slice_get flat.cells number)) (is_among order number) (far.all number) (far.counted number);
+    each = λ number. same_truth (is_gate (slice_get flat.cells number)) (is_among order number) (far.all number) (far.counted number);
     once = once_apart order far.once;
     after = λ i within. ready (take i order) (get_or order i 0) (λ place other reads. far.behind i place other within reads) (slice_get flat.cells (get_or order i 0)) refl (far.counted (get_or order i 0) (at_among order i within));
   }

@@ -12,6 +12,7 @@ use Rattle.std.proofs.lemmas.Map.Keys.{IsStrictlyIncreasing-dedup}
 use Rattle.vw_net.specs.declared.cell.Cell.{Cell}
 use Rattle.vw_net.specs.Cells.{IsWellFormed, read_nets}
 use Rattle.vw_net.specs.Order.{is_among}
+use Rattle.vw_net.proofs.Booleans.{same_truth}
 use Rattle.vw_part.specs.Pins.{AreNetsOf, ArePins, times_among}
 use Rattle.vw_part.proofs.Totals.{at_other, at_same}
 
@@ -36,11 +37,6 @@ rising_once (first ∷ numbers) number rise =
 
 -- ---- one cell
 
-both_ways : (one other : Bool) → (one ≡ true → other ≡ true) → (other ≡ true → one ≡ true) → one ≡ other
-both_ways true other to from = sym (to refl)
-both_ways false true to from = from refl
-both_ways false false to from = refl
-
 kept_same : (numbers : List ℕ) (number : ℕ) → is_among (dedup eqb numbers) number ≡ is_among numbers number
 kept_same numbers number =
     let test = λ (other : ℕ). eqb other number in
@@ -52,7 +48,7 @@ kept_same numbers number =
     let any : Any (λ other. test other ≡ true) numbers = Any-from_list_any test numbers listed in
     let there : Contains (dedup eqb numbers) any.1 = Contains-dedup_nat numbers any.1 (any.0, any.2, any.3) in
     list_any-from_Any test (dedup eqb numbers) (there.0, any.1, there.1, there.2, any.4) in
-    both_ways (list_any test (dedup eqb numbers)) (list_any test numbers) to from
+    same_truth (list_any test (dedup eqb numbers)) (list_any test numbers) to from
 
 turned : (one other : Bool) → (one || (other || false)) ≡ (other || one)
 turned true true = refl

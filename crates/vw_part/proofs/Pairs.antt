@@ -10,11 +10,11 @@ use Rattle.vw_net.specs.Cells.{read_nets}
 use Rattle.vw_net.specs.Order.{is_among}
 use Rattle.vw_plan.specs.declared.need.Need.{Need}
 use Rattle.vw_plan.specs.Good.{pair_count}
-use Rattle.vw_net.specs.Lists.{greatest}
+use Rattle.vw_net.specs.Lists.{greatest, one_if}
 use Rattle.vw_plan.specs.Needs.{needed_nodes, needed_pairs}
 use Rattle.vw_plan.specs.Nets.{is_needed, node_of}
 use Rattle.vw_part.specs.Deals.{held, holders}
-use Rattle.vw_part.specs.Pins.{ArePins, times_among, one_if, total}
+use Rattle.vw_part.specs.Pins.{ArePins, times_among, total}
 use Rattle.vw_part.proofs.Totals.{among, at, length-filter, length-flat_map, range_at, range_longer, range_plus, range_same, total_ones, total_plus, total_same}
 
 -- ---- where a net is driven and read

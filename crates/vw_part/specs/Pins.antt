@@ -3,9 +3,7 @@ use Rattle.std.specs.Prelude.{◌≡◌, ◌≤◌, ◌+◌, ◌==◌, ℕ, Bool
 use Rattle.vw_net.specs.declared.cell.Cell.{Cell}
 use Rattle.vw_net.specs.Cells.{read_nets}
 use Rattle.vw_net.specs.Order.{is_among}
-
-abbrev pub one_if : Bool → ℕ
-one_if bit = if bit then 1 else 0
+use Rattle.vw_net.specs.Lists.{one_if}
 
 -- the sum of an amount over some numbers
 abbrev pub total : (ℕ → ℕ) → List ℕ → ℕ

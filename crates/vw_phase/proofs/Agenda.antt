@@ -10,6 +10,7 @@ use Rattle.std.proofs.lemmas.List.{take_all}
 use Rattle.std.proofs.lemmas.List.Elements.{All-append, All-cons, All-nil}
 use Rattle.std.proofs.lemmas.List.Sums.{sum_by-append, sum_by-cons}
 use Rattle.vw_net.specs.declared.ordered.Ordered.{Ordered}
+use Rattle.vw_net.specs.Lists.{one_if}
 use Rattle.vw_plan.specs.declared.need.Route.{Route}
 use Rattle.vw_plan.specs.Needs.{depth}
 use Rattle.vw_phase.specs.declared.task.Task.{Task}
@@ -17,9 +18,6 @@ use Rattle.vw_phase.specs.Steps.Tasks.{AreRising, all_tasks, tasks_from}
 use Rattle.vw_phase.proofs.TaskWords.{some_same}
 use Rattle.vw_phase.proofs.DoneTasks.{is_task-own, is_task-true}
 use Rattle.vw_phase.specs.Steps.Underway.{AreTasks, IsOfKind, is_done, is_task, no_task, task_at}
-
-abbrev one_if : Bool → ℕ
-one_if bit = if bit then 1 else 0
 
 one_if-le : (bit : Bool) → one_if bit ≤ 1
 one_if-le true = omega arith

@@ -6,21 +6,14 @@ use Rattle.std.proofs.lemmas.Bool.{cases_lt, and_from, and_parts, or_left, or_ri
 use Rattle.std.proofs.lemmas.List.{length-map}
 use Rattle.std.proofs.lemmas.List.Sums.{sum_by-cons}
 use Rattle.std.proofs.lemmas.Option.{slice_get_past, slice_get-get_or}
-use Rattle.vw_plan.specs.Walks.{IsWalk}
 use Rattle.std.proofs.lemmas.List.Elements.{All-cons, All-nil, All-head, All-tail, All-weaker}
+use Rattle.std.specs.Option.{ForSome}
 use Rattle.vw_net.specs.declared.cell.Cell.{Cell}
 use Rattle.vw_net.specs.declared.cell.Cell.TheVariants.{Gate, Latch}
 use Rattle.vw_net.specs.declared.cell.Init.{Init}
 use Rattle.vw_net.specs.declared.flat.Flat.{Flat}
 use Rattle.vw_net.specs.declared.ordered.Ordered.{Ordered}
 use Rattle.vw_net.specs.Cells.{IsWellFormed}
-use Rattle.vw_plan.specs.declared.board.Board.{Board}
-use Rattle.vw_plan.specs.declared.need.Route.{Route}
-use Rattle.vw_plan.specs.declared.plan.Plan.{Plan}
-use Rattle.vw_plan.specs.declared.wire.Hop.{Hop}
-use Rattle.vw_plan.specs.declared.wire.Wire.{Wire}
-use Rattle.vw_plan.specs.Earliest.{AreEarliest, phase_start, ready_in_phase, wire_depth}
-use Rattle.std.specs.Option.{ForSome}
 use Rattle.vw_plan.specs.Good.{IsChip, cells_on}
 use Rattle.vw_plan.specs.Lead.{after_last, brings, usable}
 use Rattle.vw_net.specs.Lists.{greatest}
@@ -29,6 +22,13 @@ use Rattle.vw_plan.specs.Nets.{is_needed, node_of}
 use Rattle.vw_plan.specs.Routes.{AreRoutes, FollowsRoute, IsRoute, need_of_route, steps_of}
 use Rattle.vw_plan.specs.Setting.{Setting, home, setting_of}
 use Rattle.vw_plan.specs.Sound.{IsRising, IsRouted, IsSentWhenUsable, IsSound, share_pin}
+use Rattle.vw_plan.specs.Walks.{IsWalk}
+use Rattle.vw_plan.specs.declared.board.Board.{Board}
+use Rattle.vw_plan.specs.declared.need.Route.{Route}
+use Rattle.vw_plan.specs.declared.plan.Plan.{Plan}
+use Rattle.vw_plan.specs.declared.wire.Hop.{Hop}
+use Rattle.vw_plan.specs.declared.wire.Wire.{Wire}
+use Rattle.vw_plan.specs.Earliest.{AreEarliest, phase_start, ready_in_phase, wire_depth}
 use Rattle.vw_phase.specs.declared.draft.Draft.{Draft}
 use Rattle.vw_phase.specs.Schedules.{IsSchedule}
 use Rattle.vw_phase.specs.Steps.Done.{Has, IsAlong, IsTasksDone, IsSentWell, all_hops, latch_moment, latest}

@@ -6,6 +6,7 @@ use Rattle.std.proofs.lemmas.List.{append_assoc, append-nil}
 use Rattle.std.proofs.lemmas.List.Concat.{flat_map-cons}
 use Rattle.std.proofs.lemmas.List.Folds.{list_any-append}
 use Rattle.std.proofs.Math.Bool.{or-false}
+use Rattle.vw_net.specs.Lists.{one_if}
 use Rattle.vw_plan.specs.declared.board.Board.{Board}
 use Rattle.vw_plan.specs.declared.link.Link.{Link}
 use Rattle.vw_plan.specs.declared.wire.Hop.{Hop}
@@ -16,9 +17,6 @@ use Rattle.vw_slots.specs.declared.slot.Taken.{Taken}
 use Rattle.vw_slots.specs.Slots.{is_taken}
 use Rattle.vw_phase.specs.Steps.Along.{AreLinked, AreSent, link_place, hop_link, taken_by}
 use Rattle.vw_phase.specs.Steps.Done.{all_hops, uses}
-
-abbrev pub one_if : Bool → ℕ
-one_if bit = if bit then 1 else 0
 
 -- links of one number are one
 same_ends : (links : List Link) (a b c d : ℕ) → has_link links a b ≡ true → link_place links a b ≡ link_place links c d → (a ≡ c) × (b ≡ d)

@@ -6,6 +6,7 @@ use Rattle.std.proofs.lemmas.List.Concat.{flat_map-cons}
 use Rattle.std.proofs.lemmas.List.Elements.{All-cons, All-nil, All-head}
 use Rattle.std.proofs.lemmas.List.Kept.{AllPairs-cons}
 use Rattle.std.proofs.lemmas.List.Sums.{sum_by-cons}
+use Rattle.vw_net.specs.Lists.{one_if}
 use Rattle.vw_plan.specs.declared.board.Board.{Board}
 use Rattle.vw_plan.specs.declared.link.Link.{Link}
 use Rattle.vw_plan.specs.declared.need.Route.{Route}
@@ -26,9 +27,6 @@ follows board (route ∷ routes) [] along = absurd along
 follows board (route ∷ routes) (sent ∷ hops) along = (record { net = refl; to = refl; steps = along.0.steps }, follows board routes hops along.1)
 
 -- ---- one wire for each need
-
-abbrev one_if : Bool → ℕ
-one_if bit = if bit then 1 else 0
 
 count-cons : {X : Type 0} (test : X → Bool) (x : X) (xs : List X) → count_by test (x ∷ xs) ≡ one_if (test x) + count_by test xs
 count-cons test x xs = sum_by-cons (λ y. one_if (test y)) x xs

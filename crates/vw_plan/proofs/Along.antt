@@ -9,13 +9,8 @@ use Rattle.vw_net.specs.declared.cell.Cell.{Cell}
 use Rattle.vw_net.specs.declared.cell.Cell.TheVariants.{Gate, Latch}
 use Rattle.vw_net.specs.declared.ordered.Ordered.{Ordered}
 use Rattle.vw_net.specs.Order.{is_gate, is_latch, is_among, is_ready, read_nets_at, gate_inputs}
+use Rattle.vw_net.proofs.Levels.{is_gate-latch}
 use Rattle.vw_plan.specs.Nets.{driving_cell}
-
--- a latch is no gate
-is_gate-latch : (cell : Option Cell) → is_latch cell ≡ true → is_gate cell ≡ false
-is_gate-latch None latch = refl
-is_gate-latch (Some (Gate ins cover)) latch = absurd (true≢false (sym latch))
-is_gate-latch (Some (Latch d init)) latch = refl
 
 -- what holds of all that a cell reads holds of all that it reads as a gate
 pub All-gate_reads : (P : ℕ → Type 0) (cell : Option Cell) → All P (read_nets_at cell) → All P (gate_inputs cell)

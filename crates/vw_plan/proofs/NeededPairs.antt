@@ -15,7 +15,7 @@ use Rattle.vw_net.specs.declared.flat.Flat.{Flat}
 use Rattle.vw_net.specs.Cells.{IsWellFormed, read_nets}
 use Rattle.vw_net.specs.Order.{is_among}
 use Rattle.vw_plan.specs.declared.need.Need.{Need}
-use Rattle.vw_net.specs.Lists.{greatest}
+use Rattle.vw_net.specs.Lists.{greatest, one_if}
 use Rattle.vw_plan.specs.Needs.{comes_before, is_pair, needed_nodes, needed_pairs}
 use Rattle.vw_plan.specs.Nets.{is_needed, node_of}
 
@@ -23,9 +23,6 @@ abbrev need_of : ℕ → ℕ → Need
 need_of net node = record { net = net; to = node }
 
 -- ---- how often a pair stands
-
-abbrev one_if : Bool → ℕ
-one_if bit = if bit then 1 else 0
 
 -- one more in front, which passes the test or doesn't
 count_cons : {X : Type 0} (test : X → Bool) (x : X) (xs : List X) → count_by test (x ∷ xs) ≡ one_if (test x) + count_by test xs

@@ -1,12 +1,12 @@
 -- When a net has its value at a node. Source: the rules of a virtual wire (a wire may be sent only after the values that
 -- it depends on have arrived), as this project states them.
-use Rattle.vw_net.specs.Lists.{greatest}
 use Rattle.std.specs.Prelude.{◌==◌, ◌+◌, ℕ, zero, suc, Bool, ◌&&◌, List, [], ◌∷◌, length, map, max, Option, Some, None, if◌then◌else◌}
 use Rattle.std.specs.List.{find}
 use Rattle.std.specs.Option.{option_map_or}
 use Rattle.vw_net.specs.declared.cell.Cell.{Cell}
 use Rattle.vw_net.specs.declared.cell.Cell.TheVariants.{Gate, Latch}
 use Rattle.vw_net.specs.Order.{is_gate}
+use Rattle.vw_net.specs.Lists.{greatest}
 use Rattle.vw_plan.specs.declared.board.Board.{Board}
 use Rattle.vw_plan.specs.declared.wire.Hop.{Hop}
 use Rattle.vw_plan.specs.declared.wire.Wire.{Wire}

@@ -1,9 +1,9 @@
 -- A design in order, a board, and a plan for them.
+use Rattle.std.specs.Prelude.{ℕ}
 use Rattle.vw_net.specs.declared.ordered.Ordered.{Ordered}
+use Rattle.vw_plan.specs.Nets.{node_of}
 use Rattle.vw_plan.specs.declared.board.Board.{Board}
 use Rattle.vw_plan.specs.declared.plan.Plan.{Plan}
-use Rattle.std.specs.Prelude.{ℕ}
-use Rattle.vw_plan.specs.Nets.{node_of}
 
 pub record Setting : Type 0 where
   pub ordered : Ordered

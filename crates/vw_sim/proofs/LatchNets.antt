@@ -16,11 +16,6 @@ length-latch_nets first [] = refl
 length-latch_nets first (Gate ins cover ∷ cells) = length-latch_nets (first + 1) cells
 length-latch_nets first (Latch d init ∷ cells) = ap suc (length-latch_nets (first + 1) cells)
 
-pub length-latch_inputs : (cells : List Cell) → length (latch_inputs cells) ≡ latch_count cells
-length-latch_inputs [] = refl
-length-latch_inputs (Gate ins cover ∷ cells) = length-latch_inputs cells
-length-latch_inputs (Latch d init ∷ cells) = ap suc (length-latch_inputs cells)
-
 pub latch_nets-within : (first nets : ℕ) (cells : List Cell) → first + length cells ≤ nets → All (λ net. net < nets) (latch_nets first cells)
 latch_nets-within first nets [] fit = All-nil (λ net. net < nets)
 latch_nets-within first nets (Gate ins cover ∷ cells) fit = latch_nets-within (first + 1) nets cells (omega arith)

@@ -1,11 +1,11 @@
 -- What a machine keeps of a netlist with an order.
-use Rattle.vw_net.specs.Order.{gate_inputs}
 use Rattle.std.specs.Prelude.{ℕ, ◌+◌, ◌≡◌, Bool, List, [], ◌∷◌, map, flat_map, slice_get, slice_set, Option, Some, None}
 use Rattle.vw_net.specs.declared.cell.Cell.{Cell}
 use Rattle.vw_net.specs.declared.cell.Cell.TheVariants.{Gate, Latch}
 use Rattle.vw_net.specs.declared.ordered.Ordered.{Ordered}
 use Rattle.vw_net.specs.Cells.{latch_inputs}
 use Rattle.vw_net.specs.Word.{table_word}
+use Rattle.vw_net.specs.Order.{gate_inputs}
 use Rattle.vw_sim.specs.declared.machine.GateStep.{GateStep}
 
 -- how a gate is kept: its cell number, the number of its inputs, and the word of its table

@@ -65,10 +65,6 @@ module _ (design : Design) (counts : List ℕ) (each : length counts ≡ length 
             (λ past. absurd (none_along line name binds (drop (i + 1) items) (subst (λ (l : List (Option ℕ)). AreAlong design (Sub line name binds ∷ drop (i + 1) items) l) (drop_all place targets past) there)))
             (cases_lt place (length targets))
 
--- the model at a place, and its targets
-pub model_at_place : (models others : List Model) (i : ℕ) (model : Model) → others ≡ models → i < length others → model ≡ get_or others i model → slice_get models i ≡ Some model
-model_at_place models others i model are within at = ap (λ (l : List Model). slice_get l i) (sym are) ∙ slice_get_read others (length others) i model refl within at
-
 pub along_at : (design : Design) (targets : Targets) (i : ℕ) (model : Model) → AreTargets design targets → slice_get design.models i ≡ Some model
     → (found list : List (Option ℕ)) → found ≡ get_or targets i found → list ≡ found → (items : List Item) → items ≡ model.items → AreAlong design items list
 along_at design targets i model are at found list is_found is_list items are_items =

@@ -5,6 +5,7 @@ use Rattle.std.proofs.lemmas.List.{take_more}
 use Rattle.std.proofs.lemmas.Option.{none-some, same_Some}
 use Rattle.vw_design.specs.declared.item.Item.{Item}
 use Rattle.vw_design.specs.declared.design.Design.{Design}
+use Rattle.vw_design.proofs.FilteredLists.{AllZip-append}
 use Rattle.vw_sizes.specs.declared.measure.Measure.TheVariants.{Instances, Cells}
 use Rattle.vw_sizes.specs.declared.sizes.Before.{Before}
 use Rattle.vw_sizes.specs.declared.tables.Tables.{Tables}
@@ -47,12 +48,6 @@ module _ (design : Design) (tables : Tables) (items : List Item) where
   all entries i end far = (far.long ∙ end, far.each)
 
 -- one more of a list goes along
-AllZip-append : {A B : Type 0} (R : A → B → Type 0) (xs more : List A) (ys others : List B) → AllZip R xs ys → AllZip R more others → AllZip R (xs ++ more) (ys ++ others)
-AllZip-append R [] more [] others along rest = rest
-AllZip-append R [] more (y ∷ ys) others along rest = absurd along
-AllZip-append R (x ∷ xs) more [] others along rest = absurd along
-AllZip-append R (x ∷ xs) more (y ∷ ys) others along rest = (along.0, AllZip-append R xs more ys others along.1 rest)
-
 pub one_along : {A B : Type 0} (R : A → B → Type 0) (xs : List A) (i : ℕ) (x : A) → i < length xs → x ≡ get_or xs i x → (ys : List B) → AllZip R (take i xs) ys → (y : B) → R x y → (new : List B) → new ≡ ys ++ y ∷ []
     → AllZip R (take (i + 1) xs) new
 one_along {A} {B} R xs i x within at ys along y here new is =

@@ -15,7 +15,8 @@ use Rattle.vw_design.proofs.Closed.{reached_at}
 use Rattle.vw_design.proofs.Heights.{design_reaches}
 use Rattle.vw_design.proofs.Weights.{design_weighs, instances_weigh, cells_weigh, capped_weight, heights}
 use Rattle.vw_design.proofs.ModelNumbers.{place_of_model}
-use Rattle.vw_models.proofs.ReachMarks.{both_ways}
+use Rattle.vw_net.proofs.Booleans.{same_truth}
+use Rattle.vw_design.proofs.FilteredLists.{find_same}
 use Rattle.vw_sizes.specs.declared.measure.Measure.TheVariants.{Instances, Bindings, Cells, Levels}
 use Rattle.vw_sizes.specs.declared.totals.Totals.{Totals}
 use Rattle.vw_sizes.specs.Counting.{most, count_in, AreCounts, IsRanked}
@@ -60,13 +61,9 @@ module _ (design : Design) (root : Model) (is : model_at design [] ≡ Some root
 
 -- a count with an end is above a limit below that end where the count is
 above_same : (limit end count : ℕ) → limit < end → nat_lt limit (min end count) ≡ nat_lt limit count
-above_same limit end count low = both_ways (nat_lt limit (min end count)) (nat_lt limit count)
+above_same limit end count low = same_truth (nat_lt limit (min end count)) (nat_lt limit count)
     (λ there. lt-ltb limit count (omega (arith, ltb-true limit (min end count) there)))
     (λ back. lt-ltb limit (min end count) (omega (arith, low, ltb-true limit count back)))
-
-find_same : {A : Type 0} (one other : A → Bool) → ((x : A) → one x ≡ other x) → (xs : List A) → find one xs ≡ find other xs
-find_same one other same [] = refl
-find_same one other same (x ∷ xs) = ap₂ (λ (b : Bool) (rest : Option _). cond b (Some x) rest) (same x) (find_same one other same xs)
 
 module _ (design : Design) (totals : Totals) (are : AreTotals design totals) where
   each_same : (counted : Counted) → nat_lt (limit_of counted) (total_of totals counted) ≡ nat_lt (limit_of counted) (count_of design counted)

@@ -10,7 +10,6 @@ mod quantity;
 mod sizes;
 mod tables;
 mod totals;
-mod words;
 
 pub use count::sizes_of;
 pub use quantity::Quantity;

@@ -4,11 +4,9 @@ use Rattle.std.specs.List.{list_any}
 use Rattle.std.proofs.lemmas.Bool.{and_parts, or_cases, false≢true}
 use Rattle.std.proofs.lemmas.List.Folds.{list_any-append}
 use Rattle.std.proofs.lemmas.Bool.Decides.{nat_tests}
+use Rattle.vw_net.specs.Lists.{one_if}
 use Rattle.vw_slots.specs.declared.slot.Taken.{Taken}
 use Rattle.vw_slots.specs.Slots.{is_taken}
-
-abbrev one_if : Bool → ℕ
-one_if b = cond b 1 0
 
 -- how many of the slots pass a test
 abbrev number : (Taken → Bool) → List Taken → ℕ

@@ -15,15 +15,11 @@ use Rattle.vw_design.specs.Limits.{IsSmall}
 use Rattle.vw_design.proofs.Has.{Has, Has-right}
 use Rattle.vw_design.proofs.FilteredLists.{AllZip-at}
 use Rattle.vw_design.proofs.Reached.{shallow, nothing_placed}
+use Rattle.vw_design.proofs.Placed.{known_model}
 use Rattle.vw_walk.specs.declared.frame.Frame.{Frame}
 use Rattle.vw_walk.specs.Steps.Nexts.{target_at, next_by, next_of}
 use Rattle.vw_walk.specs.Steps.Frames.{Level, IsFrame}
 use Rattle.vw_design.proofs.ListPlaces.{behind}
-
--- a model that is named is known
-known : (design : Design) (line : ℕ) (found : Option Model) → (if is_none found then Some line else None) ≡ None → (model : Model) × (found ≡ Some model)
-known design line None none = absurd (none-some line (sym none))
-known design line (Some model) none = (model, refl)
 
 -- the model that comes next, and its number
 pub record IsPlacedNext (design : Design) (targets : List (List (Option ℕ))) (path : Path) (before : ℕ) (frame : Frame) : Type 0 where
@@ -53,7 +49,7 @@ module _ (design : Design) where
         let has : Has (Sub line name binds) is.model.items =
         subst (λ (list : List Item). Has (Sub line name binds) list) (sym is.items) (Has-right (Sub line name binds) front (Sub line name binds ∷ rest) (inl refl)) in
         let nothing = nothing_placed design (shallow design small.depth) (λ l m bs. if is_none (model_named design.models m) then Some l else None) none_unknown path is.model is.stands line name binds has in
-        let found = known design line (model_named design.models name) nothing in
+        let found = known_model design line (model_named design.models name) nothing in
         let placed_at : slice_get (placings is.model.items) (length (placings front)) ≡ Some placing =
         ap (λ (list : List Item). slice_get (placings list) (length (placings front))) is.items
         ∙ ap (λ (list : List Placing). slice_get list (length (placings front))) (filter_map-append placing_of front (Sub line name binds ∷ rest))

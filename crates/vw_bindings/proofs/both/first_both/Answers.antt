@@ -4,7 +4,7 @@ use Rattle.vw_design.specs.Paths.{Word, is_port}
 use Rattle.vw_bindings.specs.Placed.{at_placement}
 use Rattle.vw_bindings.specs.Formals.{IsBothWays}
 use Rattle.vw_bindings.specs.PlacedFaults.{both_ways_at}
-use Rattle.vw_bindings.proofs.Numbered.{model_at_place, within_models}
+use Rattle.vw_models.proofs.NumberedModels.{model_at_place, within_models}
 use Rattle.vw_bindings.proofs.Searched.{the_output, model_of, both_is}
 use Rattle.vw_bindings.proofs.AtPlacedModel.{none_is, zip_at, nothing_at, something_at, nothing_left, made_none, made_some}
 use Rattle.vw_bindings.proofs.both.first_both.Goals as goal

@@ -9,7 +9,7 @@ use Rattle.vw_models.proofs.Unknowns.{AreAlong}
 use Rattle.vw_bindings.specs.declared.placement.Placement.{Placement}
 use Rattle.vw_bindings.specs.Placed.{Placed, placed_by, placed_models, IsPlacement, AreAdded}
 use Rattle.vw_bindings.proofs.Adding.{IsAdding, more_added, ended}
-use Rattle.vw_bindings.proofs.Numbered.{within_models, marks_each, targets_each, model_at_place, mark_at, along_at}
+use Rattle.vw_models.proofs.NumberedModels.{within_models, marks_each, targets_each, model_at_place, mark_at, along_at}
 use Rattle.vw_bindings.proofs.placement.placed_models.Goals as goal
 use Rattle.vw_bindings.proofs.placement.placed_models.Goals.{then-marks-number+in_ok-add_placed, else-marks-number}
 

@@ -14,32 +14,9 @@ use Rattle.vw_models.specs.Reach.{Targets}
 use Rattle.vw_models.specs.Unknown.{unknown_of}
 use Rattle.vw_models.proofs.Unknowns.{AreAlong}
 use Rattle.vw_models.proofs.FirstUnknown.{passed_over, nothing_here, found_here, unknown_is, nothing_left}
+use Rattle.vw_models.proofs.NumberedModels.{marks_each, targets_each, model_at_place, mark_at, along_at, within_models}
 use Rattle.vw_models.proofs.unknown.unknown_model.Goals as goal
 use Rattle.vw_models.proofs.unknown.unknown_model.Goals.{then-marks-number+else-is_some, else-marks-number}
-
--- there are as many marks and targets as models
-marks_each : (design : Design) (marks : List Bool) → AreModelMarks design marks → length design.models ≡ length marks
-marks_each design marks are = AllZip-length (λ (model : Model) (mark : Bool). mark ≡ is_reached design model.name) design.models marks are
-
-targets_each : (design : Design) (targets : Targets) → AreTargets design targets → length design.models ≡ length targets
-targets_each design targets are = AllZip-length (λ model numbers. AllZip (λ placing number. IsNumberOfModel design placing.model number) (placings model.items) numbers) design.models targets are
-
--- a model at a place, its mark and its targets
-model_at_place : (models others : List Model) (i : ℕ) (model : Model) → others ≡ models → i < length others → model ≡ get_or others i model → slice_get models i ≡ Some model
-model_at_place models others i model are within at = ap (λ (l : List Model). slice_get l i) (sym are) ∙ slice_get_read others (length others) i model refl within at
-
-mark_at : (design : Design) (marks : List Bool) (i : ℕ) (model : Model) → AreModelMarks design marks → slice_get design.models i ≡ Some model → get_or marks i false ≡ is_reached design model.name
-mark_at design marks i model are at =
-    let mark = AllZip-at (λ (model : Model) (mark : Bool). mark ≡ is_reached design model.name) design.models marks i model are at in
-    get_or_from_slice_get marks i mark.0 false mark.1 ∙ mark.2
-
-along_at : (design : Design) (targets : Targets) (i : ℕ) (model : Model) → AreTargets design targets → slice_get design.models i ≡ Some model → AreAlong design model.items (get_or targets i [])
-along_at design targets i model are at =
-    let row = AllZip-at (λ model numbers. AllZip (λ placing number. IsNumberOfModel design placing.model number) (placings model.items) numbers) design.models targets i model are at in
-    subst (λ (l : List (Option ℕ)). AreAlong design model.items l) (sym (get_or_from_slice_get targets i row.0 [] row.1)) row.2
-
-within_models : (models others : List Model) (i : ℕ) → others ≡ models → i < length others → i < length models
-within_models models others i are within = subst (λ (l : List Model). i < length l) are within
 
 pub bounds-marks-number : goal.bounds-marks-number
 bounds-marks-number c =

@@ -4,7 +4,8 @@ use Rattle.vw_design.specs.declared.model.Model.{Model}
 use Rattle.vw_models.proofs.Models.{each_model}
 use Rattle.vw_sizes.specs.declared.sizes.Before.{Before}
 use Rattle.vw_sizes.specs.Counting.{AreEntries}
-use Rattle.vw_sizes.proofs.Alongside.{model_at_place, along_at}
+use Rattle.vw_sizes.proofs.Alongside.{along_at}
+use Rattle.vw_models.proofs.NumberedModels.{model_at_place}
 use Rattle.vw_sizes.proofs.Prefixes.{one_along}
 use Rattle.vw_sizes.proofs.entries.all_entries.Goals as goal
 

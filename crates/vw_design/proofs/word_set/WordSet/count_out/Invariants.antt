@@ -1,7 +1,7 @@
 -- those so far
 use Rattle.std.proofs.Common.{◌≡◌, ◌≤◌, ◌+◌, drop, filter, length, not}
 use Rattle.vw_design.specs.WordSets.{has_word}
-use Rattle.vw_sizes.proofs.words.Words.count_out.Given as goal
+use Rattle.vw_design.proofs.word_set.WordSet.count_out.Given as goal
 
 abbrev pub invariant-loop-name : goal.invariant-loop-name
 invariant-loop-name l = record {

@@ -1,7 +1,7 @@
 use Rattle.std.proofs.Common.{◌∙◌}
 use Rattle.vw_design.specs.WordSets.{has_word}
 use Rattle.vw_design.proofs.WordSets.{formal_added}
-use Rattle.vw_bindings.proofs.words.Words.add_formals.Goals as goal
+use Rattle.vw_design.proofs.word_set.WordSet.add_formals.Goals as goal
 
 pub loop-bind-preserved : goal.loop-bind-preserved
 loop-bind-preserved c = λ other.

@@ -1,29 +1,29 @@
 //! Sets of words.
-ghost use Rattle.std.specs.Prelude.{◌≡◌, ◌||◌, not, false, ℕ, List, OnOk, IfOk, find, map};
+ghost use Rattle.std.specs.Prelude.{◌≡◌, ◌||◌, not, false, OnOk, filter, find, length, map};
 ghost use Rattle.std.specs.Str.{bytes_eq};
 ghost use Rattle.vw_design.specs.Distinct.{has_name};
 ghost use Rattle.vw_design.specs.Paths.{Word, lent};
 ghost use Rattle.vw_design.specs.WordSets.{has_word};
 
+use crate::item::Bind;
 use std::alloc::{AllocError, Global};
 use std::collections::HashMap;
 use std::hash::{BuildHasherDefault, DefaultHasher};
-use vw_design::Bind;
 use vw_outside::Name;
 
 /// A set of words that lie elsewhere. Its hasher has a key: whoever writes a text chooses its words, and without a key
 /// any number of words can be chosen that collide.
 #[derive(Drop)]
-pub struct Words<'a> {
+pub struct WordSet<'a> {
     pub words: HashMap<&'a [u8], (), BuildHasherDefault<DefaultHasher>>,
 }
 
-impl<'a> Words<'a> {
+impl<'a> WordSet<'a> {
     /// No word. It takes no memory.
     pub fn none(alloc: Global) -> Self
         ensures { (word : Word) → has_word result.words word ≡ false }
     {
-        Words {
+        WordSet {
             words: HashMap::with_hasher(alloc, BuildHasherDefault::new()),
         }
     }
@@ -89,5 +89,19 @@ impl<'a> Words<'a> {
             }
         }
         None
+    }
+
+    /// How many of some names aren't in the set.
+    pub fn count_out(&self, names: &[Name]) -> usize
+        ensures { result
+            ≡ length (filter (λ name. not (has_word self.now.words name)) names.now) }
+    {
+        let mut count = 0;
+        for name in names {
+            if !self.has(name.as_slice()) {
+                count += 1;
+            }
+        }
+        count
     }
 }

@@ -2,7 +2,7 @@ use Rattle.std.proofs.Common.{◌∙◌, ap, is_some}
 use Rattle.std.specs.Str.{bytes_eq}
 use Rattle.std.proofs.lemmas.Map.Text.{hash_map_updates_str}
 use Rattle.vw_design.proofs.WordSets.{some_or}
-use Rattle.vw_sizes.proofs.words.Words.add.Goals as goal
+use Rattle.vw_design.proofs.word_set.WordSet.add.Goals as goal
 
 pub returns : goal.returns
 returns c = λ other.

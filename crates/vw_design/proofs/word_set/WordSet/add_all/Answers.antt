@@ -1,7 +1,7 @@
 use Rattle.std.proofs.Common.{◌∙◌}
 use Rattle.vw_design.specs.WordSets.{has_word}
 use Rattle.vw_design.proofs.WordSets.{name_added}
-use Rattle.vw_sizes.proofs.words.Words.add_all.Goals as goal
+use Rattle.vw_design.proofs.word_set.WordSet.add_all.Goals as goal
 
 pub loop-name-preserved : goal.loop-name-preserved
 loop-name-preserved c = λ other.
