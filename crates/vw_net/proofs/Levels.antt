@@ -36,7 +36,6 @@ driven_value-no_gate value other state number (Some (Gate ins cover)) no_gate = 
 driven_value-no_gate value other state number (Some (Latch d init)) no_gate = refl
 
 -- a latch is no gate
--- a latch is no gate
 pub is_gate-latch : (cell : Option Cell) → is_latch cell ≡ true → is_gate cell ≡ false
 is_gate-latch None latch = refl
 is_gate-latch (Some (Gate ins cover)) latch = absurd (true≢false (sym latch))
