@@ -15,6 +15,3 @@ pub use formal_at::FormalAt;
 pub use output_of::OutputOf;
 pub use unbound::unbound_input;
 pub use unknown::unknown_formal;
-
-#[cfg(test)]
-mod tests;

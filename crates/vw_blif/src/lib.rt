@@ -20,6 +20,3 @@ mod take;
 pub use design::read;
 pub use fault::TextFault;
 pub use laws::{designs_spell_once, lines_are_cut, printed_designs_read, the_first_fault_counts};
-
-#[cfg(test)]
-mod tests;

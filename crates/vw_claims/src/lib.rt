@@ -12,6 +12,3 @@ pub use firsts::Firsts;
 pub use gather::claims_of;
 pub use model_claims::ModelClaims;
 pub use outputs::{Outputs, outputs_of};
-
-#[cfg(test)]
-mod tests;

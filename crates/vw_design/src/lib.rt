@@ -18,6 +18,3 @@ pub use laws::{
 };
 pub use model::Model;
 pub use word_set::WordSet;
-
-#[cfg(test)]
-mod tests;

@@ -12,6 +12,3 @@ mod tables;
 pub use drivers::Drivers;
 pub use source::Source;
 pub use tables::Tables;
-
-#[cfg(test)]
-mod tests;

@@ -8,6 +8,3 @@ mod printing;
 
 pub use netlist::flatten;
 pub use printing::path_of;
-
-#[cfg(test)]
-mod tests;

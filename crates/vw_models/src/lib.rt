@@ -17,6 +17,3 @@ pub use marks::marks_of;
 pub use order::{ModelOrder, order_of};
 pub use targets::targets_of;
 pub use unknown::unknown_model;
-
-#[cfg(test)]
-mod tests;

@@ -8,6 +8,3 @@ mod reads;
 
 pub use gather::names_of;
 pub use model_names::{ModelNames, PlacedNames, Way};
-
-#[cfg(test)]
-mod tests;

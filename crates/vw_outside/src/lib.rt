@@ -20,6 +20,3 @@ pub use shelf::Shelf;
 pub use sink::{Failed, Sink, put_all};
 pub use streams::{ErrSink, OutSink, StreamSink};
 pub use text::{TextRefused, read_text};
-
-#[cfg(test)]
-mod tests;

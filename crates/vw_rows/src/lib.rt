@@ -16,6 +16,3 @@ pub use row_reader::RowReader;
 pub use row_runs::RowRuns;
 pub use stimulus::StimFault;
 pub use trace::{trace_end, trace_head, trace_rows};
-
-#[cfg(test)]
-mod tests;

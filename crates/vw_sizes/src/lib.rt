@@ -14,6 +14,3 @@ mod totals;
 pub use count::sizes_of;
 pub use quantity::Quantity;
 pub use sizes::{Before, Measured, Sizes};
-
-#[cfg(test)]
-mod tests;

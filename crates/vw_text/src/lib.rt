@@ -14,6 +14,3 @@ pub use line::Line;
 pub use numbers::{number, number_in};
 pub use physical::first_line;
 pub use reader::{LineReader, lines};
-
-#[cfg(test)]
-mod tests;

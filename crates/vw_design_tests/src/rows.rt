@@ -1,8 +1,8 @@
-use super::*;
 use std::alloc::{AllocError, Global};
 use std::test::Fail;
 use vw_net::Bits;
 use vw_outside::{Held, MemShelf, Name};
+use vw_rows::{RowReader, RowRuns, StimFault, read_all, trace_end, trace_head, trace_rows};
 
 /// What reading a stimulus gives.
 fn read(alloc: Global, text: Vec<u8>, width: u32) -> Result<RowRuns, StimFault> {

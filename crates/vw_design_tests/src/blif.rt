@@ -1,6 +1,6 @@
-use super::*;
 use std::alloc::{AllocError, Global};
 use std::test::Fail;
+use vw_blif::{TextFault, read};
 use vw_design::{Bind, Design, Edge, Item, Model};
 use vw_net::{Cover, Init, Mark};
 use vw_outside::Name;

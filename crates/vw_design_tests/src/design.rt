@@ -1,6 +1,6 @@
-use super::*;
 use std::alloc::{AllocError, Global};
 use std::test::Fail;
+use vw_design::{Bind, Design, Edge, Item, Model};
 use vw_net::{Init, Sequence};
 use vw_outside::Name;
 

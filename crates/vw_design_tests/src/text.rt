@@ -1,7 +1,7 @@
-use super::*;
 use std::alloc::{AllocError, Global};
 use std::test::Fail;
 use vw_outside::Name;
+use vw_text::{lines, number};
 
 /// The word lines of a text, written plainly: each as its number and its words, with `|` behind each.
 fn shown(alloc: Global, text: &[u8]) -> Result<Vec<u8>, AllocError> {

@@ -1,6 +1,9 @@
-use super::*;
 use std::test::Fail;
 use std::{fs, process};
+use vw_outside::{
+    ErrSink, Failed, FileShelf, Held, MemShelf, MemSink, Name, OutSink, Shelf, Sink, TextRefused,
+    put_all, read_text,
+};
 
 /// A path of this process under `/tmp`.
 fn path(rt: &HostRuntime, name: &str) -> Result<String, Fail> {
