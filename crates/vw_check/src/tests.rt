@@ -1,88 +1,28 @@
-ghost use Rattle.std.specs.Prelude.{◌≡◌, nat_lt, IfOk, IfSome};
-ghost use Rattle.std.specs.List.{list_all};
-ghost use Rattle.vw_net.specs.Cells.{IsWellFormed};
-
 use super::*;
-use std::alloc::{AllocError, Global};
+use std::alloc::Global;
 use std::test::Fail;
-use vw_net::{Cell, Cover, Flat, Init, Ordered, Sequence};
+use vw_net::{Cell, Flat, Init, Ordered, Sequence};
 use vw_order::order;
 
-/// A cell of a test.
-#[derive(Clone, Copy)]
-enum Part<'a> {
-    /// A gate that reads these nets. Its value is always zero.
-    Gate(&'a [u32]),
-    /// A latch that reads this net.
-    Latch(u32),
+/// A gate that reads these nets. Its value is always zero.
+fn gate(alloc: Global, ins: &[u32]) -> Result<Cell, Fail> {
+    let ins = Sequence::of(ins.to_vec(alloc)?);
+    Ok(Cell::gate(ins, true, Sequence::of(Vec::new(alloc))).ok_or("no gate")?)
 }
 
-/// Whether there are so many nets that each of these is one.
-fn are_below(ins: &[u32], nets: u32) -> bool
-    ensures { result ≡ list_all (λ net. nat_lt net nets) ins.now }
-{
-    for net in ins {
-        if *net >= nets {
-            return false;
-        }
-    }
-    true
-}
-
-/// The cell of a part, in a netlist of so many nets.
-fn cell(alloc: Global, nets: u32, part: Part) -> Result<Option<Cell>, AllocError>
-    ensures { IfOk result (λ cell. IfSome cell (IsWellFormed nets)) }
-{
-    match part {
-        Part::Gate(ins) => {
-            if ins.len() > 128 || !are_below(ins, nets) {
-                return Ok(None);
-            }
-            let rows = Sequence::of(Vec::new(alloc));
-            Ok(Some(Cell::Gate {
-                ins: Sequence::of(ins.to_vec(alloc)?),
-                cover: Cover::make(ins.len() as u32, true, rows),
-            }))
-        }
-        Part::Latch(d) => {
-            if d >= nets {
-                return Ok(None);
-            }
-            Ok(Some(Cell::Latch {
-                d,
-                init: Init::Zero,
-            }))
-        }
+/// A latch that reads this net.
+fn latch(d: u32) -> Cell {
+    Cell::Latch {
+        d,
+        init: Init::Zero,
     }
 }
 
-/// The netlist of these cells, behind one input and with this output.
-fn netlist(alloc: Global, parts: &[Part], output: u32) -> Result<Option<Flat>, AllocError> {
-    if parts.len() > 65536 {
-        return Ok(None);
-    }
-    let nets = 1 + parts.len() as u32;
-    if output >= nets {
-        return Ok(None);
-    }
-    let mut cells = Vec::new(alloc);
-    for part in parts {
-        let Some(cell) = cell(alloc, nets, *part)? else {
-            return Ok(None);
-        };
-        cells.push(cell)?;
-    }
-    let outputs = Sequence::of(vec![in alloc; output]?);
-    Ok(Some(Flat::make(1, Sequence::of(cells), outputs)))
-}
-
-/// The netlist in order.
-fn ordered(alloc: Global, parts: &[Part], output: u32) -> Result<Ordered, Fail> {
-    let flat = netlist(alloc, parts, output)?.ok_or("no netlist")?;
-    match order(alloc, flat) {
-        Ok(ordered) => Ok(ordered),
-        Err(_) => Err("no order".into()),
-    }
+/// The netlist of these cells in order, behind so many inputs and with these outputs.
+fn ordered(alloc: Global, inputs: u32, cells: Vec<Cell>, outputs: &[u32]) -> Result<Ordered, Fail> {
+    let outputs = Sequence::of(outputs.to_vec(alloc)?);
+    let flat = Flat::checked(inputs, Sequence::of(cells), outputs).ok_or("no netlist")?;
+    Ok(order(alloc, flat).ok().ok_or("no order")?)
 }
 
 /// The message of the fault of a plan; nothing where it is sound.
@@ -109,7 +49,8 @@ const ROOMY: &[u8] =
 
 /// The message for a gate that reads the input and a latch, which reads the gate and is the output.
 fn of_toggle(alloc: Global, board: &[u8], plan: &[u8]) -> Result<Vec<u8>, Fail> {
-    let toggle = ordered(alloc, &[Part::Gate(&[0, 2]), Part::Latch(1)], 2)?;
+    let cells = vec![in alloc; gate(alloc, &[0, 2])?, latch(1)]?;
+    let toggle = ordered(alloc, 1, cells, &[2])?;
     message(alloc, toggle, board, plan)
 }
 
@@ -216,16 +157,16 @@ fn gates_take_their_time_to_settle(rt: HostRuntime) -> Result<(), Fail> {
 #[test]
 fn a_plan_of_65536_cells_is_checked(rt: HostRuntime) -> Result<(), Fail> {
     let alloc = rt.alloc();
-    let mut parts = Vec::new(alloc);
+    let mut cells = Vec::new(alloc);
     let mut plan = b"plan 1 65536 2 1\nchips".to_vec(alloc)?;
     for number in 0..65536u32 {
-        parts.push(Part::Latch(0))?;
+        cells.push(latch(0))?;
         plan.extend_from_slice(if number % 2 == 0 { b" 1" } else { b" 2" })?;
     }
     plan.extend_from_slice(b"\nwire 0 1 1\nhop 0 1 0 0\nwire 0 2 1\nhop 0 2 0 0\nend\n")?;
     let board =
         b"board 1\nchips 2\ncells 32768\nsettle 0\npins 2\nlink 0 1 1\nlink 0 2 1\nlink 1 0 1\nlink 2 0 1\n";
-    let wide = ordered(alloc, parts.as_slice(), 0)?;
+    let wide = ordered(alloc, 1, cells, &[0])?;
     let found = message(alloc, wide, board, &plan)?;
     assert_eq!(rt; found.as_slice(), b"".as_slice());
     Ok(())

@@ -3,6 +3,7 @@ pub mod Mark
 pub mod Cover
 pub mod Word
 pub mod Cells
+pub mod Parts
 pub mod Order
 pub mod Value
 pub mod History

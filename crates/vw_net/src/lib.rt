@@ -2,6 +2,7 @@
 #![tactic(auto)]
 
 mod cell;
+mod checked;
 mod cover;
 mod flat;
 mod laws;

@@ -93,3 +93,29 @@ fn tables_have_their_values(rt: HostRuntime) -> Result<(), Fail> {
     }
     Ok(())
 }
+
+/// Each of the netlists has a latch that reads net 0, and a gate that reads one net.
+#[test]
+fn netlists_are_made_of_parts_that_fit(rt: HostRuntime) -> Result<(), Fail> {
+    let alloc = rt.alloc();
+    for (inputs, net, output, fits) in [
+        (1, 2, 2, true),
+        (4096, 4097, 4097, true),
+        (4097, 0, 0, false),
+        (0, 2, 0, false),
+        (1, 3, 0, false),
+        (1, 0, 3, false),
+    ] {
+        let latch = Cell::Latch {
+            d: 0,
+            init: Init::One,
+        };
+        let ins = Sequence::of(vec![in alloc; net]?);
+        let gate = Cell::gate(ins, true, Sequence::of(Vec::new(alloc))).ok_or("no gate")?;
+        let cells = Sequence::of(vec![in alloc; latch, gate]?);
+        let outputs = Sequence::of(vec![in alloc; output]?);
+        let found = Flat::checked(inputs, cells, outputs);
+        assert_eq!(rt; found.is_some(), fits, "{inputs} {net} {output}");
+    }
+    Ok(())
+}

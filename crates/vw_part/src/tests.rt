@@ -1,38 +1,14 @@
-ghost use Rattle.std.specs.Prelude.{◌≡◌, nat_le, nat_lt, IfOk, IfSome};
+ghost use Rattle.std.specs.Prelude.{◌≡◌, nat_le};
 ghost use Rattle.std.specs.List.{list_all};
-ghost use Rattle.vw_net.specs.Cells.{IsWellFormed};
 
 use super::*;
-use std::alloc::{AllocError, Global};
+use std::alloc::Global;
 use std::test::Fail;
 use vw_board::read;
-use vw_net::{Cell, Cover, Flat, Init, Ordered, Sequence};
+use vw_net::{Cell, Flat, Init, Ordered, Sequence};
 use vw_order::order;
 use vw_plan::Board;
 use vw_wires::needed;
-
-/// A cell of a test.
-#[derive(Clone, Copy)]
-enum Part<'a> {
-    /// A gate that reads these nets. Its value is always zero.
-    Gate(&'a [u32]),
-    /// A gate that reads these two nets. Its value is always zero.
-    Two(u32, u32),
-    /// A latch that reads this net.
-    Latch(u32),
-}
-
-/// Whether there are so many nets that each of these is one.
-fn are_below(ins: &[u32], nets: u32) -> bool
-    ensures { result ≡ list_all (λ net. nat_lt net nets) ins.now }
-{
-    for net in ins {
-        if *net >= nets {
-            return false;
-        }
-    }
-    true
-}
 
 /// Whether each of these may be the number of a chip.
 fn are_chips(chips: &[u32]) -> bool
@@ -46,76 +22,25 @@ fn are_chips(chips: &[u32]) -> bool
     true
 }
 
-/// The cell of a part, in a netlist of so many nets.
-fn cell(alloc: Global, nets: u32, part: Part) -> Result<Option<Cell>, AllocError>
-    ensures { IfOk result (λ cell. IfSome cell (IsWellFormed nets)) }
-{
-    match part {
-        Part::Gate(ins) => {
-            if ins.len() > 128 || !are_below(ins, nets) {
-                return Ok(None);
-            }
-            let rows = Sequence::of(Vec::new(alloc));
-            Ok(Some(Cell::Gate {
-                ins: Sequence::of(ins.to_vec(alloc)?),
-                cover: Cover::make(ins.len() as u32, true, rows),
-            }))
-        }
-        Part::Two(one, other) => {
-            if one >= nets || other >= nets {
-                return Ok(None);
-            }
-            let ins = [one, other];
-            let rows = Sequence::of(Vec::new(alloc));
-            Ok(Some(Cell::Gate {
-                ins: Sequence::of(ins.as_slice().to_vec(alloc)?),
-                cover: Cover::make(2, true, rows),
-            }))
-        }
-        Part::Latch(d) => {
-            if d >= nets {
-                return Ok(None);
-            }
-            Ok(Some(Cell::Latch {
-                d,
-                init: Init::Zero,
-            }))
-        }
+/// A gate that reads these nets. Its value is always zero.
+fn gate(alloc: Global, ins: &[u32]) -> Result<Cell, Fail> {
+    let ins = Sequence::of(ins.to_vec(alloc)?);
+    Ok(Cell::gate(ins, true, Sequence::of(Vec::new(alloc))).ok_or("no gate")?)
+}
+
+/// A latch that reads this net.
+fn latch(d: u32) -> Cell {
+    Cell::Latch {
+        d,
+        init: Init::Zero,
     }
 }
 
-/// The netlist of these cells, behind so many inputs and with these outputs.
-fn netlist(
-    alloc: Global,
-    inputs: u32,
-    parts: &[Part],
-    outputs: &[u32],
-) -> Result<Option<Flat>, AllocError> {
-    if inputs > 4096 || parts.len() > 65536 || outputs.len() > 4096 {
-        return Ok(None);
-    }
-    let nets = inputs + parts.len() as u32;
-    if !are_below(outputs, nets) {
-        return Ok(None);
-    }
-    let mut cells = Vec::new(alloc);
-    for part in parts {
-        let Some(cell) = cell(alloc, nets, *part)? else {
-            return Ok(None);
-        };
-        cells.push(cell)?;
-    }
+/// The netlist of these cells in order, behind so many inputs and with these outputs.
+fn ordered(alloc: Global, inputs: u32, cells: Vec<Cell>, outputs: &[u32]) -> Result<Ordered, Fail> {
     let outputs = Sequence::of(outputs.to_vec(alloc)?);
-    Ok(Some(Flat::make(inputs, Sequence::of(cells), outputs)))
-}
-
-/// The netlist in order.
-fn ordered(alloc: Global, inputs: u32, parts: &[Part], outputs: &[u32]) -> Result<Ordered, Fail> {
-    let flat = netlist(alloc, inputs, parts, outputs)?.ok_or("no netlist")?;
-    match order(alloc, flat) {
-        Ok(ordered) => Ok(ordered),
-        Err(_) => Err("no order".into()),
-    }
+    let flat = Flat::checked(inputs, Sequence::of(cells), outputs).ok_or("no netlist")?;
+    Ok(order(alloc, flat).ok().ok_or("no order")?)
 }
 
 const TRIANGLE: &[u8] =
@@ -158,12 +83,16 @@ fn on_chip(chips: &[u32], chip: u32) -> usize {
     chips.iter().filter(|other| **other == chip).count()
 }
 
-const TOGGLE: [Part; 2] = [Part::Gate(&[0, 2]), Part::Latch(1)];
+/// A gate that reads the input and a latch, which reads the gate and is the output.
+fn toggle(alloc: Global) -> Result<Ordered, Fail> {
+    let cells = vec![in alloc; gate(alloc, &[0, 2])?, latch(1)]?;
+    ordered(alloc, 1, cells, &[2])
+}
 
 #[test]
 fn two_cells_of_which_each_fills_a_chip_are_apart(rt: HostRuntime) -> Result<(), Fail> {
     let alloc = rt.alloc();
-    let toggle = ordered(alloc, 1, &TOGGLE, &[2])?;
+    let toggle = toggle(alloc)?;
     let chips = chips_of(alloc, &toggle, TRIANGLE)?;
     assert!(rt; chips.as_slice() == [1, 2].as_slice() || chips.as_slice() == [2, 1].as_slice());
     assert_eq!(rt; pairs(alloc, &toggle, chips.as_slice())?, 4);
@@ -173,7 +102,7 @@ fn two_cells_of_which_each_fills_a_chip_are_apart(rt: HostRuntime) -> Result<(),
 #[test]
 fn two_cells_that_read_each_other_are_together(rt: HostRuntime) -> Result<(), Fail> {
     let alloc = rt.alloc();
-    let toggle = ordered(alloc, 1, &TOGGLE, &[2])?;
+    let toggle = toggle(alloc)?;
     let chips = chips_of(alloc, &toggle, TWO_EACH)?;
     assert!(rt; chips.as_slice() == [1, 1].as_slice() || chips.as_slice() == [2, 2].as_slice());
     assert_eq!(rt; pairs(alloc, &toggle, chips.as_slice())?, 2);
@@ -183,8 +112,8 @@ fn two_cells_that_read_each_other_are_together(rt: HostRuntime) -> Result<(), Fa
 #[test]
 fn five_cells_are_too_many_for_two_chips_of_two(rt: HostRuntime) -> Result<(), Fail> {
     let alloc = rt.alloc();
-    let parts = [Part::Latch(0); 5];
-    let five = ordered(alloc, 1, &parts, &[])?;
+    let cells = vec![in alloc; latch(0), latch(0), latch(0), latch(0), latch(0)]?;
+    let five = ordered(alloc, 1, cells, &[])?;
     let board = board(alloc, TWO_EACH)?;
     match partition(alloc, &five, &board) {
         Err(fault) => {
@@ -198,8 +127,8 @@ fn five_cells_are_too_many_for_two_chips_of_two(rt: HostRuntime) -> Result<(), F
 #[test]
 fn as_many_cells_as_there_is_room_for_are_dealt(rt: HostRuntime) -> Result<(), Fail> {
     let alloc = rt.alloc();
-    let parts = [Part::Latch(0); 4];
-    let four = ordered(alloc, 1, &parts, &[])?;
+    let cells = vec![in alloc; latch(0), latch(0), latch(0), latch(0)]?;
+    let four = ordered(alloc, 1, cells, &[])?;
     let chips = chips_of(alloc, &four, TWO_EACH)?;
     assert_eq!(rt; on_chip(chips.as_slice(), 1), 2);
     assert_eq!(rt; on_chip(chips.as_slice(), 2), 2);
@@ -208,12 +137,12 @@ fn as_many_cells_as_there_is_room_for_are_dealt(rt: HostRuntime) -> Result<(), F
 
 /// 300 gates, each of which reads two nets before its own, behind 10 inputs.
 fn tangle(alloc: Global) -> Result<Ordered, Fail> {
-    let mut parts = Vec::new(alloc);
+    let mut cells = Vec::new(alloc);
     for number in 0..300u32 {
         let nets = 10 + number;
-        parts.push(Part::Two(number * 7919 % nets, number * 31 / 32 + 3))?;
+        cells.push(gate(alloc, &[number * 7919 % nets, number * 31 / 32 + 3])?)?;
     }
-    ordered(alloc, 10, parts.as_slice(), &[309, 100, 200])
+    ordered(alloc, 10, cells, &[309, 100, 200])
 }
 
 #[test]
@@ -246,16 +175,16 @@ const TWO_HUNDRED: &[u8] =
 #[test]
 fn two_chains_whose_cells_alternate_are_apart(rt: HostRuntime) -> Result<(), Fail> {
     let alloc = rt.alloc();
-    let mut parts = Vec::new(alloc);
+    let mut cells = Vec::new(alloc);
     for number in 0..200u32 {
         let before = number.saturating_sub(1);
         let earlier = number.saturating_sub(3);
         // nets of cells with the same parity; the first two cells read the input alone
         let first = if number < 2 { 0 } else { before };
         let second = if number < 4 { first } else { earlier };
-        parts.push(Part::Two(first, second))?;
+        cells.push(gate(alloc, &[first, second])?)?;
     }
-    let chains = ordered(alloc, 1, parts.as_slice(), &[])?;
+    let chains = ordered(alloc, 1, cells, &[])?;
     let chips = chips_of(alloc, &chains, TWO_HUNDRED)?;
     // the input at both chips
     assert_eq!(rt; pairs(alloc, &chains, chips.as_slice())?, 2);
@@ -266,11 +195,11 @@ fn two_chains_whose_cells_alternate_are_apart(rt: HostRuntime) -> Result<(), Fai
 fn rings_whose_cells_are_mixed_stay_whole(rt: HostRuntime) -> Result<(), Fail> {
     let alloc = rt.alloc();
     // forty rings of eight latches, whose cells take turns; ten rings just fill a chip
-    let mut parts = Vec::new(alloc);
+    let mut cells = Vec::new(alloc);
     for number in 0..320u32 {
-        parts.push(Part::Latch((number + 40) % 320))?;
+        cells.push(latch((number + 40) % 320))?;
     }
-    let rings = ordered(alloc, 0, parts.as_slice(), &[])?;
+    let rings = ordered(alloc, 0, cells, &[])?;
     let chips = chips_of(alloc, &rings, RING)?;
     assert_eq!(rt; pairs(alloc, &rings, chips.as_slice())?, 0);
     Ok(())
@@ -279,11 +208,11 @@ fn rings_whose_cells_are_mixed_stay_whole(rt: HostRuntime) -> Result<(), Fail> {
 #[test]
 fn the_most_cells_and_chips_are_dealt(rt: HostRuntime) -> Result<(), Fail> {
     let alloc = rt.alloc();
-    let mut parts = Vec::new(alloc);
+    let mut cells = Vec::new(alloc);
     for number in 0..65536u32 {
-        parts.push(Part::Two(number, number / 2))?;
+        cells.push(gate(alloc, &[number, number / 2])?)?;
     }
-    let chain = ordered(alloc, 1, parts.as_slice(), &[65536])?;
+    let chain = ordered(alloc, 1, cells, &[65536])?;
     let mut text = b"board 1\nchips 32\ncells 2048\nsettle 0\npins 2\nlink 32 0 1\n".to_vec(alloc)?;
     for chip in 0..32u32 {
         let next = chip + 1;

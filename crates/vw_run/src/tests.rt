@@ -1,38 +1,16 @@
-ghost use Rattle.std.specs.Prelude.{◌≡◌, nat_lt, IfOk, IfSome};
 ghost use Rattle.std.specs.Bool.{OnTrue};
-ghost use Rattle.std.specs.List.{All, list_all};
-ghost use Rattle.vw_net.specs.Cells.{IsWellFormed};
+ghost use Rattle.std.specs.List.{All};
 ghost use Rattle.vw_plan.specs.Good.{IsChip};
 
 use crate::routes::routes_of;
 use std::alloc::{AllocError, Global};
+use std::process::Abort;
 use std::test::Fail;
 use vw_board::{Distances, read};
-use vw_net::{Cell, Cover, Flat, Init, Ordered, Sequence};
+use vw_net::{Cell, Flat, Init, Ordered, Sequence};
 use vw_order::order;
 use vw_phase::schedule;
 use vw_plan::{Board, Plan};
-
-/// A cell of a test.
-#[derive(Clone, Copy)]
-enum Part<'a> {
-    /// A gate that reads these nets. Its value is always zero.
-    Gate(&'a [u32]),
-    /// A latch that reads this net.
-    Latch(u32),
-}
-
-/// Whether there are so many nets that each of these is one.
-fn are_below(ins: &[u32], nets: u32) -> bool
-    ensures { result ≡ list_all (λ net. nat_lt net nets) ins.now }
-{
-    for net in ins {
-        if *net >= nets {
-            return false;
-        }
-    }
-    true
-}
 
 /// Whether each of these is the number of a chip.
 fn are_chips(board: &Board, chips: &[u32]) -> bool
@@ -46,65 +24,25 @@ fn are_chips(board: &Board, chips: &[u32]) -> bool
     true
 }
 
-/// The cell of a part, in a netlist of so many nets.
-fn cell(alloc: Global, nets: u32, part: Part) -> Result<Option<Cell>, AllocError>
-    ensures { IfOk result (λ cell. IfSome cell (IsWellFormed nets)) }
-{
-    match part {
-        Part::Gate(ins) => {
-            if ins.len() > 128 || !are_below(ins, nets) {
-                return Ok(None);
-            }
-            let rows = Sequence::of(Vec::new(alloc));
-            Ok(Some(Cell::Gate {
-                ins: Sequence::of(ins.to_vec(alloc)?),
-                cover: Cover::make(ins.len() as u32, true, rows),
-            }))
-        }
-        Part::Latch(d) => {
-            if d >= nets {
-                return Ok(None);
-            }
-            Ok(Some(Cell::Latch {
-                d,
-                init: Init::Zero,
-            }))
-        }
+/// A gate that reads these nets. Its value is always zero.
+fn gate(alloc: Global, ins: &[u32]) -> Result<Cell, Fail> {
+    let ins = Sequence::of(ins.to_vec(alloc)?);
+    Ok(Cell::gate(ins, true, Sequence::of(Vec::new(alloc))).ok_or("no gate")?)
+}
+
+/// A latch that reads this net.
+fn latch(d: u32) -> Cell {
+    Cell::Latch {
+        d,
+        init: Init::Zero,
     }
 }
 
-/// The netlist of these cells, behind so many inputs and with these outputs.
-fn netlist(
-    alloc: Global,
-    inputs: u32,
-    parts: &[Part],
-    outputs: &[u32],
-) -> Result<Option<Flat>, AllocError> {
-    if inputs > 4096 || parts.len() > 65536 || outputs.len() > 4096 {
-        return Ok(None);
-    }
-    let nets = inputs + parts.len() as u32;
-    if !are_below(outputs, nets) {
-        return Ok(None);
-    }
-    let mut cells = Vec::new(alloc);
-    for part in parts {
-        let Some(cell) = cell(alloc, nets, *part)? else {
-            return Ok(None);
-        };
-        cells.push(cell)?;
-    }
+/// The netlist of these cells in order, behind so many inputs and with these outputs.
+fn ordered(alloc: Global, inputs: u32, cells: Vec<Cell>, outputs: &[u32]) -> Result<Ordered, Fail> {
     let outputs = Sequence::of(outputs.to_vec(alloc)?);
-    Ok(Some(Flat::make(inputs, Sequence::of(cells), outputs)))
-}
-
-/// The netlist in order.
-fn ordered(alloc: Global, inputs: u32, parts: &[Part], outputs: &[u32]) -> Result<Ordered, Fail> {
-    let flat = netlist(alloc, inputs, parts, outputs)?.ok_or("no netlist")?;
-    match order(alloc, flat) {
-        Ok(ordered) => Ok(ordered),
-        Err(_) => Err("no order".into()),
-    }
+    let flat = Flat::checked(inputs, Sequence::of(cells), outputs).ok_or("no netlist")?;
+    Ok(order(alloc, flat).ok().ok_or("no order")?)
 }
 
 /// The board of a text.
@@ -151,23 +89,23 @@ fn numbers_of(alloc: Global, plan: &Plan) -> Result<Vec<u64>, AllocError> {
     Ok(numbers)
 }
 
-/// A design behind so many inputs, with these outputs, on a board with its cells on these chips; and its schedule, worked
-/// out by hand.
+/// A netlist, a board with its cells on these chips, and its schedule, worked out by hand.
 #[derive(Clone, Copy)]
-struct Design<'a> {
-    inputs: u32,
-    parts: &'a [Part<'a>],
-    outputs: &'a [u32],
+struct Case<'a> {
+    netlist: &'a Ordered,
     board: &'a [u8],
     chips: &'a [u32],
     numbers: &'a [u64],
 }
 
-/// What is answered of a design.
-fn answer(alloc: Global, design: &Design) -> Result<Vec<u64>, Fail> {
-    let ordered = ordered(alloc, design.inputs, design.parts, design.outputs)?;
-    let plan = scheduled(alloc, &ordered, design.board, design.chips)?;
-    Ok(numbers_of(alloc, &plan)?)
+/// Asserts that each case has its schedule.
+fn are_scheduled(rt: &impl Abort, alloc: Global, cases: &[Case]) -> Result<(), Fail> {
+    for case in cases {
+        let plan = scheduled(alloc, case.netlist, case.board, case.chips)?;
+        let found = numbers_of(alloc, &plan)?;
+        assert_eq!(rt; found.as_slice(), case.numbers);
+    }
+    Ok(())
 }
 
 /// Two chips and the host, each joined to each other by one pin.
@@ -194,7 +132,13 @@ const ROW: &[u8] =
 fn a_toggle_takes_two_phases(rt: HostRuntime) -> Result<(), Fail> {
     // the gate reads the input and the latch, and the latch reads the gate and is the output; what the gate says is
     // known when both have arrived
-    let parts = [Part::Gate(&[0, 2]), Part::Latch(1)];
+    let alloc = rt.alloc();
+    let toggle = ordered(
+        alloc,
+        1,
+        vec![in alloc; gate(alloc, &[0, 2])?, latch(1)]?,
+        &[2],
+    )?;
     let table: [(&[u8], &[u32], &[u64]); 5] = [
         (
             TRIANGLE,
@@ -231,55 +175,48 @@ fn a_toggle_takes_two_phases(rt: HostRuntime) -> Result<(), Fail> {
         ),
     ];
     for (board, chips, numbers) in table {
-        let design = Design {
-            inputs: 1,
-            parts: &parts,
-            outputs: &[2],
+        let case = Case {
+            netlist: &toggle,
             board,
             chips,
             numbers,
         };
-        let found = answer(rt.alloc(), &design)?;
-        assert_eq!(rt; found.as_slice(), design.numbers);
+        are_scheduled(&rt, alloc, &[case])?;
     }
     Ok(())
 }
 
 #[test]
 fn wires_of_one_depth_take_turns(rt: HostRuntime) -> Result<(), Fail> {
+    let alloc = rt.alloc();
+    let gate = ordered(alloc, 2, vec![in alloc; gate(alloc, &[0, 1])?]?, &[])?;
+    let two = ordered(alloc, 2, vec![in alloc; latch(0), latch(1)]?, &[])?;
+    let three = ordered(alloc, 1, vec![in alloc; latch(0), latch(1), latch(2)]?, &[])?;
     let table = [
         // two inputs over one pin
-        Design {
-            inputs: 2,
-            parts: &[Part::Gate(&[0, 1])],
-            outputs: &[],
+        Case {
+            netlist: &gate,
             board: TRIANGLE,
             chips: &[1],
             numbers: &[0, 1, 0, 1, 0, 0, 1, 1, 0, 1, 0, 1, 2],
         },
         // and over two
-        Design {
-            inputs: 2,
-            parts: &[Part::Gate(&[0, 1])],
-            outputs: &[],
+        Case {
+            netlist: &gate,
             board: WIDE,
             chips: &[1],
             numbers: &[0, 1, 0, 1, 0, 0, 1, 1, 0, 1, 1, 0, 1],
         },
         // the second wire waits at its first hop, and its second one follows
-        Design {
-            inputs: 2,
-            parts: &[Part::Latch(0), Part::Latch(1)],
-            outputs: &[],
+        Case {
+            netlist: &two,
             board: ROW,
             chips: &[1, 2],
             numbers: &[0, 1, 0, 1, 0, 0, 1, 2, 0, 1, 0, 1, 1, 2, 1, 2, 0, 2, 3],
         },
         // the last wire goes over the last link of the first before it
-        Design {
-            inputs: 1,
-            parts: &[Part::Latch(0), Part::Latch(1), Part::Latch(2)],
-            outputs: &[],
+        Case {
+            netlist: &three,
             board: ROW,
             chips: &[3, 2, 3],
             numbers: &[
@@ -288,32 +225,25 @@ fn wires_of_one_depth_take_turns(rt: HostRuntime) -> Result<(), Fail> {
             ],
         },
     ];
-    for design in &table {
-        let found = answer(rt.alloc(), design)?;
-        assert_eq!(rt; found.as_slice(), design.numbers);
-    }
-    Ok(())
+    are_scheduled(&rt, alloc, &table)
 }
 
 #[test]
 fn deeper_wires_wait_for_the_phase_before_them(rt: HostRuntime) -> Result<(), Fail> {
-    let chain = [
-        Part::Gate(&[0]),
-        Part::Gate(&[1]),
-        Part::Gate(&[2]),
-        Part::Gate(&[0, 3]),
-    ];
+    let alloc = rt.alloc();
+    let mixed = vec![in alloc; latch(0), latch(2), gate(alloc, &[2])?, latch(3)]?;
+    let mixed = ordered(alloc, 1, mixed, &[])?;
+    let chain = vec![in alloc;
+        gate(alloc, &[0])?,
+        gate(alloc, &[1])?,
+        gate(alloc, &[2])?,
+        gate(alloc, &[0, 3])?,
+    ]?;
+    let chain = ordered(alloc, 1, chain, &[4, 0])?;
     let table = [
         // the gate on chip 2 has what it reads after 1 microcycle, and the first phase ends after 3
-        Design {
-            inputs: 1,
-            parts: &[
-                Part::Latch(0),
-                Part::Latch(2),
-                Part::Gate(&[2]),
-                Part::Latch(3),
-            ],
-            outputs: &[],
+        Case {
+            netlist: &mixed,
             board: ROW,
             chips: &[3, 1, 2, 3],
             numbers: &[
@@ -322,10 +252,8 @@ fn deeper_wires_wait_for_the_phase_before_them(rt: HostRuntime) -> Result<(), Fa
             ],
         },
         // four phases of one wire each
-        Design {
-            inputs: 1,
-            parts: &chain,
-            outputs: &[4, 0],
+        Case {
+            netlist: &chain,
             board: TRIANGLE,
             chips: &[1, 1, 2, 1],
             numbers: &[
@@ -333,10 +261,8 @@ fn deeper_wires_wait_for_the_phase_before_them(rt: HostRuntime) -> Result<(), Fa
             ],
         },
         // each of the three gates that are sent settles first
-        Design {
-            inputs: 1,
-            parts: &chain,
-            outputs: &[4, 0],
+        Case {
+            netlist: &chain,
             board: SETTLING,
             chips: &[1, 1, 2, 1],
             numbers: &[
@@ -344,47 +270,38 @@ fn deeper_wires_wait_for_the_phase_before_them(rt: HostRuntime) -> Result<(), Fa
             ],
         },
     ];
-    for design in &table {
-        let found = answer(rt.alloc(), design)?;
-        assert_eq!(rt; found.as_slice(), design.numbers);
-    }
-    Ok(())
+    are_scheduled(&rt, alloc, &table)
 }
 
 #[test]
 fn gates_without_wires_before_them_settle_too(rt: HostRuntime) -> Result<(), Fail> {
+    let alloc = rt.alloc();
+    let sent = vec![in alloc; latch(0), gate(alloc, &[0])?, latch(1)]?;
+    let sent = ordered(alloc, 0, sent, &[])?;
+    let pair = ordered(alloc, 0, vec![in alloc; latch(1), gate(alloc, &[0])?]?, &[])?;
+    let single = ordered(alloc, 0, vec![in alloc; latch(0)]?, &[])?;
     let table = [
         // a gate that reads a latch of its chip is sent once it has settled
-        Design {
-            inputs: 0,
-            parts: &[Part::Latch(0), Part::Gate(&[0]), Part::Latch(1)],
-            outputs: &[],
+        Case {
+            netlist: &sent,
             board: SLOW,
             chips: &[1, 1, 2],
             numbers: &[1, 2, 1, 2, 0, 3, 4],
         },
         // no wire at all, and a latch that reads a gate
-        Design {
-            inputs: 0,
-            parts: &[Part::Latch(1), Part::Gate(&[0])],
-            outputs: &[],
+        Case {
+            netlist: &pair,
             board: SLOW,
             chips: &[2, 2],
             numbers: &[3],
         },
         // nor any gate
-        Design {
-            inputs: 0,
-            parts: &[Part::Latch(0)],
-            outputs: &[],
+        Case {
+            netlist: &single,
             board: SLOW,
             chips: &[1],
             numbers: &[1],
         },
     ];
-    for design in &table {
-        let found = answer(rt.alloc(), design)?;
-        assert_eq!(rt; found.as_slice(), design.numbers);
-    }
-    Ok(())
+    are_scheduled(&rt, alloc, &table)
 }
