@@ -13,6 +13,3 @@ mod walks;
 pub use board_text::read;
 pub use distances::Distances;
 pub use fault::BoardFault;
-
-#[cfg(test)]
-mod tests;

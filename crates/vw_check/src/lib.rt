@@ -18,6 +18,3 @@ pub use fault::PlanFault;
 pub use laws::{faultless_plans_are_sound, faults_break_points, sound_plans_are_faultless};
 pub use pairs::PairTable;
 pub use refused::CheckRefused;
-
-#[cfg(test)]
-mod tests;

@@ -13,6 +13,3 @@ mod run;
 mod wishes;
 
 pub use wishes::hint;
-
-#[cfg(test)]
-mod tests;

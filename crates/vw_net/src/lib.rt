@@ -17,6 +17,3 @@ pub use laws::{gates_settle, histories_join, levels_settle, words_tell};
 pub use ordered::Ordered;
 pub use sequence::{Bits, Rows, Sequence};
 pub use word::{WORD_INPUTS, bit_of};
-
-#[cfg(test)]
-mod tests;

@@ -11,6 +11,3 @@ mod search;
 
 pub use gate_order::{OrderFault, OrderRefused, order};
 pub use laws::{loop_free_is_ordered, orders_are_loop_free};
-
-#[cfg(test)]
-mod tests;

@@ -10,6 +10,3 @@ mod pins;
 
 pub use dealt::partition;
 pub use fault::PartFault;
-
-#[cfg(test)]
-mod tests;

@@ -8,6 +8,3 @@ mod traffic;
 mod way;
 
 pub use placement::{PlaceRefused, place};
-
-#[cfg(test)]
-mod tests;

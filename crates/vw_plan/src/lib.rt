@@ -21,6 +21,3 @@ pub use need::{Need, Route};
 pub use node::node_of;
 pub use plan::Plan;
 pub use wire::{Hop, Wire};
-
-#[cfg(test)]
-mod tests;

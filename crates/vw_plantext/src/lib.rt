@@ -13,6 +13,3 @@ pub use fault::PlanTextFault;
 pub use laws::{one_line_is_first, spellings_differ};
 pub use plan_text::read;
 pub use writer::print;
-
-#[cfg(test)]
-mod tests;

@@ -4,6 +4,3 @@
 mod route;
 
 pub use route::walk;
-
-#[cfg(test)]
-mod tests;

@@ -7,6 +7,4 @@ mod routes;
 
 pub use compiler::compile;
 pub use fault::{CompileFault, CompileRefused};
-
-#[cfg(test)]
-mod tests;
+pub use routes::routes_of;

@@ -7,6 +7,3 @@ mod slot_table;
 
 pub use slot::{Slot, Taken};
 pub use slot_table::SlotTable;
-
-#[cfg(test)]
-mod tests;

@@ -7,6 +7,3 @@ mod wires;
 
 pub use table::depth_table;
 pub use wires::{depths, needed};
-
-#[cfg(test)]
-mod tests;

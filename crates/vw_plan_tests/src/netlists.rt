@@ -1,0 +1,31 @@
+//! Netlists of a few cells, for tests.
+use std::alloc::Global;
+use std::test::Fail;
+use vw_net::{Cell, Flat, Init, Ordered, Sequence};
+use vw_order::order;
+
+/// A gate that reads these nets. Its value is always zero.
+pub fn gate(alloc: Global, ins: &[u32]) -> Result<Cell, Fail> {
+    let ins = Sequence::of(ins.to_vec(alloc)?);
+    Ok(Cell::gate(ins, true, Sequence::of(Vec::new(alloc))).ok_or("no gate")?)
+}
+
+/// A latch that reads this net.
+pub fn latch(d: u32) -> Cell {
+    Cell::Latch {
+        d,
+        init: Init::Zero,
+    }
+}
+
+/// The netlist of these cells in order, behind so many inputs and with these outputs.
+pub fn ordered(
+    alloc: Global,
+    inputs: u32,
+    cells: Vec<Cell>,
+    outputs: &[u32],
+) -> Result<Ordered, Fail> {
+    let outputs = Sequence::of(outputs.to_vec(alloc)?);
+    let flat = Flat::checked(inputs, Sequence::of(cells), outputs).ok_or("no netlist")?;
+    Ok(order(alloc, flat).ok().ok_or("no order")?)
+}

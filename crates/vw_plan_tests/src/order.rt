@@ -1,0 +1,102 @@
+use crate::netlists::{gate, latch};
+use std::alloc::Global;
+use std::test::Fail;
+use vw_net::{Cell, Flat, Sequence};
+use vw_order::{OrderFault, OrderRefused, order};
+
+/// The order of the gates, or the loop that stands in its way.
+#[derive(Drop)]
+struct Listed {
+    is_order: bool,
+    numbers: Sequence<u32>,
+}
+
+/// What is answered of these cells.
+fn answer(alloc: Global, inputs: u32, cells: Vec<Cell>) -> Result<Listed, Fail> {
+    let outputs = Sequence::of(Vec::new(alloc));
+    let flat = Flat::checked(inputs, Sequence::of(cells), outputs).ok_or("no netlist")?;
+    match order(alloc, flat) {
+        Ok(ordered) => Ok(Listed {
+            is_order: true,
+            numbers: ordered.order,
+        }),
+        Err(refused) => {
+            let OrderRefused { fault, .. } = refused;
+            match fault {
+                OrderFault::Loop(numbers) => Ok(Listed {
+                    is_order: false,
+                    numbers,
+                }),
+                OrderFault::NoMemory => Err("no memory".into()),
+            }
+        }
+    }
+}
+
+#[test]
+fn a_loop_is_listed_from_its_least_number(rt: HostRuntime) -> Result<(), Fail> {
+    let alloc = rt.alloc();
+    let own = answer(alloc, 0, vec![in alloc; gate(alloc, &[0])?]?)?;
+    assert!(rt; !own.is_order);
+    assert_eq!(rt; own.numbers.as_slice(), [0].as_slice());
+    let two = vec![in alloc;
+        gate(alloc, &[0])?,
+        gate(alloc, &[3])?,
+        gate(alloc, &[0, 2])?,
+    ]?;
+    let pair = answer(alloc, 1, two)?;
+    assert!(rt; !pair.is_order);
+    assert_eq!(rt; pair.numbers.as_slice(), [1, 2].as_slice());
+    let four = vec![in alloc;
+        gate(alloc, &[3])?,
+        gate(alloc, &[2])?,
+        gate(alloc, &[3])?,
+        gate(alloc, &[1])?,
+    ]?;
+    let three = answer(alloc, 0, four)?;
+    assert!(rt; !three.is_order);
+    assert_eq!(rt; three.numbers.as_slice(), [1, 2, 3].as_slice());
+    Ok(())
+}
+
+#[test]
+fn feedback_through_a_latch_is_no_loop(rt: HostRuntime) -> Result<(), Fail> {
+    let alloc = rt.alloc();
+    let cells = vec![in alloc; gate(alloc, &[0, 3])?, gate(alloc, &[1])?, latch(2)]?;
+    let found = answer(alloc, 1, cells)?;
+    assert!(rt; found.is_order);
+    assert_eq!(rt; found.numbers.as_slice(), [0, 1].as_slice());
+    Ok(())
+}
+
+#[test]
+fn a_thousand_gates_in_reverse_are_ordered(rt: HostRuntime) -> Result<(), Fail> {
+    let alloc = rt.alloc();
+    let mut cells = Vec::new(alloc);
+    let mut rising = Vec::new(alloc);
+    for number in 0..999u32 {
+        cells.push(gate(alloc, &[number + 1])?)?;
+        rising.push(999 - number)?;
+    }
+    cells.push(gate(alloc, &[])?)?;
+    rising.push(0)?;
+    let found = answer(alloc, 0, cells)?;
+    assert!(rt; found.is_order);
+    assert_eq!(rt; found.numbers.as_slice(), rising.as_slice());
+    Ok(())
+}
+
+#[test]
+fn a_loop_of_a_thousand_gates_begins_with_its_least_number(rt: HostRuntime) -> Result<(), Fail> {
+    let alloc = rt.alloc();
+    let mut cells = vec![in alloc; gate(alloc, &[500])?, gate(alloc, &[999])?]?;
+    let mut falling = vec![in alloc; 1]?;
+    for number in 0..998u32 {
+        cells.push(gate(alloc, &[number + 1])?)?;
+        falling.push(999 - number)?;
+    }
+    let found = answer(alloc, 0, cells)?;
+    assert!(rt; !found.is_order);
+    assert_eq!(rt; found.numbers.as_slice(), falling.as_slice());
+    Ok(())
+}

@@ -1,0 +1,107 @@
+use crate::boards::{TRIANGLE, are_chips, board};
+use crate::netlists::{gate, latch, ordered};
+use std::alloc::Global;
+use std::test::Fail;
+use vw_board::Distances;
+use vw_net::{Ordered, Sequence};
+use vw_order::order;
+use vw_place::place;
+
+/// What is answered of a placement.
+fn answer(
+    alloc: Global,
+    ordered: &Ordered,
+    text: &[u8],
+    chips: &[u32],
+) -> Result<Sequence<u32>, Fail> {
+    let board = board(alloc, text)?;
+    if chips.len() != ordered.flat().cells().len() || !are_chips(&board, chips) {
+        return Err("no placement".into());
+    }
+    let distances = Distances::of(alloc, &board)?;
+    let chip_of = Sequence::of(chips.to_vec(alloc)?);
+    match place(alloc, ordered, &board, &distances, chip_of) {
+        Ok(placed) => Ok(placed),
+        Err(_) => Err("no memory".into()),
+    }
+}
+
+/// Four chips in a row, with the host at one end.
+const ROW: &[u8] =
+    b"board 1\nchips 4\ncells 2\nsettle 0\npins 4\nlink 0 1 1\nlink 1 0 1\nlink 1 2 1\nlink 2 1 1\nlink 2 3 1\nlink 3 2 1\nlink 3 4 1\nlink 4 3 1\n";
+
+/// From the host to a chip, from there to another, and from there to the host.
+const RING: &[u8] =
+    b"board 1\nchips 2\ncells 2\nsettle 0\npins 2\nlink 0 1 1\nlink 1 2 1\nlink 2 0 1\n";
+
+#[test]
+fn a_chain_comes_to_lie_along_a_row(rt: HostRuntime) -> Result<(), Fail> {
+    let alloc = rt.alloc();
+    let cells = vec![in alloc;
+        gate(alloc, &[0])?,
+        gate(alloc, &[1])?,
+        gate(alloc, &[2])?,
+        gate(alloc, &[3])?,
+    ]?;
+    let chain = ordered(alloc, 1, cells, &[])?;
+    // ways of 10, 9, 7, 6, 5 and 4 links, each by one exchange
+    let placed = answer(alloc, &chain, ROW, &[3, 1, 4, 2])?;
+    assert_eq!(rt; placed.as_slice(), [1, 2, 3, 4].as_slice());
+    let kept = answer(alloc, &chain, ROW, &[1, 2, 3, 4])?;
+    assert_eq!(rt; kept.as_slice(), [1, 2, 3, 4].as_slice());
+    Ok(())
+}
+
+#[test]
+fn a_chain_follows_links_that_lead_one_way(rt: HostRuntime) -> Result<(), Fail> {
+    let alloc = rt.alloc();
+    let cells = vec![in alloc; gate(alloc, &[0])?, latch(1)]?;
+    let chain = ordered(alloc, 1, cells, &[2])?;
+    // each of the three pairs goes over two links before the exchange, and over one after it
+    let placed = answer(alloc, &chain, RING, &[2, 1])?;
+    assert_eq!(rt; placed.as_slice(), [1, 2].as_slice());
+    Ok(())
+}
+
+#[test]
+fn cells_that_share_a_chip_move_together(rt: HostRuntime) -> Result<(), Fail> {
+    let alloc = rt.alloc();
+    let cells = vec![in alloc; gate(alloc, &[0])?, gate(alloc, &[1])?, latch(2)]?;
+    let chain = ordered(alloc, 1, cells, &[])?;
+    let placed = answer(alloc, &chain, ROW, &[2, 2, 1])?;
+    assert_eq!(rt; placed.as_slice(), [1, 1, 2].as_slice());
+    Ok(())
+}
+
+#[test]
+fn nothing_moves_where_all_nodes_are_as_near(rt: HostRuntime) -> Result<(), Fail> {
+    let alloc = rt.alloc();
+    let cells = vec![in alloc; gate(alloc, &[0, 2])?, latch(1)]?;
+    let toggle = ordered(alloc, 1, cells, &[2])?;
+    let placed = answer(alloc, &toggle, TRIANGLE, &[2, 1])?;
+    assert_eq!(rt; placed.as_slice(), [2, 1].as_slice());
+    Ok(())
+}
+
+#[test]
+fn the_greatest_design_is_placed_on_the_greatest_board(rt: HostRuntime) -> Result<(), Fail> {
+    let alloc = rt.alloc();
+    let mut text = Vec::new(alloc);
+    text.extend_from_slice(b"board 1\nchips 32\ncells 65536\nsettle 0\npins 4\nlink 32 0 1\n")?;
+    for chip in 0..32u32 {
+        let next = chip + 1;
+        let line = format!(in alloc; "link {chip} {next} 1\n")?;
+        text.extend_from_slice(line.as_bytes())?;
+    }
+    let mut cells = Vec::new(alloc);
+    let mut chips = Vec::new(alloc);
+    for number in 0..65536u32 {
+        cells.push(latch(0))?;
+        chips.push(32 - number % 32)?;
+    }
+    let wide = ordered(alloc, 1, cells, &[])?;
+    // each chip needs the input, and no other net is needed, so each order is as good
+    let placed = answer(alloc, &wide, text.as_slice(), chips.as_slice())?;
+    assert_eq!(rt; placed.as_slice(), chips.as_slice());
+    Ok(())
+}
