@@ -9,25 +9,11 @@ use Rattle.vw_net.specs.declared.flat.Flat.{Flat}
 use Rattle.vw_net.specs.Order.{IsOrder, is_gate, is_latch, is_among, is_ready, read_nets_at, gate_inputs}
 use Rattle.vw_net.specs.Cells.{read_nets}
 use Rattle.vw_net.proofs.Orders.{gate_or_latch}
-use Rattle.vw_order.specs.declared.mark.Mark.{Mark}
-use Rattle.vw_order.specs.Inputs.{gate_of}
-use Rattle.vw_order.specs.Search.{Graph, gates, ReadsAt, IsSearch, IsNumberOrder}
-use Rattle.vw_order.proofs.Among.{at_among, once_apart}
-use Rattle.vw_order.proofs.Gates.{is_gate_of}
-
--- nothing is open, and all are done
-pub ended : (graph : Graph) (marks : List Mark) (cursors order : List ℕ) → IsSearch graph marks cursors order [] → ((number : ℕ) → graph.counts number ≡ true → is_among order number ≡ true) → IsNumberOrder graph order
-ended graph marks cursors order far all = record {
-  all = all;
-  counted = λ number among. far.counted number (ap (λ (s : List ℕ). is_among s number) (append-nil order) ∙ among);
-  once = subst (λ (s : List ℕ). IsDistinct eqb s) (append-nil order) far.once;
-  behind = far.behind;
-}
-
-both_ways : (a b : Bool) → (a ≡ true → b ≡ true) → (b ≡ true → a ≡ true) → a ≡ b
-both_ways true b there back = sym (there refl)
-both_ways false true there back = back refl
-both_ways false false there back = refl
+use Rattle.vw_search.specs.Graphs.{ReadsAt}
+use Rattle.vw_search.specs.Orders.{IsNumberOrder}
+use Rattle.vw_search.proofs.Among.{at_among, once_apart, both_ways}
+use Rattle.vw_order.specs.Gates.{gate_of, gates}
+use Rattle.vw_order.proofs.Inputs.{is_gate_of}
 
 -- all pass, where each one that has a place does
 all_at : (test : ℕ → Bool) (nets : List ℕ) → ((place net : ℕ) → slice_get nets place ≡ Some net → test net ≡ true) → list_all test nets ≡ true

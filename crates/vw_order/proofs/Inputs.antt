@@ -8,9 +8,8 @@ use Rattle.vw_net.specs.declared.flat.Flat.{Flat}
 use Rattle.vw_net.specs.Order.{is_gate, is_among, read_nets_at, gate_inputs}
 use Rattle.vw_net.proofs.Orders.{gate_within}
 use Rattle.vw_order.specs.Reads.{gate_reads}
-use Rattle.vw_order.specs.Inputs.{gate_of}
-use Rattle.vw_order.specs.Search.{gates, Reads}
-use Rattle.vw_order.proofs.Searches.{IsWithin}
+use Rattle.vw_search.specs.Graphs.{Reads, IsWithin}
+use Rattle.vw_order.specs.Gates.{gate_of, gates}
 
 -- the gate that drives a net
 gate_is : (inputs : ℕ) (cells : List Cell) (net number : ℕ) → gate_of inputs cells net ≡ Some number → (net ≡ inputs + number) × (is_gate (slice_get cells number) ≡ true)
@@ -30,20 +29,12 @@ is_gate_of inputs cells number gate =
     let same : inputs + number - inputs ≡ number = omega arith in
     rw (past, same, gate) refl
 
--- what stands at a place of a list of answers, and where a number of a list stands
+-- what stands at a place of a list of answers
 map_at : (f : ℕ → Option ℕ) (nets : List ℕ) (place number : ℕ) → slice_get (map f nets) place ≡ Some (Some number) → (net : ℕ) × (is_among nets net ≡ true) × (f net ≡ Some number)
 map_at f [] place number at = absurd (none-some (Some number) at)
 map_at f (net ∷ nets) zero number at = (net, or_left (net == net) (is_among nets net) (eq-eqb net net refl), same_Some (f net) (Some number) at)
 map_at f (net ∷ nets) (suc place) number at =
     let rest = map_at f nets place number at in (rest.0, or_right (net == rest.0) (is_among nets rest.0) rest.1, rest.2)
-
-at_map : (f : ℕ → Option ℕ) (nets : List ℕ) (net number : ℕ) → is_among nets net ≡ true → f net ≡ Some number → (place : ℕ) × (slice_get (map f nets) place ≡ Some (Some number))
-at_map f [] net number among is = absurd (true≢false (sym among))
-at_map f (first ∷ nets) net number among is =
-    ⊎_elim
-    (λ here. (0, ap (λ (n : ℕ). Some (f n)) (eqb-true first net here) ∙ ap (λ (found : Option ℕ). Some found) is))
-    (λ there. let rest = at_map f nets net number there is in (suc rest.0, rest.1))
-    (or_cases (first == net) (is_among nets net) among)
 
 -- the inputs of a gate are what it reads
 inputs_read : (found : Option Cell) → is_gate found ≡ true → gate_inputs found ≡ read_nets_at found
@@ -67,17 +58,11 @@ module _ (flat : Flat) where
       (and_from (is_gate (slice_get flat.cells other)) (is_among (read_nets_at (slice_get flat.cells number)) (flat.inputs + other)) is.1
       (ap (is_among (read_nets_at (slice_get flat.cells number))) (sym is.0) ∙ ap (λ (nets : List ℕ). is_among nets at.0) (sym (inputs_read (slice_get flat.cells number) gate)) ∙ at.1))
 
-  pub of_reads : (number other : ℕ) → gate_reads flat number other ≡ true → Reads (gates flat) number other
-  of_reads number other is =
-      let parts = and_parts (is_gate (slice_get flat.cells number)) (is_gate (slice_get flat.cells other) && is_among (read_nets_at (slice_get flat.cells number)) (flat.inputs + other)) is in
-      let more = and_parts (is_gate (slice_get flat.cells other)) (is_among (read_nets_at (slice_get flat.cells number)) (flat.inputs + other)) parts.1 in
-      at_map (gate_of flat.inputs flat.cells) (gate_inputs (slice_get flat.cells number)) (flat.inputs + other) other
-      (ap (λ (nets : List ℕ). is_among nets (flat.inputs + other)) (inputs_read (slice_get flat.cells number) parts.0) ∙ more.1) (is_gate_of flat.inputs flat.cells other more.0)
-
   pub within : IsWithin (gates flat)
   within = record {
     below = gate_within flat.cells;
-    counted = λ number place read reads.
+    started = λ number gate. gate;
+    read = λ number place read counts reads.
         let at = map_at (gate_of flat.inputs flat.cells) (gate_inputs (slice_get flat.cells number)) place read reads in
         (gate_is flat.inputs flat.cells at.0 read at.2).1;
   }
