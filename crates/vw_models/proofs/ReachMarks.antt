@@ -5,16 +5,10 @@ use Rattle.vw_design.specs.declared.model.Model.{Model}
 use Rattle.vw_design.specs.declared.design.Design.{Design}
 use Rattle.vw_design.specs.ModelFaults.{is_reached}
 use Rattle.vw_design.specs.ModelNumbers.{AreTargets, AreModelMarks, is_reached_model}
+use Rattle.vw_search.proofs.Among.{both_ways}
 use Rattle.vw_models.specs.Reach.{Targets, AreReachMarks}
 use Rattle.vw_models.proofs.Models.{each_model, reached_closed_numbers, reached_least_numbers}
 use Rattle.vw_models.proofs.Places.{AllZip-each}
-
--- two tests that say the same
-pub both_ways : (one other : Bool) → (one ≡ true → other ≡ true) → (other ≡ true → one ≡ true) → one ≡ other
-both_ways true true there back = refl
-both_ways true false there back = sym (there refl)
-both_ways false true there back = back refl
-both_ways false false there back = refl
 
 pub are_marks : (design : Design) (targets : Targets) (marks : List Bool) → AreTargets design targets → AreReachMarks targets marks → AreModelMarks design marks
 are_marks design targets marks are reach = AllZip-each (λ model mark. mark ≡ is_reached design model.name) design.models marks (sym (each_model design targets are) ∙ sym reach.each) each where
