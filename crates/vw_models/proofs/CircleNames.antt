@@ -1,10 +1,9 @@
 -- A circle of models by their names, from a circle of their numbers.
-use Rattle.std.proofs.Common.{◌≡◌, ◌<◌, ◌≤◌, ◌+◌, not, ℕ, suc, Bool, true, false, List, [], ◌∷◌, ◌++◌, length, length-append, length-drop, take, drop, map, get_or, slice_get, Option, Some, None, inl, ⊎_elim, refl, sym, ◌∙◌, ap, subst, eqb, true≢false, arith}
+use Rattle.std.proofs.Common.{◌≡◌, ◌<◌, not, ℕ, suc, Bool, true, false, List, [], ◌∷◌, length, map, get_or, slice_get, Option, Some, None, inl, refl, sym, ◌∙◌, ap, subst, eqb, true≢false, arith}
 use Rattle.std.specs.List.{AllZip, IsDistinct}
 use Rattle.std.proofs.lemmas.Bool.{and_from}
-use Rattle.std.proofs.lemmas.List.{take-append-drop, map-append, length-map, length-take, get_or-map, get_or-drop, get_or_append_left}
-use Rattle.std.proofs.lemmas.List.Sorted.{IsPermutation-append_comm}
-use Rattle.std.proofs.lemmas.Map.Keys.{IsDistinct-IsPermutation, IsDistinct-tail}
+use Rattle.std.proofs.lemmas.List.{map-append, length-map, get_or-map}
+use Rattle.std.proofs.lemmas.Map.Keys.{IsDistinct-tail}
 use Rattle.vw_net.specs.Order.{is_among}
 use Rattle.vw_design.specs.declared.model.Model.{Model}
 use Rattle.vw_design.specs.declared.design.Design.{Design}

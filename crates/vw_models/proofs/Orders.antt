@@ -1,9 +1,10 @@
 -- Orders of models, from orders of their numbers; and no circle where there is one.
-use Rattle.std.proofs.Common.{◌≡◌, ◌<◌, ◌+◌, not, ℕ, zero, suc, Bool, true, false, cond, List, [], ◌∷◌, length, take, drop, filter, get_or, slice_get, nat_lt, Option, Some, None, is_some, ◌⊎◌, inl, inr, ⊎_elim, refl, sym, ◌∙◌, ap, subst, true≢false, arith}
+use Rattle.std.proofs.Common.{◌≡◌, ◌<◌, ℕ, true, cond, List, [], length, take, filter, get_or, slice_get, nat_lt, Option, Some, None, is_some, refl, sym, ◌∙◌, ap, subst, true≢false, arith}
+use Rattle.std.specs.Cmp.{both_ways}
 use Rattle.std.specs.List.{list_any, list_all, position_or_len}
 use Rattle.std.specs.Option.{is_none}
-use Rattle.std.proofs.lemmas.Bool.{and_from, lt-ltb, or_cases}
-use Rattle.std.proofs.lemmas.List.{take_all, take-append-drop}
+use Rattle.std.proofs.lemmas.Bool.{and_from, lt-ltb}
+use Rattle.std.proofs.lemmas.List.{take_all}
 use Rattle.std.proofs.lemmas.List.Sums.{passes_at_first}
 use Rattle.std.proofs.lemmas.Option.{none-some, same_Some}
 use Rattle.vw_net.specs.Order.{is_among}
@@ -23,12 +24,12 @@ use Rattle.vw_design.proofs.Names.{same_name, equal_names}
 use Rattle.vw_models.specs.Reach.{Targets, IsClosed, PlacesAt}
 use Rattle.vw_models.specs.Unknown.{unknown_of}
 use Rattle.vw_search.specs.Orders.{IsNumberOrder}
-use Rattle.vw_search.proofs.Among.{among_at, at_among, front_among, front_position, once_apart, both_ways}
+use Rattle.vw_search.proofs.Among.{among_at, at_among, front_among, front_position, once_apart}
 use Rattle.vw_models.specs.Placed.{placed_models}
 use Rattle.vw_models.proofs.Among.{among_Has, Has_among}
 use Rattle.vw_models.proofs.FirstUnknown.{unknown_is}
 use Rattle.vw_design.proofs.ModelNumbers.{model_of_place, same_number, name_of_named}
-use Rattle.vw_models.proofs.Models.{number_placed, reached_closed_numbers, reached_least_numbers}
+use Rattle.vw_models.proofs.Models.{number_placed, reached_least_numbers}
 use Rattle.vw_models.proofs.Places.{at_within, all_pass}
 
 module _ (design : Design) where

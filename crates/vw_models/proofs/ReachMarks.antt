@@ -1,11 +1,11 @@
 -- The marks of the models that are reached.
-use Rattle.std.proofs.Common.{◌≡◌, ℕ, Bool, true, false, List, get_or, slice_get, Some, refl, sym, ◌∙◌, ap}
+use Rattle.std.proofs.Common.{◌≡◌, ℕ, Bool, false, List, get_or, slice_get, Some, sym, ◌∙◌, ap}
+use Rattle.std.specs.Cmp.{both_ways}
 use Rattle.std.proofs.lemmas.Option.{get_or_from_slice_get}
 use Rattle.vw_design.specs.declared.model.Model.{Model}
 use Rattle.vw_design.specs.declared.design.Design.{Design}
 use Rattle.vw_design.specs.ModelFaults.{is_reached}
 use Rattle.vw_design.specs.ModelNumbers.{AreTargets, AreModelMarks, is_reached_model}
-use Rattle.vw_search.proofs.Among.{both_ways}
 use Rattle.vw_models.specs.Reach.{Targets, AreReachMarks}
 use Rattle.vw_models.proofs.Models.{each_model, reached_closed_numbers, reached_least_numbers}
 use Rattle.vw_models.proofs.Places.{AllZip-each}

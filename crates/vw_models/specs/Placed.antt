@@ -1,5 +1,5 @@
 -- The models of a design as numbers that read each other: each reads those that it places.
-use Rattle.std.specs.Prelude.{◌==◌, List, [], length, slice_get, slice_index_or}
+use Rattle.std.specs.Prelude.{◌==◌, [], length, slice_get, slice_index_or}
 use Rattle.vw_design.specs.declared.design.Design.{Design}
 use Rattle.vw_design.specs.ModelNumbers.{is_reached_model}
 use Rattle.vw_search.specs.Graphs.{Graph}

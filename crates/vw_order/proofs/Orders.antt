@@ -1,6 +1,7 @@
 -- Orders of gates, from orders of numbers.
-use Rattle.std.proofs.Common.{◌≡◌, ◌<◌, ◌+◌, ◌-◌, ◌||◌, ℕ, zero, suc, Bool, true, false, List, [], ◌∷◌, length, map, take, get_or, slice_get, nat_lt, Option, Some, None, ⊎_elim, refl, sym, ◌∙◌, ap, subst, eqb, append-nil, true≢false, arith}
-use Rattle.std.specs.List.{All, list_all, IsDistinct}
+use Rattle.std.proofs.Common.{◌≡◌, ◌<◌, ◌+◌, ◌-◌, ◌||◌, ℕ, zero, suc, Bool, true, false, List, [], ◌∷◌, length, map, take, get_or, slice_get, nat_lt, Option, Some, None, ⊎_elim, refl, sym, ◌∙◌, ap, subst, true≢false, arith}
+use Rattle.std.specs.Cmp.{both_ways}
+use Rattle.std.specs.List.{All, list_all}
 use Rattle.std.proofs.lemmas.Bool.{and_from, or_left, or_right, ltb-false, cases_Bool}
 use Rattle.std.proofs.lemmas.Option.{none-some, same_Some, slice_get_within, get_or_from_slice_get}
 use Rattle.vw_net.specs.declared.cell.Cell.{Cell}
@@ -11,7 +12,7 @@ use Rattle.vw_net.specs.Cells.{read_nets}
 use Rattle.vw_net.proofs.Orders.{gate_or_latch}
 use Rattle.vw_search.specs.Graphs.{ReadsAt}
 use Rattle.vw_search.specs.Orders.{IsNumberOrder}
-use Rattle.vw_search.proofs.Among.{at_among, once_apart, both_ways}
+use Rattle.vw_search.proofs.Among.{at_among, once_apart}
 use Rattle.vw_order.specs.Gates.{gate_of, gates}
 use Rattle.vw_order.proofs.Inputs.{is_gate_of}
 

@@ -1,7 +1,6 @@
 -- The gates of a netlist as numbers that read each other: each reads, at each of its inputs, the gate that drives it.
-use Rattle.std.specs.Prelude.{ℕ, ◌-◌, List, [], length, map, nat_lt, slice_get, Option, Some, None, if◌then◌else◌}
+use Rattle.std.specs.Prelude.{ℕ, ◌-◌, List, length, map, nat_lt, slice_get, Option, Some, None, if◌then◌else◌}
 use Rattle.vw_net.specs.declared.cell.Cell.{Cell}
-use Rattle.vw_net.specs.declared.cell.Cell.TheVariants.{Gate, Latch}
 use Rattle.vw_net.specs.declared.flat.Flat.{Flat}
 use Rattle.vw_net.specs.Order.{is_gate, gate_inputs}
 use Rattle.vw_search.specs.Graphs.{Graph}

@@ -91,9 +91,3 @@ front_position test (x ∷ xs) (suc end) any = by (test x) refl (⊎_elim (λ he
   by : (b : Bool) → test x ≡ b → (test x ≡ true) ⊎ (position_or_len test xs < end) → cond (not b) (1 + position_or_len test xs) 0 < suc end
   by true is which = omega arith
   by false is which = ⊎_elim (λ here. absurd (true≢false (sym here ∙ is))) (λ further. omega (arith, further)) which
-
--- two tests that say the same
-pub both_ways : (one other : Bool) → (one ≡ true → other ≡ true) → (other ≡ true → one ≡ true) → one ≡ other
-both_ways true other there back = sym (there refl)
-both_ways false true there back = back refl
-both_ways false false there back = refl

@@ -3,10 +3,12 @@
 
 mod circle;
 mod depth;
+mod depth_first;
 mod digraph;
 mod mark;
-mod depth_first;
 
-pub use digraph::Digraph;
 pub use depth_first::{Found, search};
+pub use digraph::Digraph;
 
+#[cfg(test)]
+mod tests;

@@ -15,7 +15,7 @@ use Rattle.vw_design.proofs.Closed.{reached_at}
 use Rattle.vw_design.proofs.Heights.{design_reaches}
 use Rattle.vw_design.proofs.Weights.{design_weighs, instances_weigh, cells_weigh, capped_weight, heights}
 use Rattle.vw_design.proofs.ModelNumbers.{place_of_model}
-use Rattle.vw_models.proofs.ReachMarks.{both_ways}
+use Rattle.std.specs.Cmp.{both_ways}
 use Rattle.vw_sizes.specs.declared.measure.Measure.TheVariants.{Instances, Bindings, Cells, Levels}
 use Rattle.vw_sizes.specs.declared.totals.Totals.{Totals}
 use Rattle.vw_sizes.specs.Counting.{most, count_in, AreCounts, IsRanked}

@@ -112,7 +112,8 @@ returns-then-is_open g c =
     let next = c.in-Some-ahead.ahead in
     let far = far g (goal.at.returns-then-is_open g c).In-Some in
     let on = open_is (get_or depth.marks.items next.number Fresh) (sym c.is_open.ensures ∙ c.if-is_open.true) in
-    let is = c.in_ok-circle.ensures ∙ ap (λ (l : List ℕ). round_from next.number l ++ number ∷ []) c.as_slice.ensures.value in
+    let is : c.in_ok-circle.circle.items ≡ round_from next.number stack ++ number ∷ [] =
+    ◌∙◌ {b = round_from next.number c.as_slice.result.now ++ number ∷ []} c.in_ok-circle.ensures (ap (λ (l : List ℕ). round_from next.number l ++ number ∷ []) c.as_slice.ensures.value) in
     subst (λ (l : List ℕ). IsNumberCircle graph l) (sym is) (circled graph c.requires.within depth.marks.items depth.cursors.items depth.order.items stack number far next c.in-Some-ahead.ensures on)
 
 pub open_ahead-requires-clause-number : goal.open_ahead-requires-clause-number

@@ -1,4 +1,4 @@
-use Rattle.std.proofs.Common.{◌≡◌, ◌++◌, ℕ, List, take, drop, replicate, sym, ◌∙◌, ap, subst, arith}
+use Rattle.std.proofs.Common.{ℕ, List, replicate, sym, ◌∙◌, ap, subst, arith}
 use Rattle.vw_search.specs.declared.mark.Mark.TheVariants.{Fresh}
 use Rattle.vw_search.specs.Circles.{IsNumberCircle, BeginsWithLeast}
 use Rattle.vw_search.proofs.LeastFirst.{from_least}
