@@ -1,6 +1,7 @@
 -- Models by their numbers: what the numbers say of names, and which numbers are reached.
-use Rattle.std.proofs.Common.{◌≡◌, ℕ, Bool, true, List, [], length, get_or, slice_get, Option, Some, None, is_some, refl, sym, ◌∙◌, ap, true≢false, arith}
+use Rattle.std.proofs.Common.{◌≡◌, ◌<◌, ℕ, Bool, true, List, [], length, get_or, slice_get, Option, Some, None, is_some, refl, sym, ◌∙◌, ap, true≢false, arith}
 use Rattle.std.specs.List.{AllZip, list_any}
+use Rattle.std.proofs.lemmas.Bool.{eqb-true}
 use Rattle.std.proofs.lemmas.Option.{none-some, same_Some, slice_get_within, get_or_from_slice_get}
 use Rattle.vw_design.specs.declared.item.Bind.{Bind}
 use Rattle.vw_design.specs.declared.item.Item.{Item}
@@ -16,6 +17,8 @@ use Rattle.vw_design.proofs.ModelNumbers.{place_of_model, model_of_place, named_
 use Rattle.vw_design.proofs.FilteredLists.{AllZip-at, AllZip-length}
 use Rattle.vw_design.proofs.Closed.{reached_at, reached_closed, reached_least}
 use Rattle.vw_models.specs.Reach.{Targets, PlacesAt, AreWithin, IsClosed}
+use Rattle.vw_search.specs.Graphs.{IsWithin}
+use Rattle.vw_models.specs.Placed.{placed_models}
 use Rattle.vw_models.proofs.Places.{at_within, list_at, AllZip-back}
 
 module _ (design : Design) where
@@ -88,6 +91,19 @@ module _ (design : Design) where
           ap (is_reached_model design) is.next_at
           ∙ reached_closed design is.model.name is.next.name here (ap (λ (m : Option Model). model_places m is.next.name) (named_at design number is.model is.at) ∙ is.places) (ap (λ (m : Option Model). is_some m) (named_at design kid is.next is.next_at));
     }
+
+    -- so a search from the root comes to them alone
+    pub search_within : IsWithin (placed_models design targets)
+    search_within = record {
+      below = below;
+      started = λ number start. ap (λ (n : ℕ). is_reached_model design (slice_get design.models n)) (eqb-true number 0 start) ∙ reached_closed_numbers.root;
+      read = λ number place kid there places. reached_closed_numbers.placed number place kid there places;
+    } where
+      below : (number : ℕ) → is_reached_model design (slice_get design.models number) ≡ true → number < length design.models
+      below number reached = by (slice_get design.models number) refl reached where
+        by : (found : Option Model) → slice_get design.models number ≡ found → is_reached_model design found ≡ true → number < length design.models
+        by None is there = absurd (true≢false (sym there))
+        by (Some model) is there = slice_get_within design.models number model is
 
     -- and the least that are
     pub reached_least_numbers : (test : ℕ → Bool) → IsClosed targets test → (number : ℕ) → is_reached_model design (slice_get design.models number) ≡ true → test number ≡ true

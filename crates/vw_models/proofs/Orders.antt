@@ -1,9 +1,10 @@
 -- Orders of models, from orders of their numbers; and no circle where there is one.
-use Rattle.std.proofs.Common.{◌≡◌, ◌<◌, ◌+◌, not, ℕ, zero, suc, Bool, true, false, cond, List, [], ◌∷◌, length, take, drop, filter, get_or, slice_get, nat_lt, Option, Some, None, is_some, ◌⊎◌, inl, inr, ⊎_elim, refl, sym, ◌∙◌, ap, subst, true≢false, arith}
+use Rattle.std.proofs.Common.{◌≡◌, ◌<◌, ℕ, true, cond, List, [], length, take, filter, get_or, slice_get, nat_lt, Option, Some, None, is_some, refl, sym, ◌∙◌, ap, subst, true≢false, arith}
+use Rattle.std.specs.Cmp.{both_ways}
 use Rattle.std.specs.List.{list_any, list_all, position_or_len}
 use Rattle.std.specs.Option.{is_none}
-use Rattle.std.proofs.lemmas.Bool.{and_from, lt-ltb, or_cases}
-use Rattle.std.proofs.lemmas.List.{take_all, take-append-drop}
+use Rattle.std.proofs.lemmas.Bool.{and_from, lt-ltb}
+use Rattle.std.proofs.lemmas.List.{take_all}
 use Rattle.std.proofs.lemmas.List.Sums.{passes_at_first}
 use Rattle.std.proofs.lemmas.Option.{none-some, same_Some}
 use Rattle.vw_net.specs.Order.{is_among}
@@ -21,28 +22,15 @@ use Rattle.vw_design.proofs.Circles.{no_circle}
 use Rattle.vw_design.proofs.Has.{Has, Has-at, any-Has, from-any, all-Has, Has-filter, Has-filter_map, from-filter_map, none-found}
 use Rattle.vw_design.proofs.Names.{same_name, equal_names}
 use Rattle.vw_models.specs.Reach.{Targets, IsClosed, PlacesAt}
-use Rattle.vw_models.specs.Search.{IsNumberOrder}
 use Rattle.vw_models.specs.Unknown.{unknown_of}
-use Rattle.vw_models.proofs.Among.{among_Has, Has_among, among_left, among_at, at_among, once_apart}
+use Rattle.vw_search.specs.Orders.{IsNumberOrder}
+use Rattle.vw_search.proofs.Among.{among_at, at_among, front_among, front_position, once_apart}
+use Rattle.vw_models.specs.Placed.{placed_models}
+use Rattle.vw_models.proofs.Among.{among_Has, Has_among}
 use Rattle.vw_models.proofs.FirstUnknown.{unknown_is}
 use Rattle.vw_design.proofs.ModelNumbers.{model_of_place, same_number, name_of_named}
-use Rattle.vw_models.proofs.Models.{number_placed, reached_closed_numbers, reached_least_numbers}
+use Rattle.vw_models.proofs.Models.{number_placed, reached_least_numbers}
 use Rattle.vw_models.proofs.Places.{at_within, all_pass}
-use Rattle.vw_net.proofs.Booleans.{same_truth}
-
--- what stands at the front of an order stands in it
-front_among : (order : List ℕ) (i number : ℕ) → is_among (take i order) number ≡ true → is_among order number ≡ true
-front_among order i number among = ap (λ (l : List ℕ). is_among l number) (sym (take-append-drop i order)) ∙ among_left (take i order) (drop i order) number among
-
--- the first that passes stands before what is behind another one that passes
-pub front_position : {A : Type 0} → (test : A → Bool) (xs : List A) (end : ℕ) → list_any test (take end xs) ≡ true → position_or_len test xs < end
-front_position test [] zero any = absurd (true≢false (sym any))
-front_position test [] (suc end) any = absurd (true≢false (sym any))
-front_position test (x ∷ xs) zero any = absurd (true≢false (sym any))
-front_position test (x ∷ xs) (suc end) any = by (test x) refl (⊎_elim (λ here. inl here) (λ there. inr (front_position test xs end there)) (or_cases (test x) (list_any test (take end xs)) any)) where
-  by : (b : Bool) → test x ≡ b → (test x ≡ true) ⊎ (position_or_len test xs < end) → cond (not b) (1 + position_or_len test xs) 0 < suc end
-  by true is which = omega arith
-  by false is which = ⊎_elim (λ here. absurd (true≢false (sym here ∙ is))) (λ further. omega (arith, further)) which
 
 module _ (design : Design) where
   -- the model of a number has the name
@@ -55,7 +43,7 @@ module _ (design : Design) where
   named_by name None has = absurd (true≢false (sym has))
   named_by name (Some model) has = (model, refl, same_name model.name name has)
 
-  module _ (targets : Targets) (are : AreTargets design targets) (none : unknown_model design ≡ None) (order : List ℕ) (is_order : IsNumberOrder targets order) where
+  module _ (targets : Targets) (are : AreTargets design targets) (none : unknown_model design ≡ None) (order : List ℕ) (is_order : IsNumberOrder (placed_models design targets) order) where
     -- a reached model places models alone
     sub_of : (placing : Placing) (item : Item) → placing_of item ≡ Some placing → (line : ℕ) × (item ≡ Sub line placing.model placing.binds)
     sub_of placing (Names line ins out cover) is = absurd (none-some placing is)
@@ -72,12 +60,9 @@ module _ (design : Design) where
         let in_model = none-found (λ (m : Model). first_found (unknown_of design) m.items) model (filter (λ (m : Model). is_reached design m.name) design.models) (unknown_is design ∙ none) in_file in
         is_known line (model_named design.models name) (none-found (unknown_of design) (Sub line name binds) model.items in_model has)
 
-    in_order : (number : ℕ) → is_among order number ≡ true → is_reached_model design (slice_get design.models number) ≡ true
-    in_order number among = is_order.reached (λ (n : ℕ). is_reached_model design (slice_get design.models n)) (reached_closed_numbers design targets are) number among
-
     closed : IsClosed targets (is_among order)
     closed = record {
-      root = is_order.root;
+      root = is_order.all 0 refl;
       placed = λ number place kid among places.
           let at = among_at order number among in
           front_among order at.0 kid (is_order.behind at.0 place kid at.1 (subst (λ (n : ℕ). PlacesAt targets n place kid) (sym at.2) places));
@@ -89,7 +74,7 @@ module _ (design : Design) where
         let item = from-filter_map placing_of placing model.items has in
         let sub = sub_of placing item.0 item.2 in
         let has_sub : Has (Sub sub.0 placing.model placing.binds) model.items = subst (λ (x : Item). Has x model.items) sub.1 item.1 in
-        let reached : is_reached design model.name ≡ true = sym (ap (is_reached_model design) at) ∙ in_order (get_or order i 0) (at_among order i within) in
+        let reached : is_reached design model.name ≡ true = sym (ap (is_reached_model design) at) ∙ is_order.counted (get_or order i 0) (at_among order i within) in
         let known = places_known (get_or order i 0) model at reached sub.0 placing.model placing.binds has_sub in
         let places = any-Has (names_model placing.model) (Sub sub.0 placing.model placing.binds) model.items has_sub (equal_names placing.model placing.model refl) in
         let found = number_placed design targets are (get_or order i 0) model placing.model at places in
@@ -102,7 +87,7 @@ module _ (design : Design) where
 
     pub model_order : IsModelOrder design order
     model_order = record {
-      each = λ number. same_truth (is_among order number) (is_reached_model design (slice_get design.models number)) (in_order number) (λ reached. reached_least_numbers design targets are (is_among order) closed number reached);
+      each = λ number. both_ways (is_among order number) (is_reached_model design (slice_get design.models number)) (is_order.counted number) (λ reached. reached_least_numbers design targets are (is_among order) closed number reached);
       once = once_apart order is_order.once;
       behind = λ i within. all_before i within (slice_get design.models (get_or order i 0)) refl;
     } where

@@ -1,7 +1,7 @@
 -- The marks of the models that are reached.
-use Rattle.std.proofs.Common.{◌≡◌, ℕ, Bool, true, false, List, get_or, slice_get, Some, refl, sym, ◌∙◌, ap}
+use Rattle.std.proofs.Common.{◌≡◌, ℕ, Bool, false, List, get_or, slice_get, Some, sym, ◌∙◌, ap}
+use Rattle.std.specs.Cmp.{both_ways}
 use Rattle.std.proofs.lemmas.Option.{get_or_from_slice_get}
-use Rattle.vw_net.proofs.Booleans.{same_truth}
 use Rattle.vw_design.specs.declared.model.Model.{Model}
 use Rattle.vw_design.specs.declared.design.Design.{Design}
 use Rattle.vw_design.specs.ModelFaults.{is_reached}
@@ -15,7 +15,7 @@ are_marks design targets marks are reach = AllZip-each (λ model mark. mark ≡ 
   each : (k : ℕ) (model : Model) (mark : Bool) → slice_get design.models k ≡ Some model → slice_get marks k ≡ Some mark → mark ≡ is_reached design model.name
   each k model mark at mark_at =
       sym (get_or_from_slice_get marks k mark false mark_at)
-      ∙ same_truth (get_or marks k false) (is_reached_model design (slice_get design.models k))
+      ∙ both_ways (get_or marks k false) (is_reached_model design (slice_get design.models k))
       (λ there. reach.reached (λ (n : ℕ). is_reached_model design (slice_get design.models n)) (reached_closed_numbers design targets are) k there)
       (λ back. reached_least_numbers design targets are (λ (n : ℕ). get_or marks n false) reach.closed k back)
       ∙ ap (is_reached_model design) at

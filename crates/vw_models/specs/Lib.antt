@@ -1,7 +1,6 @@
 pub mod Names
 pub mod Reach
 pub mod Unknown
-pub mod Ahead
-pub mod Search
-pub mod Circles
+pub mod Placed
+pub mod ModelNames
 pub mod ModelOrders

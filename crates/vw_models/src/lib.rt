@@ -2,12 +2,11 @@
 #![tactic(auto)]
 
 mod circle;
-mod depth;
 mod laws;
-mod mark;
 mod marks;
 mod numbers;
 mod order;
+mod placed;
 mod reach;
 mod targets;
 mod unknown;

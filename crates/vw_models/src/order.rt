@@ -5,11 +5,12 @@ ghost use Rattle.vw_design.specs.ModelNumbers.{AreTargets};
 ghost use Rattle.vw_models.specs.ModelOrders.{IsFound};
 
 use crate::circle::circle_names;
-use crate::depth::{NumberOrder, search};
+use crate::placed::Placed;
 use std::alloc::{AllocError, Global};
 use vw_design::Design;
 use vw_net::Sequence;
 use vw_outside::Name;
+use vw_search::{Found, search};
 
 /// What the models that are reached have: an order, or a circle.
 #[derive(Drop)]
@@ -31,12 +32,8 @@ pub fn order_of(
     requires known { unknown_model design.now ≡ None }
     ensures { IfOk result (IsFound design.now) }
 {
-    match search(alloc, targets)? {
-        NumberOrder::Order(order) => Ok(ModelOrder::Order(Sequence::of(order))),
-        NumberOrder::Circle(circle) => Ok(ModelOrder::Circle(circle_names(
-            alloc,
-            design,
-            circle.as_slice(),
-        )?)),
+    match search(alloc, &Placed { design, targets })? {
+        Found::Order(order) => Ok(ModelOrder::Order(Sequence::of(order))),
+        Found::Circle(circle) => Ok(ModelOrder::Circle(circle_names(alloc, design, &circle)?)),
     }
 }

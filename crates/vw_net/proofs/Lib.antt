@@ -1,4 +1,3 @@
-pub mod Booleans
 pub mod Counts
 pub mod Histories
 pub mod Orders

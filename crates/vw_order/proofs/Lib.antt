@@ -1,8 +1,4 @@
-pub mod Among
-pub mod Rounds
-pub mod Searches
-pub mod Gates
+pub mod Inputs
 pub mod Orders
-pub mod Turned
+pub mod Loops
 pub mod NoCircle
-pub mod Growth

@@ -1,23 +1,14 @@
 -- Where gates have an order, they don't read each other in a circle.
-use Rattle.std.proofs.Common.{◌≡◌, ◌<◌, ◌+◌, ◌-◌, ◌||◌, ◌&&◌, ◌==◌, not, ℕ, zero, suc, Bool, true, false, cond, List, [], ◌∷◌, ◌++◌, length, take, get_or, slice_get, nat_lt, Option, Some, None, ◌⊎◌, inl, inr, ⊎_elim, refl, sym, ◌∙◌, ap, subst, true≢false, arith}
-use Rattle.std.specs.List.{list_any, list_all, position_or_len, AllZip}
+use Rattle.std.proofs.Common.{◌≡◌, ◌<◌, ◌+◌, ◌-◌, ◌||◌, ◌&&◌, ◌==◌, not, ℕ, suc, Bool, true, false, cond, List, [], ◌∷◌, ◌++◌, length, take, get_or, slice_get, nat_lt, Option, Some, None, ◌⊎◌, inl, inr, ⊎_elim, refl, sym, ◌∙◌, ap, subst, true≢false, arith}
+use Rattle.std.specs.List.{list_all, position_or_len, AllZip}
 use Rattle.std.proofs.lemmas.Bool.{and_parts, or_cases, eqb-true, le-ltb}
 use Rattle.vw_net.specs.declared.cell.Cell.{Cell}
 use Rattle.vw_net.specs.declared.cell.Cell.TheVariants.{Gate, Latch}
 use Rattle.vw_net.specs.declared.flat.Flat.{Flat}
 use Rattle.vw_net.specs.Order.{IsOrder, is_gate, is_latch, is_among, is_ready, read_nets_at}
+use Rattle.vw_search.proofs.Among.{front_position}
 use Rattle.vw_order.specs.Reads.{gate_reads}
 use Rattle.vw_order.specs.Loops.{IsGateCircle}
-
--- the first that passes stands before what is behind another one that passes
-front_position : {A : Type 0} → (test : A → Bool) (xs : List A) (end : ℕ) → list_any test (take end xs) ≡ true → position_or_len test xs < end
-front_position test [] zero any = absurd (true≢false (sym any))
-front_position test [] (suc end) any = absurd (true≢false (sym any))
-front_position test (x ∷ xs) zero any = absurd (true≢false (sym any))
-front_position test (x ∷ xs) (suc end) any = by (test x) refl (⊎_elim (λ here. inl here) (λ there. inr (front_position test xs end there)) (or_cases (test x) (list_any test (take end xs)) any)) where
-  by : (b : Bool) → test x ≡ b → (test x ≡ true) ⊎ (position_or_len test xs < end) → cond (not b) (1 + position_or_len test xs) 0 < suc end
-  by true is which = omega arith
-  by false is which = ⊎_elim (λ here. absurd (true≢false (sym here ∙ is))) (λ further. omega (arith, further)) which
 
 -- where a number stands first, and that it stands there
 abbrev place_of : List ℕ → ℕ → ℕ

@@ -1,6 +1,7 @@
 -- Orders of gates, from orders of numbers.
-use Rattle.std.proofs.Common.{◌≡◌, ◌<◌, ◌+◌, ◌-◌, ◌||◌, ℕ, zero, suc, Bool, true, false, List, [], ◌∷◌, length, map, take, get_or, slice_get, nat_lt, Option, Some, None, ⊎_elim, refl, sym, ◌∙◌, ap, subst, eqb, append-nil, true≢false, arith}
-use Rattle.std.specs.List.{All, list_all, IsDistinct}
+use Rattle.std.proofs.Common.{◌≡◌, ◌<◌, ◌+◌, ◌-◌, ◌||◌, ℕ, zero, suc, Bool, true, false, List, [], ◌∷◌, length, map, take, get_or, slice_get, nat_lt, Option, Some, None, ⊎_elim, refl, sym, ◌∙◌, ap, subst, true≢false, arith}
+use Rattle.std.specs.Cmp.{both_ways}
+use Rattle.std.specs.List.{All, list_all}
 use Rattle.std.proofs.lemmas.Bool.{and_from, or_left, or_right, ltb-false, cases_Bool}
 use Rattle.std.proofs.lemmas.Option.{none-some, same_Some, slice_get_within, get_or_from_slice_get}
 use Rattle.vw_net.specs.declared.cell.Cell.{Cell}
@@ -9,21 +10,11 @@ use Rattle.vw_net.specs.declared.flat.Flat.{Flat}
 use Rattle.vw_net.specs.Order.{IsOrder, is_gate, is_latch, is_among, is_ready, read_nets_at, gate_inputs}
 use Rattle.vw_net.specs.Cells.{read_nets}
 use Rattle.vw_net.proofs.Orders.{gate_or_latch}
-use Rattle.vw_net.proofs.Booleans.{same_truth}
-use Rattle.vw_order.specs.declared.mark.Mark.{Mark}
-use Rattle.vw_order.specs.Inputs.{gate_of}
-use Rattle.vw_order.specs.Search.{Graph, gates, ReadsAt, IsSearch, IsNumberOrder}
-use Rattle.vw_order.proofs.Among.{at_among, once_apart}
-use Rattle.vw_order.proofs.Gates.{is_gate_of}
-
--- nothing is open, and all are done
-pub ended : (graph : Graph) (marks : List Mark) (cursors order : List ℕ) → IsSearch graph marks cursors order [] → ((number : ℕ) → graph.counts number ≡ true → is_among order number ≡ true) → IsNumberOrder graph order
-ended graph marks cursors order far all = record {
-  all = all;
-  counted = λ number among. far.counted number (ap (λ (s : List ℕ). is_among s number) (append-nil order) ∙ among);
-  once = subst (λ (s : List ℕ). IsDistinct eqb s) (append-nil order) far.once;
-  behind = far.behind;
-}
+use Rattle.vw_search.specs.Graphs.{ReadsAt}
+use Rattle.vw_search.specs.Orders.{IsNumberOrder}
+use Rattle.vw_search.proofs.Among.{at_among, once_apart}
+use Rattle.vw_order.specs.Gates.{gate_of, gates}
+use Rattle.vw_order.proofs.Inputs.{is_gate_of}
 
 -- all pass, where each one that has a place does
 all_at : (test : ℕ → Bool) (nets : List ℕ) → ((place net : ℕ) → slice_get nets place ≡ Some net → test net ≡ true) → list_all test nets ≡ true
@@ -82,7 +73,7 @@ module _ (flat : Flat) (order : List ℕ) (far : IsNumberOrder (gates flat) orde
 
   pub is_order : IsOrder flat.inputs flat.cells order
   is_order = record {
-    each = λ number. same_truth (is_gate (slice_get flat.cells number)) (is_among order number) (far.all number) (far.counted number);
+    each = λ number. both_ways (is_gate (slice_get flat.cells number)) (is_among order number) (far.all number) (far.counted number);
     once = once_apart order far.once;
     after = λ i within. ready (take i order) (get_or order i 0) (λ place other reads. far.behind i place other within reads) (slice_get flat.cells (get_or order i 0)) refl (far.counted (get_or order i 0) (at_among order i within));
   }

@@ -1,8 +1,5 @@
 pub mod Reads
 pub mod Loops
 pub mod Faults
-pub mod Inputs
-pub mod Ahead
-pub mod Circles
-pub mod Search
+pub mod Gates
 pub mod Found

@@ -1,5 +1,5 @@
 -- Gates that read each other in a circle, by their cell numbers. A latch isn't a gate, so feedback through one is none.
-use Rattle.std.specs.Prelude.{◌<◌, ◌≤◌, ◌==◌, ℕ, List, [], ◌∷◌, ◌++◌, length, slice_index, IsTrue}
+use Rattle.std.specs.Prelude.{◌<◌, ◌≤◌, ◌==◌, ℕ, List, length, slice_index, IsTrue}
 use Rattle.std.specs.List.{AllZip, IsDistinct}
 use Rattle.vw_net.specs.declared.flat.Flat.{Flat}
 use Rattle.vw_net.specs.Lists.{turned}

@@ -3,10 +3,10 @@ ghost use Rattle.std.specs.Prelude.{◌≡◌, IfOk, IfErr};
 ghost use Rattle.vw_order.specs.Faults.{IsOrderFault};
 ghost use Rattle.vw_order.specs.Found.{IsAnswered};
 
-use crate::circle::from_least;
-use crate::search::{Found, search};
+use crate::gates::Gates;
 use std::alloc::{AllocError, Global};
 use vw_net::{Flat, Ordered, Sequence};
+use vw_search::{Found, search};
 
 /// Why a netlist has no order.
 #[derive(Drop)]
@@ -29,10 +29,7 @@ pub struct OrderRefused {
 fn answer(alloc: Global, flat: &Flat) -> Result<Found, AllocError>
     ensures { IfOk result (IsAnswered flat.now) }
 {
-    match search(alloc, flat)? {
-        Found::Order(order) => Ok(Found::Order(order)),
-        Found::Circle(circle) => Ok(Found::Circle(from_least(alloc, &circle)?)),
-    }
+    search(alloc, &Gates { flat })
 }
 
 /// The netlist with an order in which its gates can be worked out, one after the other. It is refused with `Loop` where

@@ -1,13 +1,10 @@
 //! An order in which the gates of a netlist can be worked out, or gates that read each other in a loop.
 #![tactic(auto)]
 
-mod circle;
-mod depth;
 mod gate_order;
+mod gates;
 mod laws;
-mod mark;
 mod read;
-mod search;
 
 pub use gate_order::{OrderFault, OrderRefused, order};
 pub use laws::{loop_free_is_ordered, orders_are_loop_free};

@@ -9,10 +9,10 @@ use Rattle.std.proofs.lemmas.List.Folds.{Any-from_list_any, list_any-append, lis
 use Rattle.std.proofs.lemmas.List.Kept.{AllPairs-from_increasing, Contains-dedup_nat, Contains-from_dedup}
 use Rattle.std.proofs.lemmas.List.Sorted.{list_any-IsPermutation}
 use Rattle.std.proofs.lemmas.Map.Keys.{IsStrictlyIncreasing-dedup}
+use Rattle.std.specs.Cmp.{both_ways}
 use Rattle.vw_net.specs.declared.cell.Cell.{Cell}
 use Rattle.vw_net.specs.Cells.{IsWellFormed, read_nets}
 use Rattle.vw_net.specs.Order.{is_among}
-use Rattle.vw_net.proofs.Booleans.{same_truth}
 use Rattle.vw_part.specs.Pins.{AreNetsOf, ArePins, times_among}
 use Rattle.vw_part.proofs.Totals.{at_other, at_same}
 
@@ -48,7 +48,7 @@ kept_same numbers number =
     let any : Any (λ other. test other ≡ true) numbers = Any-from_list_any test numbers listed in
     let there : Contains (dedup eqb numbers) any.1 = Contains-dedup_nat numbers any.1 (any.0, any.2, any.3) in
     list_any-from_Any test (dedup eqb numbers) (there.0, any.1, there.1, there.2, any.4) in
-    same_truth (list_any test (dedup eqb numbers)) (list_any test numbers) to from
+    both_ways (list_any test (dedup eqb numbers)) (list_any test numbers) to from
 
 turned : (one other : Bool) → (one || (other || false)) ≡ (other || one)
 turned true true = refl

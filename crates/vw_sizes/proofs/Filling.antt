@@ -15,9 +15,10 @@ use Rattle.vw_design.specs.ModelNumbers.{is_reached_model, has_number_among, IsM
 use Rattle.vw_design.proofs.Closed.{at_reached, model_is_named}
 use Rattle.vw_design.proofs.Has.{Has, at-Has, all-Has, from-any, any-Has}
 use Rattle.vw_design.proofs.Names.{same_name, equal_names}
-use Rattle.vw_models.proofs.Among.{among_Has, among_at, at_among, once_short}
+use Rattle.vw_search.proofs.Among.{among_at, at_among, front_position, once_short}
+use Rattle.vw_models.proofs.Among.{among_Has}
 use Rattle.vw_design.proofs.ModelNumbers.{place_of_model, model_of_place, name_of_named}
-use Rattle.vw_models.proofs.Orders.{rank, ranking, front_position}
+use Rattle.vw_models.proofs.Orders.{rank, ranking}
 use Rattle.vw_sizes.specs.declared.measure.Measure.{Measure}
 use Rattle.vw_sizes.specs.Counting.{most, amount, count_in, AreCounts, IsRanked}
 use Rattle.vw_sizes.proofs.Sums.{amount_same}

@@ -1,6 +1,7 @@
 -- The quantities of a design, from the counts of its root.
 use Rattle.std.proofs.Common.{◌≡◌, ◌<◌, ◌+◌, ℕ, suc, min, Bool, true, cond, List, [], ◌∷◌, length, find, filter, not, nat_lt, Option, Some, slice_index_or, refl, sym, ◌∙◌, ap, ap₂, arith}
 use Rattle.std.proofs.lemmas.Bool.{ltb-true, lt-ltb}
+use Rattle.std.specs.Cmp.{both_ways}
 use Rattle.vw_design.specs.declared.item.Item.{Item}
 use Rattle.vw_design.specs.declared.model.Model.{Model}
 use Rattle.vw_design.specs.declared.design.Design.{Design}
@@ -15,7 +16,6 @@ use Rattle.vw_design.proofs.Closed.{reached_at}
 use Rattle.vw_design.proofs.Heights.{design_reaches}
 use Rattle.vw_design.proofs.Weights.{design_weighs, instances_weigh, cells_weigh, capped_weight, heights}
 use Rattle.vw_design.proofs.ModelNumbers.{place_of_model}
-use Rattle.vw_net.proofs.Booleans.{same_truth}
 use Rattle.vw_design.proofs.FilteredLists.{find_same}
 use Rattle.vw_sizes.specs.declared.measure.Measure.TheVariants.{Instances, Bindings, Cells, Levels}
 use Rattle.vw_sizes.specs.declared.totals.Totals.{Totals}
@@ -61,7 +61,7 @@ module _ (design : Design) (root : Model) (is : model_at design [] ≡ Some root
 
 -- a count with an end is above a limit below that end where the count is
 above_same : (limit end count : ℕ) → limit < end → nat_lt limit (min end count) ≡ nat_lt limit count
-above_same limit end count low = same_truth (nat_lt limit (min end count)) (nat_lt limit count)
+above_same limit end count low = both_ways (nat_lt limit (min end count)) (nat_lt limit count)
     (λ there. lt-ltb limit count (omega (arith, ltb-true limit (min end count) there)))
     (λ back. lt-ltb limit (min end count) (omega (arith, low, ltb-true limit count back)))
 

@@ -11,11 +11,11 @@ use Rattle.std.proofs.lemmas.Cmp.{and_equiv, nat_eq_equiv, on_equiv}
 use Rattle.std.proofs.lemmas.List.Folds.{Any-from_list_any, list_any-append, list_any-from_Any}
 use Rattle.std.proofs.lemmas.List.Kept.{Contains-dedup, Contains-from_dedup, IsStrictlySortedBy-dedup}
 use Rattle.std.proofs.lemmas.List.Sorted.{list_any-IsPermutation}
+use Rattle.std.specs.Cmp.{both_ways}
 use Rattle.vw_net.specs.declared.cell.Cell.{Cell}
 use Rattle.vw_net.specs.declared.flat.Flat.{Flat}
 use Rattle.vw_net.specs.Cells.{read_nets}
 use Rattle.vw_net.specs.Order.{is_among}
-use Rattle.vw_net.proofs.Booleans.{same_truth}
 use Rattle.vw_plan.specs.declared.need.Need.{Need}
 use Rattle.vw_plan.specs.Needs.{is_pair}
 use Rattle.vw_plan.specs.Nets.{is_needed, node_of}
@@ -37,7 +37,7 @@ need_of node net = record { net = net; to = node }
 any_here : (net node : ℕ) (nets : List ℕ) → list_any (is_pair net node) (map (need_of node) nets) ≡ is_among nets net
 any_here net node [] = refl
 any_here net node (other ∷ nets) =
-    let own : is_pair net node (need_of node other) ≡ eqb other net = same_truth (is_pair net node (need_of node other)) (eqb other net) (λ is. (and_parts (eqb other net) (eqb node node) is).0) (λ is. and_from (eqb other net) (eqb node node) is (eq-eqb node node refl)) in
+    let own : is_pair net node (need_of node other) ≡ eqb other net = both_ways (is_pair net node (need_of node other)) (eqb other net) (λ is. (and_parts (eqb other net) (eqb node node) is).0) (λ is. and_from (eqb other net) (eqb node node) is (eq-eqb node node refl)) in
     ap₂ (λ (first rest : Bool). first || rest) own (any_here net node nets)
 
 -- and none of another node
@@ -107,7 +107,7 @@ module _ (flat : Flat) (chip_of : List ℕ) (net node : ℕ) where
       ∙ and_over_or leaves _ _
     where
       turned : (one other : ℕ) → eqb one other ≡ eqb other one
-      turned one other = same_truth (eqb one other) (eqb other one) (λ is. eq-eqb other one (sym (eqb-true one other is))) (λ is. eq-eqb one other (sym (eqb-true other one is)))
+      turned one other = both_ways (eqb one other) (eqb other one) (λ is. eq-eqb other one (sym (eqb-true one other is))) (λ is. eq-eqb one other (sym (eqb-true other one is)))
 
 -- ---- sorted, and each kept once
 
@@ -145,7 +145,7 @@ kept_same needs net node =
     let any : Any (λ need. test need ≡ true) needs = Any-from_list_any test needs listed in
     let there : Contains (dedup same needs) any.1 = Contains-dedup same_equiv same_is needs any.1 (any.0, any.2, any.3) in
     list_any-from_Any test (dedup same needs) (there.0, any.1, there.1, there.2, any.4) in
-    same_truth (list_any test (dedup same needs)) (list_any test needs) to from
+    both_ways (list_any test (dedup same needs)) (list_any test needs) to from
 
 -- pairs that are listed in any way, sorted, and kept once, are the list of the same pairs that rises
 pub sorted_once : (listed sorted kept needs : List Need) → IsPermutation listed sorted → IsSorted need_cmp sorted → kept ≡ dedup same sorted → IsStrictlySortedBy need_cmp needs → HaveSame listed needs → kept ≡ needs

@@ -1,14 +1,14 @@
 use Rattle.std.proofs.Common.{⊎_elim}
-use Rattle.vw_order.specs.Search.{gates}
-use Rattle.vw_order.proofs.Gates.{within}
+use Rattle.vw_search.proofs.Growth.{order_or_circle}
+use Rattle.vw_order.specs.Gates.{gates}
+use Rattle.vw_order.proofs.Inputs.{within}
 use Rattle.vw_order.proofs.Orders.{is_order}
-use Rattle.vw_order.proofs.Turned.{is_loop}
-use Rattle.vw_order.proofs.Growth.{order_or_circle, least_of}
+use Rattle.vw_order.proofs.Loops.{is_loop}
 use Rattle.vw_order.proofs.laws.loop_free_is_ordered.Goals as goal
 
 -- an order grows by one gate that reads nothing that is left; where there is none, a walk along what is left meets itself
 pub returns : goal.returns
 returns c = λ flat free. ⊎_elim
-    (λ circle. let least = least_of circle.0 circle.1.some in absurd (free _ (is_loop flat circle.0 circle.1 least.0 least.1)))
+    (λ circle. absurd (free circle.0 (is_loop flat circle.0 circle.1 circle.2)))
     (λ found. (found.0, is_order flat found.0 found.1))
     (order_or_circle (gates flat) (within flat))

@@ -1,0 +1,93 @@
+-- Numbers among others, and lists in which none stands twice.
+use Rattle.std.proofs.Common.{◌≡◌, ◌≢◌, ◌<◌, ◌≤◌, ◌+◌, ◌==◌, ◌||◌, not, cond, take, drop, ap, inl, inr, ℕ, zero, suc, Bool, true, false, List, [], ◌∷◌, ◌++◌, length, get_or, ◌⊎◌, ⊎_elim, refl, sym, ◌∙◌, ap₂, subst, eqb, true≢false, append_assoc, arith}
+use Rattle.std.specs.List.{list_any, position_or_len, IsDistinct}
+use Rattle.std.specs.Cmp.{nat_eq_equiv}
+use Rattle.std.proofs.lemmas.Bool.{eqb-true, eq-eqb, or_cases, or_left, or_right}
+use Rattle.std.proofs.lemmas.Grind.{common_steps}
+use Rattle.std.proofs.lemmas.List.{take-append-drop}
+use Rattle.std.proofs.lemmas.List.Folds.{list_any-append, list_any_at}
+use Rattle.std.proofs.lemmas.List.Sorted.{IsPermutation-append_right, IsPermutation-to_front}
+use Rattle.std.proofs.lemmas.Map.Keys.{IsDistinct-push, IsDistinct-IsPermutation, IsDistinct-tail, apart_from_distinct}
+use Rattle.std.proofs.lemmas.Map.Steps.{length-le_from_distinct_below}
+use Rattle.vw_net.specs.Order.{is_among}
+
+-- among numbers that are joined
+pub among_left : (numbers others : List ℕ) (number : ℕ) → is_among numbers number ≡ true → is_among (numbers ++ others) number ≡ true
+among_left numbers others number among =
+    list_any-append (λ (other : ℕ). other == number) numbers others ∙ or_left (is_among numbers number) (is_among others number) among
+
+pub among_right : (numbers others : List ℕ) (number : ℕ) → is_among others number ≡ true → is_among (numbers ++ others) number ≡ true
+among_right numbers others number among =
+    list_any-append (λ (other : ℕ). other == number) numbers others ∙ or_right (is_among numbers number) (is_among others number) among
+
+pub among_either : (numbers others : List ℕ) (number : ℕ) → is_among (numbers ++ others) number ≡ true → (is_among numbers number ≡ true) ⊎ (is_among others number ≡ true)
+among_either numbers others number among =
+    or_cases (is_among numbers number) (is_among others number) (sym (list_any-append (λ (other : ℕ). other == number) numbers others) ∙ among)
+
+pub among_one : (other number : ℕ) → is_among (other ∷ []) number ≡ true → other ≡ number
+among_one other number among = ⊎_elim (λ same. eqb-true other number same) (λ later. absurd (true≢false (sym later))) (or_cases (other == number) false among)
+
+pub among_first : (number : ℕ) (numbers : List ℕ) → is_among (number ∷ numbers) number ≡ true
+among_first number numbers = or_left (number == number) (is_among numbers number) (eq-eqb number number refl)
+
+pub among_last : (numbers : List ℕ) (number : ℕ) → is_among (numbers ++ number ∷ []) number ≡ true
+among_last numbers number = among_right numbers (number ∷ []) number (among_first number [])
+
+-- by its place
+pub among_at : (numbers : List ℕ) (number : ℕ) → is_among numbers number ≡ true → (i : ℕ) × (i < length numbers) × (get_or numbers i 0 ≡ number)
+among_at [] number among = absurd (true≢false (sym among))
+among_at (first ∷ numbers) number among =
+    ⊎_elim
+    (λ here. (0, omega arith, eqb-true first number here))
+    (λ there. let at = among_at numbers number there in (suc at.0, omega (arith, at.1), at.2))
+    (or_cases (first == number) (is_among numbers number) among)
+
+pub at_among : (numbers : List ℕ) (i : ℕ) → i < length numbers → is_among numbers (get_or numbers i 0) ≡ true
+at_among numbers i within = list_any_at (λ (other : ℕ). other == get_or numbers i 0) numbers i 0 within (eq-eqb (get_or numbers i 0) (get_or numbers i 0) refl)
+
+-- whichever side of the test it stands on
+pub eqb_comm : (a b : ℕ) → eqb a b ≡ eqb b a
+eqb_comm a b = grind (arith, common_steps)
+
+pub among-flip : (number : ℕ) (numbers : List ℕ) → list_any (eqb number) numbers ≡ is_among numbers number
+among-flip number [] = refl
+among-flip number (other ∷ others) = ap₂ (λ (first rest : Bool). first || rest) (eqb_comm number other) (among-flip number others)
+
+-- numbers of which none stands twice
+pub once_none : IsDistinct eqb []
+unfolding IsDistinct
+once_none = tt
+
+pub once_part : (front back : List ℕ) → IsDistinct eqb (front ++ back) → IsDistinct eqb back
+once_part [] back once = once
+once_part (number ∷ front) back once = once_part front back (IsDistinct-tail eqb number (front ++ back) once)
+
+pub once_push : (numbers : List ℕ) (number : ℕ) → IsDistinct eqb numbers → is_among numbers number ≡ false → IsDistinct eqb (numbers ++ number ∷ [])
+once_push numbers number once fresh = IsDistinct-push nat_eq_equiv numbers number once (among-flip number numbers ∙ fresh)
+
+pub once_short : (numbers : List ℕ) (count : ℕ) → IsDistinct eqb numbers → ((number : ℕ) → is_among numbers number ≡ true → number < count) → length numbers ≤ count
+once_short numbers count once within = length-le_from_distinct_below numbers count once (λ number among. within number (sym (among-flip number numbers) ∙ among))
+
+pub once_moved : (order stack : List ℕ) (number : ℕ) → IsDistinct eqb (order ++ (stack ++ number ∷ [])) → IsDistinct eqb ((order ++ number ∷ []) ++ stack)
+once_moved order stack number once =
+    subst (λ (numbers : List ℕ). IsDistinct eqb numbers) (sym (append_assoc order (number ∷ []) stack))
+    (IsDistinct-IsPermutation eqb eqb_comm (order ++ (stack ++ number ∷ [])) (order ++ number ∷ stack)
+    (IsPermutation-append_right order (stack ++ number ∷ []) (number ∷ stack) (IsPermutation-to_front stack number)) once)
+
+pub once_apart : (numbers : List ℕ) → IsDistinct eqb numbers → (i j : ℕ) → i < j → j < length numbers → get_or numbers i 0 ≢ get_or numbers j 0
+once_apart numbers once i j before within same =
+    absurd (true≢false (sym (eq-eqb (get_or numbers i 0) (get_or numbers j 0) same) ∙ apart_from_distinct eqb numbers i j 0 once before within))
+
+-- what stands at the front of a list stands in it
+pub front_among : (numbers : List ℕ) (i number : ℕ) → is_among (take i numbers) number ≡ true → is_among numbers number ≡ true
+front_among numbers i number among = ap (λ (l : List ℕ). is_among l number) (sym (take-append-drop i numbers)) ∙ among_left (take i numbers) (drop i numbers) number among
+
+-- the first that passes stands before what is behind another one that passes
+pub front_position : {A : Type 0} → (test : A → Bool) (xs : List A) (end : ℕ) → list_any test (take end xs) ≡ true → position_or_len test xs < end
+front_position test [] zero any = absurd (true≢false (sym any))
+front_position test [] (suc end) any = absurd (true≢false (sym any))
+front_position test (x ∷ xs) zero any = absurd (true≢false (sym any))
+front_position test (x ∷ xs) (suc end) any = by (test x) refl (⊎_elim (λ here. inl here) (λ there. inr (front_position test xs end there)) (or_cases (test x) (list_any test (take end xs)) any)) where
+  by : (b : Bool) → test x ≡ b → (test x ≡ true) ⊎ (position_or_len test xs < end) → cond (not b) (1 + position_or_len test xs) 0 < suc end
+  by true is which = omega arith
+  by false is which = ⊎_elim (λ here. absurd (true≢false (sym here ∙ is))) (λ further. omega (arith, further)) which

@@ -1,0 +1,5 @@
+pub mod Among
+pub mod Rounds
+pub mod LeastFirst
+pub mod Searches
+pub mod Growth
