@@ -28,7 +28,7 @@ use Rattle.vw_nets.specs.Columns.{AreColumns}
 use Rattle.vw_elab.specs.declared.elaborated.Instance.{Instance}
 use Rattle.vw_elab.specs.declared.elaborated.Reading.{Reading}
 use Rattle.vw_elab.specs.declared.parts.Parts.{Parts}
-use Rattle.vw_elab.specs.Tables.{AreParts}
+use Rattle.vw_elab.specs.Tables.{AreDesignParts}
 use Rattle.vw_elab.specs.Numbers.{IsPlacedBy, IsInstance, driver_of}
 use Rattle.vw_elab.specs.ByColumns.{driver_by, reading_of}
 use Rattle.vw_elab.proofs.PortColumns.{by_columns}
@@ -66,7 +66,7 @@ module _ (design : Design) where
     pub listed : slice_get (instances design) instance ≡ Some site.path
     pub reading : reading_of parts cell input ≡ Some (record { instance = instance; claim = number_named (instance_firsts parts.tables instance) name })
 
-  pub read_is : (parts : Parts) → AreParts design parts
+  pub read_is : (parts : Parts) → AreDesignParts design parts
       → (cell input : ℕ) (site : Site) (name : Word) → slice_get (cells design) cell ≡ Some site → slice_get (reads_of site.item) input ≡ Some name → IsRead parts cell input site name
   read_is parts are cell input site name at reads =
       let tables = parts.tables in

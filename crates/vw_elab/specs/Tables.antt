@@ -9,7 +9,7 @@ use Rattle.vw_nets.specs.Columns.{AreColumns}
 use Rattle.vw_elab.specs.declared.parts.Parts.{Parts}
 
 -- instances, cells and drivers by numbers
-pub record AreParts (design : Design) (parts : Parts) : Type 0 where
+pub record AreDesignParts (design : Design) (parts : Parts) : Type 0 where
   pub tables : AreTables design parts.tables
   pub cells : AreCellSites design parts.cells
   pub drivers : AreDrivers design parts.tables parts.drivers
@@ -17,5 +17,5 @@ pub record AreParts (design : Design) (parts : Parts) : Type 0 where
 -- and the columns, of a design without a fault
 pub record IsElaborated (design : Design) (made : Parts) (numbers : Columns) : Type 0 where
   pub accepted : IsAccepted design
-  pub parts : AreParts design made
+  pub parts : AreDesignParts design made
   pub columns : AreColumns design (root_firsts made.tables) numbers

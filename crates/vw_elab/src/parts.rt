@@ -4,7 +4,7 @@ ghost use Rattle.vw_design.specs.Accepted.{HasNoModelFault};
 ghost use Rattle.vw_nets.specs.Nets.{AreNets};
 ghost use Rattle.vw_sizes.specs.Sizes.{AreSizes};
 ghost use Rattle.vw_elab.specs.Steps.{AreModels};
-ghost use Rattle.vw_elab.specs.Tables.{AreParts};
+ghost use Rattle.vw_elab.specs.Tables.{AreDesignParts};
 
 use crate::models::Models;
 use std::alloc::{AllocError, Global};
@@ -34,7 +34,7 @@ impl Parts {
         requires models { AreModels design.now models.now }
         requires sizes { AreSizes design.now sizes }
         requires faultless { HasNoModelFault design.now }
-        ensures { IfOk result (AreParts design.now) }
+        ensures { IfOk result (AreDesignParts design.now) }
     {
         let targets = models.targets.as_slice();
         let walked = walk(alloc, design, targets, sizes.instances, sizes.cells)?;
@@ -50,7 +50,7 @@ impl Parts {
     /// The tables by which the nets are looked at.
     pub fn nets<'a>(&'a self, design: &'a Design) -> Nets<'a>
         requires faultless { HasNoModelFault design.now }
-        requires parts { AreParts design.now self.now }
+        requires parts { AreDesignParts design.now self.now }
         ensures nets { AreNets result }
         ensures design { result.design.now ≡ design.now }
         ensures tables { result.tables.now ≡ self.now.tables }

@@ -6,6 +6,6 @@ use Rattle.vw_models.specs.declared.order.ModelOrder.{ModelOrder}
 use Rattle.vw_models.specs.declared.order.ModelOrder.TheVariants.{Order, Circle}
 
 -- an order of them, or a circle
-abbrev pub IsFound : Design → ModelOrder → Type 0
-IsFound design (Order order) = IsModelOrder design order
-IsFound design (Circle names) = IsModelCircle design names
+abbrev pub IsModelAnswer : Design → ModelOrder → Type 0
+IsModelAnswer design (Order order) = IsModelOrder design order
+IsModelAnswer design (Circle names) = IsModelCircle design names

@@ -2,10 +2,10 @@
 ghost use Rattle.std.specs.Prelude.{◌≡◌, None, IfOk};
 ghost use Rattle.vw_design.specs.ModelFaults.{unknown_model};
 ghost use Rattle.vw_design.specs.ModelNumbers.{AreTargets};
-ghost use Rattle.vw_models.specs.ModelOrders.{IsFound};
+ghost use Rattle.vw_models.specs.ModelOrders.{IsModelAnswer};
 
 use crate::circle::circle_names;
-use crate::placed::Placed;
+use crate::placed::PlacedModels;
 use std::alloc::{AllocError, Global};
 use vw_design::Design;
 use vw_net::Sequence;
@@ -30,9 +30,9 @@ pub fn order_of(
 ) -> Result<ModelOrder, AllocError>
     requires targets { AreTargets design.now targets.now }
     requires known { unknown_model design.now ≡ None }
-    ensures { IfOk result (IsFound design.now) }
+    ensures { IfOk result (IsModelAnswer design.now) }
 {
-    match search(alloc, &Placed { design, targets })? {
+    match search(alloc, &PlacedModels { design, targets })? {
         Found::Order(order) => Ok(ModelOrder::Order(Sequence::of(order))),
         Found::Circle(circle) => Ok(ModelOrder::Circle(circle_names(alloc, design, &circle)?)),
     }

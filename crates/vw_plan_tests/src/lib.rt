@@ -29,6 +29,8 @@ mod route;
 #[cfg(test)]
 mod schedule;
 #[cfg(test)]
+mod search;
+#[cfg(test)]
 mod slots;
 #[cfg(test)]
 mod wires;

@@ -1,4 +1,3 @@
 pub mod Marks
 pub mod Rounds
 pub mod Searches
-pub mod Tables

@@ -9,6 +9,3 @@ mod mark;
 
 pub use depth_first::{Found, search};
 pub use digraph::Digraph;
-
-#[cfg(test)]
-mod tests;

@@ -18,11 +18,11 @@ use Rattle.vw_models.specs.Reach.{Targets}
 use Rattle.vw_models.proofs.Unknowns.{AreAlong}
 use Rattle.vw_design.proofs.ModelNumbers.{place_of_model, model_of_place, name_of_named}
 use Rattle.vw_models.proofs.Places.{at_within}
-use Rattle.vw_sizes.specs.Counting.{target_in, count_at, count_in, IsWithin}
+use Rattle.vw_sizes.specs.Counting.{target_in, count_at, count_in, IsWithinModels}
 
 module _ (design : Design) (counts : List ℕ) (each : length counts ≡ length design.models) where
   -- the number of a name says what the name says
-  within_of : (name : Word) (number : Option ℕ) → IsNumberOfModel design name number → IsWithin (length counts) number
+  within_of : (name : Word) (number : Option ℕ) → IsNumberOfModel design name number → IsWithinModels (length counts) number
   within_of name None is = tt
   within_of name (Some number) is = omega (arith, is.0, each)
 
@@ -42,7 +42,7 @@ module _ (design : Design) (counts : List ℕ) (each : length counts ≡ length 
   -- an item's number, its count, and those of the other items
   pub record IsNext (items : List Item) (targets : List (Option ℕ)) (i place : ℕ) (item : Item) : Type 0 where
     pub inside : place + placed_one item ≤ length targets
-    pub within : IsWithin (length counts) (target_in targets place item)
+    pub within : IsWithinModels (length counts) (target_in targets place item)
     pub below : count_at counts (target_in targets place item) ≡ placed_weight (count_in design counts) item
     pub rest : AreAlong design (drop (i + 1) items) (drop (place + placed_one item) targets)
 

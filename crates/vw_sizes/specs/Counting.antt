@@ -59,9 +59,9 @@ abbrev pub count_at : List ℕ → Option ℕ → ℕ
 count_at counts None = 0
 count_at counts (Some number) = slice_index_or counts number 0
 
-abbrev pub IsWithin : ℕ → Option ℕ → Type 0
-IsWithin count None = Unit {0}
-IsWithin count (Some number) = number < count
+abbrev pub IsWithinModels : ℕ → Option ℕ → Type 0
+IsWithinModels count None = Unit {0}
+IsWithinModels count (Some number) = number < count
 
 -- the count of a name; none where the file has no model of the name
 abbrev pub count_in : Design → List ℕ → Word → ℕ

@@ -10,7 +10,7 @@ ghost use Rattle.vw_sizes.specs.Counting.{
   target_in,
   count_at,
   count_in,
-  IsWithin,
+  IsWithinModels,
   AreCounts,
 };
 
@@ -34,7 +34,7 @@ pub fn target_of(item: &Item, targets: &[Option<u32>], place: usize) -> Option<u
 
 /// The count of the model with a number; 0 where there is none.
 pub fn count_of(counts: &[u32], target: Option<u32>) -> u32
-    requires { IsWithin (length counts.now) target }
+    requires { IsWithinModels (length counts.now) target }
     ensures { result ≡ count_at counts.now target }
 {
     match target {

@@ -2,8 +2,8 @@ use Rattle.std.proofs.Common.{◌≡◌, ◌==◌, ◌&&◌, ℕ, zero, suc, Boo
 use Rattle.std.proofs.lemmas.Bool.{and_parts, ltb-true}
 use Rattle.std.proofs.lemmas.Option.{none-some, same_Some}
 use Rattle.vw_search.specs.Graphs.{IsWithin}
-use Rattle.vw_search.specs.Steps.Tables.{read_in_line, graph_of_table}
-use Rattle.vw_search.proofs.tests.look_at.Goals as goal
+use Rattle.vw_plan_tests.specs.GraphTables.{read_in_line, graph_of_table}
+use Rattle.vw_plan_tests.proofs.search.look_at.Goals as goal
 
 -- what is read in a line is below the count
 line_within : (count number : ℕ) (line : ℕ × ℕ) (other : ℕ) → read_in_line count number line ≡ Some other → nat_lt other count ≡ true

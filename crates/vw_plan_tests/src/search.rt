@@ -1,8 +1,8 @@
-ghost use Rattle.vw_search.specs.Steps.Tables.{graph_of_table};
+ghost use Rattle.vw_plan_tests.specs.GraphTables.{graph_of_table};
 
-use super::*;
 use std::alloc::{AllocError, Global};
 use std::test::Fail;
+use vw_search::{Digraph, Found, search};
 
 /// A graph as a table of lines, each with a number and one that it reads. A line with a number past the last one is
 /// passed over.
