@@ -22,6 +22,3 @@ pub use reason::Reason;
 pub use refusal::Refusal;
 pub use statuses::{check_statuses, plan_statuses, sim_statuses, usage_statuses};
 pub use stop::{File, Stop};
-
-#[cfg(test)]
-mod tests;

@@ -72,13 +72,7 @@ fn each_fault_over_several_models_has_its_line(rt: HostRuntime) -> Result<(), Fa
             "design 24: clock as data 1/2/i\n",
         ),
     ];
-    for (design, line) in table {
-        let ran = sim(rt.alloc(), design, "")?;
-        assert_eq!(rt; ran.status, 1, "{design}");
-        assert_eq!(rt; ran.err.as_slice(), line.as_bytes(), "{design}");
-        assert!(rt; ran.out.is_empty());
-    }
-    Ok(())
+    designs_are_refused(&rt, rt.alloc(), &table)
 }
 
 /// Each design has two faults, and the one that comes later in the text is of the kind that is looked for first.
@@ -153,13 +147,7 @@ fn each_kind_is_looked_for_in_the_whole_design_before_the_next(
             "design 24: clock as data c\n",
         ),
     ];
-    for (design, line) in table {
-        let ran = sim(rt.alloc(), design, "")?;
-        assert_eq!(rt; ran.status, 1, "{design}");
-        assert_eq!(rt; ran.err.as_slice(), line.as_bytes(), "{design}");
-        assert!(rt; ran.out.is_empty());
-    }
-    Ok(())
+    designs_are_refused(&rt, rt.alloc(), &table)
 }
 
 #[test]
@@ -241,11 +229,5 @@ fn the_first_place_of_a_kind_counts(rt: HostRuntime) -> Result<(), Fail> {
             "design 24: clock as data c\n",
         ),
     ];
-    for (design, line) in table {
-        let ran = sim(rt.alloc(), design, "")?;
-        assert_eq!(rt; ran.status, 1, "{design}");
-        assert_eq!(rt; ran.err.as_slice(), line.as_bytes(), "{design}");
-        assert!(rt; ran.out.is_empty());
-    }
-    Ok(())
+    designs_are_refused(&rt, rt.alloc(), &table)
 }

@@ -1,7 +1,7 @@
 -- each so far is one
 use Rattle.std.specs.List.{AllWithin}
 use Rattle.vw_plan.specs.Good.{IsChip}
-use Rattle.vw_plan_tests.proofs.place.are_chips.Given as goal
+use Rattle.vw_plan_tests.proofs.boards.are_chips.Given as goal
 
 abbrev pub invariant-loop-chip : goal.invariant-loop-chip
 invariant-loop-chip l = AllWithin (IsChip l.board) l.chips 0 l.chip-index

@@ -35,13 +35,7 @@ fn texts_of_other_tools_run(rt: HostRuntime) -> Result<(), Fail> {
             "trace 1 3 0\nend 0 -\n",
         ),
     ];
-    for (design, stimulus, trace) in table {
-        let ran = sim(rt.alloc(), design, stimulus)?;
-        assert_eq!(rt; ran.status, 0, "{design}");
-        assert_eq!(rt; ran.out.as_slice(), trace.as_bytes(), "{design}");
-        assert!(rt; ran.err.is_empty());
-    }
-    Ok(())
+    designs_run(&rt, rt.alloc(), &table)
 }
 
 #[test]
@@ -94,13 +88,7 @@ fn each_fault_of_a_design_has_its_line(rt: HostRuntime) -> Result<(), Fail> {
             "design 12: line 2: bad binding\n",
         ),
     ];
-    for (design, line) in table {
-        let ran = sim(rt.alloc(), design, "")?;
-        assert_eq!(rt; ran.status, 1, "{design}");
-        assert_eq!(rt; ran.err.as_slice(), line.as_bytes(), "{design}");
-        assert!(rt; ran.out.is_empty());
-    }
-    Ok(())
+    designs_are_refused(&rt, rt.alloc(), &table)
 }
 
 #[test]
@@ -110,13 +98,8 @@ fn a_table_of_129_inputs_is_refused(rt: HostRuntime) -> Result<(), Fail> {
         design.push_str(" a")?;
     }
     design.push_str(" b\n")?;
-    let ran = sim(rt.alloc(), design.as_str(), "")?;
-    assert_eq!(rt; ran.status, 1);
-    assert_eq!(rt;
-        ran.err.as_slice(),
-        b"design 7: line 4: more than 128 inputs\n".as_slice()
-    );
-    Ok(())
+    let line = "design 7: line 4: more than 128 inputs\n";
+    designs_are_refused(&rt, rt.alloc(), &[(design.as_str(), line)])
 }
 
 #[test]

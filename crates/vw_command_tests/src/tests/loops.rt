@@ -48,13 +48,7 @@ fn gates_that_read_each_other_are_a_loop(rt: HostRuntime) -> Result<(), Fail> {
             "design 25: loop 1/2/o n\n",
         ),
     ];
-    for (design, line) in table {
-        let ran = sim(rt.alloc(), design, "")?;
-        assert_eq!(rt; ran.status, 1, "{design}");
-        assert_eq!(rt; ran.err.as_slice(), line.as_bytes(), "{design}");
-        assert!(rt; ran.out.is_empty());
-    }
-    Ok(())
+    designs_are_refused(&rt, rt.alloc(), &table)
 }
 
 /// Each gate but the first reads the one before it, and the first reads the last. So the second of the list is the last
@@ -117,13 +111,7 @@ fn gates_run_in_any_order(rt: HostRuntime) -> Result<(), Fail> {
             "trace 1 2 2\n0 00 00\n1 11 11\nend 2 00\n",
         ),
     ];
-    for (design, stimulus, trace) in table {
-        let ran = sim(rt.alloc(), design, stimulus)?;
-        assert_eq!(rt; ran.status, 0, "{design}");
-        assert_eq!(rt; ran.out.as_slice(), trace.as_bytes(), "{design}");
-        assert!(rt; ran.err.is_empty());
-    }
-    Ok(())
+    designs_run(&rt, rt.alloc(), &table)
 }
 
 /// A thousand gates, each of which inverts the next one's net, and one that passes the input on. The latches read the
@@ -141,12 +129,6 @@ fn a_thousand_gates_in_reverse_order_run(rt: HostRuntime) -> Result<(), Fail> {
         before = number;
     }
     design.push_str(".names a k1000\n1 1\n")?;
-    let ran = sim(alloc, design.as_str(), "1\n0\n1\n")?;
-    assert_eq!(rt; ran.status, 0);
-    assert_eq!(rt;
-        ran.out.as_slice(),
-        b"trace 1 2 2\n0 10 00\n1 01 10\n2 10 01\nend 3 10\n".as_slice()
-    );
-    assert!(rt; ran.err.is_empty());
-    Ok(())
+    let trace = "trace 1 2 2\n0 10 00\n1 01 10\n2 10 01\nend 3 10\n";
+    designs_run(&rt, rt.alloc(), &[(design.as_str(), "1\n0\n1\n", trace)])
 }

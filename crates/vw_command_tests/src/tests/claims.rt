@@ -58,13 +58,7 @@ fn a_net_has_one_driver(rt: HostRuntime) -> Result<(), Fail> {
             "design 19: undriven y\n",
         ),
     ];
-    for (design, line) in table {
-        let ran = sim(rt.alloc(), design, "")?;
-        assert_eq!(rt; ran.status, 1, "{design}");
-        assert_eq!(rt; ran.err.as_slice(), line.as_bytes(), "{design}");
-        assert!(rt; ran.out.is_empty());
-    }
-    Ok(())
+    designs_are_refused(&rt, rt.alloc(), &table)
 }
 
 #[test]
@@ -108,13 +102,7 @@ fn what_is_read_has_a_driver(rt: HostRuntime) -> Result<(), Fail> {
             "design 19: undriven 1/t\n",
         ),
     ];
-    for (design, line) in table {
-        let ran = sim(rt.alloc(), design, "")?;
-        assert_eq!(rt; ran.status, 1, "{design}");
-        assert_eq!(rt; ran.err.as_slice(), line.as_bytes(), "{design}");
-        assert!(rt; ran.out.is_empty());
-    }
-    Ok(())
+    designs_are_refused(&rt, rt.alloc(), &table)
 }
 
 #[test]
@@ -129,17 +117,8 @@ fn what_nothing_reads_needs_no_driver(rt: HostRuntime) -> Result<(), Fail> {
         // models that nothing places: with every fault but those of the text
         ".model m\n.inputs a\n.outputs a\n.end\n.model n\n.inputs i c\n.outputs i o\n.subckt none x=y\n.subckt n z=u\n.latch c q re g 0\n.latch i q fe c 0\n.names g\n.names o\n.names u v\n1 1\n.names w w\n1 1\n.end\n",
     ];
-    for design in table {
-        let ran = sim(rt.alloc(), design, "1\n0\n")?;
-        assert_eq!(rt; ran.status, 0, "{design}");
-        assert_eq!(rt;
-            ran.out.as_slice(),
-            b"trace 1 1 0\n0 1 -\n1 0 -\nend 2 -\n".as_slice(),
-            "{design}"
-        );
-        assert!(rt; ran.err.is_empty());
-    }
-    Ok(())
+    let trace = "trace 1 1 0\n0 1 -\n1 0 -\nend 2 -\n";
+    designs_run_alike(&rt, rt.alloc(), &table, trace)
 }
 
 #[test]
@@ -204,13 +183,7 @@ fn clocks_are_ports_of_the_root_that_only_controls_read(rt: HostRuntime) -> Resu
             "design 23: several edges p r\n",
         ),
     ];
-    for (design, line) in table {
-        let ran = sim(rt.alloc(), design, "")?;
-        assert_eq!(rt; ran.status, 1, "{design}");
-        assert_eq!(rt; ran.err.as_slice(), line.as_bytes(), "{design}");
-        assert!(rt; ran.out.is_empty());
-    }
-    Ok(())
+    designs_are_refused(&rt, rt.alloc(), &table)
 }
 
 /// Each of the designs has the one column d, and one latch that takes it.
@@ -231,17 +204,8 @@ fn clocks_are_no_columns(rt: HostRuntime) -> Result<(), Fail> {
         // a clock is bound to data that nothing reads, and to a clock two levels down
         ".model m\n.inputs d\n.outputs q\n.clock k\n.subckt l d=d i=k c=k q=q\n.model l\n.inputs i d\n.outputs q\n.clock c\n.subckt n d=d k=c q=q\n.model n\n.inputs d\n.outputs q\n.clock k\n.latch d q re k 0\n",
     ];
-    for design in table {
-        let ran = sim(rt.alloc(), design, "1\n0\n")?;
-        assert_eq!(rt; ran.status, 0, "{design}");
-        assert_eq!(rt;
-            ran.out.as_slice(),
-            b"trace 1 1 1\n0 0 0\n1 1 1\nend 2 0\n".as_slice(),
-            "{design}"
-        );
-        assert!(rt; ran.err.is_empty());
-    }
-    Ok(())
+    let trace = "trace 1 1 1\n0 0 0\n1 1 1\nend 2 0\n";
+    designs_run_alike(&rt, rt.alloc(), &table, trace)
 }
 
 /// A latch without a type goes along with any other one, and so does one that has the type of the others.
@@ -251,15 +215,6 @@ fn latches_without_a_type_have_any_edge(rt: HostRuntime) -> Result<(), Fail> {
         ".model m\n.inputs c d\n.outputs p q r\n.latch d p 1\n.latch d q fe c 0\n.latch d r 0\n",
         ".model m\n.inputs c d\n.outputs p q r\n.latch d p re c 1\n.latch d q re NIL 0\n.latch d r 0\n",
     ];
-    for design in table {
-        let ran = sim(rt.alloc(), design, "1\n0\n")?;
-        assert_eq!(rt; ran.status, 0, "{design}");
-        assert_eq!(rt;
-            ran.out.as_slice(),
-            b"trace 1 3 3\n0 100 100\n1 111 111\nend 2 000\n".as_slice(),
-            "{design}"
-        );
-        assert!(rt; ran.err.is_empty());
-    }
-    Ok(())
+    let trace = "trace 1 3 3\n0 100 100\n1 111 111\nend 2 000\n";
+    designs_run_alike(&rt, rt.alloc(), &table, trace)
 }

@@ -1,17 +1,9 @@
 //! The command `plan`: good plans, which `check` accepts, and designs that have no room.
 use super::*;
 
-const TRIANGLE: &str =
-    "board 1\nchips 2\ncells 1\nsettle 0\npins 4\nlink 0 1 1\nlink 0 2 1\nlink 1 0 1\nlink 1 2 1\nlink 2 0 1\nlink 2 1 1\n";
-
 fn plan(alloc: Global, design: &str, board: &str) -> Result<Ran, AllocError> {
     let texts = [("d", design), ("b", board)];
     call(alloc, &["plan", "d", "b"], &texts, NO_FAULTS)
-}
-
-fn check(alloc: Global, design: &str, board: &str, plan: &str) -> Result<Ran, AllocError> {
-    let texts = [("d", design), ("b", board), ("p", plan)];
-    call(alloc, &["check", "d", "b", "p"], &texts, NO_FAULTS)
 }
 
 /// How `check` ends on what `plan` writes.
@@ -47,8 +39,7 @@ fn plans_are_sound_and_short(rt: HostRuntime) -> Result<(), Fail> {
     ];
     for (design, board, line) in table {
         let ran = planned_and_checked(rt.alloc(), design, board)?;
-        assert_eq!(rt; ran.status, 0, "{design}");
-        assert_eq!(rt; ran.out.as_slice(), line.as_bytes(), "{design}");
+        has_ended(&rt, &ran, design, 0, line, "");
     }
     Ok(())
 }
@@ -56,12 +47,8 @@ fn plans_are_sound_and_short(rt: HostRuntime) -> Result<(), Fail> {
 #[test]
 fn a_design_without_cells_has_an_empty_plan(rt: HostRuntime) -> Result<(), Fail> {
     let ran = plan(rt.alloc(), ".model m\n", TRIANGLE)?;
-    assert_eq!(rt; ran.status, 0);
-    assert_eq!(rt;
-        ran.out.as_slice(),
-        b"plan 1 0 0 1\nchips\nend\n".as_slice()
-    );
-    assert!(rt; ran.err.is_empty());
+    let text = "plan 1 0 0 1\nchips\nend\n";
+    has_ended(&rt, &ran, "no cells", 0, text, "");
     Ok(())
 }
 
@@ -83,12 +70,7 @@ fn designs_that_have_no_room_are_refused(rt: HostRuntime) -> Result<(), Fail> {
         "board 1\nchips 2\ncells 2\nsettle 0\npins 4\nlink 0 1 1\nlink 0 2 1\nlink 1 0 1\nlink 1 2 1\nlink 2 0 1\nlink 2 1 1\n";
     let five = chain_of_gates(rt.alloc(), 5)?;
     let ran = plan(rt.alloc(), five.as_str(), board)?;
-    assert_eq!(rt; ran.status, 6);
-    assert_eq!(rt;
-        ran.err.as_slice(),
-        b"fit: 5 cells, room for 4\n".as_slice()
-    );
-    assert!(rt; ran.out.is_empty());
+    has_ended(&rt, &ran, "five cells", 6, "", "fit: 5 cells, room for 4\n");
     let four = chain_of_gates(rt.alloc(), 4)?;
     assert_eq!(rt;
         planned_and_checked(rt.alloc(), four.as_str(), board)?.status,
@@ -191,9 +173,7 @@ fn what_stops_a_plan_is_named(rt: HostRuntime) -> Result<(), Fail> {
     for (design, board, faults, status, line) in table {
         let texts = [("d", design), ("b", board)];
         let ran = call(rt.alloc(), &["plan", "d", "b"], &texts, faults)?;
-        assert_eq!(rt; ran.status, status, "{line}");
-        assert_eq!(rt; ran.err.as_slice(), line.as_bytes(), "{line}");
-        assert!(rt; ran.out.is_empty(), "{line}");
+        has_ended(&rt, &ran, line, status, "", line);
     }
     Ok(())
 }

@@ -8,14 +8,9 @@ const HALVES: &str =
 /// The latches, in preorder, are that of the first half's store, that of the root, and that of the second half's store.
 #[test]
 fn equal_names_at_three_levels_are_different_nets(rt: HostRuntime) -> Result<(), Fail> {
-    let ran = sim(rt.alloc(), HALVES, "11\n10\n11\n01\n")?;
-    assert_eq!(rt; ran.status, 0);
-    assert_eq!(rt;
-        ran.out.as_slice(),
-        b"trace 1 2 3\n0 01 010\n1 11 010\n2 00 101\n3 00 001\nend 4 101\n".as_slice()
-    );
-    assert!(rt; ran.err.is_empty());
-    Ok(())
+    let stimulus = "11\n10\n11\n01\n";
+    let trace = "trace 1 2 3\n0 01 010\n1 11 010\n2 00 101\n3 00 001\nend 4 101\n";
+    designs_run(&rt, rt.alloc(), &[(HALVES, stimulus, trace)])
 }
 
 #[test]
@@ -52,13 +47,7 @@ fn placed_models_run(rt: HostRuntime) -> Result<(), Fail> {
             "trace 1 1 0\n0 1 -\n1 0 -\nend 2 -\n",
         ),
     ];
-    for (design, stimulus, trace) in table {
-        let ran = sim(rt.alloc(), design, stimulus)?;
-        assert_eq!(rt; ran.status, 0, "{design}");
-        assert_eq!(rt; ran.out.as_slice(), trace.as_bytes(), "{design}");
-        assert!(rt; ran.err.is_empty());
-    }
-    Ok(())
+    designs_run(&rt, rt.alloc(), &table)
 }
 
 /// A text with tables of constants and a latch of five words. Its clock is no column.
@@ -74,13 +63,7 @@ fn a_clocked_toggle_runs(rt: HostRuntime) -> Result<(), Fail> {
             "trace 1 1 1\n0 1 1\n1 0 0\n2 1 1\nend 3 1\n",
         ),
     ];
-    for (words, trace) in table {
-        let ran = run(rt.alloc(), words, design, TOGGLE_ROWS, NO_FAULTS)?;
-        assert_eq!(rt; ran.status, 0);
-        assert_eq!(rt; ran.out.as_slice(), trace.as_bytes());
-        assert!(rt; ran.err.is_empty());
-    }
-    Ok(())
+    words_run(&rt, rt.alloc(), design, TOGGLE_ROWS, &table)
 }
 
 /// The setting is for latches that are free, in each instance alike.
@@ -98,12 +81,7 @@ fn only_free_latches_start_at_the_setting(rt: HostRuntime) -> Result<(), Fail> {
             "trace 1 1 9\n0 0 011110111\nend 1 000000000\n",
         ),
     ];
-    for (words, trace) in table {
-        let ran = run(rt.alloc(), words, design, "0\n", NO_FAULTS)?;
-        assert_eq!(rt; ran.status, 0);
-        assert_eq!(rt; ran.out.as_slice(), trace.as_bytes());
-    }
-    Ok(())
+    words_run(&rt, rt.alloc(), design, "0\n", &table)
 }
 
 #[test]
@@ -116,8 +94,7 @@ fn constants_have_their_value_at_each_clock(rt: HostRuntime) -> Result<(), Fail>
     for (rows, trace) in table {
         let design = format!(in rt.alloc(); ".model m\n.inputs a\n.outputs k\n.names k\n{rows}")?;
         let ran = sim(rt.alloc(), design.as_str(), "0\n1\n")?;
-        assert_eq!(rt; ran.status, 0, "{design}");
-        assert_eq!(rt; ran.out.as_slice(), trace.as_bytes(), "{design}");
+        has_ended(&rt, &ran, design.as_str(), 0, trace, "");
     }
     Ok(())
 }
@@ -137,9 +114,7 @@ fn a_refused_design_hides_a_missing_stimulus(rt: HostRuntime) -> Result<(), Fail
     for (design, status, line) in table {
         let words = ["sim", "d", "missing"];
         let ran = run(rt.alloc(), words.as_slice(), design, "", NO_FAULTS)?;
-        assert_eq!(rt; ran.status, status, "{design}");
-        assert_eq!(rt; ran.err.as_slice(), line.as_bytes(), "{design}");
-        assert!(rt; ran.out.is_empty());
+        has_ended(&rt, &ran, design, status, "", line);
     }
     Ok(())
 }

@@ -1,9 +1,6 @@
 //! The command `check`: sound plans, and why others aren't.
 use super::*;
 
-const TRIANGLE: &str =
-    "board 1\nchips 2\ncells 1\nsettle 0\npins 4\nlink 0 1 1\nlink 0 2 1\nlink 1 0 1\nlink 1 2 1\nlink 2 0 1\nlink 2 1 1\n";
-
 /// A plan of the toggle on the triangle: its gate on chip 1, its latch on chip 2.
 const TOGGLE_PLAN: &str =
     "plan 1 2 4 2\nchips 1 2\nwire 0 1 1\nhop 0 1 0 0\nwire 1 2 1\nhop 1 2 0 1\nwire 2 0 1\nhop 2 0 0 0\nwire 2 1 1\nhop 2 1 0 0\nend\n";
@@ -17,11 +14,6 @@ const ONE_CHIP: &str = "board 1\nchips 1\ncells 1\nsettle 0\npins 2\nlink 0 1 1\
 const FLIP: &str = ".model m\n.outputs q\n.names q d\n0 1\n.latch d q 0\n.end\n";
 
 const FLIP_PLAN: &str = "plan 1 2 1 2\nchips 2 2\nwire 1 0 2\nhop 2 1 0 0\nhop 1 0 0 1\nend\n";
-
-fn check(alloc: Global, design: &str, board: &str, plan: &str) -> Result<Ran, AllocError> {
-    let texts = [("d", design), ("b", board), ("p", plan)];
-    call(alloc, &["check", "d", "b", "p"], &texts, NO_FAULTS)
-}
 
 /// A chain of two chips behind the host, with so many cells a chip, and so long for a gate to settle.
 fn chain(alloc: Global, cells: u32, settle: u32) -> Result<String, AllocError> {
@@ -52,9 +44,7 @@ fn sound_plans_are_accepted(rt: HostRuntime) -> Result<(), Fail> {
     ];
     for (design, board, plan, line) in table {
         let ran = check(rt.alloc(), design, board, plan)?;
-        assert_eq!(rt; ran.status, 0, "{plan}");
-        assert_eq!(rt; ran.out.as_slice(), line.as_bytes(), "{plan}");
-        assert!(rt; ran.err.is_empty());
+        has_ended(&rt, &ran, plan, 0, line, "");
     }
     Ok(())
 }
@@ -108,9 +98,7 @@ fn each_single_change_of_a_plan_has_its_line(rt: HostRuntime) -> Result<(), Fail
     ];
     for (plan, line) in table {
         let ran = check(rt.alloc(), AND, ONE_CHIP, plan)?;
-        assert_eq!(rt; ran.status, 4, "{plan}");
-        assert_eq!(rt; ran.err.as_slice(), line.as_bytes(), "{plan}");
-        assert!(rt; ran.out.is_empty());
+        has_ended(&rt, &ran, plan, 4, "", line);
     }
     Ok(())
 }
@@ -158,9 +146,7 @@ fn gates_need_time_to_settle(rt: HostRuntime) -> Result<(), Fail> {
     ];
     for (design, board, plan, line) in table {
         let ran = check(rt.alloc(), design, board, plan)?;
-        assert_eq!(rt; ran.status, 4, "{plan}");
-        assert_eq!(rt; ran.err.as_slice(), line.as_bytes(), "{plan}");
-        assert!(rt; ran.out.is_empty());
+        has_ended(&rt, &ran, plan, 4, "", line);
     }
     Ok(())
 }
@@ -190,9 +176,7 @@ fn each_fault_of_a_board_has_its_line(rt: HostRuntime) -> Result<(), Fail> {
     for (board, line) in table {
         // whatever the plan is: the board comes first
         let ran = check(rt.alloc(), TOGGLE, board, "plan\n")?;
-        assert_eq!(rt; ran.status, 3, "{board}");
-        assert_eq!(rt; ran.err.as_slice(), line.as_bytes(), "{board}");
-        assert!(rt; ran.out.is_empty());
+        has_ended(&rt, &ran, board, 3, "", line);
     }
     Ok(())
 }
@@ -242,9 +226,7 @@ fn an_earlier_stage_of_check_comes_first(rt: HostRuntime) -> Result<(), Fail> {
     for (words, design, status, line) in table {
         let texts = [("d", design), ("b", ""), ("board", TRIANGLE), ("p", "")];
         let ran = call(rt.alloc(), words, &texts, NO_FAULTS)?;
-        assert_eq!(rt; ran.status, status, "{line}");
-        assert_eq!(rt; ran.err.as_slice(), line.as_bytes(), "{line}");
-        assert!(rt; ran.out.is_empty());
+        has_ended(&rt, &ran, line, status, "", line);
     }
     Ok(())
 }
@@ -268,9 +250,8 @@ fn each_read_and_write_of_check_may_fail(rt: HostRuntime) -> Result<(), Fail> {
                 ..NO_FAULTS
             };
             let ran = call(rt.alloc(), &["check", "d", "b", "p"], &texts, faults)?;
-            assert_eq!(rt; ran.status, status, "read {read}");
-            assert_eq!(rt; ran.err.as_slice(), line.as_bytes(), "read {read}");
-            assert_eq!(rt; ran.out.as_slice(), out.as_bytes(), "read {read}");
+            let on = format!(in rt.alloc(); "read {read}")?;
+            has_ended(&rt, &ran, on.as_str(), status, out, line);
         }
     }
     for (write, status, written) in [(1, 8, 0), (2, 8, 10), (3, 0, 12)] {

@@ -1,9 +1,10 @@
 ghost use Rattle.std.specs.Prelude.{◌<◌};
 
-use super::*;
 use std::alloc::{AllocError, Global};
+use std::process::Abort;
 use std::test::Fail;
 use vw_outside::{Held, MemShelf, MemSink, Name};
+use vw_top::virtual_wires;
 
 mod checks;
 mod claims;
@@ -22,6 +23,10 @@ const TOGGLE: &str =
 const TOGGLE_ROWS: &str = "1\n1\n0\n";
 
 const TOGGLE_TRACE: &str = "trace 1 1 1\n0 0 0\n1 1 1\n2 0 0\nend 3 0\n";
+
+/// Two chips and the host, each joined to each other by one pin.
+const TRIANGLE: &str =
+    "board 1\nchips 2\ncells 1\nsettle 0\npins 4\nlink 0 1 1\nlink 0 2 1\nlink 1 0 1\nlink 1 2 1\nlink 2 0 1\nlink 2 1 1\n";
 
 /// How a call ended, and what it wrote.
 #[derive(Drop)]
@@ -89,14 +94,86 @@ fn sim(alloc: Global, design: &str, stimulus: &str) -> Result<Ran, AllocError> {
     run(alloc, &["sim", "d", "s"], design, stimulus, NO_FAULTS)
 }
 
+fn check(alloc: Global, design: &str, board: &str, plan: &str) -> Result<Ran, AllocError> {
+    let texts = [("d", design), ("b", board), ("p", plan)];
+    call(alloc, &["check", "d", "b", "p"], &texts, NO_FAULTS)
+}
+
+/// Asserts how a call on some text ended: with this status, this text in its output, and this one in its messages.
+fn has_ended(rt: &impl Abort, ran: &Ran, on: &str, status: u8, out: &str, err: &str) {
+    assert_eq!(rt; ran.status, status, "{on}");
+    assert_eq!(rt; ran.out.as_slice(), out.as_bytes(), "{on}");
+    assert_eq!(rt; ran.err.as_slice(), err.as_bytes(), "{on}");
+}
+
+/// Asserts that each of these designs is refused with its line.
+fn designs_are_refused(rt: &impl Abort, alloc: Global, table: &[(&str, &str)]) -> Result<(), Fail> {
+    for (design, line) in table {
+        let ran = sim(alloc, design, "")?;
+        has_ended(rt, &ran, design, 1, "", line);
+    }
+    Ok(())
+}
+
+/// Asserts that each of these designs, over its stimulus, has its trace.
+fn designs_run(rt: &impl Abort, alloc: Global, table: &[(&str, &str, &str)]) -> Result<(), Fail> {
+    for (design, stimulus, trace) in table {
+        let ran = sim(alloc, design, stimulus)?;
+        has_ended(rt, &ran, design, 0, trace, "");
+    }
+    Ok(())
+}
+
+/// Asserts that all of these designs, over a row of a one and a row of a zero, have this trace.
+fn designs_run_alike(
+    rt: &impl Abort,
+    alloc: Global,
+    designs: &[&str],
+    trace: &str,
+) -> Result<(), Fail> {
+    for design in designs {
+        let ran = sim(alloc, design, "1\n0\n")?;
+        has_ended(rt, &ran, design, 0, trace, "");
+    }
+    Ok(())
+}
+
+/// Asserts that a design, over a stimulus, has its trace for each of these lists of words.
+fn words_run(
+    rt: &impl Abort,
+    alloc: Global,
+    design: &str,
+    stimulus: &str,
+    table: &[(&[&str], &str)],
+) -> Result<(), Fail> {
+    for (words, trace) in table {
+        let ran = run(alloc, words, design, stimulus, NO_FAULTS)?;
+        has_ended(rt, &ran, trace, 0, trace, "");
+    }
+    Ok(())
+}
+
+/// Asserts that each of these stimuli of a design is refused with its line.
+fn stimuli_are_refused(
+    rt: &impl Abort,
+    alloc: Global,
+    design: &str,
+    table: &[(&str, &str)],
+) -> Result<(), Fail> {
+    for (stimulus, line) in table {
+        let ran = sim(alloc, design, stimulus)?;
+        has_ended(rt, &ran, stimulus, 5, "", line);
+    }
+    Ok(())
+}
+
 #[test]
 fn a_toggle_runs_in_pieces_of_any_size(rt: HostRuntime) -> Result<(), Fail> {
     for most in [1, 10, 4096] {
         let faults = Faults { most, ..NO_FAULTS };
         let ran = run(rt.alloc(), &["sim", "d", "s"], TOGGLE, TOGGLE_ROWS, faults)?;
-        assert_eq!(rt; ran.status, 0, "pieces of {most}");
-        assert_eq!(rt; ran.out.as_slice(), TOGGLE_TRACE.as_bytes());
-        assert!(rt; ran.err.is_empty());
+        let pieces = format!(in rt.alloc(); "pieces of {most}")?;
+        has_ended(&rt, &ran, pieces.as_str(), 0, TOGGLE_TRACE, "");
     }
     Ok(())
 }
@@ -122,9 +199,7 @@ fn wrong_words_are_named_by_their_place(rt: HostRuntime) -> Result<(), Fail> {
     ];
     for (words, line) in table {
         let ran = run(rt.alloc(), words, TOGGLE, TOGGLE_ROWS, NO_FAULTS)?;
-        assert_eq!(rt; ran.status, 2);
-        assert_eq!(rt; ran.err.as_slice(), line.as_bytes());
-        assert!(rt; ran.out.is_empty());
+        has_ended(&rt, &ran, line, 2, "", line);
     }
     Ok(())
 }
@@ -143,12 +218,7 @@ fn free_latches_start_as_the_setting_says(rt: HostRuntime) -> Result<(), Fail> {
             "trace 1 3 3\n0 110 110\nend 1 111\n",
         ),
     ];
-    for (words, trace) in table {
-        let ran = run(rt.alloc(), words, design, "1\n", NO_FAULTS)?;
-        assert_eq!(rt; ran.status, 0);
-        assert_eq!(rt; ran.out.as_slice(), trace.as_bytes());
-    }
-    Ok(())
+    words_run(&rt, rt.alloc(), design, "1\n", &table)
 }
 
 #[test]
@@ -160,9 +230,7 @@ fn a_missing_file_is_a_read_fault(rt: HostRuntime) -> Result<(), Fail> {
     ];
     for (words, line) in table {
         let ran = run(rt.alloc(), words.as_slice(), TOGGLE, TOGGLE_ROWS, NO_FAULTS)?;
-        assert_eq!(rt; ran.status, 7);
-        assert_eq!(rt; ran.err.as_slice(), line.as_bytes());
-        assert!(rt; ran.out.is_empty());
+        has_ended(&rt, &ran, line, 7, "", line);
     }
     Ok(())
 }
@@ -183,13 +251,7 @@ fn each_fault_of_a_stimulus_has_its_line(rt: HostRuntime) -> Result<(), Fail> {
         ("hold 4294967296\n", "stimulus 2: line 1: bad line\n"),
         ("hold 4294967295\n1\n2\n", "stimulus 4: 4294967296 clocks\n"),
     ];
-    for (stimulus, line) in table {
-        let ran = sim(rt.alloc(), TOGGLE, stimulus)?;
-        assert_eq!(rt; ran.status, 5, "{stimulus}");
-        assert_eq!(rt; ran.err.as_slice(), line.as_bytes());
-        assert!(rt; ran.out.is_empty());
-    }
-    Ok(())
+    stimuli_are_refused(&rt, rt.alloc(), TOGGLE, &table)
 }
 
 #[test]
@@ -236,13 +298,7 @@ fn rows_may_be_held_and_commented(rt: HostRuntime) -> Result<(), Fail> {
             "trace 1 1 0\n0 0 -\nend 1 -\n",
         ),
     ];
-    for (design, stimulus, trace) in table {
-        let ran = sim(rt.alloc(), design, stimulus)?;
-        assert_eq!(rt; ran.status, 0, "{stimulus}");
-        assert_eq!(rt; ran.out.as_slice(), trace.as_bytes(), "{stimulus}");
-        assert!(rt; ran.err.is_empty());
-    }
-    Ok(())
+    designs_run(&rt, rt.alloc(), &table)
 }
 
 #[test]
@@ -253,13 +309,7 @@ fn a_design_without_inputs_has_rows_without_bits(rt: HostRuntime) -> Result<(), 
         ("- -\n", "stimulus 2: line 1: bad line\n"),
         ("--\n", "stimulus 2: line 1: bad line\n"),
     ];
-    for (stimulus, line) in table {
-        let ran = sim(rt.alloc(), design, stimulus)?;
-        assert_eq!(rt; ran.status, 5);
-        assert_eq!(rt; ran.err.as_slice(), line.as_bytes());
-        assert!(rt; ran.out.is_empty());
-    }
-    Ok(())
+    stimuli_are_refused(&rt, rt.alloc(), design, &table)
 }
 
 #[test]
@@ -299,13 +349,7 @@ fn designs_do_what_they_say(rt: HostRuntime) -> Result<(), Fail> {
             "trace 1 2 1\n0 01 1\n1 10 0\nend 2 1\n",
         ),
     ];
-    for (design, stimulus, trace) in table {
-        let ran = sim(rt.alloc(), design, stimulus)?;
-        assert_eq!(rt; ran.status, 0, "{design}");
-        assert_eq!(rt; ran.out.as_slice(), trace.as_bytes(), "{design}");
-        assert!(rt; ran.err.is_empty());
-    }
-    Ok(())
+    designs_run(&rt, rt.alloc(), &table)
 }
 
 /// The reads of the design are the first 11, of at most 8 bytes each, and those of the stimulus the next two.
@@ -324,9 +368,8 @@ fn each_read_may_fail(rt: HostRuntime) -> Result<(), Fail> {
                 ..NO_FAULTS
             };
             let ran = run(rt.alloc(), &["sim", "d", "s"], TOGGLE, TOGGLE_ROWS, faults)?;
-            assert_eq!(rt; ran.status, status, "read {read}");
-            assert_eq!(rt; ran.err.as_slice(), line.as_bytes(), "read {read}");
-            assert_eq!(rt; ran.out.as_slice(), trace.as_bytes(), "read {read}");
+            let on = format!(in rt.alloc(); "read {read}")?;
+            has_ended(&rt, &ran, on.as_str(), status, trace, line);
         }
     }
     Ok(())
