@@ -1,4 +1,3 @@
-pub mod FewLinks
 pub mod LinkNumbers
 pub mod HopsTo
 pub mod Sending

@@ -1,3 +1,4 @@
+pub mod FewLinks
 pub mod Along
 pub mod Leads
 pub mod Depths

@@ -1,8 +1,9 @@
-use Rattle.vw_board.proofs.Joins.{few_links, long_lists, links_of_board, apart_where_none}
+use Rattle.vw_plan.proofs.FewLinks.{few_links}
+use Rattle.vw_board.proofs.Joins.{long_lists, links_of_board, apart_where_none}
 use Rattle.vw_board.proofs.board_text.make_board.Goals as goal
 
 pub first_over-requires-clause-few : goal.first_over-requires-clause-few
-first_over-requires-clause-few c = rw c.deref.ensures.value (few_links c.args.head.chips c.requires.head.few_chips c.args.links.items c.requires.links)
+first_over-requires-clause-few c = rw c.deref.ensures.value (few_links c.args.head.chips c.requires.head.few_chips c.args.links.items c.requires.links.ends c.requires.links.once)
 
 pub first_apart-requires-clause-there : goal.first_apart-requires-clause-there
 first_apart-requires-clause-there c =

@@ -1,6 +1,6 @@
 use Rattle.std.proofs.Common.{◌≡◌, ◌≤◌, ◌+◌, ◌-◌, ◌*◌, ◌∙◌, ℕ, List, length, get_or, ap, ap₂, refl, arith}
 use Rattle.vw_plan.specs.declared.link.Link.{Link}
-use Rattle.vw_phase.proofs.FewLinks.{few_links_on}
+use Rattle.vw_plan.proofs.FewLinks.{few_links_on}
 use Rattle.vw_phase.proofs.LinkNumbers.{all_numbers, ends_low, one_more}
 use Rattle.vw_phase.proofs.links.link_numbers.Goals as goal
 
