@@ -22,6 +22,7 @@ use Rattle.vw_design.proofs.Entries.{entry_of, item_entry, placing_entry}
 use Rattle.vw_design.proofs.Instances.{placer, placing_of_placed, instance_listed}
 use Rattle.vw_design.proofs.Reached.{model_in_file}
 use Rattle.vw_design.proofs.Weights.{model_behind}
+use Rattle.vw_design.proofs.FilteredLists.{distinct_more}
 
 -- a model of a list in which names differ is the one of its name
 has_model : (model : Model) (models : List Model) → Has model models → Has model.name (map (λ m. m.name) models)
@@ -119,14 +120,6 @@ module _ (design : Design) where
       let places : b.0 ≡ a.0 = sym number_two ∙ sym same ∙ number_one in
       let models = same_number path other one two at_one at_two a.0 a.1 (b.1 ∙ ap (λ (n : ℕ). Some n) places) in
       at_one ∙ ap (λ (m : Model). Some m) models ∙ sym at_two
-
-  apart : (number : ℕ) (numbers : List ℕ) → list_any (eqb number) numbers ≡ false → AllByRecursion (λ other. eqb number other ≡ false) numbers
-  apart number [] none = tt
-  apart number (first ∷ numbers) none = let parts = or_parts (eqb number first) (list_any (eqb number) numbers) none in (parts.0, apart number numbers parts.1)
-
-  distinct_more : (number : ℕ) (numbers : List ℕ) → list_any (eqb number) numbers ≡ false → IsDistinct eqb numbers → IsDistinct eqb (number ∷ numbers)
-  unfolding IsDistinct
-  distinct_more number numbers none distinct = (apart number numbers none, distinct)
 
   one_distinct : (number : ℕ) → IsDistinct eqb (number ∷ [])
   unfolding IsDistinct

@@ -1,7 +1,7 @@
 -- Lists that are filtered, and lists that go along with each other.
-use Rattle.std.proofs.Common.{find, ◌++◌, ◌≡◌, ℕ, zero, suc, Bool, true, false, cond, List, [], ◌∷◌, length, map, take, Option, Some, None, slice_get, option_map, filter, refl, sym, ◌∙◌, ap, ap₂, subst, true≢false}
-use Rattle.std.specs.List.{AllZip}
-use Rattle.std.proofs.lemmas.Bool.{cond-false}
+use Rattle.std.proofs.Common.{eqb, find, ◌++◌, ◌≡◌, ℕ, zero, suc, Bool, true, false, cond, List, [], ◌∷◌, length, map, take, Option, Some, None, slice_get, option_map, filter, refl, sym, ◌∙◌, ap, ap₂, subst, true≢false}
+use Rattle.std.specs.List.{AllByRecursion, AllZip, IsDistinct, list_any}
+use Rattle.std.proofs.lemmas.Bool.{cond-false, or_parts}
 use Rattle.std.proofs.lemmas.Option.{same_Some, none-some}
 use Rattle.vw_design.specs.Lists.{first_place}
 
@@ -99,3 +99,13 @@ AllZip-append R [] more [] others along rest = rest
 AllZip-append R [] more (y ∷ ys) others along rest = absurd along
 AllZip-append R (x ∷ xs) more [] others along rest = absurd along
 AllZip-append R (x ∷ xs) more (y ∷ ys) others along rest = (along.0, AllZip-append R xs more ys others along.1 rest)
+
+-- a number that is none of some isn't any one of them
+none_alike : (number : ℕ) (numbers : List ℕ) → list_any (eqb number) numbers ≡ false → AllByRecursion (λ other. eqb number other ≡ false) numbers
+none_alike number [] none = tt
+none_alike number (first ∷ numbers) none = let parts = or_parts (eqb number first) (list_any (eqb number) numbers) none in (parts.0, none_alike number numbers parts.1)
+
+-- one number more, where none stands twice
+pub distinct_more : (number : ℕ) (numbers : List ℕ) → list_any (eqb number) numbers ≡ false → IsDistinct eqb numbers → IsDistinct eqb (number ∷ numbers)
+unfolding IsDistinct
+distinct_more number numbers none distinct = (none_alike number numbers none, distinct)

@@ -20,6 +20,7 @@ use Rattle.vw_design.proofs.Has.{Has, Has-left, Has-right, any-Has, from-any}
 use Rattle.vw_design.proofs.Names.{name_same}
 use Rattle.vw_design.proofs.FlatValues.{site_of_place}
 use Rattle.vw_design.proofs.DriverNumbers.{cell_place}
+use Rattle.vw_design.proofs.FilteredLists.{distinct_more}
 
 -- two ways to give values that agree on each element give one list
 map_same : {A B : Type 0} (one other : A → B) (xs : List A) → ((x : A) → Has x xs → one x ≡ other x) → map one xs ≡ map other xs
@@ -75,14 +76,6 @@ module _ (design : Design) where
       let b = site_of_place (cells design) other.path other.number number at_other in
       let same : a.0 ≡ b.0 = same_Some a.0 b.0 (sym a.1 ∙ b.1) in
       ap₂ (λ (p : Path) (n : ℕ). record { path = p; number = n }) (sym a.2 ∙ ap (λ (s : Site). s.path) same ∙ b.2) (sym a.3 ∙ ap (λ (s : Site). s.number) same ∙ b.3)
-
-  apart : (number : ℕ) (numbers : List ℕ) → list_any (eqb number) numbers ≡ false → AllByRecursion (λ other. eqb number other ≡ false) numbers
-  apart number [] none = tt
-  apart number (first ∷ numbers) none = let parts = or_parts (eqb number first) (list_any (eqb number) numbers) none in (parts.0, apart number numbers parts.1)
-
-  distinct_more : (number : ℕ) (numbers : List ℕ) → list_any (eqb number) numbers ≡ false → IsDistinct eqb numbers → IsDistinct eqb (number ∷ numbers)
-  unfolding IsDistinct
-  distinct_more number numbers none distinct = (apart number numbers none, distinct)
 
   none_distinct : IsDistinct eqb []
   unfolding IsDistinct

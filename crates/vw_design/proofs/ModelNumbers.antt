@@ -1,5 +1,5 @@
 -- Models by their numbers: which number the model of a name has.
-use Rattle.std.proofs.Common.{◌≡◌, ◌+◌, not, ℕ, zero, suc, Bool, true, false, cond, List, [], ◌∷◌, map, slice_get, Some, inl, inr, refl, sym, ◌∙◌, ap, subst, true≢false, arith}
+use Rattle.std.proofs.Common.{◌≡◌, ◌+◌, not, ℕ, zero, suc, Bool, true, false, cond, List, [], ◌∷◌, map, slice_get, Option, Some, None, inl, inr, refl, sym, ◌∙◌, ap, subst, true≢false, arith}
 use Rattle.std.specs.List.{position_or_len}
 use Rattle.std.specs.Str.{bytes_eq}
 use Rattle.std.proofs.lemmas.Bool.{and_parts, not-true}
@@ -9,7 +9,7 @@ use Rattle.vw_design.specs.declared.model.Model.{Model}
 use Rattle.vw_design.specs.declared.design.Design.{Design}
 use Rattle.vw_design.specs.Distinct.{has_name, are_distinct}
 use Rattle.vw_design.specs.Paths.{Word, model_named}
-use Rattle.vw_design.specs.ModelFaults.{place_in_file}
+use Rattle.vw_design.specs.ModelFaults.{has_model_name, place_in_file}
 use Rattle.vw_design.proofs.Has.{Has, from-find}
 use Rattle.vw_design.proofs.Names.{same_name, equal_names, has_name-Has}
 
@@ -54,3 +54,8 @@ module _ (design : Design) where
   -- a model has one number
   pub one_number : (i j : ℕ) (model : Model) → slice_get design.models i ≡ Some model → slice_get design.models j ≡ Some model → i ≡ j
   one_number i j model at_i at_j = same_number i j model model at_i at_j refl
+
+-- what has a name is a model with that name
+pub named_by : (name : Word) (found : Option Model) → has_model_name name found ≡ true → (model : Model) × (found ≡ Some model) × (model.name ≡ name)
+named_by name None has = absurd (true≢false (sym has))
+named_by name (Some model) has = (model, refl, same_name model.name name has)

@@ -28,7 +28,7 @@ use Rattle.vw_search.proofs.Among.{among_at, at_among, front_among, front_positi
 use Rattle.vw_models.specs.PlacingGraph.{placing_graph}
 use Rattle.vw_models.proofs.Among.{among_Has, Has_among}
 use Rattle.vw_models.proofs.FirstUnknown.{unknown_is}
-use Rattle.vw_design.proofs.ModelNumbers.{model_of_place, same_number, name_of_named}
+use Rattle.vw_design.proofs.ModelNumbers.{model_of_place, same_number, name_of_named, named_by}
 use Rattle.vw_models.proofs.Models.{number_placed, reached_least_numbers}
 use Rattle.vw_models.proofs.Places.{at_within, all_pass}
 
@@ -38,10 +38,6 @@ module _ (design : Design) where
   has_name_at number name within is =
       let model = at_within design.models number within in
       ap (has_model_name name) model.1 ∙ equal_names model.0.name name (name_of_named design name model.0 (sym is ∙ model.1))
-
-  named_by : (name : Word) (found : Option Model) → has_model_name name found ≡ true → (model : Model) × (found ≡ Some model) × (model.name ≡ name)
-  named_by name None has = absurd (true≢false (sym has))
-  named_by name (Some model) has = (model, refl, same_name model.name name has)
 
   module _ (targets : Targets) (are : AreTargets design targets) (none : unknown_model design ≡ None) (order : List ℕ) (is_order : IsNumberOrder (placing_graph design targets) order) where
     -- a reached model places models alone

@@ -4,6 +4,7 @@ use Rattle.std.specs.List.{All, filter, flat_map, range_with_len}
 use Rattle.std.proofs.lemmas.Bool.{cases_eq}
 use Rattle.std.proofs.lemmas.List.Elements.{All-head, All-tail}
 use Rattle.vw_net.specs.Order.{is_among}
+use Rattle.vw_net.proofs.Bits.{one_if-le}
 use Rattle.vw_part.specs.Pins.{times_among, total}
 use Rattle.vw_net.specs.Lists.{one_if}
 
@@ -20,10 +21,6 @@ total_same first second (x ∷ xs) each = omega (arith, each x, total_same first
 pub total_ones : (xs : List ℕ) → total (λ x. 1) xs ≡ length xs
 total_ones [] = refl
 total_ones (x ∷ xs) = omega (arith, total_ones xs)
-
-pub one_if-le : (bit : Bool) → one_if bit ≤ 1
-one_if-le true = omega arith
-one_if-le false = omega arith
 
 pub total_tests-le : (test : ℕ → Bool) (xs : List ℕ) → total (λ x. one_if (test x)) xs ≤ length xs
 total_tests-le test [] = omega arith

@@ -11,6 +11,7 @@ use Rattle.std.proofs.lemmas.List.Elements.{All-append, All-cons, All-nil}
 use Rattle.std.proofs.lemmas.List.Sums.{sum_by-append, sum_by-cons}
 use Rattle.vw_net.specs.declared.ordered.Ordered.{Ordered}
 use Rattle.vw_net.specs.Lists.{one_if}
+use Rattle.vw_net.proofs.Bits.{one_if-le}
 use Rattle.vw_plan.specs.declared.need.Route.{Route}
 use Rattle.vw_plan.specs.Needs.{depth}
 use Rattle.vw_phase.specs.declared.task.Task.{Task}
@@ -18,10 +19,6 @@ use Rattle.vw_phase.specs.Steps.Tasks.{AreRising, all_tasks, tasks_from}
 use Rattle.vw_phase.proofs.TaskWords.{some_same}
 use Rattle.vw_phase.proofs.DoneTasks.{is_task-own, is_task-true}
 use Rattle.vw_phase.specs.Steps.Underway.{AreTasks, IsOfKind, is_done, is_task, no_task, task_at}
-
-one_if-le : (bit : Bool) → one_if bit ≤ 1
-one_if-le true = omega arith
-one_if-le false = omega arith
 
 -- how many of some tasks are this one
 abbrev times : Bool → ℕ → List Task → ℕ

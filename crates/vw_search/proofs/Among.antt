@@ -10,6 +10,7 @@ use Rattle.std.proofs.lemmas.List.Sorted.{IsPermutation-append_right, IsPermutat
 use Rattle.std.proofs.lemmas.Map.Keys.{IsDistinct-push, IsDistinct-IsPermutation, IsDistinct-tail, apart_from_distinct}
 use Rattle.std.proofs.lemmas.Map.Steps.{length-le_from_distinct_below}
 use Rattle.vw_net.specs.Order.{is_among}
+use Rattle.vw_net.proofs.Orders.{eqb_comm}
 
 -- among numbers that are joined
 pub among_left : (numbers others : List ℕ) (number : ℕ) → is_among numbers number ≡ true → is_among (numbers ++ others) number ≡ true
@@ -44,10 +45,6 @@ among_at (first ∷ numbers) number among =
 
 pub at_among : (numbers : List ℕ) (i : ℕ) → i < length numbers → is_among numbers (get_or numbers i 0) ≡ true
 at_among numbers i within = list_any_at (λ (other : ℕ). other == get_or numbers i 0) numbers i 0 within (eq-eqb (get_or numbers i 0) (get_or numbers i 0) refl)
-
--- whichever side of the test it stands on
-pub eqb_comm : (a b : ℕ) → eqb a b ≡ eqb b a
-eqb_comm a b = grind (arith, common_steps)
 
 pub among-flip : (number : ℕ) (numbers : List ℕ) → list_any (eqb number) numbers ≡ is_among numbers number
 among-flip number [] = refl

@@ -9,7 +9,8 @@ use Rattle.vw_net.specs.Order.{is_among}
 use Rattle.vw_search.specs.Graphs.{Graph, Reads}
 use Rattle.vw_search.specs.Circles.{IsNumberCircle, BeginsWithLeast}
 use Rattle.vw_search.specs.Steps.Rounds.{IsLeast}
-use Rattle.vw_search.proofs.Among.{among_left, among_right, among_either, among_at, at_among, eqb_comm}
+use Rattle.vw_search.proofs.Among.{among_left, among_right, among_either, among_at, at_among}
+use Rattle.vw_net.proofs.Orders.{eqb_comm}
 use Rattle.vw_search.proofs.Rounds.{turns}
 
 module _ (circle : List ℕ) (start : ℕ) (least : IsLeast circle start) where

@@ -17,7 +17,7 @@ use Rattle.vw_design.proofs.Has.{Has, at-Has, all-Has, from-any, any-Has}
 use Rattle.vw_design.proofs.Names.{same_name, equal_names}
 use Rattle.vw_search.proofs.Among.{among_at, at_among, front_position, once_short}
 use Rattle.vw_models.proofs.Among.{among_Has}
-use Rattle.vw_design.proofs.ModelNumbers.{place_of_model, model_of_place, name_of_named}
+use Rattle.vw_design.proofs.ModelNumbers.{place_of_model, model_of_place, name_of_named, named_by}
 use Rattle.vw_models.proofs.Orders.{rank, ranking}
 use Rattle.vw_sizes.specs.declared.measure.Measure.{Measure}
 use Rattle.vw_sizes.specs.Counting.{most, amount, count_in, AreCounts, IsRanked}
@@ -57,10 +57,6 @@ module _ (design : Design) (order : List ℕ) (is_order : IsModelOrder design or
 
   order_short : length order ≤ length design.models
   order_short = once_short order (length design.models) (IsDistinct-from_apart eqb order apart) among_within
-
-  named_by : (name : Word) (found : Option Model) → has_model_name name found ≡ true → (model : Model) × (found ≡ Some model) × (model.name ≡ name)
-  named_by name None has = absurd (true≢false (sym has))
-  named_by name (Some model) has = (model, refl, same_name model.name name has)
 
   -- a name that is reached has a place in the order
   pub record IsOrdered (name : Word) : Type 0 where
