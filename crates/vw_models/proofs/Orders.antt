@@ -25,7 +25,7 @@ use Rattle.vw_models.specs.Reach.{Targets, IsClosed, PlacesAt}
 use Rattle.vw_models.specs.Unknown.{unknown_of}
 use Rattle.vw_search.specs.Orders.{IsNumberOrder}
 use Rattle.vw_search.proofs.Among.{among_at, at_among, front_among, front_position, once_apart}
-use Rattle.vw_models.specs.Placed.{placed_models}
+use Rattle.vw_models.specs.ModelGraphs.{graph_of_models}
 use Rattle.vw_models.proofs.Among.{among_Has, Has_among}
 use Rattle.vw_models.proofs.FirstUnknown.{unknown_is}
 use Rattle.vw_design.proofs.ModelNumbers.{model_of_place, same_number, name_of_named}
@@ -43,7 +43,7 @@ module _ (design : Design) where
   named_by name None has = absurd (true≢false (sym has))
   named_by name (Some model) has = (model, refl, same_name model.name name has)
 
-  module _ (targets : Targets) (are : AreTargets design targets) (none : unknown_model design ≡ None) (order : List ℕ) (is_order : IsNumberOrder (placed_models design targets) order) where
+  module _ (targets : Targets) (are : AreTargets design targets) (none : unknown_model design ≡ None) (order : List ℕ) (is_order : IsNumberOrder (graph_of_models design targets) order) where
     -- a reached model places models alone
     sub_of : (placing : Placing) (item : Item) → placing_of item ≡ Some placing → (line : ℕ) × (item ≡ Sub line placing.model placing.binds)
     sub_of placing (Names line ins out cover) is = absurd (none-some placing is)
