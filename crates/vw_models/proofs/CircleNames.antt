@@ -18,7 +18,7 @@ use Rattle.vw_models.specs.Reach.{Targets}
 use Rattle.vw_search.specs.Graphs.{Reads}
 use Rattle.vw_search.specs.Circles.{IsNumberCircle, BeginsWithLeast}
 use Rattle.vw_search.proofs.Among.{among_right, among_at, at_among, once_apart}
-use Rattle.vw_models.specs.PlacingGraph.{placing_graph}
+use Rattle.vw_models.specs.ModelGraphs.{graph_of_models}
 use Rattle.vw_models.specs.ModelNames.{name_of, names_of}
 use Rattle.vw_models.proofs.Among.{Has_among}
 use Rattle.vw_design.proofs.ModelNumbers.{place_of_model, named_at, same_number}
@@ -72,7 +72,7 @@ module _ (design : Design) where
       let model = at_within design.models number inside in
       ap (λ (m : Option Model). place_in_file design (name_of m)) model.1 ∙ place_of_model design number model.0 model.1
 
-  module _ (targets : Targets) (are : AreTargets design targets) (circle : List ℕ) (is_circle : IsNumberCircle (placing_graph design targets) circle) where
+  module _ (targets : Targets) (are : AreTargets design targets) (circle : List ℕ) (is_circle : IsNumberCircle (graph_of_models design targets) circle) where
     pub circle_within : (number : ℕ) → is_among circle number ≡ true → number < length design.models
     circle_within number among = (search_within design targets are).below number (is_circle.counted number among)
 
@@ -85,7 +85,7 @@ module _ (design : Design) where
     place_at : (i : ℕ) (name : Word) → i < length circle → place_in_file design (get_or (names_of design circle) i name) ≡ get_or circle i 0
     place_at i name inside = ap (place_in_file design) (name_at i name inside) ∙ place_of_called (get_or circle i 0) (circle_within (get_or circle i 0) (at_among circle i inside))
 
-    placed_pair : (number next : ℕ) → Reads (placing_graph design targets) number next → model_places (model_named design.models (called number)) (called next) ≡ true
+    placed_pair : (number next : ℕ) → Reads (graph_of_models design targets) number next → model_places (model_named design.models (called number)) (called next) ≡ true
     placed_pair number next places =
         let is = placed design targets are number places.0 next places.1 in
         ap (λ (w : Word). model_places (model_named design.models (called number)) w) (ap name_of is.next_at)
@@ -101,7 +101,7 @@ module _ (design : Design) where
           ∙ reached_called (get_or circle i 0) (is_circle.counted (get_or circle i 0) (at_among circle i here));
       distinct = names_apart circle is_circle.once circle_within;
       placed = subst (λ (l : List Word). AllZip (λ name next. model_places (model_named design.models name) next ≡ true) (names_of design circle) l) (sym (turned_map called circle))
-          (AllZip-maps (Reads (placing_graph design targets)) (λ name next. model_places (model_named design.models name) next ≡ true) called circle (turned circle) placed_pair is_circle.each);
+          (AllZip-maps (Reads (graph_of_models design targets)) (λ name next. model_places (model_named design.models name) next ≡ true) called circle (turned circle) placed_pair is_circle.each);
       earliest = λ i name inside.
           let here : i < length circle = omega (arith, names_long, inside) in
           omega (arith, place_at 0 name is_circle.some, place_at i name here, least i here);

@@ -18,7 +18,7 @@ use Rattle.vw_design.proofs.FilteredLists.{AllZip-at, AllZip-length}
 use Rattle.vw_design.proofs.Closed.{reached_at, reached_closed, reached_least}
 use Rattle.vw_models.specs.Reach.{Targets, PlacesAt, AreWithin, IsClosed}
 use Rattle.vw_search.specs.Graphs.{IsWithin}
-use Rattle.vw_models.specs.PlacingGraph.{placing_graph}
+use Rattle.vw_models.specs.ModelGraphs.{graph_of_models}
 use Rattle.vw_models.proofs.Places.{at_within, list_at, AllZip-back}
 
 module _ (design : Design) where
@@ -93,7 +93,7 @@ module _ (design : Design) where
     }
 
     -- so a search from the root comes to them alone
-    pub search_within : IsWithin (placing_graph design targets)
+    pub search_within : IsWithin (graph_of_models design targets)
     search_within = record {
       below = below;
       started = λ number start. ap (λ (n : ℕ). is_reached_model design (slice_get design.models n)) (eqb-true number 0 start) ∙ reached_closed_numbers.root;

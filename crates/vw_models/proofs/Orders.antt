@@ -25,7 +25,7 @@ use Rattle.vw_models.specs.Reach.{Targets, IsClosed, PlacesAt}
 use Rattle.vw_models.specs.Unknown.{unknown_of}
 use Rattle.vw_search.specs.Orders.{IsNumberOrder}
 use Rattle.vw_search.proofs.Among.{among_at, at_among, front_among, front_position, once_apart}
-use Rattle.vw_models.specs.PlacingGraph.{placing_graph}
+use Rattle.vw_models.specs.ModelGraphs.{graph_of_models}
 use Rattle.vw_models.proofs.Among.{among_Has, Has_among}
 use Rattle.vw_models.proofs.FirstUnknown.{unknown_is}
 use Rattle.vw_design.proofs.ModelNumbers.{model_of_place, same_number, name_of_named, named_by}
@@ -39,7 +39,7 @@ module _ (design : Design) where
       let model = at_within design.models number within in
       ap (has_model_name name) model.1 ∙ equal_names model.0.name name (name_of_named design name model.0 (sym is ∙ model.1))
 
-  module _ (targets : Targets) (are : AreTargets design targets) (none : unknown_model design ≡ None) (order : List ℕ) (is_order : IsNumberOrder (placing_graph design targets) order) where
+  module _ (targets : Targets) (are : AreTargets design targets) (none : unknown_model design ≡ None) (order : List ℕ) (is_order : IsNumberOrder (graph_of_models design targets) order) where
     -- a reached model places models alone
     sub_of : (placing : Placing) (item : Item) → placing_of item ≡ Some placing → (line : ℕ) × (item ≡ Sub line placing.model placing.binds)
     sub_of placing (Names line ins out cover) is = absurd (none-some placing is)

@@ -1,6 +1,6 @@
 pub mod Names
 pub mod Reach
 pub mod Unknown
-pub mod PlacingGraph
+pub mod ModelGraphs
 pub mod ModelNames
 pub mod ModelOrders

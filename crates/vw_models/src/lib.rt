@@ -4,9 +4,9 @@
 mod circle;
 mod laws;
 mod marks;
+mod model_graph;
 mod numbers;
 mod order;
-mod placed;
 mod reach;
 mod targets;
 mod unknown;

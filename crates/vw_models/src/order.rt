@@ -5,7 +5,7 @@ ghost use Rattle.vw_design.specs.ModelNumbers.{AreTargets};
 ghost use Rattle.vw_models.specs.ModelOrders.{IsModelAnswer};
 
 use crate::circle::circle_names;
-use crate::placed::PlacedModels;
+use crate::model_graph::ModelGraph;
 use std::alloc::{AllocError, Global};
 use vw_design::Design;
 use vw_net::Sequence;
@@ -32,7 +32,7 @@ pub fn order_of(
     requires known { unknown_model design.now ≡ None }
     ensures { IfOk result (IsModelAnswer design.now) }
 {
-    match search(alloc, &PlacedModels { design, targets })? {
+    match search(alloc, &ModelGraph { design, targets })? {
         Found::Order(order) => Ok(ModelOrder::Order(Sequence::of(order))),
         Found::Circle(circle) => Ok(ModelOrder::Circle(circle_names(alloc, design, &circle)?)),
     }

@@ -1,29 +1,14 @@
 -- Where gates have an order, they don't read each other in a circle.
-use Rattle.std.proofs.Common.{◌≡◌, ◌<◌, ◌+◌, ◌-◌, ◌||◌, ◌&&◌, ◌==◌, not, ℕ, suc, Bool, true, false, cond, List, [], ◌∷◌, ◌++◌, length, take, get_or, slice_get, nat_lt, Option, Some, None, ◌⊎◌, inl, inr, ⊎_elim, refl, sym, ◌∙◌, ap, subst, true≢false, arith}
-use Rattle.std.specs.List.{list_all, position_or_len, AllZip}
+use Rattle.std.proofs.Common.{◌≡◌, ◌<◌, ◌+◌, ◌-◌, ◌||◌, ◌&&◌, ◌==◌, ℕ, Bool, true, false, List, [], ◌∷◌, ◌++◌, take, slice_get, nat_lt, Option, Some, None, ⊎_elim, refl, sym, ◌∙◌, ap, subst, true≢false, arith}
+use Rattle.std.specs.List.{list_all, AllZip}
 use Rattle.std.proofs.lemmas.Bool.{and_parts, or_cases, eqb-true, le-ltb}
 use Rattle.vw_net.specs.declared.cell.Cell.{Cell}
 use Rattle.vw_net.specs.declared.cell.Cell.TheVariants.{Gate, Latch}
 use Rattle.vw_net.specs.declared.flat.Flat.{Flat}
 use Rattle.vw_net.specs.Order.{IsOrder, is_gate, is_latch, is_among, is_ready, read_nets_at}
-use Rattle.vw_search.proofs.Among.{front_position}
+use Rattle.vw_search.proofs.Among.{front_position, place_of, at_place}
 use Rattle.vw_order.specs.Reads.{gate_reads}
 use Rattle.vw_order.specs.Loops.{IsGateCircle}
-
--- where a number stands first, and that it stands there
-abbrev place_of : List ℕ → ℕ → ℕ
-place_of order number = position_or_len (λ (other : ℕ). other == number) order
-
-at_place : (order : List ℕ) (number : ℕ) → is_among order number ≡ true → (place_of order number < length order) × (get_or order (place_of order number) 0 ≡ number)
-at_place [] number among = absurd (true≢false (sym among))
-at_place (first ∷ order) number among = by (first == number) refl (⊎_elim (λ here. inl here) (λ there. inr (at_place order number there)) (or_cases (first == number) (is_among order number) among)) where
-  by : (b : Bool) → (first == number) ≡ b → ((first == number) ≡ true) ⊎ ((place_of order number < length order) × (get_or order (place_of order number) 0 ≡ number))
-      → (cond (not b) (1 + place_of order number) 0 < suc (length order)) × (get_or (first ∷ order) (cond (not b) (1 + place_of order number) 0) 0 ≡ number)
-  by true is which = (omega arith, eqb-true first number is)
-  by false is which = ⊎_elim (λ here. absurd (true≢false (sym here ∙ is))) further which where
-    further : (place_of order number < length order) × (get_or order (place_of order number) 0 ≡ number)
-        → (1 + place_of order number < suc (length order)) × (get_or (first ∷ order) (1 + place_of order number) 0 ≡ number)
-    further at = let one : 1 + place_of order number ≡ suc (place_of order number) = omega arith in (omega (arith, at.0), ap (λ (n : ℕ). get_or (first ∷ order) n 0) one ∙ at.1)
 
 -- each that is among others passes where all do
 one_of : (test : ℕ → Bool) (nets : List ℕ) (net : ℕ) → list_all test nets ≡ true → is_among nets net ≡ true → test net ≡ true

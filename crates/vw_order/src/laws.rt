@@ -4,6 +4,8 @@ ghost use Rattle.vw_net.specs.declared.flat.Flat.{Flat};
 ghost use Rattle.vw_net.specs.Order.{IsOrder};
 ghost use Rattle.vw_order.specs.Loops.{IsGateCircle, IsLoop, IsLoopFree};
 
+use vw_search::order_or_circle;
+
 /// Where there is an order, no gates read each other in a circle: neither as a loop is listed, nor with any first gate
 /// and gates that stand more than once.
 pub fn orders_are_loop_free()
@@ -17,4 +19,6 @@ pub fn orders_are_loop_free()
 pub fn loop_free_is_ordered()
     ensures { (flat : Flat) → IsLoopFree flat
         → (order : List ℕ) × IsOrder flat.inputs flat.cells order }
-{}
+{
+    order_or_circle();
+}

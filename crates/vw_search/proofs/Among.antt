@@ -4,7 +4,8 @@ use Rattle.std.specs.List.{list_any, position_or_len, IsDistinct}
 use Rattle.std.specs.Cmp.{nat_eq_equiv}
 use Rattle.std.proofs.lemmas.Bool.{eqb-true, eq-eqb, or_cases, or_left, or_right}
 use Rattle.std.proofs.lemmas.Grind.{common_steps}
-use Rattle.std.proofs.lemmas.List.{take-append-drop}
+use Rattle.std.proofs.lemmas.List.{take-append-drop, take_all}
+use Rattle.std.proofs.lemmas.List.Sums.{passes_at_first}
 use Rattle.std.proofs.lemmas.List.Folds.{list_any-append, list_any_at}
 use Rattle.std.proofs.lemmas.List.Sorted.{IsPermutation-append_right, IsPermutation-to_front}
 use Rattle.std.proofs.lemmas.Map.Keys.{IsDistinct-push, IsDistinct-IsPermutation, IsDistinct-tail, apart_from_distinct}
@@ -88,3 +89,13 @@ front_position test (x ∷ xs) (suc end) any = by (test x) refl (⊎_elim (λ he
   by : (b : Bool) → test x ≡ b → (test x ≡ true) ⊎ (position_or_len test xs < end) → cond (not b) (1 + position_or_len test xs) 0 < suc end
   by true is which = omega arith
   by false is which = ⊎_elim (λ here. absurd (true≢false (sym here ∙ is))) (λ further. omega (arith, further)) which
+
+-- where a number stands first, and that it stands there
+abbrev pub place_of : List ℕ → ℕ → ℕ
+place_of numbers number = position_or_len (λ (other : ℕ). other == number) numbers
+
+pub at_place : (numbers : List ℕ) (number : ℕ) → is_among numbers number ≡ true → (place_of numbers number < length numbers) × (get_or numbers (place_of numbers number) 0 ≡ number)
+at_place numbers number among =
+    let whole : is_among (take (length numbers) numbers) number ≡ true = ap (λ (l : List ℕ). is_among l number) (take_all (length numbers) numbers (omega arith)) ∙ among in
+    let within : place_of numbers number < length numbers = front_position (λ (other : ℕ). other == number) numbers (length numbers) whole in
+    (within, eqb-true (get_or numbers (place_of numbers number) 0) number (passes_at_first (λ (other : ℕ). other == number) numbers 0 within))

@@ -145,5 +145,5 @@ module _ (graph : Graph) (within : IsWithin graph) where
   grow (suc steps) order far part =
       ⊎_elim (λ ended. ended) (λ further. grow steps (order ++ further.0 ∷ []) (omega (arith, far, length-append order (further.0 ∷ []))) further.1) (grown order part)
 
-  pub order_or_circle : ((numbers : List ℕ) × IsNumberCircle graph numbers × BeginsWithLeast numbers) ⊎ ((numbers : List ℕ) × IsNumberOrder graph numbers)
-  order_or_circle = ⊎_elim (λ circle. inl (has_least graph circle.0 circle.1)) (λ order. inr order) (grow graph.count [] (omega arith) (record { counted = λ number among. absurd (true≢false (sym among)); once = once_none; behind = λ i place other before. absurd (omega arith) }))
+  pub order_or_circle : ((order : List ℕ) × IsNumberOrder graph order) ⊎ ((numbers : List ℕ) × IsNumberCircle graph numbers × BeginsWithLeast numbers)
+  order_or_circle = ⊎_elim (λ circle. inr (has_least graph circle.0 circle.1)) (λ order. inl order) (grow graph.count [] (omega arith) (record { counted = λ number among. absurd (true≢false (sym among)); once = once_none; behind = λ i place other before. absurd (omega arith) }))

@@ -3,3 +3,4 @@ pub mod Rounds
 pub mod LeastFirst
 pub mod Searches
 pub mod Growth
+pub mod NoCircle

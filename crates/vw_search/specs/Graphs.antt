@@ -1,7 +1,8 @@
 -- Numbers that read each other. Source: directed graphs, in the words of what is worked out in an order.
 use Rattle.std.specs.Prelude.{◌≡◌, ◌<◌, ℕ, Bool, List, slice_get, Option, Some, IsTrue}
 
--- how many numbers there are, those that a search has to reach, those that count, and what each reads at its places
+-- how many numbers there are, those that a search has to reach, those that it may come to (they count), and what each
+-- number reads at its places
 pub record Graph : Type 0 where
   pub count : ℕ
   pub starts : ℕ → Bool

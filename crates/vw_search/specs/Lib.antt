@@ -1,5 +1,5 @@
 pub mod Graphs
 pub mod Orders
 pub mod Circles
-pub mod Answers
+pub mod SearchResults
 pub mod Steps

@@ -1,7 +1,7 @@
 //! A search in depth over numbers that read each other.
 ghost use Rattle.std.specs.Prelude.{◌≡◌, ◌<◌, [], IfOk};
 ghost use Rattle.vw_search.specs.Graphs.{IsWithin};
-ghost use Rattle.vw_search.specs.Answers.{IsFound};
+ghost use Rattle.vw_search.specs.SearchResults.{IsFound};
 ghost use Rattle.vw_search.specs.Steps.Searches.{IsDepth, IsGoneOn, IsVisited};
 
 use crate::circle::{from_least, round};

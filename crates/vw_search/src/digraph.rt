@@ -3,7 +3,7 @@ ghost use Rattle.vw_search.specs.Graphs.{Graph};
 
 /// Numbers from 0 on that read each other: a directed graph. Each has places, and reads at most one number at each.
 pub trait Digraph {
-    /// The graph. It also says which numbers count; a search asks that of no one.
+    /// The graph. Which numbers count is known to proofs alone: a search comes to no others.
     ghost graph: { Self → Graph };
 
     /// How many numbers there are.

@@ -5,7 +5,7 @@ use Rattle.vw_design.specs.ModelNumbers.{IsModelOrder}
 use Rattle.vw_search.specs.Circles.{IsNumberCircle, BeginsWithLeast}
 use Rattle.vw_search.specs.Orders.{IsNumberOrder}
 use Rattle.vw_search.proofs.Among.{at_among}
-use Rattle.vw_models.specs.PlacingGraph.{placing_graph}
+use Rattle.vw_models.specs.ModelGraphs.{graph_of_models}
 use Rattle.vw_models.specs.ModelNames.{names_of}
 use Rattle.vw_models.proofs.Models.{search_within}
 use Rattle.vw_models.proofs.Orders.{model_order}
@@ -16,7 +16,7 @@ use Rattle.vw_models.proofs.order.order_of.Goals.{In-Circle}
 pub search-requires : goal.search-requires
 search-requires c = search_within c.args.design.now c.args.targets.now c.requires.targets
 
-found : (c : In-Circle) → IsNumberCircle (placing_graph c.args.design.now c.args.targets.now) c.in-Circle.circle.items × BeginsWithLeast c.in-Circle.circle.items
+found : (c : In-Circle) → IsNumberCircle (graph_of_models c.args.design.now c.args.targets.now) c.in-Circle.circle.items × BeginsWithLeast c.in-Circle.circle.items
 found c = rw c.in-Circle.is at c.in_ok-order.ensures
 
 pub circle_names-requires : goal.circle_names-requires
@@ -24,14 +24,14 @@ circle_names-requires c = λ i inside.
     let design = c.args.design.now in
     let targets = c.args.targets.now in
     let circle = c.deref.result.now in
-    let here : IsNumberCircle (placing_graph design targets) circle = subst (λ (l : List ℕ). IsNumberCircle (placing_graph design targets) l) (sym c.deref.ensures.value) (found (goal.at.circle_names-requires c).In-Circle).0 in
+    let here : IsNumberCircle (graph_of_models design targets) circle = subst (λ (l : List ℕ). IsNumberCircle (graph_of_models design targets) l) (sym c.deref.ensures.value) (found (goal.at.circle_names-requires c).In-Circle).0 in
     circle_within design targets c.requires.targets circle here (get_or circle i 0) (at_among circle i inside)
 
 pub returns-in-Order : goal.returns-in-Order
 returns-in-Order c =
     let design = c.args.design.now in
     let targets = c.args.targets.now in
-    let found : IsNumberOrder (placing_graph design targets) c.in-Order.order.items = rw c.in-Order.is at c.in_ok-order.ensures in
+    let found : IsNumberOrder (graph_of_models design targets) c.in-Order.order.items = rw c.in-Order.is at c.in_ok-order.ensures in
     subst (λ (l : List ℕ). IsModelOrder design l) (sym c.of.ensures) (model_order design targets c.requires.targets c.requires.known c.in-Order.order.items found)
 
 pub returns-in_ok-circle_names-in-Circle : goal.returns-in_ok-circle_names-in-Circle

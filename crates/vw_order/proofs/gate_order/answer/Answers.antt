@@ -2,7 +2,7 @@ use Rattle.std.proofs.lemmas.Result.{IfOk-weaker}
 use Rattle.vw_net.specs.declared.flat.Flat.{Flat}
 use Rattle.vw_search.specs.declared.depth_first.Found.{Found}
 use Rattle.vw_search.specs.declared.depth_first.Found.TheVariants.{Order, Circle}
-use Rattle.vw_search.specs.Answers.{IsFound}
+use Rattle.vw_search.specs.SearchResults.{IsFound}
 use Rattle.vw_order.specs.Gates.{gates}
 use Rattle.vw_order.specs.GateOrders.{IsAnswered}
 use Rattle.vw_order.proofs.Inputs.{within}

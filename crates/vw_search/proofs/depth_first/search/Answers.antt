@@ -21,4 +21,4 @@ returns-in-Some g c =
     let circle = c.deref.result.now in
     let is_circle : IsNumberCircle graph circle = subst (λ (l : List ℕ). IsNumberCircle graph l) (sym c.deref.ensures.value) (rw c.in-Some.is at c.in_ok-circle.ensures) in
     let made = c.in_ok-from_least.ensures in
-    subst (λ (l : List ℕ). IsNumberCircle graph l × BeginsWithLeast l) (sym made.2) (from_least circle made.0 made.1 graph is_circle)
+    subst (λ (l : List ℕ). IsNumberCircle graph l × BeginsWithLeast l) (sym made.2) (from_least graph circle made.0 made.1 is_circle)

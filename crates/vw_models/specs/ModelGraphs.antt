@@ -6,8 +6,8 @@ use Rattle.vw_search.specs.Graphs.{Graph}
 use Rattle.vw_models.specs.Reach.{Targets}
 
 -- the root has to be reached, and the reached models count
-abbrev pub placing_graph : Design → Targets → Graph
-placing_graph design targets = record {
+abbrev pub graph_of_models : Design → Targets → Graph
+graph_of_models design targets = record {
   count = length design.models;
   starts = λ number. number == 0;
   counts = λ number. is_reached_model design (slice_get design.models number);

@@ -1,4 +1,4 @@
--- What a search answers.
+-- What a search finds.
 use Rattle.vw_search.specs.declared.depth_first.Found.{Found}
 use Rattle.vw_search.specs.declared.depth_first.Found.TheVariants.{Order, Circle}
 use Rattle.vw_search.specs.Graphs.{Graph}

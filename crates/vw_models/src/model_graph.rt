@@ -1,4 +1,4 @@
-ghost use Rattle.vw_models.specs.PlacingGraph.{placing_graph};
+ghost use Rattle.vw_models.specs.ModelGraphs.{graph_of_models};
 
 use vw_design::Design;
 use vw_net::Sequence;
@@ -6,14 +6,14 @@ use vw_search::Digraph;
 
 /// The models of a design, by their numbers. Each reads those that it places, and the root has to be reached.
 #[derive(Drop)]
-pub struct PlacedModels<'a> {
+pub struct ModelGraph<'a> {
     pub design: &'a Design,
     /// For each model, the numbers of those that it places.
     pub targets: &'a [Sequence<Option<u32>>],
 }
 
-impl Digraph for PlacedModels<'_> {
-    ghost graph = { λ all. placing_graph all.design.now all.targets.now };
+impl Digraph for ModelGraph<'_> {
+    ghost graph = { λ all. graph_of_models all.design.now all.targets.now };
 
     fn count(&self) -> u32 {
         self.design.models().len() as u32
