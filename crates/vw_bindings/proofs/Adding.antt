@@ -14,7 +14,7 @@ use Rattle.vw_design.proofs.FilteredLists.{AllZip-append}
 use Rattle.vw_models.proofs.Places.{at_within}
 use Rattle.vw_models.proofs.Unknowns.{AreAlong}
 use Rattle.vw_bindings.specs.declared.placement.Placement.{Placement}
-use Rattle.vw_bindings.specs.Placed.{Placed, placed_by, IsPlacement, AreAdded}
+use Rattle.vw_bindings.specs.Steps.Placed.{Placed, placed_by, IsPlacement, AreAdded}
 
 -- those of some placed models were added, and some are left
 pub record IsAdding (design : Design) (start : List Placement) (left todo : List Placed) (now : List Placement) : Type 0 where

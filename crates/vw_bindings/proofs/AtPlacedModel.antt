@@ -14,7 +14,7 @@ use Rattle.vw_design.specs.Paths.{Word, lent}
 use Rattle.vw_design.specs.ModelFaults.{unknown_formal_in, is_formal_of, unbound_input_in}
 use Rattle.vw_design.proofs.FilteredLists.{AllZip-at, find_same}
 use Rattle.vw_bindings.specs.declared.placement.Placement.{Placement}
-use Rattle.vw_bindings.specs.Placed.{at_placement}
+use Rattle.vw_bindings.specs.Steps.Placed.{at_placement}
 use Rattle.vw_bindings.proofs.Searched.{found_next, found_now}
 
 -- no value

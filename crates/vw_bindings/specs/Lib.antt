@@ -1,3 +1,2 @@
-pub mod Placed
-pub mod Formals
 pub mod PlacedFaults
+pub mod Steps

@@ -3,8 +3,8 @@ ghost use Rattle.std.specs.Prelude.{◌≡◌, option_map, IfOk};
 ghost use Rattle.std.specs.List.{AllZip};
 ghost use Rattle.vw_design.specs.ModelFaults.{both_ways};
 ghost use Rattle.vw_design.specs.ModelNumbers.{AreTargets, AreModelMarks};
-ghost use Rattle.vw_bindings.specs.Placed.{IsPlacement, placed_models};
-ghost use Rattle.vw_bindings.specs.Formals.{IsBothWays};
+ghost use Rattle.vw_bindings.specs.Steps.Placed.{IsPlacement, placed_models};
+ghost use Rattle.vw_bindings.specs.Steps.Formals.{IsBothWays};
 ghost use Rattle.vw_bindings.specs.PlacedFaults.{named_output};
 
 use crate::copy::copy;

@@ -3,7 +3,7 @@ ghost use Rattle.std.specs.Prelude.{◌≡◌, IfOk};
 ghost use Rattle.std.specs.List.{AllZip};
 ghost use Rattle.vw_design.specs.Paths.{Word, is_port};
 ghost use Rattle.vw_design.specs.WordSets.{has_word};
-ghost use Rattle.vw_bindings.specs.Formals.{AreFormals};
+ghost use Rattle.vw_bindings.specs.Steps.Formals.{AreFormals};
 
 use std::alloc::{AllocError, Global};
 use vw_design::{Design, Model, WordSet};

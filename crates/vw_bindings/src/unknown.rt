@@ -4,8 +4,8 @@ ghost use Rattle.std.specs.List.{AllZip};
 ghost use Rattle.vw_design.specs.ModelFaults.{unknown_formal};
 ghost use Rattle.vw_design.specs.ModelNumbers.{AreTargets, AreModelMarks};
 ghost use Rattle.vw_design.specs.WordSets.{has_word};
-ghost use Rattle.vw_bindings.specs.Placed.{IsPlacement, placed_models};
-ghost use Rattle.vw_bindings.specs.Formals.{AreFormals};
+ghost use Rattle.vw_bindings.specs.Steps.Placed.{IsPlacement, placed_models};
+ghost use Rattle.vw_bindings.specs.Steps.Formals.{AreFormals};
 ghost use Rattle.vw_design.specs.Paths.{lent};
 ghost use Rattle.vw_bindings.specs.PlacedFaults.{name_at};
 

@@ -17,7 +17,7 @@ use Rattle.vw_nets.specs.declared.columns.Columns.{Columns}
 use Rattle.vw_nets.specs.Columns.{AreColumns}
 use Rattle.vw_elab.specs.declared.driver.Driver.TheVariants.{Cell}
 use Rattle.vw_elab.specs.Numbers.{of_port, driver_of}
-use Rattle.vw_elab.specs.ByColumns.{driver_by}
+use Rattle.vw_elab.specs.Steps.ByColumns.{driver_by}
 
 -- the input at the place of a column
 pub column_at : (inputs names : List Word) (places : List ℕ) → map (slice_get inputs) places ≡ map (λ name. Some name) names → (k : ℕ) → k < length names

@@ -30,7 +30,7 @@ use Rattle.vw_elab.specs.declared.elaborated.Reading.{Reading}
 use Rattle.vw_elab.specs.declared.parts.Parts.{Parts}
 use Rattle.vw_elab.specs.Tables.{AreDesignParts}
 use Rattle.vw_elab.specs.Numbers.{IsPlacedBy, IsInstance, driver_of}
-use Rattle.vw_elab.specs.ByColumns.{driver_by, reading_of}
+use Rattle.vw_elab.specs.Steps.ByColumns.{driver_by, reading_of}
 use Rattle.vw_elab.proofs.PortColumns.{by_columns}
 
 -- the instance of an entry

@@ -4,4 +4,3 @@ pub mod MessageLines
 pub mod Steps
 pub mod Tables
 pub mod Numbers
-pub mod ByColumns

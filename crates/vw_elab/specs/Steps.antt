@@ -1,4 +1,5 @@
 -- How far the search for a design's faults has come.
+pub mod ByColumns
 use Rattle.std.specs.Prelude.{◌≡◌, List, None}
 use Rattle.vw_design.specs.declared.design.Design.{Design}
 use Rattle.vw_design.specs.Paths.{Word}

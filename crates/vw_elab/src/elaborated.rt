@@ -11,7 +11,7 @@ ghost use Rattle.vw_names.specs.Names.{reads_of};
 ghost use Rattle.vw_walk.specs.Tables.{IsCellSite};
 ghost use Rattle.vw_claims.specs.Firsts.{number_named};
 ghost use Rattle.vw_drivers.specs.Tables.{instance_firsts};
-ghost use Rattle.vw_elab.specs.ByColumns.{driver_by, reading_of};
+ghost use Rattle.vw_elab.specs.Steps.ByColumns.{driver_by, reading_of};
 ghost use Rattle.vw_elab.specs.Numbers.{IsInstance, driver_of};
 ghost use Rattle.vw_elab.specs.Tables.{IsElaborated};
 

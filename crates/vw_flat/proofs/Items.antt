@@ -16,7 +16,7 @@ use Rattle.vw_walk.specs.declared.tables.CellSite.{CellSite}
 use Rattle.vw_walk.specs.Tables.{IsCellSite}
 use Rattle.vw_elab.specs.declared.elaborated.Instance.{Instance}
 use Rattle.vw_elab.specs.Numbers.{IsInstance}
-use Rattle.vw_flat.specs.Numbers.{item_with_numbers}
+use Rattle.vw_flat.specs.Steps.Numbers.{item_with_numbers}
 
 pub some_at : {A : Type 0} → (xs : List A) (k : ℕ) → k < length xs → (x : A) × (slice_get xs k ≡ Some x)
 some_at [] k within = absurd (omega arith)

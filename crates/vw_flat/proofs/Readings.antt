@@ -26,7 +26,7 @@ use Rattle.vw_names.specs.Names.{reads_of}
 use Rattle.vw_elab.specs.declared.driver.Driver.{Driver}
 use Rattle.vw_elab.specs.declared.driver.Driver.TheVariants as drivers
 use Rattle.vw_elab.specs.Numbers.{of_port, driver_of}
-use Rattle.vw_flat.specs.Numbers.{number_by, HasNumber, nets, item_with_numbers, numbers_at}
+use Rattle.vw_flat.specs.Steps.Numbers.{number_by, HasNumber, nets, item_with_numbers, numbers_at}
 use Rattle.vw_flat.proofs.Items.{some_at, some_model}
 
 -- an element of a front

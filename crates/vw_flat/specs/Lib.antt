@@ -1,2 +1,2 @@
 pub mod Printed
-pub mod Numbers
+pub mod Steps

@@ -4,7 +4,7 @@ ghost use Rattle.std.specs.List.{All};
 ghost use Rattle.vw_net.specs.Cells.{IsWellFormed};
 ghost use Rattle.vw_design.specs.Limits.{cell_count};
 ghost use Rattle.vw_design.specs.Preorder.{cells};
-ghost use Rattle.vw_flat.specs.Numbers.{nets, item_with_numbers, numbers_at, IsCellAt};
+ghost use Rattle.vw_flat.specs.Steps.Numbers.{nets, item_with_numbers, numbers_at, IsCellAt};
 
 use crate::number::number_read;
 use std::alloc::{AllocError, Global};

@@ -7,7 +7,7 @@ ghost use Rattle.vw_design.specs.Flattened.{number_of, IsCellOf, IsFlatOf};
 ghost use Rattle.vw_design.specs.PathHistory.{path_history};
 ghost use Rattle.vw_design.specs.Preorder.{cells};
 ghost use Rattle.vw_design.specs.Reads.{root_outputs};
-ghost use Rattle.vw_flat.specs.Numbers.{nets};
+ghost use Rattle.vw_flat.specs.Steps.Numbers.{nets};
 
 use crate::cell::{cell_of, item_of};
 use crate::number::number_output;

@@ -3,7 +3,7 @@ ghost use Rattle.std.specs.Prelude.{◌≡◌, ◌<◌, [], Some, length, slice_
 ghost use Rattle.vw_design.specs.Preorder.{cells};
 ghost use Rattle.vw_design.specs.Reads.{root_outputs};
 ghost use Rattle.vw_design.specs.Flattened.{number_of};
-ghost use Rattle.vw_flat.specs.Numbers.{number_by, HasNumber, nets, numbers_at};
+ghost use Rattle.vw_flat.specs.Steps.Numbers.{number_by, HasNumber, nets, numbers_at};
 
 use vw_elab::{Driver, Elaborated};
 use vw_outside::Name;

@@ -14,12 +14,12 @@ use Rattle.vw_design.specs.ModelFaults.{is_reached, model_places, place_in_file,
 use Rattle.vw_design.specs.ModelNumbers.{AreTargets, is_reached_model}
 use Rattle.vw_design.proofs.Has.{from-map}
 use Rattle.vw_design.proofs.Names.{Has-has_name}
-use Rattle.vw_models.specs.Reach.{Targets}
+use Rattle.vw_models.specs.Steps.Reach.{Targets}
 use Rattle.vw_search.specs.Graphs.{Reads}
 use Rattle.vw_search.specs.Circles.{IsNumberCircle, BeginsWithLeast}
 use Rattle.vw_search.proofs.Among.{among_right, among_at, at_among, once_apart}
-use Rattle.vw_models.specs.ModelGraphs.{graph_of_models}
-use Rattle.vw_models.specs.ModelNames.{name_of, names_of}
+use Rattle.vw_models.specs.Steps.ModelGraphs.{graph_of_models}
+use Rattle.vw_models.specs.Steps.ModelNames.{name_of, names_of}
 use Rattle.vw_models.proofs.Among.{Has_among}
 use Rattle.vw_design.proofs.ModelNumbers.{place_of_model, named_at, same_number}
 use Rattle.vw_models.proofs.Models.{placed, search_within}

@@ -6,7 +6,7 @@ use Rattle.vw_design.specs.declared.model.Model.{Model}
 use Rattle.vw_design.specs.declared.design.Design.{Design}
 use Rattle.vw_design.specs.Lists.{first_found}
 use Rattle.vw_design.specs.ModelFaults.{is_reached, reached, unknown_model}
-use Rattle.vw_models.specs.Unknown.{unknown_of}
+use Rattle.vw_models.specs.Steps.Unknown.{unknown_of}
 
 -- what is found among models that pass a test
 module _ (passes : Model → Bool) (find_in : Model → Option ℕ) (models : List Model) (i : ℕ) (model : Model) (within : i < length models) (at : model ≡ get_or models i model) where

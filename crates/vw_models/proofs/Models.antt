@@ -16,9 +16,9 @@ use Rattle.vw_design.proofs.Names.{same_name, equal_names}
 use Rattle.vw_design.proofs.ModelNumbers.{place_of_model, model_of_place, named_at, name_of_named}
 use Rattle.vw_design.proofs.FilteredLists.{AllZip-at, AllZip-length}
 use Rattle.vw_design.proofs.Closed.{reached_at, reached_closed, reached_least}
-use Rattle.vw_models.specs.Reach.{Targets, PlacesAt, AreWithin, IsClosed}
+use Rattle.vw_models.specs.Steps.Reach.{Targets, PlacesAt, AreWithin, IsClosed}
 use Rattle.vw_search.specs.Graphs.{IsWithin}
-use Rattle.vw_models.specs.ModelGraphs.{graph_of_models}
+use Rattle.vw_models.specs.Steps.ModelGraphs.{graph_of_models}
 use Rattle.vw_models.proofs.Places.{at_within, list_at, AllZip-back}
 
 module _ (design : Design) where

@@ -8,7 +8,7 @@ use Rattle.vw_design.specs.Paths.{placings}
 use Rattle.vw_design.specs.ModelFaults.{is_reached}
 use Rattle.vw_design.specs.ModelNumbers.{IsNumberOfModel, AreTargets, AreModelMarks}
 use Rattle.vw_design.proofs.FilteredLists.{AllZip-at, AllZip-length}
-use Rattle.vw_models.specs.Reach.{Targets}
+use Rattle.vw_models.specs.Steps.Reach.{Targets}
 use Rattle.vw_models.proofs.Unknowns.{AreAlong}
 
 -- there are as many marks and targets as models

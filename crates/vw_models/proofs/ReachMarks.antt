@@ -6,7 +6,7 @@ use Rattle.vw_design.specs.declared.model.Model.{Model}
 use Rattle.vw_design.specs.declared.design.Design.{Design}
 use Rattle.vw_design.specs.ModelFaults.{is_reached}
 use Rattle.vw_design.specs.ModelNumbers.{AreTargets, AreModelMarks, is_reached_model}
-use Rattle.vw_models.specs.Reach.{Targets, AreReachMarks}
+use Rattle.vw_models.specs.Steps.Reach.{Targets, AreReachMarks}
 use Rattle.vw_models.proofs.Models.{each_model, reached_closed_numbers, reached_least_numbers}
 use Rattle.vw_models.proofs.Places.{AllZip-each}
 

@@ -1,6 +1,2 @@
-pub mod Names
-pub mod Reach
-pub mod Unknown
-pub mod ModelGraphs
-pub mod ModelNames
 pub mod ModelOrders
+pub mod Steps

@@ -1,6 +1,6 @@
 //! Names of models in a circle.
 ghost use Rattle.std.specs.Prelude.{◌≡◌, ◌<◌, length, slice_index, EachIndex, IfOk};
-ghost use Rattle.vw_models.specs.ModelNames.{names_of};
+ghost use Rattle.vw_models.specs.Steps.ModelNames.{names_of};
 
 use std::alloc::{AllocError, Global};
 use vw_design::Design;

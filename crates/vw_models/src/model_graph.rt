@@ -1,4 +1,4 @@
-ghost use Rattle.vw_models.specs.ModelGraphs.{graph_of_models};
+ghost use Rattle.vw_models.specs.Steps.ModelGraphs.{graph_of_models};
 
 use vw_design::Design;
 use vw_net::Sequence;

@@ -1,7 +1,7 @@
 //! Numbers of models by their names.
 ghost use Rattle.std.specs.Prelude.{◌≡◌, length, map, IfOk};
 ghost use Rattle.vw_design.specs.Paths.{placings};
-ghost use Rattle.vw_models.specs.Names.{number_in, AreNumbers};
+ghost use Rattle.vw_models.specs.Steps.Names.{number_in, AreNumbers};
 
 use std::alloc::{AllocError, Global};
 use std::collections::HashMap;

@@ -1,7 +1,7 @@
 //! Numbers that are reached from number 0.
 ghost use Rattle.std.specs.Prelude.{◌≡◌, ◌<◌, ℕ, Some, [], slice_get, IfOk, OnOk};
 ghost use Rattle.std.specs.Vec.{vec_len};
-ghost use Rattle.vw_models.specs.Reach.{
+ghost use Rattle.vw_models.specs.Steps.Reach.{
   AreMarked,
   AreReachMarks,
   AreWithin,

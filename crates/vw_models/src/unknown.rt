@@ -5,7 +5,7 @@ ghost use Rattle.vw_design.specs.Lists.{first_found};
 ghost use Rattle.vw_design.specs.Paths.{placings, model_named};
 ghost use Rattle.vw_design.specs.ModelFaults.{by_placing, unknown_model};
 ghost use Rattle.vw_design.specs.ModelNumbers.{AreTargets, AreModelMarks, IsNumberOfModel};
-ghost use Rattle.vw_models.specs.Unknown.{unknown_of};
+ghost use Rattle.vw_models.specs.Steps.Unknown.{unknown_of};
 
 use vw_design::{Design, Item};
 use vw_net::Sequence;

@@ -18,7 +18,7 @@ use Rattle.vw_walk.specs.declared.tables.Placed.{Placed}
 use Rattle.vw_walk.specs.Tables.{IsEntryAt}
 use Rattle.vw_drivers.specs.declared.tables.Tables.{Tables}
 use Rattle.vw_drivers.specs.Tables.{AreTables, instance_firsts}
-use Rattle.vw_nets.specs.Items.{item_at_site, numbers_by, AreNumbersOf}
+use Rattle.vw_nets.specs.Steps.Items.{item_at_site, numbers_by, AreNumbersOf}
 
 pub numbers_of_names : (firsts : List First) (names : List Word) (numbers : List (Option ℕ)) → numbers ≡ map (number_named firsts) names → AreNumbersOf firsts names numbers
 numbers_of_names firsts names numbers are place name at =

@@ -17,7 +17,7 @@ use Rattle.vw_walk.specs.declared.tables.Placed.{Placed}
 use Rattle.vw_walk.specs.Tables.{IsEntryAt}
 use Rattle.vw_drivers.specs.declared.tables.Tables.{Tables}
 use Rattle.vw_drivers.specs.Tables.{AreTables}
-use Rattle.vw_nets.specs.Seconds.{again_by, position_by, IsClaimedAt, AreFrom, AreNone}
+use Rattle.vw_nets.specs.Steps.Seconds.{again_by, position_by, IsClaimedAt, AreFrom, AreNone}
 use Rattle.vw_nets.proofs.InstancePlaces.{element}
 
 -- more items weigh no less

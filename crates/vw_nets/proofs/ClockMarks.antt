@@ -17,7 +17,7 @@ use Rattle.vw_design.specs.Clocks.{inputs_of, clocks_of, control_ports, clock_po
 use Rattle.vw_design.proofs.Has.{from-find, some-find, at-place}
 use Rattle.vw_design.proofs.Names.{same_name, Has-has_name}
 use Rattle.vw_claims.specs.Firsts.{First, number_named}
-use Rattle.vw_nets.specs.Ports.{has_number, root_ports}
+use Rattle.vw_nets.specs.Steps.Ports.{has_number, root_ports}
 use Rattle.vw_nets.proofs.PortNumbers.{somes, one_name, same_numbers}
 
 module _ {A : Type 0} where

@@ -14,7 +14,7 @@ use Rattle.vw_design.specs.NetFaults.{Edged, edge_at, same_edge, first_unlike, s
 use Rattle.vw_design.specs.Paths.{Word, Path, printed}
 use Rattle.vw_design.specs.Preorder.{Site, is_cell, is_latch_item, instances, sites, cells, latches}
 use Rattle.vw_nets.specs.declared.edges.Typed.{Typed}
-use Rattle.vw_nets.specs.Edges.{IsTyped, other_edge, first_other}
+use Rattle.vw_nets.specs.Steps.Edges.{IsTyped, other_edge, first_other}
 use Rattle.vw_nets.specs.Nets.{latches_pair}
 use Rattle.vw_nets.proofs.Along.{IsHere}
 

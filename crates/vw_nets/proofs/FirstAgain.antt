@@ -22,7 +22,7 @@ use Rattle.vw_design.proofs.Sites.{site_is, site_item}
 use Rattle.vw_claims.specs.Claimed.{again_at}
 use Rattle.vw_nets.specs.declared.two_drivers.Second.{Second}
 use Rattle.vw_nets.specs.Nets.{printed_net}
-use Rattle.vw_nets.specs.Seconds.{is_earlier, IsClaimedAt, AreFrom, AreNone, IsSecondAt, IsFirstSecond}
+use Rattle.vw_nets.specs.Steps.Seconds.{is_earlier, IsClaimedAt, AreFrom, AreNone, IsSecondAt, IsFirstSecond}
 
 -- one more instance
 module _ (design : Design) (i : ℕ) (path : Path) (listed : slice_get (instances design) i ≡ Some path) where

@@ -22,8 +22,8 @@ use Rattle.vw_drivers.specs.declared.tables.Tables.{Tables}
 use Rattle.vw_drivers.specs.Tables.{AreTables, root_firsts}
 use Rattle.vw_nets.specs.declared.columns.Columns.{Columns}
 use Rattle.vw_nets.specs.Columns.{AreColumns}
-use Rattle.vw_nets.specs.Free.{unmarked, is_free, has_none, with_column, AreFree}
-use Rattle.vw_nets.specs.Wanted.{AreClockMarks}
+use Rattle.vw_nets.specs.Steps.Free.{unmarked, is_free, has_none, with_column, AreFree}
+use Rattle.vw_nets.specs.Steps.Wanted.{AreClockMarks}
 use Rattle.vw_nets.proofs.ClockMarks.{set_here, set_elsewhere, number_within}
 use Rattle.vw_nets.proofs.PortNumbers.{one_name}
 

@@ -23,7 +23,7 @@ use Rattle.vw_names.specs.Names.{reads_of}
 use Rattle.vw_drivers.specs.declared.source.Source.{Source}
 use Rattle.vw_drivers.specs.declared.source.Source.TheVariants.{Port, Cell}
 use Rattle.vw_drivers.specs.Sources.{source_of}
-use Rattle.vw_nets.specs.Ports.{port_number, item_ports}
+use Rattle.vw_nets.specs.Steps.Ports.{port_number, item_ports}
 use Rattle.vw_nets.proofs.Reading.{of_cells_alone}
 
 abbrev pub somes : List ℕ → List (Option ℕ)

@@ -16,7 +16,7 @@ use Rattle.vw_design.proofs.Has.{Has, Has-at, from-filter_map, from-find}
 use Rattle.vw_design.proofs.Names.{name_same}
 use Rattle.vw_claims.specs.Firsts.{First, number_named}
 use Rattle.vw_nets.specs.Nets.{ports_pair}
-use Rattle.vw_nets.specs.Ports.{root_ports}
+use Rattle.vw_nets.specs.Steps.Ports.{root_ports}
 use Rattle.vw_nets.proofs.PortNumbers.{somes, same_numbers}
 
 -- what is found among names, and among their numbers

@@ -1,8 +1,3 @@
 pub mod Nets
 pub mod Columns
-pub mod Items
-pub mod Wanted
-pub mod Edges
-pub mod Ports
-pub mod Free
-pub mod Seconds
+pub mod Steps

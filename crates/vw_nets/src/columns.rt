@@ -4,7 +4,7 @@ ghost use Rattle.vw_claims.specs.Firsts.{number_named};
 ghost use Rattle.vw_drivers.specs.Tables.{root_firsts};
 ghost use Rattle.vw_nets.specs.Nets.{AreNets};
 ghost use Rattle.vw_nets.specs.Columns.{AreColumns};
-ghost use Rattle.vw_nets.specs.Free.{unmarked, with_column, AreFree};
+ghost use Rattle.vw_nets.specs.Steps.Free.{unmarked, with_column, AreFree};
 
 use crate::nets::Nets;
 use std::alloc::{AllocError, Global};

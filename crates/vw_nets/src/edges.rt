@@ -5,7 +5,7 @@ ghost use Rattle.vw_design.specs.NetFaults.{several_edges};
 ghost use Rattle.vw_design.specs.Paths.{Path};
 ghost use Rattle.vw_design.specs.PathValue.{item_at};
 ghost use Rattle.vw_design.specs.Preorder.{instances};
-ghost use Rattle.vw_nets.specs.Edges.{differs, IsTyped, other_edge, first_other};
+ghost use Rattle.vw_nets.specs.Steps.Edges.{differs, IsTyped, other_edge, first_other};
 ghost use Rattle.vw_nets.specs.Nets.{AreNets, latches_pair};
 
 use crate::nets::{Nets, Pair};

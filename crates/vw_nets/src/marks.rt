@@ -5,7 +5,7 @@ ghost use Rattle.vw_design.specs.Clocks.{clock_ports};
 ghost use Rattle.vw_claims.specs.Firsts.{number_named};
 ghost use Rattle.vw_drivers.specs.Tables.{root_firsts};
 ghost use Rattle.vw_nets.specs.Nets.{AreNets};
-ghost use Rattle.vw_nets.specs.Wanted.{AreClockMarks};
+ghost use Rattle.vw_nets.specs.Steps.Wanted.{AreClockMarks};
 
 use crate::nets::Nets;
 use std::alloc::{AllocError, Global};

@@ -8,7 +8,7 @@ ghost use Rattle.vw_design.specs.Preorder.{instances};
 ghost use Rattle.vw_claims.specs.Firsts.{number_named};
 ghost use Rattle.vw_drivers.specs.Tables.{root_firsts};
 ghost use Rattle.vw_nets.specs.Nets.{AreNets};
-ghost use Rattle.vw_nets.specs.Ports.{port_number, item_ports, has_number, root_ports};
+ghost use Rattle.vw_nets.specs.Steps.Ports.{port_number, item_ports, has_number, root_ports};
 
 use crate::items::{control_of, number_at};
 use crate::nets::Nets;

@@ -9,9 +9,9 @@ ghost use Rattle.vw_design.specs.Reads.{data_of, controls_of};
 ghost use Rattle.vw_claims.specs.Firsts.{number_named};
 ghost use Rattle.vw_names.specs.Names.{reads_of};
 ghost use Rattle.vw_drivers.specs.Tables.{root_firsts, instance_firsts};
-ghost use Rattle.vw_nets.specs.Items.{AreNumbersOf};
+ghost use Rattle.vw_nets.specs.Steps.Items.{AreNumbersOf};
 ghost use Rattle.vw_nets.specs.Nets.{AreNets, printed_net};
-ghost use Rattle.vw_nets.specs.Wanted.{wants, HasMarks, wanted_names, wanted_among, wanted_read, first_wanted};
+ghost use Rattle.vw_nets.specs.Steps.Wanted.{wants, HasMarks, wanted_names, wanted_among, wanted_read, first_wanted};
 
 use crate::items::{control_of, number_at};
 use crate::nets::Nets;

@@ -1,6 +1,6 @@
 //! What is looked for among the nets that are read.
 ghost use Rattle.std.specs.Prelude.{◌≡◌, false, slice_index_or};
-ghost use Rattle.vw_nets.specs.Wanted.{is_cell_number, is_marked, takes};
+ghost use Rattle.vw_nets.specs.Steps.Wanted.{is_cell_number, is_marked, takes};
 
 use vw_drivers::Source;
 

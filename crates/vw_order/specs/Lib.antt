@@ -2,4 +2,4 @@ pub mod Reads
 pub mod Loops
 pub mod Faults
 pub mod Gates
-pub mod GateOrders
+pub mod Steps

@@ -1,7 +1,7 @@
 //! An order of the gates of a netlist.
 ghost use Rattle.std.specs.Prelude.{◌≡◌, IfOk, IfErr};
 ghost use Rattle.vw_order.specs.Faults.{IsOrderFault};
-ghost use Rattle.vw_order.specs.GateOrders.{IsAnswered};
+ghost use Rattle.vw_order.specs.Steps.GateOrders.{IsAnswered};
 
 use crate::gates::Gates;
 use std::alloc::{AllocError, Global};

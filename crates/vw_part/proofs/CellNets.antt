@@ -13,7 +13,7 @@ use Rattle.std.specs.Cmp.{both_ways}
 use Rattle.vw_net.specs.declared.cell.Cell.{Cell}
 use Rattle.vw_net.specs.Cells.{IsWellFormed, read_nets}
 use Rattle.vw_net.specs.Order.{is_among}
-use Rattle.vw_part.specs.Pins.{AreNetsOf, ArePins, times_among}
+use Rattle.vw_part.specs.Steps.Pins.{AreNetsOf, ArePins, times_among}
 use Rattle.vw_part.proofs.Totals.{at_other, at_same}
 
 -- ---- numbers that rise

@@ -7,8 +7,8 @@ use Rattle.std.proofs.lemmas.List.Elements.{All-get_or}
 use Rattle.vw_plan.specs.declared.board.Board.{Board}
 use Rattle.vw_plan.specs.Good.{IsChip}
 use Rattle.vw_part.specs.declared.pins.Pins.{Pins}
-use Rattle.vw_part.specs.Deals.{freed, held, holders, met, cell_nets, spread}
-use Rattle.vw_part.specs.Pins.{times_among, total}
+use Rattle.vw_part.specs.Steps.Deals.{freed, held, holders, met, cell_nets, spread}
+use Rattle.vw_part.specs.Steps.Pins.{times_among, total}
 use Rattle.vw_net.specs.Lists.{one_if}
 use Rattle.vw_part.proofs.Held.{at_none, held_set}
 use Rattle.vw_part.proofs.Totals.{at, at_other, at_same, by_share, range_at, share, share_none, share_one, total_ones, total_plus, total_same}

@@ -4,8 +4,8 @@ use Rattle.std.specs.List.{All, range_with_len}
 use Rattle.std.proofs.lemmas.List.Elements.{All-head, All-tail}
 use Rattle.std.proofs.lemmas.List.Sums.{sum_by-cons}
 use Rattle.vw_plan.specs.Good.{cells_on}
-use Rattle.vw_part.specs.Deals.{held}
-use Rattle.vw_part.specs.Pins.{times_among, total}
+use Rattle.vw_part.specs.Steps.Deals.{held}
+use Rattle.vw_part.specs.Steps.Pins.{times_among, total}
 use Rattle.vw_net.specs.Lists.{one_if}
 use Rattle.vw_part.proofs.Totals.{at, at_same, range_at, total_plus}
 

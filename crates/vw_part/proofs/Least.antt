@@ -8,8 +8,8 @@ use Rattle.vw_net.specs.declared.flat.Flat.{Flat}
 use Rattle.vw_plan.specs.declared.board.Board.{Board}
 use Rattle.vw_plan.specs.Good.{IsChip, NoMoveHelps, pair_count}
 use Rattle.vw_part.specs.declared.pins.Pins.{Pins}
-use Rattle.vw_part.specs.Deals.{IsSettled, freed, holders, met, cell_nets, spread}
-use Rattle.vw_part.specs.Pins.{ArePins, total}
+use Rattle.vw_part.specs.Steps.Deals.{IsSettled, freed, holders, met, cell_nets, spread}
+use Rattle.vw_part.specs.Steps.Pins.{ArePins, total}
 use Rattle.vw_net.specs.Lists.{one_if}
 use Rattle.vw_part.proofs.Gains.{spread_moved}
 use Rattle.vw_part.proofs.CellNets.{pins_long}

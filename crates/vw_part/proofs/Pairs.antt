@@ -13,8 +13,8 @@ use Rattle.vw_plan.specs.Good.{pair_count}
 use Rattle.vw_net.specs.Lists.{greatest, one_if}
 use Rattle.vw_plan.specs.Needs.{needed_nodes, needed_pairs}
 use Rattle.vw_plan.specs.Nets.{is_needed, node_of}
-use Rattle.vw_part.specs.Deals.{held, holders}
-use Rattle.vw_part.specs.Pins.{ArePins, times_among, total}
+use Rattle.vw_part.specs.Steps.Deals.{held, holders}
+use Rattle.vw_part.specs.Steps.Pins.{ArePins, times_among, total}
 use Rattle.vw_part.proofs.Totals.{among, at, length-filter, length-flat_map, range_at, range_longer, range_plus, range_same, total_ones, total_plus, total_same}
 
 -- ---- where a net is driven and read

@@ -1,3 +1,2 @@
-pub mod Pins
-pub mod Deals
 pub mod Faults
+pub mod Steps

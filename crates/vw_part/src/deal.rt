@@ -1,7 +1,7 @@
 //! Cells on chips.
 ghost use Rattle.std.specs.Prelude.{◌≡◌, ◌+◌, ◌*◌, ◌<◌, ◌≤◌, ◌++◌, ◌∷◌, [], length, slice_set, IfOk, OnOk};
 ghost use Rattle.vw_plan.specs.Good.{IsChip, cells_on};
-ghost use Rattle.vw_part.specs.Deals.{IsDeal, IsTarget};
+ghost use Rattle.vw_part.specs.Steps.Deals.{IsDeal, IsTarget};
 
 use crate::load::Load;
 use crate::pins::Pins;

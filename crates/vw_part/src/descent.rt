@@ -1,7 +1,7 @@
 //! Moves of single cells, until none helps.
 ghost use Rattle.std.specs.Prelude.{◌≡◌, ◌<◌, ℕ, true, false, length, MatchOption};
 ghost use Rattle.vw_plan.specs.Good.{IsChip};
-ghost use Rattle.vw_part.specs.Deals.{IsDeal, IsGain, IsSettled, IsTarget, met, spread};
+ghost use Rattle.vw_part.specs.Steps.Deals.{IsDeal, IsGain, IsSettled, IsTarget, met, spread};
 
 use crate::deal::Deal;
 use crate::pins::Pins;

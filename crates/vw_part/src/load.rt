@@ -2,7 +2,7 @@
 ghost use Rattle.std.specs.Prelude.{◌≡◌, ◌+◌, ◌<◌, ◌≤◌, ◌^◌, ◌==◌, ℕ, nat_lt, length, replicate, slice_index, IfOk};
 ghost use Rattle.std.specs.List.{All};
 ghost use Rattle.std.specs.Vec.{vec_len};
-ghost use Rattle.vw_part.specs.Pins.{times_among, total};
+ghost use Rattle.vw_part.specs.Steps.Pins.{times_among, total};
 ghost use Rattle.vw_net.specs.Lists.{one_if};
 
 use std::alloc::{AllocError, Global};

@@ -2,7 +2,7 @@
 ghost use Rattle.std.specs.Prelude.{◌≡◌, ◌+◌, ◌<◌, ◌≤◌, ℕ, [], length, slice_index_or, IfOk};
 ghost use Rattle.std.specs.List.{All};
 ghost use Rattle.vw_net.specs.Cells.{read_nets};
-ghost use Rattle.vw_part.specs.Pins.{AreNetsOf, ArePins, times_among};
+ghost use Rattle.vw_part.specs.Steps.Pins.{AreNetsOf, ArePins, times_among};
 
 use std::alloc::{AllocError, Global};
 use vw_net::{Cell, Flat, Sequence};

@@ -9,7 +9,7 @@ use Rattle.std.proofs.lemmas.List.Sorted.{IsPermutation-refl, IsPermutation-swap
 use Rattle.vw_plan.specs.declared.board.Board.{Board}
 use Rattle.vw_plan.specs.Good.{exchanged}
 use Rattle.vw_place.specs.Numbering.{IsNodeList, IsNumbering, moved}
-use Rattle.vw_place.specs.Tries.{AreTried, IsBefore, IsBoth, IsLater}
+use Rattle.vw_place.specs.Steps.Tries.{AreTried, IsBefore, IsBoth, IsLater}
 use Rattle.vw_place.proofs.Renumbered.{chip_stays, one_to_one}
 
 -- ---- two numbers exchanged

@@ -13,8 +13,8 @@ use Rattle.vw_plan.specs.Good.{IsChip, NoExchangeHelps, exchanged, travel}
 use Rattle.vw_plan.specs.Needs.{needed_pairs}
 use Rattle.vw_plan.specs.Nets.{node_of}
 use Rattle.vw_place.specs.Numbering.{IsNodeList, moved}
-use Rattle.vw_place.specs.Traffic.{IsTraffic, goes, way, way_between, way_from}
-use Rattle.vw_place.specs.Tries.{NoneIsUseful}
+use Rattle.vw_place.specs.Steps.Traffic.{IsTraffic, goes, way, way_between, way_from}
+use Rattle.vw_place.specs.Steps.Tries.{NoneIsUseful}
 use Rattle.vw_place.proofs.Exchanges.{exchanged_itself, exchanged_turned, moved_exchanged, nodes_exchanged}
 use Rattle.vw_place.proofs.Renumbered.{old_chip, travel_moved}
 use Rattle.vw_place.proofs.Sums.{by_numbers, range_agree}

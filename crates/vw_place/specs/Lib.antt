@@ -1,3 +1,2 @@
 pub mod Numbering
-pub mod Traffic
-pub mod Tries
+pub mod Steps

@@ -1,8 +1,8 @@
 //! Exchanges of chips, until none makes the way shorter.
 ghost use Rattle.std.specs.Prelude.{◌≡◌, ◌≤◌, ◌<◌, ◌+◌};
 ghost use Rattle.vw_place.specs.Numbering.{IsNodeList};
-ghost use Rattle.vw_place.specs.Traffic.{IsPairTable, way};
-ghost use Rattle.vw_place.specs.Tries.{AreTried, IsBefore, IsBoth, IsLater, NoneIsUseful};
+ghost use Rattle.vw_place.specs.Steps.Traffic.{IsPairTable, way};
+ghost use Rattle.vw_place.specs.Steps.Tries.{AreTried, IsBefore, IsBoth, IsLater, NoneIsUseful};
 
 use crate::way::whole_way;
 use vw_board::Distances;

@@ -3,8 +3,8 @@ ghost use Rattle.std.specs.Prelude.{◌≡◌, ◌≤◌, ◌+◌, ℕ, length, 
 ghost use Rattle.std.specs.List.{All};
 ghost use Rattle.vw_plan.specs.Good.{IsChip, NoExchangeHelps, NoMoveHelps, cells_on};
 ghost use Rattle.vw_place.specs.Numbering.{IsNodeList, IsRenumbered, moved};
-ghost use Rattle.vw_place.specs.Traffic.{IsPairTable, way};
-ghost use Rattle.vw_place.specs.Tries.{NoneIsUseful};
+ghost use Rattle.vw_place.specs.Steps.Traffic.{IsPairTable, way};
+ghost use Rattle.vw_place.specs.Steps.Tries.{NoneIsUseful};
 
 use crate::exchange::exchange;
 use crate::traffic::traffic;

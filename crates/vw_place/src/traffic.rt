@@ -3,7 +3,7 @@ ghost use Rattle.std.specs.Prelude.{◌≡◌, ◌≤◌, length, IfOk};
 ghost use Rattle.std.specs.List.{All};
 ghost use Rattle.vw_plan.specs.declared.board.Board.{Board};
 ghost use Rattle.vw_plan.specs.Needs.{needed_pairs};
-ghost use Rattle.vw_place.specs.Traffic.{IsTraffic};
+ghost use Rattle.vw_place.specs.Steps.Traffic.{IsTraffic};
 
 use std::alloc::{AllocError, Global};
 use vw_net::Flat;

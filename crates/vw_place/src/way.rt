@@ -1,7 +1,7 @@
 //! How far the needed pairs go, all together.
 ghost use Rattle.std.specs.Prelude.{◌≡◌, ◌≤◌, ◌<◌, ◌+◌};
 ghost use Rattle.vw_place.specs.Numbering.{IsNodeList};
-ghost use Rattle.vw_place.specs.Traffic.{IsPairTable, way, way_between, way_from};
+ghost use Rattle.vw_place.specs.Steps.Traffic.{IsPairTable, way, way_between, way_from};
 
 use vw_board::Distances;
 

@@ -4,7 +4,7 @@ use Rattle.std.specs.List.{range_with_len}
 use Rattle.vw_plan.specs.Good.{cells_on}
 use Rattle.vw_plan.specs.Setting.{Setting}
 use Rattle.vw_plan.specs.Sound.{IsSound}
-use Rattle.vw_part.specs.Pins.{total}
+use Rattle.vw_part.specs.Steps.Pins.{total}
 use Rattle.vw_part.proofs.Held.{on_all}
 
 -- no more than a room for each of a range

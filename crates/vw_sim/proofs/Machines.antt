@@ -10,7 +10,7 @@ use Rattle.vw_net.specs.Order.{IsOrder, is_gate, gate_inputs}
 use Rattle.vw_net.specs.Word.{place_of}
 use Rattle.vw_net.proofs.Words.{place_of-below}
 use Rattle.vw_sim.specs.declared.machine.GateStep.{GateStep}
-use Rattle.vw_sim.specs.Machine.{step_of, gate_steps, gathered_reads}
+use Rattle.vw_sim.specs.Steps.Machine.{step_of, gate_steps, gathered_reads}
 use Rattle.vw_sim.proofs.Gates.{gate_fits}
 use Rattle.vw_net.proofs.Ready.{order_gate}
 

@@ -5,7 +5,7 @@ use Rattle.vw_net.specs.declared.flat.Flat.{Flat}
 use Rattle.vw_net.specs.Cells.{latch_count}
 use Rattle.vw_net.specs.Order.{is_ready}
 use Rattle.vw_net.specs.Value.{net_value}
-use Rattle.vw_sim.specs.Machine.{latch_nets, with_bits}
+use Rattle.vw_sim.specs.Steps.Machine.{latch_nets, with_bits}
 use Rattle.vw_sim.proofs.LatchNets.{bits_latch, bits_rest, length-with_bits}
 use Rattle.vw_sim.proofs.Values.{net_value-before_gates}
 

@@ -7,7 +7,7 @@ ghost use Rattle.vw_net.specs.Cover.{cover_value};
 ghost use Rattle.vw_net.specs.Order.{is_latch, is_ready};
 ghost use Rattle.vw_net.specs.Value.{net_value};
 ghost use Rattle.vw_net.specs.History.{next_state};
-ghost use Rattle.vw_sim.specs.Values.{bits_at, is_no_latch_net};
+ghost use Rattle.vw_sim.specs.Steps.Values.{bits_at, is_no_latch_net};
 
 use vw_net::{Bits, Cell, Cover, Flat, Ordered, gates_settle};
 

@@ -9,8 +9,8 @@ ghost use Rattle.vw_net.specs.History.{next_state};
 ghost use Rattle.vw_net.specs.Order.{is_ready, gate_inputs};
 ghost use Rattle.vw_net.specs.Value.{net_value};
 ghost use Rattle.vw_net.specs.Word.{place_of};
-ghost use Rattle.vw_sim.specs.Values.{bits_at};
-ghost use Rattle.vw_sim.specs.Machine.{step_of, gate_steps, gathered_reads, latch_nets, with_bits, IsReady};
+ghost use Rattle.vw_sim.specs.Steps.Values.{bits_at};
+ghost use Rattle.vw_sim.specs.Steps.Machine.{step_of, gate_steps, gathered_reads, latch_nets, with_bits, IsReady};
 
 use crate::clock::{gate_value, put_inputs};
 use std::alloc::{AllocError, Global};
@@ -42,7 +42,7 @@ pub struct Machine<'a> {
 
 impl<'a> Model for Machine<'a> {
     ghost use Rattle.vw_net.specs.declared.ordered.Ordered.{Ordered};
-    ghost use Rattle.vw_sim.specs.Machine.{IsReady};
+    ghost use Rattle.vw_sim.specs.Steps.Machine.{IsReady};
 
     ghost Value = { Ordered };
 

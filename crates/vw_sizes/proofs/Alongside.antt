@@ -14,11 +14,11 @@ use Rattle.vw_design.specs.Counts.{placed_one, placed_weight}
 use Rattle.vw_design.specs.ModelFaults.{place_in_file}
 use Rattle.vw_design.specs.ModelNumbers.{IsNumberOfModel, AreTargets}
 use Rattle.vw_design.proofs.FilteredLists.{AllZip-at}
-use Rattle.vw_models.specs.Reach.{Targets}
+use Rattle.vw_models.specs.Steps.Reach.{Targets}
 use Rattle.vw_models.proofs.Unknowns.{AreAlong}
 use Rattle.vw_design.proofs.ModelNumbers.{place_of_model, model_of_place, name_of_named}
 use Rattle.vw_models.proofs.Places.{at_within}
-use Rattle.vw_sizes.specs.Counting.{target_in, count_at, count_in, IsWithinModels}
+use Rattle.vw_sizes.specs.Steps.Counting.{target_in, count_at, count_in, IsWithinModels}
 
 module _ (design : Design) (counts : List ℕ) (each : length counts ≡ length design.models) where
   -- the number of a name says what the name says

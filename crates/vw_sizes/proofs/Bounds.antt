@@ -15,7 +15,7 @@ use Rattle.vw_design.proofs.Has.{Has, Has-at}
 use Rattle.vw_design.proofs.ModelNumbers.{name_of_named}
 use Rattle.vw_sizes.specs.declared.measure.Measure.{Measure}
 use Rattle.vw_sizes.specs.declared.measure.Measure.TheVariants.{Levels}
-use Rattle.vw_sizes.specs.Counting.{most, amount, count_in, AreCounts, IsRanked}
+use Rattle.vw_sizes.specs.Steps.Counting.{most, amount, count_in, AreCounts, IsRanked}
 use Rattle.vw_sizes.proofs.Sums.{placed_lower}
 
 module _ (design : Design) where

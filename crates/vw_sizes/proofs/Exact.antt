@@ -24,8 +24,8 @@ use Rattle.vw_sizes.specs.declared.sizes.Before.{Before}
 use Rattle.vw_sizes.specs.declared.sizes.Sizes.{Sizes}
 use Rattle.vw_sizes.specs.declared.tables.Tables.{Tables}
 use Rattle.vw_sizes.specs.declared.totals.Totals.{Totals}
-use Rattle.vw_sizes.specs.Counting.{most, count_in, IsRanked, AreCountingTables, AreEntries}
-use Rattle.vw_sizes.specs.Quantified.{AreTotals, first_above}
+use Rattle.vw_sizes.specs.Steps.Counting.{most, count_in, IsRanked, AreCountingTables, AreEntries}
+use Rattle.vw_sizes.specs.Steps.Quantified.{AreTotals, first_above}
 use Rattle.vw_sizes.specs.Quantities.{counted_of}
 use Rattle.vw_sizes.specs.Sizes.{AreBefore, AreSizes}
 use Rattle.vw_sizes.proofs.Bounds.{counted_at, least_of_root, levels_of_root}

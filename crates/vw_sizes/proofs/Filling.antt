@@ -20,7 +20,7 @@ use Rattle.vw_models.proofs.Among.{among_Has}
 use Rattle.vw_design.proofs.ModelNumbers.{place_of_model, model_of_place, name_of_named, named_by}
 use Rattle.vw_models.proofs.Orders.{rank, ranking}
 use Rattle.vw_sizes.specs.declared.measure.Measure.{Measure}
-use Rattle.vw_sizes.specs.Counting.{most, amount, count_in, AreCounts, IsRanked}
+use Rattle.vw_sizes.specs.Steps.Counting.{most, amount, count_in, AreCounts, IsRanked}
 use Rattle.vw_sizes.proofs.Sums.{amount_same}
 
 -- the counts of the first so many of an order are right

@@ -9,7 +9,7 @@ use Rattle.vw_design.proofs.FilteredLists.{AllZip-append}
 use Rattle.vw_sizes.specs.declared.measure.Measure.TheVariants.{Instances, Cells}
 use Rattle.vw_sizes.specs.declared.sizes.Before.{Before}
 use Rattle.vw_sizes.specs.declared.tables.Tables.{Tables}
-use Rattle.vw_sizes.specs.Counting.{most, amount, count_in, AreEntries}
+use Rattle.vw_sizes.specs.Steps.Counting.{most, amount, count_in, AreEntries}
 
 -- what stands in a list that got one more
 last_or : {A : Type 0} (xs : List A) (x y : A) (k : ℕ) → slice_get (xs ++ x ∷ []) k ≡ Some y → (slice_get xs k ≡ Some y) ⊎ ((k ≡ length xs) × (x ≡ y))

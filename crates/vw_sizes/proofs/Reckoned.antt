@@ -19,8 +19,8 @@ use Rattle.vw_design.proofs.ModelNumbers.{place_of_model}
 use Rattle.vw_design.proofs.FilteredLists.{find_same}
 use Rattle.vw_sizes.specs.declared.measure.Measure.TheVariants.{Instances, Bindings, Cells, Levels}
 use Rattle.vw_sizes.specs.declared.totals.Totals.{Totals}
-use Rattle.vw_sizes.specs.Counting.{most, count_in, AreCounts, IsRanked}
-use Rattle.vw_sizes.specs.Quantified.{total_of, first_above, AreTotals}
+use Rattle.vw_sizes.specs.Steps.Counting.{most, count_in, AreCounts, IsRanked}
+use Rattle.vw_sizes.specs.Steps.Quantified.{total_of, first_above, AreTotals}
 use Rattle.vw_sizes.proofs.Bounds.{exact_levels}
 
 module _ (design : Design) (root : Model) (is : model_at design [] ≡ Some root) (ranked : IsRanked design) where

@@ -8,7 +8,7 @@ use Rattle.vw_design.specs.Counts.{items_weight, items_height, placed_weight}
 use Rattle.vw_design.proofs.Has.{Has}
 use Rattle.vw_sizes.specs.declared.measure.Measure.{Measure}
 use Rattle.vw_sizes.specs.declared.measure.Measure.TheVariants.{Instances, Bindings, Cells, Levels}
-use Rattle.vw_sizes.specs.Counting.{most, merged, single, amount}
+use Rattle.vw_sizes.specs.Steps.Counting.{most, merged, single, amount}
 
 -- of items that are joined
 pub weight_append : (weight : Item → ℕ) (below : Word → ℕ) (items more : List Item) → items_weight weight below (items ++ more) ≡ items_weight weight below items + items_weight weight below more

@@ -4,7 +4,7 @@ ghost use Rattle.std.specs.List.{AllZip};
 ghost use Rattle.vw_design.specs.Counts.{placed_one};
 ghost use Rattle.vw_design.specs.ModelNumbers.{AreTargets, IsModelOrder, IsNumberOfModel};
 ghost use Rattle.vw_design.specs.Paths.{placings};
-ghost use Rattle.vw_sizes.specs.Counting.{
+ghost use Rattle.vw_sizes.specs.Steps.Counting.{
   most,
   amount,
   target_in,

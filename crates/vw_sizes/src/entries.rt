@@ -3,7 +3,7 @@ ghost use Rattle.std.specs.Prelude.{◌≡◌, length, IfOk};
 ghost use Rattle.std.specs.List.{AllZip};
 ghost use Rattle.vw_design.specs.ModelNumbers.{AreTargets, IsNumberOfModel};
 ghost use Rattle.vw_design.specs.Paths.{placings};
-ghost use Rattle.vw_sizes.specs.Counting.{AreEntries};
+ghost use Rattle.vw_sizes.specs.Steps.Counting.{AreEntries};
 
 use crate::amounts::{count_of, target_of};
 use crate::measure::{Measure, places};

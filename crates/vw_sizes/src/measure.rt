@@ -1,7 +1,7 @@
 //! What is counted of models.
 ghost use Rattle.std.specs.Prelude.{◌≡◌, min};
 ghost use Rattle.vw_design.specs.Counts.{placed_one};
-ghost use Rattle.vw_sizes.specs.Counting.{most, merged, own, cell_amount, single};
+ghost use Rattle.vw_sizes.specs.Steps.Counting.{most, merged, own, cell_amount, single};
 
 use std::cmp;
 use vw_design::Item;

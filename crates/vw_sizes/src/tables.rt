@@ -1,7 +1,7 @@
 //! The counts of all models.
 ghost use Rattle.std.specs.Prelude.{IfOk};
 ghost use Rattle.vw_design.specs.ModelNumbers.{AreTargets, IsModelOrder};
-ghost use Rattle.vw_sizes.specs.Counting.{AreCountingTables};
+ghost use Rattle.vw_sizes.specs.Steps.Counting.{AreCountingTables};
 
 use crate::amounts::counts_of;
 use crate::measure::Measure;

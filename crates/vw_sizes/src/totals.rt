@@ -1,9 +1,9 @@
 //! The quantities of a design.
 ghost use Rattle.std.specs.Prelude.{◌≡◌, IfOk, find, nat_lt, option_map};
 ghost use Rattle.vw_design.specs.Limits.{limit_of};
-ghost use Rattle.vw_sizes.specs.Counting.{AreCountingTables};
+ghost use Rattle.vw_sizes.specs.Steps.Counting.{AreCountingTables};
 ghost use Rattle.vw_sizes.specs.Quantities.{counted_of};
-ghost use Rattle.vw_sizes.specs.Quantified.{total_of, first_above, AreTotals};
+ghost use Rattle.vw_sizes.specs.Steps.Quantified.{total_of, first_above, AreTotals};
 
 use crate::inputs::input_count;
 use crate::quantity::Quantity;

@@ -3,7 +3,7 @@ ghost use Rattle.std.specs.Prelude.{◌≡◌, ◌<◌, ◌+◌, false, length, 
 ghost use Rattle.std.specs.List.{All};
 ghost use Rattle.vw_net.specs.Cells.{latch_count};
 ghost use Rattle.vw_net.specs.History.{outputs_at, next_state, outputs_of, states_of, state_after};
-ghost use Rattle.vw_sim.specs.Values.{bits_at};
+ghost use Rattle.vw_sim.specs.Steps.Values.{bits_at};
 
 use std::alloc::{AllocError, Global};
 use vw_net::{Bits, Rows};

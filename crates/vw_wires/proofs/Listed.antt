@@ -19,7 +19,7 @@ use Rattle.vw_net.specs.Order.{is_among}
 use Rattle.vw_plan.specs.declared.need.Need.{Need}
 use Rattle.vw_plan.specs.Needs.{is_pair}
 use Rattle.vw_plan.specs.Nets.{is_needed, node_of}
-use Rattle.vw_wires.specs.Crossings.{cell_crossings, crossing_nets, crossings}
+use Rattle.vw_wires.specs.Steps.Crossings.{cell_crossings, crossing_nets, crossings}
 use Rattle.vw_wires.proofs.Unique.{HaveSame, need_cmp, need_cmp_total, unique}
 
 -- ---- tests

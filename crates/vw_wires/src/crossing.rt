@@ -2,7 +2,7 @@
 ghost use Rattle.std.specs.Prelude.{◌≡◌, ◌++◌, length, IfOk, OnOk};
 ghost use Rattle.vw_net.specs.Cells.{read_nets};
 ghost use Rattle.vw_plan.specs.Nets.{node_of};
-ghost use Rattle.vw_wires.specs.Crossings.{crossing_nets, crossings};
+ghost use Rattle.vw_wires.specs.Steps.Crossings.{crossing_nets, crossings};
 
 use std::alloc::{AllocError, Global};
 use vw_net::{Cell, Flat};

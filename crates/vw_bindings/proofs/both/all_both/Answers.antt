@@ -1,4 +1,4 @@
-use Rattle.vw_bindings.specs.Formals.{IsBothWays}
+use Rattle.vw_bindings.specs.Steps.Formals.{IsBothWays}
 use Rattle.vw_bindings.proofs.Adding.{one_more}
 use Rattle.vw_bindings.proofs.both.all_both.Goals as goal
 

@@ -1,4 +1,4 @@
-use Rattle.vw_bindings.specs.Formals.{AreFormals}
+use Rattle.vw_bindings.specs.Steps.Formals.{AreFormals}
 use Rattle.vw_bindings.proofs.Adding.{one_more}
 use Rattle.vw_bindings.proofs.formals.all_formals.Goals as goal
 

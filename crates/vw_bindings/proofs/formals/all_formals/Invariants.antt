@@ -1,7 +1,7 @@
 -- those of the models so far
 use Rattle.std.proofs.Common.{take}
 use Rattle.std.specs.List.{AllZip}
-use Rattle.vw_bindings.specs.Formals.{AreFormals}
+use Rattle.vw_bindings.specs.Steps.Formals.{AreFormals}
 use Rattle.vw_bindings.proofs.formals.all_formals.Given as goal
 
 abbrev pub invariant-loop-model : goal.invariant-loop-model

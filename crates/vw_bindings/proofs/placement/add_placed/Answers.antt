@@ -4,7 +4,7 @@ use Rattle.vw_design.specs.Paths.{Placing}
 use Rattle.vw_design.specs.ModelNumbers.{IsNumberOfModel}
 use Rattle.vw_models.proofs.Unknowns.{AreAlong}
 use Rattle.vw_bindings.specs.declared.placement.Placement.{Placement}
-use Rattle.vw_bindings.specs.Placed.{Placed, placed_by}
+use Rattle.vw_bindings.specs.Steps.Placed.{Placed, placed_by}
 use Rattle.vw_bindings.proofs.Adding.{IsAdding, sub_cut, no_sub, passed_over, placed_now}
 use Rattle.vw_bindings.proofs.placement.add_placed.Goals as goal
 use Rattle.vw_bindings.proofs.placement.add_placed.Goals.{in-Sub, in-Some+in_ok-push, in_default-targets, in_default}

@@ -3,7 +3,7 @@ use Rattle.std.proofs.Common.{drop, filter_map}
 use Rattle.std.specs.List.{AllZip}
 use Rattle.vw_design.specs.Paths.{placings}
 use Rattle.vw_design.specs.ModelNumbers.{IsNumberOfModel}
-use Rattle.vw_bindings.specs.Placed.{placed_by}
+use Rattle.vw_bindings.specs.Steps.Placed.{placed_by}
 use Rattle.vw_bindings.proofs.Adding.{IsAdding}
 use Rattle.vw_bindings.proofs.placement.add_placed.Given as goal
 

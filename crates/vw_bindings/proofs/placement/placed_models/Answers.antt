@@ -7,7 +7,7 @@ use Rattle.vw_design.specs.declared.design.Design.{Design}
 use Rattle.vw_design.specs.ModelFaults.{is_reached, reached}
 use Rattle.vw_models.proofs.Unknowns.{AreAlong}
 use Rattle.vw_bindings.specs.declared.placement.Placement.{Placement}
-use Rattle.vw_bindings.specs.Placed.{Placed, placed_by, placed_models, IsPlacement, AreAdded}
+use Rattle.vw_bindings.specs.Steps.Placed.{Placed, placed_by, placed_models, IsPlacement, AreAdded}
 use Rattle.vw_bindings.proofs.Adding.{IsAdding, more_added, ended}
 use Rattle.vw_models.proofs.NumberedModels.{within_models, marks_each, targets_each, model_at_place, mark_at, along_at}
 use Rattle.vw_bindings.proofs.placement.placed_models.Goals as goal

@@ -1,7 +1,7 @@
 -- the models of the items of the models so far were added
 use Rattle.std.proofs.Common.{[], drop, filter, filter_map, flat_map}
 use Rattle.vw_design.specs.ModelFaults.{is_reached}
-use Rattle.vw_bindings.specs.Placed.{placed_by}
+use Rattle.vw_bindings.specs.Steps.Placed.{placed_by}
 use Rattle.vw_bindings.proofs.Adding.{IsAdding}
 use Rattle.vw_bindings.proofs.placement.placed_models.Given as goal
 

@@ -3,8 +3,8 @@ use Rattle.std.proofs.lemmas.Option.{slice_get_read}
 use Rattle.vw_design.specs.Paths.{Word}
 use Rattle.vw_design.specs.ModelFaults.{unknown_formal_in}
 use Rattle.vw_design.specs.WordSets.{has_word}
-use Rattle.vw_bindings.specs.Placed.{at_placement}
-use Rattle.vw_bindings.specs.Formals.{AreFormals}
+use Rattle.vw_bindings.specs.Steps.Placed.{at_placement}
+use Rattle.vw_bindings.specs.Steps.Formals.{AreFormals}
 use Rattle.vw_bindings.specs.PlacedFaults.{unknown_formal_at}
 use Rattle.vw_bindings.proofs.Searched.{the_name, model_of, unknown_is}
 use Rattle.vw_bindings.proofs.AtPlacedModel.{none_is, zip_at, nothing_at, something_at, nothing_left, made_none, made_some, unknown_by}

@@ -1,7 +1,7 @@
 use Rattle.std.proofs.Common.{◌≡◌, ◌<◌, ℕ, List, Option, Some, length, sym, ◌∙◌, ap, subst}
 use Rattle.std.specs.List.{All}
 use Rattle.std.proofs.lemmas.List.{length-map}
-use Rattle.vw_flat.specs.Numbers.{nets}
+use Rattle.vw_flat.specs.Steps.Numbers.{nets}
 use Rattle.vw_flat.proofs.Items.{never_placed}
 use Rattle.vw_flat.proofs.Readings.{gate_reads_all}
 use Rattle.vw_flat.proofs.cell.cell_of.Goals as goal

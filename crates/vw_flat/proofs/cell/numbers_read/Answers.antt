@@ -1,7 +1,7 @@
 use Rattle.std.proofs.Common.{◌<◌, ◌++◌, ◌∷◌, [], ℕ, Some, map, slice_get, sym, ◌∙◌, ap}
 use Rattle.std.proofs.lemmas.List.{map-append}
 use Rattle.vw_design.specs.Preorder.{cells}
-use Rattle.vw_flat.specs.Numbers.{nets, numbers_at}
+use Rattle.vw_flat.specs.Steps.Numbers.{nets, numbers_at}
 use Rattle.vw_flat.proofs.LongerLists.{take_more, all_more}
 use Rattle.vw_flat.proofs.cell.numbers_read.Goals as goal
 

@@ -1,7 +1,7 @@
 use Rattle.std.proofs.Common.{◌≡◌, ◌<◌, Some, map, take, slice_get}
 use Rattle.std.specs.List.{All}
 use Rattle.vw_design.specs.Preorder.{cells}
-use Rattle.vw_flat.specs.Numbers.{nets, numbers_at}
+use Rattle.vw_flat.specs.Steps.Numbers.{nets, numbers_at}
 use Rattle.vw_flat.proofs.cell.numbers_read.Given as goal
 
 -- so many numbers are there

@@ -4,7 +4,7 @@ use Rattle.vw_net.specs.Cells.{IsWellFormed}
 use Rattle.vw_design.specs.Flattened.{IsCellOf}
 use Rattle.vw_design.specs.Limits.{cell_count}
 use Rattle.vw_design.specs.Preorder.{Site, cells}
-use Rattle.vw_flat.specs.Numbers.{nets, IsCellAt}
+use Rattle.vw_flat.specs.Steps.Numbers.{nets, IsCellAt}
 use Rattle.vw_flat.proofs.Items.{cell_is}
 use Rattle.vw_flat.proofs.LongerLists.{all_more, zip_more}
 use Rattle.vw_flat.proofs.netlist.cells_of.Goals as goal

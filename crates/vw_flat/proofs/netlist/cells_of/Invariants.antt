@@ -3,7 +3,7 @@ use Rattle.std.specs.List.{All, AllZip}
 use Rattle.vw_net.specs.Cells.{IsWellFormed}
 use Rattle.vw_design.specs.Flattened.{IsCellOf}
 use Rattle.vw_design.specs.Preorder.{cells}
-use Rattle.vw_flat.specs.Numbers.{nets}
+use Rattle.vw_flat.specs.Steps.Numbers.{nets}
 use Rattle.vw_flat.proofs.netlist.cells_of.Given as goal
 
 -- so many cells are there

@@ -5,7 +5,7 @@ use Rattle.vw_design.specs.declared.model.Model.{Model}
 use Rattle.vw_design.specs.Paths.{Word, Net, model_at, model_outputs}
 use Rattle.vw_design.specs.Reads.{net_at, root_outputs}
 use Rattle.vw_design.specs.Flattened.{number_of}
-use Rattle.vw_flat.specs.Numbers.{nets}
+use Rattle.vw_flat.specs.Steps.Numbers.{nets}
 use Rattle.vw_flat.proofs.LongerLists.{maps_more, all_more}
 use Rattle.vw_flat.proofs.netlist.outputs_of.Goals as goal
 

@@ -2,7 +2,7 @@ use Rattle.std.proofs.Common.{◌≡◌, ◌<◌, Some, map, take}
 use Rattle.std.specs.List.{All}
 use Rattle.vw_design.specs.Flattened.{number_of}
 use Rattle.vw_design.specs.Reads.{root_outputs}
-use Rattle.vw_flat.specs.Numbers.{nets}
+use Rattle.vw_flat.specs.Steps.Numbers.{nets}
 use Rattle.vw_flat.proofs.netlist.outputs_of.Given as goal
 
 -- so many numbers are there

@@ -3,7 +3,7 @@ use Rattle.std.proofs.lemmas.List.{map_more}
 use Rattle.std.proofs.lemmas.Option.{slice_get_read}
 use Rattle.vw_design.specs.declared.model.Model.{Model}
 use Rattle.vw_design.specs.Paths.{Word}
-use Rattle.vw_models.specs.ModelNames.{name_of}
+use Rattle.vw_models.specs.Steps.ModelNames.{name_of}
 use Rattle.vw_models.proofs.circle.circle_names.Goals as goal
 
 -- one more name

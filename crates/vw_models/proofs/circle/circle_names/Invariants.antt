@@ -1,6 +1,6 @@
 -- the names so far
 use Rattle.std.proofs.Common.{◌≡◌, take}
-use Rattle.vw_models.specs.ModelNames.{names_of}
+use Rattle.vw_models.specs.Steps.ModelNames.{names_of}
 use Rattle.vw_models.proofs.circle.circle_names.Given as goal
 
 abbrev pub invariant-loop-number : goal.invariant-loop-number

@@ -5,8 +5,8 @@ use Rattle.vw_design.specs.ModelNumbers.{IsModelOrder}
 use Rattle.vw_search.specs.Circles.{IsNumberCircle, BeginsWithLeast}
 use Rattle.vw_search.specs.Orders.{IsNumberOrder}
 use Rattle.vw_search.proofs.Among.{at_among}
-use Rattle.vw_models.specs.ModelGraphs.{graph_of_models}
-use Rattle.vw_models.specs.ModelNames.{names_of}
+use Rattle.vw_models.specs.Steps.ModelGraphs.{graph_of_models}
+use Rattle.vw_models.specs.Steps.ModelNames.{names_of}
 use Rattle.vw_models.proofs.Models.{search_within}
 use Rattle.vw_models.proofs.Orders.{model_order}
 use Rattle.vw_models.proofs.CircleNames.{circle_within, is_circle_of_names}

@@ -1,7 +1,7 @@
 use Rattle.std.proofs.Common.{◌≡◌, ◌<◌, ◌+◌, ℕ, List, [], Option, length, get_or, slice_get, arith, sym, ◌∙◌, ap, subst}
 use Rattle.std.proofs.lemmas.List.{get_or_default}
 use Rattle.vw_net.specs.Order.{is_among}
-use Rattle.vw_models.specs.Reach.{with_number, with_targets}
+use Rattle.vw_models.specs.Steps.Reach.{with_number, with_targets}
 use Rattle.vw_models.proofs.Reaches.{IsReaching, start, go_on, short, all_reached}
 use Rattle.vw_search.proofs.Among.{at_among}
 use Rattle.vw_models.proofs.reach.reach.Goals as goal

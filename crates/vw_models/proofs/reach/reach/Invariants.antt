@@ -1,7 +1,7 @@
 -- what the numbers so far place is there
 use Rattle.std.proofs.Common.{◌≡◌, length}
 use Rattle.std.specs.Vec.{vec_len}
-use Rattle.vw_models.specs.Reach.{AreMarked}
+use Rattle.vw_models.specs.Steps.Reach.{AreMarked}
 use Rattle.vw_models.proofs.Reaches.{IsReaching}
 use Rattle.vw_models.proofs.reach.reach.Given as goal
 

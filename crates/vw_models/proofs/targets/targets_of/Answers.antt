@@ -4,7 +4,7 @@ use Rattle.vw_design.specs.declared.item.Item.{Item}
 use Rattle.vw_design.specs.declared.model.Model.{Model}
 use Rattle.vw_design.specs.Paths.{Placing, placings}
 use Rattle.vw_design.specs.ModelNumbers.{AreTargets}
-use Rattle.vw_models.specs.Names.{number_in}
+use Rattle.vw_models.specs.Steps.Names.{number_in}
 use Rattle.vw_models.proofs.Named.{targets_are}
 use Rattle.vw_models.proofs.targets.targets_of.Goals as goal
 

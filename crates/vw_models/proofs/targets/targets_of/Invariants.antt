@@ -1,7 +1,7 @@
 -- the targets of the models so far
 use Rattle.std.proofs.Common.{◌≡◌, map, take}
 use Rattle.vw_design.specs.Paths.{placings}
-use Rattle.vw_models.specs.Names.{number_in}
+use Rattle.vw_models.specs.Steps.Names.{number_in}
 use Rattle.vw_models.proofs.targets.targets_of.Given as goal
 
 abbrev pub invariant-loop-model : goal.invariant-loop-model

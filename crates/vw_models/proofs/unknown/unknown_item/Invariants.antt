@@ -4,7 +4,7 @@ use Rattle.std.specs.List.{AllZip}
 use Rattle.vw_design.specs.Lists.{first_found}
 use Rattle.vw_design.specs.Paths.{placings}
 use Rattle.vw_design.specs.ModelNumbers.{IsNumberOfModel}
-use Rattle.vw_models.specs.Unknown.{unknown_of}
+use Rattle.vw_models.specs.Steps.Unknown.{unknown_of}
 use Rattle.vw_models.proofs.unknown.unknown_item.Given as goal
 
 abbrev pub invariant-loop-item : goal.invariant-loop-item

@@ -10,8 +10,8 @@ use Rattle.vw_design.specs.Paths.{placings}
 use Rattle.vw_design.specs.ModelFaults.{is_reached}
 use Rattle.vw_design.specs.ModelNumbers.{IsNumberOfModel, AreTargets, AreModelMarks}
 use Rattle.vw_design.proofs.FilteredLists.{AllZip-at, AllZip-length}
-use Rattle.vw_models.specs.Reach.{Targets}
-use Rattle.vw_models.specs.Unknown.{unknown_of}
+use Rattle.vw_models.specs.Steps.Reach.{Targets}
+use Rattle.vw_models.specs.Steps.Unknown.{unknown_of}
 use Rattle.vw_models.proofs.Unknowns.{AreAlong}
 use Rattle.vw_models.proofs.FirstUnknown.{passed_over, nothing_here, found_here, unknown_is, nothing_left}
 use Rattle.vw_models.proofs.NumberedModels.{marks_each, targets_each, model_at_place, mark_at, along_at, within_models}

@@ -2,7 +2,7 @@
 use Rattle.std.proofs.Common.{◌≡◌, drop, filter}
 use Rattle.vw_design.specs.Lists.{first_found}
 use Rattle.vw_design.specs.ModelFaults.{is_reached}
-use Rattle.vw_models.specs.Unknown.{unknown_of}
+use Rattle.vw_models.specs.Steps.Unknown.{unknown_of}
 use Rattle.vw_models.proofs.unknown.unknown_model.Given as goal
 
 abbrev pub invariant-loop-number : goal.invariant-loop-number

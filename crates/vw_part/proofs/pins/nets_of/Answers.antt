@@ -1,7 +1,7 @@
 use Rattle.std.proofs.Common.{◌≡◌, List, ℕ, eqb, subst, sym}
 use Rattle.std.specs.List.{dedup}
 use Rattle.std.proofs.lemmas.List.Filters.{dedup_is}
-use Rattle.vw_part.specs.Pins.{AreNetsOf}
+use Rattle.vw_part.specs.Steps.Pins.{AreNetsOf}
 use Rattle.vw_part.proofs.CellNets.{kept_once}
 use Rattle.vw_part.proofs.pins.nets_of.Goals as goal
 

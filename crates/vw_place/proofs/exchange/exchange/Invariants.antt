@@ -1,7 +1,7 @@
 -- each round but the last makes the way shorter
 use Rattle.std.proofs.Common.{◌≡◌}
 use Rattle.vw_place.specs.Numbering.{IsNodeList}
-use Rattle.vw_place.specs.Traffic.{way}
+use Rattle.vw_place.specs.Steps.Traffic.{way}
 use Rattle.vw_place.proofs.exchange.exchange.Given as goal
 
 abbrev pub invariant-loop-way : goal.invariant-loop-way

@@ -1,6 +1,6 @@
 use Rattle.std.proofs.Common.{◌≤◌, ◌+◌, arith}
-use Rattle.vw_place.specs.Traffic.{way}
-use Rattle.vw_place.specs.Tries.{IsBefore, IsLater}
+use Rattle.vw_place.specs.Steps.Traffic.{way}
+use Rattle.vw_place.specs.Steps.Tries.{IsBefore, IsLater}
 use Rattle.vw_place.proofs.Exchanges.{before_cases, fewer_tried, more_tried}
 use Rattle.vw_place.proofs.exchange.try_each.Goals as goal
 

@@ -1,6 +1,6 @@
 use Rattle.std.proofs.Common.{◌≤◌, ◌+◌, arith}
-use Rattle.vw_place.specs.Traffic.{way}
-use Rattle.vw_place.specs.Tries.{IsBoth, IsLater}
+use Rattle.vw_place.specs.Steps.Traffic.{way}
+use Rattle.vw_place.specs.Steps.Tries.{IsBoth, IsLater}
 use Rattle.vw_place.proofs.Exchanges.{fewer_tried, later_cases, more_tried}
 use Rattle.vw_place.proofs.exchange.try_later.Goals as goal
 

@@ -1,8 +1,8 @@
 -- the exchanges so far were tried
 use Rattle.std.proofs.Common.{◌≡◌}
 use Rattle.vw_place.specs.Numbering.{IsNodeList}
-use Rattle.vw_place.specs.Traffic.{way}
-use Rattle.vw_place.specs.Tries.{AreTried, IsLater}
+use Rattle.vw_place.specs.Steps.Traffic.{way}
+use Rattle.vw_place.specs.Steps.Tries.{AreTried, IsLater}
 use Rattle.vw_place.proofs.exchange.try_later.Given as goal
 
 abbrev pub invariant-loop-other : goal.invariant-loop-other

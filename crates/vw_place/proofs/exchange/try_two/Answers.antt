@@ -1,8 +1,8 @@
 use Rattle.std.proofs.Common.{◌≡◌, ◌<◌, ℕ, List, length, ap, sym, subst, ◌∙◌, arith}
 use Rattle.std.specs.List.{swap}
 use Rattle.vw_place.specs.Numbering.{IsNodeList}
-use Rattle.vw_place.specs.Traffic.{way}
-use Rattle.vw_place.specs.Tries.{IsBoth}
+use Rattle.vw_place.specs.Steps.Traffic.{way}
+use Rattle.vw_place.specs.Steps.Tries.{IsBoth}
 use Rattle.vw_place.proofs.Exchanges.{no_shorter, nodes_exchanged, swap_twice, useless_one}
 use Rattle.vw_place.proofs.exchange.try_two.Goals as goal
 

@@ -1,6 +1,6 @@
 -- the nets so far, and those that are left
 use Rattle.std.proofs.Common.{◌≡◌, ◌++◌, drop}
-use Rattle.vw_sim.specs.Machine.{gathered_reads}
+use Rattle.vw_sim.specs.Steps.Machine.{gathered_reads}
 use Rattle.vw_sim.proofs.machine.gate_reads.Given as goal
 
 abbrev pub invariant-loop-number : goal.invariant-loop-number

@@ -1,6 +1,6 @@
 -- the bits that are left are still to be put
 use Rattle.std.proofs.Common.{◌≡◌, drop, length}
-use Rattle.vw_sim.specs.Machine.{with_bits}
+use Rattle.vw_sim.specs.Steps.Machine.{with_bits}
 use Rattle.vw_sim.proofs.machine.put_bits.Given as goal
 
 abbrev pub invariant-loop-i : goal.invariant-loop-i

@@ -4,7 +4,7 @@ use Rattle.std.proofs.lemmas.List.Elements.{All-same, All-weaker}
 use Rattle.vw_net.specs.declared.cell.Cell.TheVariants.{Gate}
 use Rattle.vw_net.specs.declared.flat.Flat.{Flat}
 use Rattle.vw_net.specs.Cover.{cover_value}
-use Rattle.vw_sim.specs.Machine.{step_of}
+use Rattle.vw_sim.specs.Steps.Machine.{step_of}
 use Rattle.vw_sim.proofs.Gates.{more_have_values}
 use Rattle.vw_net.proofs.Ready.{order_within, all_ready}
 use Rattle.vw_sim.proofs.Machines.{AtGate, at_gate}

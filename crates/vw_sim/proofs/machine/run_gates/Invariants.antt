@@ -4,7 +4,7 @@ use Rattle.vw_net.specs.declared.cell.Cell.TheVariants.{Gate}
 use Rattle.vw_net.specs.declared.cover.Cover.{Cover}
 use Rattle.vw_net.specs.Cover.{cover_value}
 use Rattle.vw_net.specs.Order.{is_ready}
-use Rattle.vw_sim.specs.Machine.{gathered_reads}
+use Rattle.vw_sim.specs.Steps.Machine.{gathered_reads}
 use Rattle.vw_sim.proofs.machine.run_gates.Given as goal
 
 abbrev pub invariant-loop-gate : goal.invariant-loop-gate

@@ -1,6 +1,6 @@
 use Rattle.std.proofs.Common.{◌+◌, ℕ, drop, sym, ◌∙◌, ap, subst, arith}
 use Rattle.vw_models.proofs.Unknowns.{AreAlong}
-use Rattle.vw_sizes.specs.Counting.{count_at, count_in}
+use Rattle.vw_sizes.specs.Steps.Counting.{count_at, count_in}
 use Rattle.vw_sizes.proofs.Alongside.{next}
 use Rattle.vw_sizes.proofs.Sums.{amount_more}
 use Rattle.vw_sizes.proofs.amounts.amount_of.Goals as goal

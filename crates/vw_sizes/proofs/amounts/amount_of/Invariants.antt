@@ -3,7 +3,7 @@ use Rattle.std.proofs.Common.{◌≡◌, ◌≤◌, drop, take, min, length}
 use Rattle.std.specs.List.{AllZip}
 use Rattle.vw_design.specs.Paths.{placings}
 use Rattle.vw_design.specs.ModelNumbers.{IsNumberOfModel}
-use Rattle.vw_sizes.specs.Counting.{most, amount, count_in}
+use Rattle.vw_sizes.specs.Steps.Counting.{most, amount, count_in}
 use Rattle.vw_sizes.proofs.amounts.amount_of.Given as goal
 
 abbrev pub invariant-loop-item : goal.invariant-loop-item

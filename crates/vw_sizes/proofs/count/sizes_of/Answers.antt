@@ -1,7 +1,7 @@
 use Rattle.std.proofs.Common.{List, refl, sym, subst}
 use Rattle.std.specs.List.{AllZip}
 use Rattle.vw_sizes.specs.declared.sizes.Before.{Before}
-use Rattle.vw_sizes.specs.Counting.{AreEntries}
+use Rattle.vw_sizes.specs.Steps.Counting.{AreEntries}
 use Rattle.vw_sizes.proofs.Exact.{nothing_big, are_sizes}
 use Rattle.vw_sizes.proofs.count.sizes_of.Goals as goal
 

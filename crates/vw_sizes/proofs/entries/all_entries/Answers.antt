@@ -3,7 +3,7 @@ use Rattle.vw_design.specs.declared.item.Item.{Item}
 use Rattle.vw_design.specs.declared.model.Model.{Model}
 use Rattle.vw_models.proofs.Models.{each_model}
 use Rattle.vw_sizes.specs.declared.sizes.Before.{Before}
-use Rattle.vw_sizes.specs.Counting.{AreEntries}
+use Rattle.vw_sizes.specs.Steps.Counting.{AreEntries}
 use Rattle.vw_sizes.proofs.Alongside.{along_at}
 use Rattle.vw_models.proofs.NumberedModels.{model_at_place}
 use Rattle.vw_sizes.proofs.Prefixes.{one_along}

@@ -1,7 +1,7 @@
 use Rattle.std.proofs.Common.{◌+◌, ℕ, List, drop, sym, ◌∙◌, ap, subst, arith}
 use Rattle.vw_models.proofs.Unknowns.{AreAlong}
 use Rattle.vw_sizes.specs.declared.measure.Measure.TheVariants.{Instances, Cells}
-use Rattle.vw_sizes.specs.Counting.{count_at, count_in}
+use Rattle.vw_sizes.specs.Steps.Counting.{count_at, count_in}
 use Rattle.vw_sizes.proofs.Alongside.{next}
 use Rattle.vw_sizes.proofs.Prefixes.{one_more}
 use Rattle.vw_sizes.proofs.Sums.{amount_more}

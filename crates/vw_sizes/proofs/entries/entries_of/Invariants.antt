@@ -4,7 +4,7 @@ use Rattle.std.specs.List.{AllZip}
 use Rattle.vw_design.specs.Paths.{placings}
 use Rattle.vw_design.specs.ModelNumbers.{IsNumberOfModel}
 use Rattle.vw_sizes.specs.declared.measure.Measure.TheVariants.{Instances, Cells}
-use Rattle.vw_sizes.specs.Counting.{most, amount, count_in}
+use Rattle.vw_sizes.specs.Steps.Counting.{most, amount, count_in}
 use Rattle.vw_sizes.proofs.Prefixes.{ArePrefixes}
 use Rattle.vw_sizes.proofs.entries.entries_of.Given as goal
 

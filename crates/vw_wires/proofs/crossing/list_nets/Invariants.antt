@@ -1,6 +1,6 @@
 -- what is listed so far, and the crossing ones of the nets that are left
 use Rattle.std.proofs.Common.{◌≡◌, ◌++◌, drop}
-use Rattle.vw_wires.specs.Crossings.{crossing_nets}
+use Rattle.vw_wires.specs.Steps.Crossings.{crossing_nets}
 use Rattle.vw_wires.proofs.crossing.list_nets.Given as goal
 
 abbrev pub invariant-loop-net : goal.invariant-loop-net

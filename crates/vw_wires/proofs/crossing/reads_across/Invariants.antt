@@ -1,7 +1,7 @@
 -- what is listed so far, and the crossing reads of the cells that are left
 use Rattle.std.proofs.Common.{◌≡◌, ◌++◌, drop}
 use Rattle.std.specs.List.{zip}
-use Rattle.vw_wires.specs.Crossings.{cell_crossings}
+use Rattle.vw_wires.specs.Steps.Crossings.{cell_crossings}
 use Rattle.vw_wires.proofs.crossing.reads_across.Given as goal
 
 abbrev pub invariant-loop-number : goal.invariant-loop-number

@@ -2,7 +2,7 @@ use Rattle.std.proofs.Common.{◌≡◌, Some, List, slice_get, refl, ◌∙◌,
 use Rattle.std.proofs.lemmas.Map.Text.{hash_map_updates_str}
 use Rattle.std.proofs.lemmas.Option.{slice_get_read}
 use Rattle.vw_design.specs.declared.model.Model.{Model}
-use Rattle.vw_models.specs.Names.{number_in}
+use Rattle.vw_models.specs.Steps.Names.{number_in}
 use Rattle.vw_models.proofs.Named.{named_step}
 use Rattle.vw_models.proofs.numbers.Numbers.of.Goals as goal
 

@@ -1,7 +1,7 @@
 -- the numbers so far, and those of the rest
 use Rattle.std.proofs.Common.{◌≡◌, ◌++◌, drop, map}
 use Rattle.vw_design.specs.Paths.{placings}
-use Rattle.vw_models.specs.Names.{number_in}
+use Rattle.vw_models.specs.Steps.Names.{number_in}
 use Rattle.vw_models.proofs.numbers.Numbers.targets.Given as goal
 
 abbrev pub invariant-loop-item : goal.invariant-loop-item

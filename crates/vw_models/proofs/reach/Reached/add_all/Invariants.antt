@@ -1,7 +1,7 @@
 -- what is left to add gives the rest
 use Rattle.std.proofs.Common.{◌≡◌, drop}
 use Rattle.std.specs.Vec.{vec_len}
-use Rattle.vw_models.specs.Reach.{AreMarked, with_targets}
+use Rattle.vw_models.specs.Steps.Reach.{AreMarked, with_targets}
 use Rattle.vw_models.proofs.reach.Reached.add_all.Given as goal
 
 abbrev pub invariant-loop-target : goal.invariant-loop-target

@@ -1,6 +1,6 @@
 use Rattle.std.proofs.Common.{◌++◌, ◌∙◌, ℕ, List, Option, Some, None, is_some, filter, map, length, slice_get, replicate, sym, ap}
 use Rattle.vw_design.specs.Paths.{Word}
-use Rattle.vw_nets.specs.Free.{is_free}
+use Rattle.vw_nets.specs.Steps.Free.{is_free}
 use Rattle.vw_nets.proofs.FreeColumns.{no_columns, free_number, inputs_more, many_more, ports_more, inputs_kept, many_kept, ports_kept}
 use Rattle.vw_nets.proofs.columns.Columns.of_names.Goals as goal
 use Rattle.vw_nets.proofs.columns.Columns.of_names.Goals.{in-Some+in_ok-add_column, in_default}

@@ -3,7 +3,7 @@ use Rattle.std.proofs.Common.{◌≡◌, ◌++◌, ℕ, Some, drop, map, flat_ma
 use Rattle.vw_design.specs.Preorder.{cells}
 use Rattle.vw_claims.specs.Firsts.{number_named}
 use Rattle.vw_drivers.specs.Tables.{root_firsts}
-use Rattle.vw_nets.specs.Ports.{item_ports}
+use Rattle.vw_nets.specs.Steps.Ports.{item_ports}
 use Rattle.vw_nets.proofs.nets.Nets.control_ports.Given as goal
 
 abbrev pub invariant-loop-cell : goal.invariant-loop-cell

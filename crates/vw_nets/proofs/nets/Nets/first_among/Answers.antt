@@ -2,7 +2,7 @@ use Rattle.std.proofs.Common.{◌∙◌, sym, refl, length}
 use Rattle.std.proofs.lemmas.Option.{slice_get_read}
 use Rattle.vw_design.specs.Drivers.{driver}
 use Rattle.vw_design.specs.Paths.{Word}
-use Rattle.vw_nets.specs.Wanted.{wants}
+use Rattle.vw_nets.specs.Steps.Wanted.{wants}
 use Rattle.vw_nets.proofs.Finds.{find_next, find_now}
 use Rattle.vw_nets.proofs.nets.Nets.first_among.Goals as goal
 

@@ -3,8 +3,8 @@ use Rattle.std.proofs.Common.{◌≡◌, Some, slice_get, drop}
 use Rattle.vw_design.specs.Paths.{Path}
 use Rattle.vw_design.specs.Preorder.{instances}
 use Rattle.vw_drivers.specs.Tables.{instance_firsts}
-use Rattle.vw_nets.specs.Items.{AreNumbersOf}
-use Rattle.vw_nets.specs.Wanted.{wanted_among}
+use Rattle.vw_nets.specs.Steps.Items.{AreNumbersOf}
+use Rattle.vw_nets.specs.Steps.Wanted.{wanted_among}
 use Rattle.vw_nets.proofs.nets.Nets.first_among.Given as goal
 
 abbrev pub invariant-loop-place : goal.invariant-loop-place

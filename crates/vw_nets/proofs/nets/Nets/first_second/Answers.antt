@@ -2,7 +2,7 @@ use Rattle.std.proofs.Common.{◌≡◌, ◌<◌, ◌∙◌, ◌+◌, ℕ, List,
 use Rattle.vw_design.specs.Preorder.{instances}
 use Rattle.vw_walk.specs.declared.tables.Placed.{Placed}
 use Rattle.vw_nets.specs.declared.two_drivers.Second.{Second}
-use Rattle.vw_nets.specs.Seconds.{IsFirstSecond}
+use Rattle.vw_nets.specs.Steps.Seconds.{IsFirstSecond}
 use Rattle.vw_nets.proofs.InstancePlaces.{element}
 use Rattle.vw_nets.proofs.FirstAgain.{taken, kept}
 use Rattle.vw_nets.proofs.nets.Nets.first_second.Goals as goal

@@ -2,7 +2,7 @@
 use Rattle.std.proofs.Common.{◌≡◌, not, drop, find, filter_map}
 use Rattle.vw_design.specs.NetFaults.{edge_at, same_edge}
 use Rattle.vw_design.specs.Preorder.{cells}
-use Rattle.vw_nets.specs.Edges.{first_other}
+use Rattle.vw_nets.specs.Steps.Edges.{first_other}
 use Rattle.vw_nets.proofs.nets.Nets.first_typed.Given as goal
 
 abbrev pub invariant-loop-cell : goal.invariant-loop-cell

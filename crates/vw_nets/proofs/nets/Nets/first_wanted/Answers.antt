@@ -3,7 +3,7 @@ use Rattle.std.specs.Option.{option_or}
 use Rattle.vw_design.specs.Paths.{Word, Net, printed, model_at, model_outputs}
 use Rattle.vw_design.specs.Reads.{net_at}
 use Rattle.vw_nets.specs.Nets.{printed_net}
-use Rattle.vw_nets.specs.Wanted.{wanted_among, wanted_read}
+use Rattle.vw_nets.specs.Steps.Wanted.{wanted_among, wanted_read}
 use Rattle.vw_nets.proofs.nets.Nets.first_wanted.Goals as goal
 
 -- a name of the root where nothing was found before

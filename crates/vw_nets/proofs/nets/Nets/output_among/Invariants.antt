@@ -1,6 +1,6 @@
 -- nothing is found yet
 use Rattle.std.proofs.Common.{◌≡◌, [], drop}
-use Rattle.vw_nets.specs.Wanted.{wanted_among}
+use Rattle.vw_nets.specs.Steps.Wanted.{wanted_among}
 use Rattle.vw_nets.proofs.nets.Nets.output_among.Given as goal
 
 abbrev pub invariant-loop-name : goal.invariant-loop-name

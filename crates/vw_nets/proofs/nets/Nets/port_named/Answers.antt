@@ -3,7 +3,7 @@ use Rattle.std.specs.Option.{option_or}
 use Rattle.vw_design.specs.Paths.{Word}
 use Rattle.vw_claims.specs.Firsts.{First, number_named}
 use Rattle.vw_drivers.specs.Tables.{root_firsts}
-use Rattle.vw_nets.specs.Ports.{has_number}
+use Rattle.vw_nets.specs.Steps.Ports.{has_number}
 use Rattle.vw_nets.proofs.ClockMarks.{inputs_first}
 use Rattle.vw_nets.proofs.nets.Nets.port_named.Goals as goal
 

@@ -6,7 +6,7 @@ use Rattle.vw_design.specs.declared.item.Item.{Item}
 use Rattle.vw_design.specs.Drivers.{driver}
 use Rattle.vw_design.specs.Paths.{Word, Path}
 use Rattle.vw_design.specs.Reads.{data_of, controls_of}
-use Rattle.vw_nets.specs.Wanted.{wants, wanted_among, wanted_names}
+use Rattle.vw_nets.specs.Steps.Wanted.{wants, wanted_among, wanted_names}
 use Rattle.vw_nets.specs.declared.wanted.Wanted.{Wanted}
 use Rattle.vw_nets.specs.declared.wanted.Wanted.TheVariants.{Undriven}
 use Rattle.vw_nets.proofs.nets.Nets.read_found.Goals as goal

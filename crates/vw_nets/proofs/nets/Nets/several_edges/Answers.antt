@@ -1,7 +1,7 @@
 use Rattle.std.proofs.Common.{subst, Option}
 use Rattle.vw_nets.specs.declared.edges.Typed.{Typed}
 use Rattle.vw_design.specs.declared.item.Edge.TheVariants.{Unsaid}
-use Rattle.vw_nets.specs.Edges.{IsTyped, first_other}
+use Rattle.vw_nets.specs.Steps.Edges.{IsTyped, first_other}
 use Rattle.vw_nets.proofs.Edged.{no_types, one_type, two_types}
 use Rattle.vw_nets.proofs.nets.Nets.several_edges.Goals as goal
 

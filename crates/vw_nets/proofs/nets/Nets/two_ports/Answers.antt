@@ -2,7 +2,7 @@ use Rattle.std.proofs.Common.{◌∙◌, Some, ap, ap₂, sym}
 use Rattle.std.proofs.lemmas.Option.{none-some, same_Some}
 use Rattle.vw_design.specs.Paths.{Word, lent}
 use Rattle.vw_drivers.specs.Tables.{root_firsts}
-use Rattle.vw_nets.specs.Ports.{root_ports}
+use Rattle.vw_nets.specs.Steps.Ports.{root_ports}
 use Rattle.vw_nets.proofs.ClockMarks.{found_by_number}
 use Rattle.vw_nets.proofs.nets.Nets.two_ports.Goals as goal
 

@@ -2,9 +2,9 @@ use Rattle.std.proofs.Common.{◌≡◌, subst}
 use Rattle.vw_design.specs.declared.item.Item.{Item}
 use Rattle.vw_names.specs.Names.{reads_of}
 use Rattle.vw_drivers.specs.Tables.{instance_firsts}
-use Rattle.vw_nets.specs.Items.{AreNumbersOf}
+use Rattle.vw_nets.specs.Steps.Items.{AreNumbersOf}
 use Rattle.vw_design.specs.Paths.{lent}
-use Rattle.vw_nets.specs.Wanted.{wanted_among, wanted_names}
+use Rattle.vw_nets.specs.Steps.Wanted.{wanted_among, wanted_names}
 use Rattle.vw_nets.proofs.CellItems.{item_here, numbers_here}
 use Rattle.vw_nets.proofs.nets.Nets.wanted_at.Goals as goal
 

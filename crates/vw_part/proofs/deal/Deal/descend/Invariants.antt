@@ -1,6 +1,6 @@
 -- each round but the last lowers the spread
 use Rattle.std.proofs.Common.{◌≡◌, length}
-use Rattle.vw_part.specs.Deals.{IsDeal, spread}
+use Rattle.vw_part.specs.Steps.Deals.{IsDeal, spread}
 use Rattle.vw_part.proofs.deal.Deal.descend.Given as goal
 
 abbrev pub invariant-loop : goal.invariant-loop

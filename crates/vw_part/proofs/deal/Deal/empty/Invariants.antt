@@ -1,6 +1,6 @@
 -- a chip with no cells for each number so far
 use Rattle.std.proofs.Common.{◌≡◌, [], length, All}
-use Rattle.vw_part.specs.Deals.{IsLoad}
+use Rattle.vw_part.specs.Steps.Deals.{IsLoad}
 use Rattle.vw_part.proofs.deal.Deal.empty.Given as goal
 
 abbrev pub invariant-loop-chip : goal.invariant-loop-chip

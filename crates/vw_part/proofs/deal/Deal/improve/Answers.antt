@@ -1,5 +1,5 @@
 use Rattle.std.proofs.Common.{ℕ, List, ap, arith}
-use Rattle.vw_part.specs.Deals.{IsGain, spread}
+use Rattle.vw_part.specs.Steps.Deals.{IsGain, spread}
 use Rattle.vw_part.proofs.Gains.{spread_moved}
 use Rattle.vw_part.proofs.deal.Deal.improve.Goals as goal
 

@@ -1,8 +1,8 @@
 use Rattle.std.proofs.Common.{◌≡◌, ◌<◌, ◌≤◌, ◌∙◌, ℕ, List, [], length, get_or, ap, refl, sym, subst, arith}
 use Rattle.std.proofs.lemmas.List.{get_or_default}
 use Rattle.vw_part.specs.declared.load.Load.{Load}
-use Rattle.vw_part.specs.Deals.{cell_nets}
-use Rattle.vw_part.specs.Pins.{times_among}
+use Rattle.vw_part.specs.Steps.Deals.{cell_nets}
+use Rattle.vw_part.specs.Steps.Pins.{times_among}
 use Rattle.vw_part.proofs.Dealing.{IsMore, dealt_more, loaded}
 use Rattle.vw_part.proofs.Held.{held-le}
 use Rattle.vw_part.proofs.deal.Deal.put.Goals as goal

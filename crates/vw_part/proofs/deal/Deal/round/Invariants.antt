@@ -1,6 +1,6 @@
 -- where no move helped so far, the cells so far are settled; where some did, the spread is lower
 use Rattle.std.proofs.Common.{◌≡◌, ◌<◌, ◌≤◌, ℕ, true, false, length}
-use Rattle.vw_part.specs.Deals.{IsDeal, IsSettled, spread}
+use Rattle.vw_part.specs.Steps.Deals.{IsDeal, IsSettled, spread}
 use Rattle.vw_part.proofs.deal.Deal.round.Given as goal
 
 abbrev pub invariant-loop-cell : goal.invariant-loop-cell

@@ -3,8 +3,8 @@ use Rattle.std.proofs.lemmas.List.{get_or-set_other, get_or_default}
 use Rattle.std.proofs.lemmas.List.Elements.{All-get_or}
 use Rattle.vw_plan.specs.Good.{IsChip}
 use Rattle.vw_part.specs.declared.load.Load.{Load}
-use Rattle.vw_part.specs.Deals.{held, cell_nets}
-use Rattle.vw_part.specs.Pins.{times_among}
+use Rattle.vw_part.specs.Steps.Deals.{held, cell_nets}
+use Rattle.vw_part.specs.Steps.Pins.{times_among}
 use Rattle.vw_part.proofs.Dealing.{IsMore, dealt_moved, loaded}
 use Rattle.vw_part.proofs.Held.{held-le, held_least}
 use Rattle.vw_part.proofs.deal.Deal.shift.Goals as goal

@@ -1,6 +1,6 @@
 use Rattle.std.proofs.Common.{◌≡◌, ◌∙◌, ℕ, List, length, get_or, eqb, ap, arith}
 use Rattle.std.proofs.lemmas.List.{get_or_default}
-use Rattle.vw_part.specs.Deals.{freed}
+use Rattle.vw_part.specs.Steps.Deals.{freed}
 use Rattle.vw_part.proofs.Dealing.{freed_is, met-le}
 use Rattle.vw_part.proofs.Totals.{total_tests-le}
 use Rattle.vw_part.proofs.deal.Deal.target.Goals as goal

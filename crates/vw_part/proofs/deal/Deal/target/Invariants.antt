@@ -1,7 +1,7 @@
 -- the best of the chips so far
 use Rattle.std.proofs.Common.{◌≡◌, ◌≤◌, ◌<◌, ◌+◌, ℕ, length}
 use Rattle.std.specs.Prelude.{MatchOption}
-use Rattle.vw_part.specs.Deals.{IsGain, IsTarget, Helps, cell_nets}
+use Rattle.vw_part.specs.Steps.Deals.{IsGain, IsTarget, Helps, cell_nets}
 use Rattle.vw_part.proofs.deal.Deal.target.Given as goal
 
 abbrev pub invariant-loop-chip : goal.invariant-loop-chip

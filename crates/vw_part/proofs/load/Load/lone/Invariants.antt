@@ -1,6 +1,6 @@
 -- those so far, and those among the nets that are left
 use Rattle.std.proofs.Common.{◌≡◌, ◌≤◌, ◌+◌, ◌==◌, drop, get_or}
-use Rattle.vw_part.specs.Pins.{total}
+use Rattle.vw_part.specs.Steps.Pins.{total}
 use Rattle.vw_net.specs.Lists.{one_if}
 use Rattle.vw_part.proofs.load.Load.lone.Given as goal
 

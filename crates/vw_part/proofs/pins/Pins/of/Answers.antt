@@ -1,7 +1,7 @@
 use Rattle.std.proofs.Common.{◌≡◌, ◌<◌, ◌≤◌, ◌+◌, ◌∙◌, ◌++◌, ℕ, List, [], ◌∷◌, length, get_or, take, ap, sym, subst, arith, All}
 use Rattle.std.proofs.lemmas.List.{length-take-le, take_all, take_more}
 use Rattle.vw_net.specs.declared.cell.Cell.{Cell}
-use Rattle.vw_part.specs.Pins.{AreNetsOf, ArePins}
+use Rattle.vw_part.specs.Steps.Pins.{AreNetsOf, ArePins}
 use Rattle.vw_part.proofs.CellNets.{pins_long, pins_once, pins_push, pins_within}
 use Rattle.vw_part.proofs.pins.Pins.of.Goals as goal
 

@@ -1,6 +1,6 @@
 -- those of the cells so far
 use Rattle.std.proofs.Common.{take}
-use Rattle.vw_part.specs.Pins.{ArePins}
+use Rattle.vw_part.specs.Steps.Pins.{ArePins}
 use Rattle.vw_part.proofs.pins.Pins.of.Given as goal
 
 abbrev pub invariant-loop-number : goal.invariant-loop-number

@@ -3,7 +3,7 @@ use Rattle.std.proofs.lemmas.List.Elements.{All-same, All-weaker}
 use Rattle.vw_net.specs.declared.ordered.Ordered.{Ordered}
 use Rattle.vw_net.specs.Cells.{latch_count, latch_inputs}
 use Rattle.vw_net.specs.Value.{net_value}
-use Rattle.vw_sim.specs.Machine.{latch_nets}
+use Rattle.vw_sim.specs.Steps.Machine.{latch_nets}
 use Rattle.vw_sim.proofs.LatchNets.{length-latch_nets, latch_nets-within}
 use Rattle.vw_net.proofs.Counts.{length-latch_inputs}
 use Rattle.vw_sim.proofs.Starts.{starts, filled, both_put}

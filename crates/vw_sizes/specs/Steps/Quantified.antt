@@ -3,7 +3,7 @@ use Rattle.std.specs.Prelude.{◌≡◌, ℕ, suc, min, [], ◌∷◌, find, nat
 use Rattle.vw_design.specs.declared.design.Design.{Design}
 use Rattle.vw_design.specs.Limits.{Counted, inputs, outputs, placed, bindings, gates_and_latches, levels, limit_of, input_count, output_count, instance_count, binding_count, cell_count, greatest_depth}
 use Rattle.vw_sizes.specs.declared.totals.Totals.{Totals}
-use Rattle.vw_sizes.specs.Counting.{most}
+use Rattle.vw_sizes.specs.Steps.Counting.{most}
 
 -- one of them
 abbrev pub total_of : Totals → Counted → ℕ

@@ -1,0 +1,5 @@
+pub mod Names
+pub mod Reach
+pub mod Unknown
+pub mod ModelGraphs
+pub mod ModelNames
