@@ -1,5 +1,5 @@
 -- What a search finds first at the placed models.
-use Rattle.std.proofs.Common.{◌≡◌, ◌<◌, ◌+◌, ℕ, List, [], ◌∷◌, ◌++◌, drop, length, get_or, Option, Some, None, slice_get, find, flat_map, filter_map, option_map, option_and_then, Bool, cond, refl, sym, ◌∙◌, ap, ap₂}
+use Rattle.std.proofs.Common.{◌≡◌, ◌<◌, ◌+◌, ℕ, List, [], ◌∷◌, ◌++◌, drop, length, get_or, Option, Some, None, slice_get, find, flat_map, filter_map, option_map, option_and_then, refl, sym, ◌∙◌, ap, ap₂}
 use Rattle.std.specs.List.{AllZip, cons_option}
 use Rattle.std.specs.Option.{option_or}
 use Rattle.std.proofs.lemmas.List.{drop_more}

@@ -1,12 +1,8 @@
 -- Links of which it is known how few of them walks need.
-use Rattle.std.proofs.Common.{◌≡◌, ◌<◌, ◌≤◌, ◌+◌, ◌*◌, ℕ, true, false, List, [], ◌∷◌, length, map, get_or, slice_index_or, Option, Some, None, eqb, eqb-true, ne_eqb, ap, sym, subst, ◌∙◌, ⊎_elim, true≢false, All, arith}
+use Rattle.std.proofs.Common.{◌≡◌, ◌<◌, ◌≤◌, ◌+◌, ◌*◌, ℕ, true, false, List, [], ◌∷◌, length, slice_index_or, Option, Some, None, ap, sym, subst, ◌∙◌, ⊎_elim, true≢false, All, arith}
 use Rattle.std.specs.Prelude.{IsSome}
-use Rattle.std.specs.List.{list_any, IsDistinct}
-use Rattle.std.proofs.lemmas.Bool.{both_ways, or_cases}
-use Rattle.std.proofs.lemmas.List.{get_or_default, get_or-map, length-map}
-use Rattle.std.proofs.lemmas.List.Elements.{All-head, All-tail}
-use Rattle.std.proofs.lemmas.Map.Keys.{IsDistinct-from_apart}
-use Rattle.std.proofs.lemmas.Map.Steps.{length-le_from_distinct_below}
+use Rattle.std.proofs.lemmas.Bool.{both_ways}
+use Rattle.std.proofs.lemmas.List.{get_or_default}
 use Rattle.vw_plan.specs.declared.link.Link.{Link}
 use Rattle.vw_plan.specs.Links.{AreLinks}
 use Rattle.vw_plan.specs.Walks.{IsWalk, IsJoined}

@@ -1,6 +1,6 @@
 -- What is wrong with the chips of the cells, and with the period. Each cell has to have a chip, and no chip more cells than
 -- it has room for.
-use Rattle.std.specs.Prelude.{◌==◌, ℕ, Bool, not, ◌&&◌, length, count_by, Option, nat_le}
+use Rattle.std.specs.Prelude.{◌==◌, ℕ, Bool, not, ◌&&◌, length, Option, nat_le}
 use Rattle.std.specs.List.{range_with_len}
 use Rattle.vw_net.specs.declared.flat.Flat.{Flat}
 use Rattle.vw_plan.specs.declared.board.Board.{Board}

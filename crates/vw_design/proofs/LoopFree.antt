@@ -1,8 +1,8 @@
 -- Where no gates read each other in a circle, no value changes at greater depth than there are cells.
 use Rattle.std.proofs.Common.{◌≡◌, ◌<◌, ◌≤◌, ◌+◌, ℕ, zero, suc, Bool, true, false, List, [], ◌∷◌, ◌++◌, length, map, Option, Some, None, inl, inr, ⊎_elim, refl, sym, ◌∙◌, ap, ap₂, subst, eqb, arith}
-use Rattle.std.specs.List.{AllZip, list_any, AllByRecursion, IsDistinct}
+use Rattle.std.specs.List.{AllZip, list_any, IsDistinct}
 use Rattle.std.specs.Str.{bytes_eq}
-use Rattle.std.proofs.lemmas.Bool.{and_from, eq-eqb, eqb-true, cases_Bool, or_parts}
+use Rattle.std.proofs.lemmas.Bool.{and_from, eq-eqb, eqb-true, cases_Bool}
 use Rattle.std.proofs.lemmas.Map.Steps.{length-le_from_distinct_below}
 use Rattle.std.proofs.lemmas.Option.{same_Some, slice_get_within}
 use Rattle.vw_net.specs.declared.cover.Cover.{Cover}

@@ -20,7 +20,7 @@ use Rattle.vw_design.specs.Counts.{is_below, IsRanking}
 use Rattle.vw_design.specs.ModelNumbers.{IsNumberOfModel, AreTargets, is_reached_model, has_number_among, IsModelOrder}
 use Rattle.vw_design.proofs.Circles.{no_circle}
 use Rattle.vw_design.proofs.Has.{Has, Has-at, any-Has, from-any, all-Has, Has-filter, Has-filter_map, from-filter_map, none-found}
-use Rattle.vw_design.proofs.Names.{same_name, equal_names}
+use Rattle.vw_design.proofs.Names.{equal_names}
 use Rattle.vw_models.specs.Steps.Reach.{Targets, IsClosed, PlacesAt}
 use Rattle.vw_models.specs.Steps.Unknown.{unknown_of}
 use Rattle.vw_search.specs.Orders.{IsNumberOrder}

@@ -1,5 +1,5 @@
 -- What holds along an order: of each net, once it holds of the nets that its gate reads.
-use Rattle.std.proofs.Common.{◌≡◌, ◌<◌, ◌≤◌, ◌-◌, ◌||◌, ℕ, zero, suc, true, false, List, length, take, get_or, slice_get, nat_lt, if◌then◌else◌, eqb, refl, sym, ◌∙◌, ⊎_elim, true≢false, eqb-true, Option, Some, None, add-one, All, arith}
+use Rattle.std.proofs.Common.{◌≡◌, ◌<◌, ◌≤◌, ◌-◌, ◌||◌, ℕ, zero, suc, true, false, List, length, take, get_or, slice_get, nat_lt, if◌then◌else◌, eqb, sym, ◌∙◌, ⊎_elim, true≢false, eqb-true, Option, Some, None, add-one, All, arith}
 use Rattle.std.proofs.lemmas.Bool.{cases_Bool, or_cases}
 use Rattle.std.proofs.lemmas.List.{take_all}
 use Rattle.std.proofs.lemmas.List.Elements.{All-weaker}

@@ -3,7 +3,6 @@ use Rattle.std.specs.Prelude.{◌≡◌, ◌≤◌, ◌<◌, ◌==◌, ℕ, List
 use Rattle.std.specs.List.{All}
 use Rattle.vw_net.specs.declared.flat.Flat.{Flat}
 use Rattle.vw_plan.specs.declared.board.Board.{Board}
-use Rattle.vw_plan.specs.declared.need.Need.{Need}
 use Rattle.vw_plan.specs.Distance.{distance}
 use Rattle.vw_plan.specs.Earliest.{IsPhased, HasLeastPeriod}
 use Rattle.vw_plan.specs.Needs.{needed_pairs}

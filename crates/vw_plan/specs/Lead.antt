@@ -1,6 +1,6 @@
 -- When a net has its value at a node. Source: the rules of a virtual wire (a wire may be sent only after the values that
 -- it depends on have arrived), as this project states them.
-use Rattle.std.specs.Prelude.{◌==◌, ◌+◌, ℕ, zero, suc, Bool, ◌&&◌, List, [], ◌∷◌, length, map, max, Option, Some, None, if◌then◌else◌}
+use Rattle.std.specs.Prelude.{◌==◌, ◌+◌, ℕ, zero, suc, Bool, ◌&&◌, List, [], ◌∷◌, length, map, Option, Some, None, if◌then◌else◌}
 use Rattle.std.specs.List.{find}
 use Rattle.std.specs.Option.{option_map_or}
 use Rattle.vw_net.specs.declared.cell.Cell.{Cell}

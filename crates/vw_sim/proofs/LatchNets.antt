@@ -6,7 +6,7 @@ use Rattle.std.proofs.lemmas.List.{get_or-set_other, length-set}
 use Rattle.std.proofs.lemmas.List.Elements.{All-cons, All-nil}
 use Rattle.vw_net.specs.declared.cell.Cell.{Cell}
 use Rattle.vw_net.specs.declared.cell.Cell.TheVariants.{Gate, Latch}
-use Rattle.vw_net.specs.Cells.{latch_count, latch_inputs}
+use Rattle.vw_net.specs.Cells.{latch_count}
 use Rattle.vw_net.specs.Order.{is_latch}
 use Rattle.vw_sim.specs.Steps.Machine.{latch_nets, with_bits}
 

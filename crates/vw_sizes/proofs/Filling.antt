@@ -14,7 +14,7 @@ use Rattle.vw_design.specs.ModelFaults.{has_model_name, is_reached, place_in_fil
 use Rattle.vw_design.specs.ModelNumbers.{is_reached_model, has_number_among, IsModelOrder}
 use Rattle.vw_design.proofs.Closed.{at_reached, model_is_named}
 use Rattle.vw_design.proofs.Has.{Has, at-Has, all-Has, from-any, any-Has}
-use Rattle.vw_design.proofs.Names.{same_name, equal_names}
+use Rattle.vw_design.proofs.Names.{equal_names}
 use Rattle.vw_search.proofs.Among.{among_at, at_among, front_position, once_short}
 use Rattle.vw_models.proofs.Among.{among_Has}
 use Rattle.vw_design.proofs.ModelNumbers.{place_of_model, model_of_place, name_of_named, named_by}

@@ -1,5 +1,5 @@
 -- The quantities of a design, from the counts of its root.
-use Rattle.std.proofs.Common.{◌≡◌, ◌<◌, ◌+◌, ℕ, suc, min, Bool, true, cond, List, [], ◌∷◌, length, find, filter, not, nat_lt, Option, Some, slice_index_or, refl, sym, ◌∙◌, ap, ap₂, arith}
+use Rattle.std.proofs.Common.{◌≡◌, ◌<◌, ◌+◌, ℕ, suc, min, true, List, [], ◌∷◌, length, filter, not, nat_lt, Option, Some, slice_index_or, sym, ◌∙◌, ap, arith}
 use Rattle.std.proofs.lemmas.Bool.{ltb-true, lt-ltb}
 use Rattle.std.specs.Cmp.{both_ways}
 use Rattle.vw_design.specs.declared.item.Item.{Item}

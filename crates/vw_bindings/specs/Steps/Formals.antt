@@ -1,5 +1,5 @@
 -- Sets of the formals of models.
-use Rattle.std.specs.Prelude.{◌≡◌, Option, option_map, find}
+use Rattle.std.specs.Prelude.{◌≡◌, Option, find}
 use Rattle.std.specs.Borrow.{Bor}
 use Rattle.vw_design.specs.declared.model.Model.{Model}
 use Rattle.vw_design.specs.Paths.{Word, is_port, lent}

@@ -1,6 +1,5 @@
 -- What a fault that a function answers says of a line.
-use Rattle.std.specs.Prelude.{◌≡◌, ℕ, true, false, ◌||◌, List, [], map, Option, Some, option_map}
-use Rattle.std.specs.Borrow.{Bor}
+use Rattle.std.specs.Prelude.{◌≡◌, ℕ, true, false, ◌||◌, List, [], map, Option, Some}
 use Rattle.std.specs.List.{list_any}
 use Rattle.vw_blif.specs.declared.fault.TextFault.{TextFault}
 use Rattle.vw_blif.specs.declared.fault.TextFault.TheVariants.{TooLarge, NoModel, Unsupported, BadWords, BadRow, MixedRows, TooWide, BadLatchType, BadInit, DuplicateModel, DuplicatePort, BadBind, NoMemory}

@@ -1,16 +1,11 @@
-use Rattle.std.proofs.Common.{◌≡◌, ◌<◌, ◌≤◌, ◌+◌, ℕ, Bool, drop, filter, true, false, List, [], Option, Some, length, get_or, slice_get, is_some, sym, refl, ◌∙◌, ap, subst, arith}
-use Rattle.std.specs.List.{AllZip}
+use Rattle.std.proofs.Common.{◌≡◌, ◌<◌, ◌≤◌, ◌+◌, ℕ, Bool, drop, filter, true, false, List, [], Option, length, get_or, is_some, sym, ◌∙◌, ap, subst, arith}
 use Rattle.std.proofs.lemmas.List.{get_or_default}
-use Rattle.std.proofs.lemmas.Option.{slice_get_read, get_or_from_slice_get}
 use Rattle.vw_design.specs.declared.item.Item.{Item}
 use Rattle.vw_design.specs.declared.model.Model.{Model}
 use Rattle.vw_design.specs.declared.design.Design.{Design}
 use Rattle.vw_design.specs.Lists.{first_found}
-use Rattle.vw_design.specs.Paths.{placings}
 use Rattle.vw_design.specs.ModelFaults.{is_reached}
-use Rattle.vw_design.specs.ModelNumbers.{IsNumberOfModel, AreTargets, AreModelMarks}
-use Rattle.vw_design.proofs.FilteredLists.{AllZip-at, AllZip-length}
-use Rattle.vw_models.specs.Steps.Reach.{Targets}
+use Rattle.vw_design.specs.ModelNumbers.{AreModelMarks}
 use Rattle.vw_models.specs.Steps.Unknown.{unknown_of}
 use Rattle.vw_models.proofs.Unknowns.{AreAlong}
 use Rattle.vw_models.proofs.FirstUnknown.{passed_over, nothing_here, found_here, unknown_is, nothing_left}
