@@ -2,9 +2,10 @@
 use Rattle.std.proofs.Common.{◌≡◌, ◌<◌, not, ℕ, suc, Bool, true, false, List, [], ◌∷◌, length, map, get_or, slice_get, Option, Some, None, inl, refl, sym, ◌∙◌, ap, subst, eqb, true≢false, arith}
 use Rattle.std.specs.List.{AllZip, IsDistinct}
 use Rattle.std.proofs.lemmas.Bool.{and_from}
-use Rattle.std.proofs.lemmas.List.{map-append, length-map, get_or-map}
+use Rattle.std.proofs.lemmas.List.{length-map, get_or-map}
 use Rattle.std.proofs.lemmas.Map.Keys.{IsDistinct-tail}
 use Rattle.vw_net.specs.Order.{is_among}
+use Rattle.vw_net.proofs.Lists.{map_turned}
 use Rattle.vw_design.specs.declared.model.Model.{Model}
 use Rattle.vw_design.specs.declared.design.Design.{Design}
 use Rattle.vw_design.specs.Distinct.{has_name, are_distinct}
@@ -30,10 +31,6 @@ first_apart : (number : ℕ) (numbers : List ℕ) → IsDistinct eqb (number ∷
 first_apart number numbers once among =
     let at = among_at numbers number among in
     once_apart (number ∷ numbers) once 0 (suc at.0) (omega arith) (omega (arith, at.1)) (sym at.2)
-
-turned_map : {A B : Type 0} → (f : A → B) (xs : List A) → turned (map f xs) ≡ map f (turned xs)
-turned_map f [] = refl
-turned_map f (x ∷ xs) = sym (map-append f xs (x ∷ []))
 
 module _ (design : Design) where
   -- the name of a number
@@ -100,7 +97,7 @@ module _ (design : Design) where
           ap (is_reached design) (name_at i name here)
           ∙ reached_called (get_or circle i 0) (is_circle.counted (get_or circle i 0) (at_among circle i here));
       distinct = names_apart circle is_circle.once circle_within;
-      placed = subst (λ (l : List Word). AllZip (λ name next. model_places (model_named design.models name) next ≡ true) (names_of design circle) l) (sym (turned_map called circle))
+      placed = subst (λ (l : List Word). AllZip (λ name next. model_places (model_named design.models name) next ≡ true) (names_of design circle) l) (map_turned called circle)
           (AllZip-maps (Reads (graph_of_models design targets)) (λ name next. model_places (model_named design.models name) next ≡ true) called circle (turned circle) placed_pair is_circle.each);
       earliest = λ i name inside.
           let here : i < length circle = omega (arith, names_long, inside) in

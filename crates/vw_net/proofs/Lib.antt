@@ -1,4 +1,4 @@
-pub mod Bits
+pub mod Lists
 pub mod Counts
 pub mod Histories
 pub mod Orders

@@ -4,7 +4,7 @@ use Rattle.std.specs.List.{All, filter, flat_map, range_with_len}
 use Rattle.std.proofs.lemmas.Bool.{cases_eq}
 use Rattle.std.proofs.lemmas.List.Elements.{All-head, All-tail}
 use Rattle.vw_net.specs.Order.{is_among}
-use Rattle.vw_net.proofs.Bits.{one_if-le}
+use Rattle.vw_net.proofs.Lists.{one_if-le}
 use Rattle.vw_part.specs.Steps.Pins.{times_among, total}
 use Rattle.vw_net.specs.Lists.{one_if}
 

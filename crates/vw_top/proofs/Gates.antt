@@ -3,12 +3,13 @@ use Rattle.std.proofs.Common.{◌≡◌, ◌<◌, ◌+◌, ◌&&◌, ℕ, zero, 
 use Rattle.std.specs.List.{All, AllZip}
 use Rattle.std.proofs.lemmas.Bool.{and_parts}
 use Rattle.std.proofs.lemmas.Option.{none-some, same_Some, slice_get-get_or, slice_get_within}
-use Rattle.std.proofs.lemmas.List.{map-append, length-map}
+use Rattle.std.proofs.lemmas.List.{length-map}
 use Rattle.vw_net.specs.declared.cell.Cell.{Cell}
 use Rattle.vw_net.specs.declared.cell.Cell.TheVariants.{Gate, Latch}
 use Rattle.vw_net.specs.declared.cover.Cover.{Cover}
 use Rattle.vw_net.specs.declared.flat.Flat.{Flat}
 use Rattle.vw_net.specs.Order.{is_gate, is_among, read_nets_at}
+use Rattle.vw_net.proofs.Lists.{map_turned}
 use Rattle.vw_design.specs.declared.item.Item.{Item}
 use Rattle.vw_design.specs.declared.item.Item.TheVariants.{Names, Latch as LatchItem, Sub}
 use Rattle.vw_design.specs.declared.design.Design.{Design}
@@ -34,7 +35,7 @@ module _ {A B : Type 0} (R : A → B → Type 0) where
   pushed (a ∷ xs) [] x y all here = absurd all
   pushed (a ∷ xs) (b ∷ ys) x y all here = (all.0, pushed xs ys x y all.1 here)
 
-  turned_pairs : (xs : List A) (ys : List B) → AllZip R xs ys → AllZip R (orders.turned xs) (turned ys)
+  turned_pairs : (xs : List A) (ys : List B) → AllZip R xs ys → AllZip R (turned xs) (turned ys)
   turned_pairs [] [] all = tt
   turned_pairs [] (y ∷ ys) all = absurd all
   turned_pairs (x ∷ xs) [] all = absurd all
@@ -65,10 +66,6 @@ back R [] (z ∷ ys) k y all at = absurd all
 back R (x ∷ xs) [] k y all at = absurd all
 back R (x ∷ xs) (z ∷ ys) zero y all at = (x, refl, subst (R x) (same_Some z y at) all.0)
 back R (x ∷ xs) (z ∷ ys) (suc k) y all at = back R xs ys k y all.1 at
-
-map_turned : {B C : Type 0} → (f : B → C) (us : List B) → map f (turned us) ≡ turned (map f us)
-map_turned f [] = refl
-map_turned f (u ∷ us) = map-append f us (u ∷ [])
 
 module _ (design : Design) (flat : Flat) (is : IsFlatOf design flat) where
   -- a cell number, and the gate or latch of the design with this number
@@ -130,7 +127,7 @@ module _ (design : Design) (flat : Flat) (is : IsFlatOf design flat) where
   pub within_cells : (numbers : List ℕ) → orders.IsLoop flat numbers → All (λ number. number < cell_count design) numbers
   within_cells numbers loop k d within =
       let at = slice_get-get_or numbers k d within in
-      let gate = gate_is (get_or numbers k d) (circle_gates numbers (orders.turned numbers) loop.circle.each (get_or numbers k d) (Has-at (get_or numbers k d) numbers k at)) in
+      let gate = gate_is (get_or numbers k d) (circle_gates numbers (turned numbers) loop.circle.each (get_or numbers k d) (Has-at (get_or numbers k d) numbers k at)) in
       slice_get_within (cells design) (get_or numbers k d) gate.site gate.at
 
   named : (numbers : List ℕ) (gates : List Site) (names : List Word) → AllZip IsAt numbers gates → AllZip (λ number name. option_map printed_site (slice_get (cells design) number) ≡ Some name) numbers names → names ≡ map printed_site gates
@@ -147,12 +144,12 @@ module _ (design : Design) (flat : Flat) (is : IsFlatOf design flat) where
   pub loop_named : (numbers : List ℕ) → orders.IsLoop flat numbers → (names : List Word)
       → AllZip (λ number name. option_map printed_site (slice_get (cells design) number) ≡ Some name) numbers names → IsLoopOf design names
   loop_named numbers loop names are =
-      let found = gates_at numbers (circle_gates numbers (orders.turned numbers) loop.circle.each) in
+      let found = gates_at numbers (circle_gates numbers (turned numbers) loop.circle.each) in
       let gates = found.0 in
       let Reads = λ (one other : Site). gate_reads design (gate_at one) (gate_at other) ≡ true in
       let each : AllZip Reads gates (turned gates) =
       carried (λ (n m : ℕ). nets.gate_reads flat n m ≡ true) IsAt Reads (λ n m one other reads at at_next. reads_carry n m one other reads at at_next)
-      numbers (orders.turned numbers) gates (turned gates) loop.circle.each found.1 (turned_pairs IsAt numbers gates found.1) in
+      numbers (turned numbers) gates (turned gates) loop.circle.each found.1 (turned_pairs IsAt numbers gates found.1) in
       let of_gates = mapped gate_at (λ (one other : GateAt). gate_reads design one other ≡ true) gates (turned gates) each in
       let long : length (map gate_at gates) ≡ length numbers = length-map gates gate_at ∙ sym (AllZip-length IsAt numbers gates found.1) in
       record {
