@@ -16,7 +16,7 @@ pub eqb_comm : (a b : ℕ) → eqb a b ≡ eqb b a
 eqb_comm a b = grind (arith, common_steps)
 
 -- a number is among others whichever side of the test it stands on
-is_among-flip : (number : ℕ) (numbers : List ℕ) → is_among numbers number ≡ list_any (eqb number) numbers
+pub is_among-flip : (number : ℕ) (numbers : List ℕ) → is_among numbers number ≡ list_any (eqb number) numbers
 is_among-flip number [] = refl
 is_among-flip number (other ∷ others) = ap₂ (λ (first rest : Bool). first || rest) (eqb_comm other number) (is_among-flip number others)
 

@@ -1,5 +1,5 @@
 -- Numbers among others, and lists in which none stands twice.
-use Rattle.std.proofs.Common.{◌≡◌, ◌≢◌, ◌<◌, ◌≤◌, ◌+◌, ◌==◌, ◌||◌, not, cond, take, drop, ap, inl, inr, ℕ, zero, suc, Bool, true, false, List, [], ◌∷◌, ◌++◌, length, get_or, ◌⊎◌, ⊎_elim, refl, sym, ◌∙◌, ap₂, subst, eqb, true≢false, append_assoc, arith}
+use Rattle.std.proofs.Common.{◌≡◌, ◌≢◌, ◌<◌, ◌≤◌, ◌+◌, ◌==◌, ◌||◌, not, cond, take, drop, ap, inl, inr, ℕ, zero, suc, Bool, true, false, List, [], ◌∷◌, ◌++◌, length, get_or, ◌⊎◌, ⊎_elim, refl, sym, ◌∙◌, subst, eqb, true≢false, append_assoc, arith}
 use Rattle.std.specs.List.{list_any, position_or_len, IsDistinct}
 use Rattle.std.specs.Cmp.{nat_eq_equiv}
 use Rattle.std.proofs.lemmas.Bool.{eqb-true, eq-eqb, or_cases, or_left, or_right}
@@ -10,7 +10,7 @@ use Rattle.std.proofs.lemmas.List.Sorted.{IsPermutation-append_right, IsPermutat
 use Rattle.std.proofs.lemmas.Map.Keys.{IsDistinct-push, IsDistinct-IsPermutation, IsDistinct-tail, apart_from_distinct}
 use Rattle.std.proofs.lemmas.Map.Steps.{length-le_from_distinct_below}
 use Rattle.vw_net.specs.Order.{is_among}
-use Rattle.vw_net.proofs.Orders.{eqb_comm}
+use Rattle.vw_net.proofs.Orders.{eqb_comm, is_among-flip}
 
 -- among numbers that are joined
 pub among_left : (numbers others : List ℕ) (number : ℕ) → is_among numbers number ≡ true → is_among (numbers ++ others) number ≡ true
@@ -46,10 +46,6 @@ among_at (first ∷ numbers) number among =
 pub at_among : (numbers : List ℕ) (i : ℕ) → i < length numbers → is_among numbers (get_or numbers i 0) ≡ true
 at_among numbers i within = list_any_at (λ (other : ℕ). other == get_or numbers i 0) numbers i 0 within (eq-eqb (get_or numbers i 0) (get_or numbers i 0) refl)
 
-pub among-flip : (number : ℕ) (numbers : List ℕ) → list_any (eqb number) numbers ≡ is_among numbers number
-among-flip number [] = refl
-among-flip number (other ∷ others) = ap₂ (λ (first rest : Bool). first || rest) (eqb_comm number other) (among-flip number others)
-
 -- numbers of which none stands twice
 pub once_none : IsDistinct eqb []
 unfolding IsDistinct
@@ -60,10 +56,10 @@ once_part [] back once = once
 once_part (number ∷ front) back once = once_part front back (IsDistinct-tail eqb number (front ++ back) once)
 
 pub once_push : (numbers : List ℕ) (number : ℕ) → IsDistinct eqb numbers → is_among numbers number ≡ false → IsDistinct eqb (numbers ++ number ∷ [])
-once_push numbers number once fresh = IsDistinct-push nat_eq_equiv numbers number once (among-flip number numbers ∙ fresh)
+once_push numbers number once fresh = IsDistinct-push nat_eq_equiv numbers number once (sym (is_among-flip number numbers) ∙ fresh)
 
 pub once_short : (numbers : List ℕ) (count : ℕ) → IsDistinct eqb numbers → ((number : ℕ) → is_among numbers number ≡ true → number < count) → length numbers ≤ count
-once_short numbers count once within = length-le_from_distinct_below numbers count once (λ number among. within number (sym (among-flip number numbers) ∙ among))
+once_short numbers count once within = length-le_from_distinct_below numbers count once (λ number among. within number (is_among-flip number numbers ∙ among))
 
 pub once_moved : (order stack : List ℕ) (number : ℕ) → IsDistinct eqb (order ++ (stack ++ number ∷ [])) → IsDistinct eqb ((order ++ number ∷ []) ++ stack)
 once_moved order stack number once =
