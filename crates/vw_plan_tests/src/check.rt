@@ -1,5 +1,5 @@
 use crate::boards::TRIANGLE;
-use crate::netlists::{gate, latch, ordered};
+use crate::netlists::{Part, cells_of, latch, ordered};
 use std::alloc::Global;
 use std::test::Fail;
 use vw_check::check;
@@ -26,7 +26,7 @@ const ROOMY: &[u8] =
 
 /// The message for a gate that reads the input and a latch, which reads the gate and is the output.
 fn of_toggle(alloc: Global, board: &[u8], plan: &[u8]) -> Result<Vec<u8>, Fail> {
-    let cells = vec![in alloc; gate(alloc, &[0, 2])?, latch(1)]?;
+    let cells = cells_of(alloc, &[Part::Gate(&[0, 2]), Part::Latch(1)])?;
     let toggle = ordered(alloc, 1, cells, &[2])?;
     message(alloc, toggle, board, plan)
 }

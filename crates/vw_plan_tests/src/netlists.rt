@@ -18,6 +18,28 @@ pub fn latch(d: u32) -> Cell {
     }
 }
 
+/// A cell of a test.
+#[derive(Clone, Copy)]
+pub enum Part<'a> {
+    /// A gate that reads these nets. Its value is always zero.
+    Gate(&'a [u32]),
+    /// A latch that reads this net.
+    Latch(u32),
+}
+
+/// The cells of these parts.
+pub fn cells_of(alloc: Global, parts: &[Part]) -> Result<Vec<Cell>, Fail> {
+    let mut cells = Vec::new(alloc);
+    for part in parts {
+        let cell = match part {
+            Part::Gate(ins) => gate(alloc, ins)?,
+            Part::Latch(d) => latch(*d),
+        };
+        cells.push(cell)?;
+    }
+    Ok(cells)
+}
+
 /// The netlist of these cells in order, behind so many inputs and with these outputs.
 pub fn ordered(
     alloc: Global,

@@ -1,4 +1,4 @@
-use crate::netlists::{gate, latch};
+use crate::netlists::{Part, cells_of, gate};
 use std::alloc::Global;
 use std::test::Fail;
 use vw_net::{Cell, Flat, Sequence};
@@ -36,23 +36,25 @@ fn answer(alloc: Global, inputs: u32, cells: Vec<Cell>) -> Result<Listed, Fail> 
 #[test]
 fn a_loop_is_listed_from_its_least_number(rt: HostRuntime) -> Result<(), Fail> {
     let alloc = rt.alloc();
-    let own = answer(alloc, 0, vec![in alloc; gate(alloc, &[0])?]?)?;
+    let own = answer(alloc, 0, cells_of(alloc, &[Part::Gate(&[0])])?)?;
     assert!(rt; !own.is_order);
     assert_eq!(rt; own.numbers.as_slice(), [0].as_slice());
-    let two = vec![in alloc;
-        gate(alloc, &[0])?,
-        gate(alloc, &[3])?,
-        gate(alloc, &[0, 2])?,
-    ]?;
+    let two = cells_of(
+        alloc,
+        &[Part::Gate(&[0]), Part::Gate(&[3]), Part::Gate(&[0, 2])],
+    )?;
     let pair = answer(alloc, 1, two)?;
     assert!(rt; !pair.is_order);
     assert_eq!(rt; pair.numbers.as_slice(), [1, 2].as_slice());
-    let four = vec![in alloc;
-        gate(alloc, &[3])?,
-        gate(alloc, &[2])?,
-        gate(alloc, &[3])?,
-        gate(alloc, &[1])?,
-    ]?;
+    let four = cells_of(
+        alloc,
+        &[
+            Part::Gate(&[3]),
+            Part::Gate(&[2]),
+            Part::Gate(&[3]),
+            Part::Gate(&[1]),
+        ],
+    )?;
     let three = answer(alloc, 0, four)?;
     assert!(rt; !three.is_order);
     assert_eq!(rt; three.numbers.as_slice(), [1, 2, 3].as_slice());
@@ -62,7 +64,10 @@ fn a_loop_is_listed_from_its_least_number(rt: HostRuntime) -> Result<(), Fail> {
 #[test]
 fn feedback_through_a_latch_is_no_loop(rt: HostRuntime) -> Result<(), Fail> {
     let alloc = rt.alloc();
-    let cells = vec![in alloc; gate(alloc, &[0, 3])?, gate(alloc, &[1])?, latch(2)]?;
+    let cells = cells_of(
+        alloc,
+        &[Part::Gate(&[0, 3]), Part::Gate(&[1]), Part::Latch(2)],
+    )?;
     let found = answer(alloc, 1, cells)?;
     assert!(rt; found.is_order);
     assert_eq!(rt; found.numbers.as_slice(), [0, 1].as_slice());
@@ -89,7 +94,7 @@ fn a_thousand_gates_in_reverse_are_ordered(rt: HostRuntime) -> Result<(), Fail> 
 #[test]
 fn a_loop_of_a_thousand_gates_begins_with_its_least_number(rt: HostRuntime) -> Result<(), Fail> {
     let alloc = rt.alloc();
-    let mut cells = vec![in alloc; gate(alloc, &[500])?, gate(alloc, &[999])?]?;
+    let mut cells = cells_of(alloc, &[Part::Gate(&[500]), Part::Gate(&[999])])?;
     let mut falling = vec![in alloc; 1]?;
     for number in 0..998u32 {
         cells.push(gate(alloc, &[number + 1])?)?;

@@ -1,5 +1,5 @@
 use crate::boards::{TRIANGLE, board, may_be_chips};
-use crate::netlists::{gate, latch, ordered};
+use crate::netlists::{Part, cells_of, gate, latch, ordered};
 use std::alloc::Global;
 use std::test::Fail;
 use vw_board::read;
@@ -39,7 +39,7 @@ fn on_chip(chips: &[u32], chip: u32) -> usize {
 
 /// A gate that reads the input and a latch, which reads the gate and is the output.
 fn toggle(alloc: Global) -> Result<Ordered, Fail> {
-    let cells = vec![in alloc; gate(alloc, &[0, 2])?, latch(1)]?;
+    let cells = cells_of(alloc, &[Part::Gate(&[0, 2]), Part::Latch(1)])?;
     ordered(alloc, 1, cells, &[2])
 }
 
@@ -66,7 +66,16 @@ fn two_cells_that_read_each_other_are_together(rt: HostRuntime) -> Result<(), Fa
 #[test]
 fn five_cells_are_too_many_for_two_chips_of_two(rt: HostRuntime) -> Result<(), Fail> {
     let alloc = rt.alloc();
-    let cells = vec![in alloc; latch(0), latch(0), latch(0), latch(0), latch(0)]?;
+    let cells = cells_of(
+        alloc,
+        &[
+            Part::Latch(0),
+            Part::Latch(0),
+            Part::Latch(0),
+            Part::Latch(0),
+            Part::Latch(0),
+        ],
+    )?;
     let five = ordered(alloc, 1, cells, &[])?;
     let board = board(alloc, TWO_EACH)?;
     match partition(alloc, &five, &board) {
@@ -81,7 +90,15 @@ fn five_cells_are_too_many_for_two_chips_of_two(rt: HostRuntime) -> Result<(), F
 #[test]
 fn as_many_cells_as_there_is_room_for_are_dealt(rt: HostRuntime) -> Result<(), Fail> {
     let alloc = rt.alloc();
-    let cells = vec![in alloc; latch(0), latch(0), latch(0), latch(0)]?;
+    let cells = cells_of(
+        alloc,
+        &[
+            Part::Latch(0),
+            Part::Latch(0),
+            Part::Latch(0),
+            Part::Latch(0),
+        ],
+    )?;
     let four = ordered(alloc, 1, cells, &[])?;
     let chips = chips_of(alloc, &four, TWO_EACH)?;
     assert_eq!(rt; on_chip(chips.as_slice(), 1), 2);

@@ -1,5 +1,5 @@
 use crate::boards::{TRIANGLE, are_chips, board};
-use crate::netlists::{gate, latch, ordered};
+use crate::netlists::{Part, cells_of, latch, ordered};
 use std::alloc::Global;
 use std::test::Fail;
 use vw_board::Distances;
@@ -37,12 +37,15 @@ const RING: &[u8] =
 #[test]
 fn a_chain_comes_to_lie_along_a_row(rt: HostRuntime) -> Result<(), Fail> {
     let alloc = rt.alloc();
-    let cells = vec![in alloc;
-        gate(alloc, &[0])?,
-        gate(alloc, &[1])?,
-        gate(alloc, &[2])?,
-        gate(alloc, &[3])?,
-    ]?;
+    let cells = cells_of(
+        alloc,
+        &[
+            Part::Gate(&[0]),
+            Part::Gate(&[1]),
+            Part::Gate(&[2]),
+            Part::Gate(&[3]),
+        ],
+    )?;
     let chain = ordered(alloc, 1, cells, &[])?;
     // ways of 10, 9, 7, 6, 5 and 4 links, each by one exchange
     let placed = answer(alloc, &chain, ROW, &[3, 1, 4, 2])?;
@@ -55,7 +58,7 @@ fn a_chain_comes_to_lie_along_a_row(rt: HostRuntime) -> Result<(), Fail> {
 #[test]
 fn a_chain_follows_links_that_lead_one_way(rt: HostRuntime) -> Result<(), Fail> {
     let alloc = rt.alloc();
-    let cells = vec![in alloc; gate(alloc, &[0])?, latch(1)]?;
+    let cells = cells_of(alloc, &[Part::Gate(&[0]), Part::Latch(1)])?;
     let chain = ordered(alloc, 1, cells, &[2])?;
     // each of the three pairs goes over two links before the exchange, and over one after it
     let placed = answer(alloc, &chain, RING, &[2, 1])?;
@@ -66,7 +69,7 @@ fn a_chain_follows_links_that_lead_one_way(rt: HostRuntime) -> Result<(), Fail> 
 #[test]
 fn cells_that_share_a_chip_move_together(rt: HostRuntime) -> Result<(), Fail> {
     let alloc = rt.alloc();
-    let cells = vec![in alloc; gate(alloc, &[0])?, gate(alloc, &[1])?, latch(2)]?;
+    let cells = cells_of(alloc, &[Part::Gate(&[0]), Part::Gate(&[1]), Part::Latch(2)])?;
     let chain = ordered(alloc, 1, cells, &[])?;
     let placed = answer(alloc, &chain, ROW, &[2, 2, 1])?;
     assert_eq!(rt; placed.as_slice(), [1, 1, 2].as_slice());
@@ -76,7 +79,7 @@ fn cells_that_share_a_chip_move_together(rt: HostRuntime) -> Result<(), Fail> {
 #[test]
 fn nothing_moves_where_all_nodes_are_as_near(rt: HostRuntime) -> Result<(), Fail> {
     let alloc = rt.alloc();
-    let cells = vec![in alloc; gate(alloc, &[0, 2])?, latch(1)]?;
+    let cells = cells_of(alloc, &[Part::Gate(&[0, 2]), Part::Latch(1)])?;
     let toggle = ordered(alloc, 1, cells, &[2])?;
     let placed = answer(alloc, &toggle, TRIANGLE, &[2, 1])?;
     assert_eq!(rt; placed.as_slice(), [2, 1].as_slice());

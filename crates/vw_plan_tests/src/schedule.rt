@@ -1,5 +1,5 @@
 use crate::boards::{are_chips, board};
-use crate::netlists::{gate, latch, ordered};
+use crate::netlists::{Part, cells_of, ordered};
 use std::alloc::{AllocError, Global};
 use std::process::Abort;
 use std::test::Fail;
@@ -92,7 +92,7 @@ fn a_toggle_takes_two_phases(rt: HostRuntime) -> Result<(), Fail> {
     let toggle = ordered(
         alloc,
         1,
-        vec![in alloc; gate(alloc, &[0, 2])?, latch(1)]?,
+        cells_of(alloc, &[Part::Gate(&[0, 2]), Part::Latch(1)])?,
         &[2],
     )?;
     let table: [(&[u8], &[u32], &[u64]); 5] = [
@@ -145,9 +145,19 @@ fn a_toggle_takes_two_phases(rt: HostRuntime) -> Result<(), Fail> {
 #[test]
 fn wires_of_one_depth_take_turns(rt: HostRuntime) -> Result<(), Fail> {
     let alloc = rt.alloc();
-    let gate = ordered(alloc, 2, vec![in alloc; gate(alloc, &[0, 1])?]?, &[])?;
-    let two = ordered(alloc, 2, vec![in alloc; latch(0), latch(1)]?, &[])?;
-    let three = ordered(alloc, 1, vec![in alloc; latch(0), latch(1), latch(2)]?, &[])?;
+    let gate = ordered(alloc, 2, cells_of(alloc, &[Part::Gate(&[0, 1])])?, &[])?;
+    let two = ordered(
+        alloc,
+        2,
+        cells_of(alloc, &[Part::Latch(0), Part::Latch(1)])?,
+        &[],
+    )?;
+    let three = ordered(
+        alloc,
+        1,
+        cells_of(alloc, &[Part::Latch(0), Part::Latch(1), Part::Latch(2)])?,
+        &[],
+    )?;
     let table = [
         // two inputs over one pin
         Case {
@@ -187,14 +197,25 @@ fn wires_of_one_depth_take_turns(rt: HostRuntime) -> Result<(), Fail> {
 #[test]
 fn deeper_wires_wait_for_the_phase_before_them(rt: HostRuntime) -> Result<(), Fail> {
     let alloc = rt.alloc();
-    let mixed = vec![in alloc; latch(0), latch(2), gate(alloc, &[2])?, latch(3)]?;
+    let mixed = cells_of(
+        alloc,
+        &[
+            Part::Latch(0),
+            Part::Latch(2),
+            Part::Gate(&[2]),
+            Part::Latch(3),
+        ],
+    )?;
     let mixed = ordered(alloc, 1, mixed, &[])?;
-    let chain = vec![in alloc;
-        gate(alloc, &[0])?,
-        gate(alloc, &[1])?,
-        gate(alloc, &[2])?,
-        gate(alloc, &[0, 3])?,
-    ]?;
+    let chain = cells_of(
+        alloc,
+        &[
+            Part::Gate(&[0]),
+            Part::Gate(&[1]),
+            Part::Gate(&[2]),
+            Part::Gate(&[0, 3]),
+        ],
+    )?;
     let chain = ordered(alloc, 1, chain, &[4, 0])?;
     let table = [
         // the gate on chip 2 has what it reads after 1 microcycle, and the first phase ends after 3
@@ -232,10 +253,15 @@ fn deeper_wires_wait_for_the_phase_before_them(rt: HostRuntime) -> Result<(), Fa
 #[test]
 fn gates_without_wires_before_them_settle_too(rt: HostRuntime) -> Result<(), Fail> {
     let alloc = rt.alloc();
-    let sent = vec![in alloc; latch(0), gate(alloc, &[0])?, latch(1)]?;
+    let sent = cells_of(alloc, &[Part::Latch(0), Part::Gate(&[0]), Part::Latch(1)])?;
     let sent = ordered(alloc, 0, sent, &[])?;
-    let pair = ordered(alloc, 0, vec![in alloc; latch(1), gate(alloc, &[0])?]?, &[])?;
-    let single = ordered(alloc, 0, vec![in alloc; latch(0)]?, &[])?;
+    let pair = ordered(
+        alloc,
+        0,
+        cells_of(alloc, &[Part::Latch(1), Part::Gate(&[0])])?,
+        &[],
+    )?;
+    let single = ordered(alloc, 0, cells_of(alloc, &[Part::Latch(0)])?, &[])?;
     let table = [
         // a gate that reads a latch of its chip is sent once it has settled
         Case {

@@ -1,5 +1,5 @@
 use crate::boards::may_be_chips;
-use crate::netlists::{gate, latch, ordered};
+use crate::netlists::{Part, cells_of, latch, ordered};
 use std::alloc::Global;
 use std::test::Fail;
 use vw_net::{Ordered, Sequence};
@@ -35,7 +35,7 @@ fn answer(alloc: Global, ordered: &Ordered, chips: &[u32]) -> Result<Found, Fail
 #[test]
 fn a_gate_and_a_latch_on_two_chips_need_each_other(rt: HostRuntime) -> Result<(), Fail> {
     let alloc = rt.alloc();
-    let cells = vec![in alloc; gate(alloc, &[0, 2])?, latch(1)]?;
+    let cells = cells_of(alloc, &[Part::Gate(&[0, 2]), Part::Latch(1)])?;
     let toggle = ordered(alloc, 1, cells, &[2])?;
     let found = answer(alloc, &toggle, &[1, 2])?;
     assert_eq!(rt; found.nets.as_slice(), [0, 1, 2, 2].as_slice());
@@ -47,12 +47,15 @@ fn a_gate_and_a_latch_on_two_chips_need_each_other(rt: HostRuntime) -> Result<()
 #[test]
 fn a_way_over_three_chips_is_as_deep_as_its_wires(rt: HostRuntime) -> Result<(), Fail> {
     let alloc = rt.alloc();
-    let cells = vec![in alloc;
-        gate(alloc, &[0])?,
-        gate(alloc, &[1])?,
-        gate(alloc, &[2])?,
-        gate(alloc, &[0, 3])?,
-    ]?;
+    let cells = cells_of(
+        alloc,
+        &[
+            Part::Gate(&[0]),
+            Part::Gate(&[1]),
+            Part::Gate(&[2]),
+            Part::Gate(&[0, 3]),
+        ],
+    )?;
     let chain = ordered(alloc, 1, cells, &[4, 0])?;
     let found = answer(alloc, &chain, &[1, 1, 2, 1])?;
     assert_eq!(rt; found.nets.as_slice(), [0, 2, 3, 4].as_slice());
@@ -64,7 +67,10 @@ fn a_way_over_three_chips_is_as_deep_as_its_wires(rt: HostRuntime) -> Result<(),
 #[test]
 fn a_pair_that_is_read_often_stands_once(rt: HostRuntime) -> Result<(), Fail> {
     let alloc = rt.alloc();
-    let cells = vec![in alloc; gate(alloc, &[0, 0])?, gate(alloc, &[1, 1])?, latch(1)]?;
+    let cells = cells_of(
+        alloc,
+        &[Part::Gate(&[0, 0]), Part::Gate(&[1, 1]), Part::Latch(1)],
+    )?;
     let fan = ordered(alloc, 1, cells, &[1, 1, 0])?;
     let found = answer(alloc, &fan, &[7, 4_294_967_295, 4_294_967_295])?;
     assert_eq!(rt; found.nets.as_slice(), [0, 1, 1].as_slice());
