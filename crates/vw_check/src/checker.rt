@@ -109,10 +109,12 @@ pub fn check(
     plan: Plan,
 ) -> Result<Checked, CheckRefused>
     // A plan that is accepted has no fault, and the three are as they were handed in.
-    ensures accepted { IfOk result (λ checked. IsAcceptedPlan (setting_of ordered board plan) checked) }
+    ensures accepted { IfOk result (λ checked.
+        IsAcceptedPlan (setting_of ordered board plan) checked) }
 
     // Else it has this fault, which breaks a point of a sound plan, or memory ran out; the three are handed back.
-    ensures refused { IfErr result (λ refused. IsRefusedPlan (setting_of ordered board plan) refused) }
+    ensures refused { IfErr result (λ refused.
+        IsRefusedPlan (setting_of ordered board plan) refused) }
 {
     faultless_plans_are_sound();
     faults_break_points();

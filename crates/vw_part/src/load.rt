@@ -51,7 +51,8 @@ impl Load {
             → times_among nets.now net ≤ slice_index self.old.counts.items net }
         ensures cells { self.new.cells + 1 ≡ self.old.cells }
         ensures long { vec_len self.new.counts ≡ vec_len self.old.counts }
-        ensures counts { (net : ℕ) → slice_index self.new.counts.items net + times_among nets.now net
+        ensures counts { (net : ℕ)
+            → slice_index self.new.counts.items net + times_among nets.now net
             ≡ slice_index self.old.counts.items net }
     {
         self.cells -= 1;

@@ -34,7 +34,8 @@ fn push_line(text: &mut Vec<u8>, word: &[u8], numbers: &[u64]) -> Result<(), All
 
 /// Appends the line of the chips of cells.
 fn push_chips(text: &mut Vec<u8>, chip_of: &[u32]) -> Result<(), AllocError>
-    ensures { OnOk result (text.new.items ≡ text.old.items ++ with_newline (chips_line chip_of.now)) }
+    ensures { OnOk result (text.new.items
+        ≡ text.old.items ++ with_newline (chips_line chip_of.now)) }
 {
     text.extend_from_slice(b"chips")?;
     for chip in chip_of {
