@@ -4,7 +4,6 @@ use std::alloc::Global;
 use std::test::Fail;
 use vw_check::check;
 use vw_net::Ordered;
-use vw_order::order;
 
 /// The message of the fault of a plan; nothing where it is sound.
 fn message(alloc: Global, ordered: Ordered, board: &[u8], plan: &[u8]) -> Result<Vec<u8>, Fail> {

@@ -35,42 +35,39 @@ fn answer(alloc: Global, inputs: u32, cells: Vec<Cell>) -> Result<Listed, Fail> 
 
 #[test]
 fn a_loop_is_listed_from_its_least_number(rt: HostRuntime) -> Result<(), Fail> {
-    let alloc = rt.alloc();
-    let own = answer(alloc, 0, cells_of(alloc, &[Part::Gate(&[0])])?)?;
-    assert!(rt; !own.is_order);
-    assert_eq!(rt; own.numbers.as_slice(), [0].as_slice());
-    let two = cells_of(
-        alloc,
-        &[Part::Gate(&[0]), Part::Gate(&[3]), Part::Gate(&[0, 2])],
-    )?;
-    let pair = answer(alloc, 1, two)?;
-    assert!(rt; !pair.is_order);
-    assert_eq!(rt; pair.numbers.as_slice(), [1, 2].as_slice());
-    let four = cells_of(
-        alloc,
-        &[
-            Part::Gate(&[3]),
-            Part::Gate(&[2]),
-            Part::Gate(&[3]),
-            Part::Gate(&[1]),
-        ],
-    )?;
-    let three = answer(alloc, 0, four)?;
-    assert!(rt; !three.is_order);
-    assert_eq!(rt; three.numbers.as_slice(), [1, 2, 3].as_slice());
-    Ok(())
-}
-
-#[test]
-fn feedback_through_a_latch_is_no_loop(rt: HostRuntime) -> Result<(), Fail> {
-    let alloc = rt.alloc();
-    let cells = cells_of(
-        alloc,
-        &[Part::Gate(&[0, 3]), Part::Gate(&[1]), Part::Latch(2)],
-    )?;
-    let found = answer(alloc, 1, cells)?;
-    assert!(rt; found.is_order);
-    assert_eq!(rt; found.numbers.as_slice(), [0, 1].as_slice());
+    // how many inputs, the cells, whether there is an order, and the order or the loop
+    let rows: [(u32, &[Part], bool, &[u32]); 4] = [
+        (0, &[Part::Gate(&[0])], false, &[0]),
+        (
+            1,
+            &[Part::Gate(&[0]), Part::Gate(&[3]), Part::Gate(&[0, 2])],
+            false,
+            &[1, 2],
+        ),
+        (
+            0,
+            &[
+                Part::Gate(&[3]),
+                Part::Gate(&[2]),
+                Part::Gate(&[3]),
+                Part::Gate(&[1]),
+            ],
+            false,
+            &[1, 2, 3],
+        ),
+        // feedback through a latch is no loop
+        (
+            1,
+            &[Part::Gate(&[0, 3]), Part::Gate(&[1]), Part::Latch(2)],
+            true,
+            &[0, 1],
+        ),
+    ];
+    for (inputs, parts, is_order, numbers) in rows {
+        let found = answer(rt.alloc(), inputs, cells_of(rt.alloc(), parts)?)?;
+        assert_eq!(rt; found.is_order, is_order);
+        assert_eq!(rt; found.numbers.as_slice(), numbers);
+    }
     Ok(())
 }
 

@@ -63,44 +63,31 @@ fn two_cells_that_read_each_other_are_together(rt: HostRuntime) -> Result<(), Fa
     Ok(())
 }
 
+/// So many latches that read the input.
+fn latches(alloc: Global, count: u32) -> Result<Ordered, Fail> {
+    let mut cells = Vec::new(alloc);
+    for _ in 0..count {
+        cells.push(latch(0))?;
+    }
+    ordered(alloc, 1, cells, &[])
+}
+
 #[test]
 fn five_cells_are_too_many_for_two_chips_of_two(rt: HostRuntime) -> Result<(), Fail> {
-    let alloc = rt.alloc();
-    let cells = cells_of(
-        alloc,
-        &[
-            Part::Latch(0),
-            Part::Latch(0),
-            Part::Latch(0),
-            Part::Latch(0),
-            Part::Latch(0),
-        ],
-    )?;
-    let five = ordered(alloc, 1, cells, &[])?;
-    let board = board(alloc, TWO_EACH)?;
-    match partition(alloc, &five, &board) {
-        Err(fault) => {
-            assert_eq!(rt; fault, PartFault::TooManyCells { cells: 5, room: 4 });
-        }
-        Ok(_) => return Err("a partition".into()),
-    }
+    let five = latches(rt.alloc(), 5)?;
+    let board = board(rt.alloc(), TWO_EACH)?;
+    let fault = match partition(rt.alloc(), &five, &board) {
+        Err(fault) => Some(fault),
+        Ok(_) => None,
+    };
+    assert_eq!(rt; fault, Some(PartFault::TooManyCells { cells: 5, room: 4 }));
     Ok(())
 }
 
 #[test]
 fn as_many_cells_as_there_is_room_for_are_dealt(rt: HostRuntime) -> Result<(), Fail> {
-    let alloc = rt.alloc();
-    let cells = cells_of(
-        alloc,
-        &[
-            Part::Latch(0),
-            Part::Latch(0),
-            Part::Latch(0),
-            Part::Latch(0),
-        ],
-    )?;
-    let four = ordered(alloc, 1, cells, &[])?;
-    let chips = chips_of(alloc, &four, TWO_EACH)?;
+    let four = latches(rt.alloc(), 4)?;
+    let chips = chips_of(rt.alloc(), &four, TWO_EACH)?;
     assert_eq!(rt; on_chip(chips.as_slice(), 1), 2);
     assert_eq!(rt; on_chip(chips.as_slice(), 2), 2);
     Ok(())

@@ -4,7 +4,6 @@ use std::alloc::Global;
 use std::test::Fail;
 use vw_board::Distances;
 use vw_net::{Ordered, Sequence};
-use vw_order::order;
 use vw_place::place;
 
 /// What is answered of a placement.
@@ -34,55 +33,73 @@ const ROW: &[u8] =
 const RING: &[u8] =
     b"board 1\nchips 2\ncells 2\nsettle 0\npins 2\nlink 0 1 1\nlink 1 2 1\nlink 2 0 1\n";
 
-#[test]
-fn a_chain_comes_to_lie_along_a_row(rt: HostRuntime) -> Result<(), Fail> {
-    let alloc = rt.alloc();
-    let cells = cells_of(
-        alloc,
-        &[
-            Part::Gate(&[0]),
-            Part::Gate(&[1]),
-            Part::Gate(&[2]),
-            Part::Gate(&[3]),
-        ],
-    )?;
-    let chain = ordered(alloc, 1, cells, &[])?;
-    // ways of 10, 9, 7, 6, 5 and 4 links, each by one exchange
-    let placed = answer(alloc, &chain, ROW, &[3, 1, 4, 2])?;
-    assert_eq!(rt; placed.as_slice(), [1, 2, 3, 4].as_slice());
-    let kept = answer(alloc, &chain, ROW, &[1, 2, 3, 4])?;
-    assert_eq!(rt; kept.as_slice(), [1, 2, 3, 4].as_slice());
-    Ok(())
+/// A netlist with one input, a board, a placement, and the placement that comes of it.
+#[derive(Clone, Copy)]
+struct Case<'a> {
+    parts: &'a [Part<'a>],
+    outputs: &'a [u32],
+    board: &'a [u8],
+    chips: &'a [u32],
+    placed: &'a [u32],
 }
 
-#[test]
-fn a_chain_follows_links_that_lead_one_way(rt: HostRuntime) -> Result<(), Fail> {
-    let alloc = rt.alloc();
-    let cells = cells_of(alloc, &[Part::Gate(&[0]), Part::Latch(1)])?;
-    let chain = ordered(alloc, 1, cells, &[2])?;
-    // each of the three pairs goes over two links before the exchange, and over one after it
-    let placed = answer(alloc, &chain, RING, &[2, 1])?;
-    assert_eq!(rt; placed.as_slice(), [1, 2].as_slice());
-    Ok(())
-}
+/// Four gates, each of which reads the one before it.
+const CHAIN: &[Part] = &[
+    Part::Gate(&[0]),
+    Part::Gate(&[1]),
+    Part::Gate(&[2]),
+    Part::Gate(&[3]),
+];
 
 #[test]
-fn cells_that_share_a_chip_move_together(rt: HostRuntime) -> Result<(), Fail> {
-    let alloc = rt.alloc();
-    let cells = cells_of(alloc, &[Part::Gate(&[0]), Part::Gate(&[1]), Part::Latch(2)])?;
-    let chain = ordered(alloc, 1, cells, &[])?;
-    let placed = answer(alloc, &chain, ROW, &[2, 2, 1])?;
-    assert_eq!(rt; placed.as_slice(), [1, 1, 2].as_slice());
-    Ok(())
-}
-
-#[test]
-fn nothing_moves_where_all_nodes_are_as_near(rt: HostRuntime) -> Result<(), Fail> {
-    let alloc = rt.alloc();
-    let cells = cells_of(alloc, &[Part::Gate(&[0, 2]), Part::Latch(1)])?;
-    let toggle = ordered(alloc, 1, cells, &[2])?;
-    let placed = answer(alloc, &toggle, TRIANGLE, &[2, 1])?;
-    assert_eq!(rt; placed.as_slice(), [2, 1].as_slice());
+fn exchanges_shorten_the_way(rt: HostRuntime) -> Result<(), Fail> {
+    let cases = [
+        // a chain comes to lie along a row: ways of 10, 9, 7, 6, 5 and 4 links, each by one exchange
+        Case {
+            parts: CHAIN,
+            outputs: &[],
+            board: ROW,
+            chips: &[3, 1, 4, 2],
+            placed: &[1, 2, 3, 4],
+        },
+        Case {
+            parts: CHAIN,
+            outputs: &[],
+            board: ROW,
+            chips: &[1, 2, 3, 4],
+            placed: &[1, 2, 3, 4],
+        },
+        // each of the three pairs goes over two links before the exchange, and over one after it
+        Case {
+            parts: &[Part::Gate(&[0]), Part::Latch(1)],
+            outputs: &[2],
+            board: RING,
+            chips: &[2, 1],
+            placed: &[1, 2],
+        },
+        // cells that share a chip move together
+        Case {
+            parts: &[Part::Gate(&[0]), Part::Gate(&[1]), Part::Latch(2)],
+            outputs: &[],
+            board: ROW,
+            chips: &[2, 2, 1],
+            placed: &[1, 1, 2],
+        },
+        // nothing moves where all nodes are as near
+        Case {
+            parts: &[Part::Gate(&[0, 2]), Part::Latch(1)],
+            outputs: &[2],
+            board: TRIANGLE,
+            chips: &[2, 1],
+            placed: &[2, 1],
+        },
+    ];
+    for case in cases {
+        let cells = cells_of(rt.alloc(), case.parts)?;
+        let netlist = ordered(rt.alloc(), 1, cells, case.outputs)?;
+        let placed = answer(rt.alloc(), &netlist, case.board, case.chips)?;
+        assert_eq!(rt; placed.as_slice(), case.placed);
+    }
     Ok(())
 }
 

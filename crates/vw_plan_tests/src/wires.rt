@@ -32,50 +32,61 @@ fn answer(alloc: Global, ordered: &Ordered, chips: &[u32]) -> Result<Found, Fail
     })
 }
 
-#[test]
-fn a_gate_and_a_latch_on_two_chips_need_each_other(rt: HostRuntime) -> Result<(), Fail> {
-    let alloc = rt.alloc();
-    let cells = cells_of(alloc, &[Part::Gate(&[0, 2]), Part::Latch(1)])?;
-    let toggle = ordered(alloc, 1, cells, &[2])?;
-    let found = answer(alloc, &toggle, &[1, 2])?;
-    assert_eq!(rt; found.nets.as_slice(), [0, 1, 2, 2].as_slice());
-    assert_eq!(rt; found.nodes.as_slice(), [1, 2, 0, 1].as_slice());
-    assert_eq!(rt; found.depths.as_slice(), [0, 1, 0, 0].as_slice());
-    Ok(())
+/// A netlist with one input, a placement, and the nets, the nodes and the depths of its needed pairs.
+#[derive(Clone, Copy)]
+struct Case<'a> {
+    parts: &'a [Part<'a>],
+    outputs: &'a [u32],
+    chips: &'a [u32],
+    nets: &'a [u32],
+    nodes: &'a [u32],
+    depths: &'a [u32],
 }
 
 #[test]
-fn a_way_over_three_chips_is_as_deep_as_its_wires(rt: HostRuntime) -> Result<(), Fail> {
-    let alloc = rt.alloc();
-    let cells = cells_of(
-        alloc,
-        &[
-            Part::Gate(&[0]),
-            Part::Gate(&[1]),
-            Part::Gate(&[2]),
-            Part::Gate(&[0, 3]),
-        ],
-    )?;
-    let chain = ordered(alloc, 1, cells, &[4, 0])?;
-    let found = answer(alloc, &chain, &[1, 1, 2, 1])?;
-    assert_eq!(rt; found.nets.as_slice(), [0, 2, 3, 4].as_slice());
-    assert_eq!(rt; found.nodes.as_slice(), [1, 2, 1, 0].as_slice());
-    assert_eq!(rt; found.depths.as_slice(), [0, 1, 2, 3].as_slice());
-    Ok(())
-}
-
-#[test]
-fn a_pair_that_is_read_often_stands_once(rt: HostRuntime) -> Result<(), Fail> {
-    let alloc = rt.alloc();
-    let cells = cells_of(
-        alloc,
-        &[Part::Gate(&[0, 0]), Part::Gate(&[1, 1]), Part::Latch(1)],
-    )?;
-    let fan = ordered(alloc, 1, cells, &[1, 1, 0])?;
-    let found = answer(alloc, &fan, &[7, 4_294_967_295, 4_294_967_295])?;
-    assert_eq!(rt; found.nets.as_slice(), [0, 1, 1].as_slice());
-    assert_eq!(rt; found.nodes.as_slice(), [7, 0, 4_294_967_295].as_slice());
-    assert_eq!(rt; found.depths.as_slice(), [0, 1, 1].as_slice());
+fn each_needed_pair_stands_once_with_its_depth(rt: HostRuntime) -> Result<(), Fail> {
+    let cases = [
+        // a gate and a latch on two chips need each other
+        Case {
+            parts: &[Part::Gate(&[0, 2]), Part::Latch(1)],
+            outputs: &[2],
+            chips: &[1, 2],
+            nets: &[0, 1, 2, 2],
+            nodes: &[1, 2, 0, 1],
+            depths: &[0, 1, 0, 0],
+        },
+        // a way over three chips is as deep as its wires
+        Case {
+            parts: &[
+                Part::Gate(&[0]),
+                Part::Gate(&[1]),
+                Part::Gate(&[2]),
+                Part::Gate(&[0, 3]),
+            ],
+            outputs: &[4, 0],
+            chips: &[1, 1, 2, 1],
+            nets: &[0, 2, 3, 4],
+            nodes: &[1, 2, 1, 0],
+            depths: &[0, 1, 2, 3],
+        },
+        // a pair that is read often stands once; chips may have any numbers
+        Case {
+            parts: &[Part::Gate(&[0, 0]), Part::Gate(&[1, 1]), Part::Latch(1)],
+            outputs: &[1, 1, 0],
+            chips: &[7, 4_294_967_295, 4_294_967_295],
+            nets: &[0, 1, 1],
+            nodes: &[7, 0, 4_294_967_295],
+            depths: &[0, 1, 1],
+        },
+    ];
+    for case in cases {
+        let cells = cells_of(rt.alloc(), case.parts)?;
+        let netlist = ordered(rt.alloc(), 1, cells, case.outputs)?;
+        let found = answer(rt.alloc(), &netlist, case.chips)?;
+        assert_eq!(rt; found.nets.as_slice(), case.nets);
+        assert_eq!(rt; found.nodes.as_slice(), case.nodes);
+        assert_eq!(rt; found.depths.as_slice(), case.depths);
+    }
     Ok(())
 }
 
