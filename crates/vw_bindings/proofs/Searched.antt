@@ -16,7 +16,7 @@ use Rattle.vw_design.proofs.ModelNumbers.{name_of_named}
 use Rattle.vw_models.proofs.Places.{AllZip-back}
 use Rattle.vw_bindings.specs.declared.placement.Placement.{Placement}
 use Rattle.vw_bindings.specs.Steps.Placed.{Placed, placed_by, placed_models, IsPlacement, at_placement}
-use Rattle.vw_bindings.specs.PlacedFaults.{unknown_formal_at, unbound_input_at, both_ways_at}
+use Rattle.vw_bindings.specs.Steps.PlacedFaults.{unknown_formal_at, unbound_input_at, both_ways_at}
 
 abbrev pub the_name : ℕ → Word → NameAt
 the_name line formal = record { line = line; name = formal }

@@ -1,24 +1,10 @@
--- What is answered of placed models, and how it is found at one of them.
-use Rattle.std.specs.Prelude.{ℕ, List, Option, option_map, find}
-use Rattle.vw_design.specs.declared.item.Bind.{Bind}
-use Rattle.vw_design.specs.declared.model.Model.{Model}
-use Rattle.vw_design.specs.Paths.{is_port}
-use Rattle.vw_design.specs.ModelFaults.{NameAt, NameOf, unknown_formal_in, unbound_input_in}
+-- What is answered of placed models: a formal with its line, and an output with its model.
+use Rattle.vw_design.specs.ModelFaults.{NameAt, NameOf}
 use Rattle.vw_bindings.specs.declared.formal_at.FormalAt.{FormalAt}
 use Rattle.vw_bindings.specs.declared.output_of.OutputOf.{OutputOf}
 
--- a formal with the line of its item, and an output with its model
 abbrev pub name_at : FormalAt → NameAt
 name_at found = record { line = found.line; name = found.formal }
 
 abbrev pub named_output : OutputOf → NameOf
 named_output found = record { model = found.model; name = found.output }
-
-abbrev pub unknown_formal_at : ℕ → Model → List Bind → Option NameAt
-unknown_formal_at line model binds = option_map (λ formal. record { line = line; name = formal }) (unknown_formal_in model binds)
-
-abbrev pub unbound_input_at : ℕ → Model → List Bind → Option NameAt
-unbound_input_at line model binds = option_map (λ formal. record { line = line; name = formal }) (unbound_input_in model binds)
-
-abbrev pub both_ways_at : ℕ → Model → List Bind → Option NameOf
-both_ways_at line model binds = option_map (λ output. record { model = model.name; name = output }) (find (is_port model) model.outputs)

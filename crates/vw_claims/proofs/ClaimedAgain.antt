@@ -17,9 +17,9 @@ use Rattle.vw_design.specs.NetFaults.{bound_actual, claimed_by, first_again}
 use Rattle.vw_claims.specs.declared.claim.Again.{Again}
 use Rattle.vw_claims.specs.declared.claim.Claim.TheVariants.{Bound}
 use Rattle.vw_claims.specs.declared.model_claims.ModelClaims.{ModelClaims}
-use Rattle.vw_claims.specs.Firsts.{First, has_claim, port_first}
+use Rattle.vw_claims.specs.Firsts.{First}
+use Rattle.vw_claims.specs.Steps.{has_claim, port_first, binds_made, item_made, with_claim, with_all, with_items, ports_only}
 use Rattle.vw_claims.specs.Claimed.{IsAgain}
-use Rattle.vw_claims.specs.Steps.{binds_made, item_made, with_claim, with_all, with_items, ports_only}
 use Rattle.vw_claims.proofs.FirstClaims.{all_firsts}
 use Rattle.vw_claims.proofs.Looks.{names_of, or_or, or_nothing, has_first_more, has_firsts_more}
 

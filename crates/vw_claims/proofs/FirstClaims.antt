@@ -17,9 +17,9 @@ use Rattle.vw_design.proofs.Entries.{IsEntry, entry_of}
 use Rattle.vw_claims.specs.declared.claim.Claim.{Claim}
 use Rattle.vw_claims.specs.declared.claim.Claim.TheVariants.{Port, Driven, Bound}
 use Rattle.vw_claims.specs.declared.model_claims.ModelClaims.{ModelClaims}
-use Rattle.vw_claims.specs.Firsts.{First, with_firsts, port_first, claim_named}
+use Rattle.vw_claims.specs.Firsts.{First, claim_named}
+use Rattle.vw_claims.specs.Steps.{with_firsts, port_first, binds_made, item_made, with_claim, with_all, with_items, ports_only}
 use Rattle.vw_claims.specs.Claimed.{meant}
-use Rattle.vw_claims.specs.Steps.{binds_made, item_made, with_claim, with_all, with_items, ports_only}
 use Rattle.vw_claims.proofs.Looks.{look, named_look, look_append, look_firsts, with_firsts_append}
 
 -- the first of some claims and others

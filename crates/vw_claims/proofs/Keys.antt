@@ -10,7 +10,8 @@ use Rattle.indexmap.specs.IndexMap.{insert_entry}
 use Rattle.vw_design.specs.Distinct.{has_name}
 use Rattle.vw_design.specs.Paths.{Word}
 use Rattle.vw_claims.specs.declared.claim.Claim.{Claim}
-use Rattle.vw_claims.specs.Firsts.{First, has_claim, number_named}
+use Rattle.vw_claims.specs.Firsts.{First, number_named}
+use Rattle.vw_claims.specs.Steps.{has_claim}
 
 pub names_sym : (one other : Word) → bytes_eq one other ≡ bytes_eq other one
 names_sym one other = nat_list_eq_equiv.symm one other

@@ -7,7 +7,8 @@ use Rattle.vw_design.specs.Distinct.{has_name}
 use Rattle.vw_design.specs.Paths.{Word}
 use Rattle.vw_design.proofs.Names.{same_name}
 use Rattle.vw_claims.specs.declared.claim.Claim.{Claim}
-use Rattle.vw_claims.specs.Firsts.{First, has_claim, number_named, claim_at, claim_named, with_first, with_firsts}
+use Rattle.vw_claims.specs.Firsts.{First, number_named, claim_at, claim_named}
+use Rattle.vw_claims.specs.Steps.{has_claim, with_first, with_firsts}
 
 -- the first claim on a name
 abbrev pub look : List First → Word → Option Claim

@@ -14,8 +14,8 @@ use Rattle.vw_design.proofs.FilteredLists.{AllZip-length, AllZip-at}
 use Rattle.vw_design.proofs.ListPlaces.{none_at_place}
 use Rattle.vw_claims.specs.declared.claim.Claim.TheVariants.{Bound}
 use Rattle.vw_claims.specs.Firsts.{First}
-use Rattle.vw_claims.specs.Outputs.{AreOutputs, model_outputs_at}
-use Rattle.vw_claims.specs.Steps.{binds_made, AreModelNumbers, IsModelNumber}
+use Rattle.vw_claims.specs.Outputs.{AreOutputs}
+use Rattle.vw_claims.specs.Steps.{model_outputs_at, binds_made, AreModelNumbers, IsModelNumber}
 
 -- an element by its place
 pub at_place : {A : Type 0} (xs : List A) (k : ℕ) (x : A) → k < length xs → x ≡ get_or xs k x → slice_get xs k ≡ Some x

@@ -1,6 +1,5 @@
 -- Sets of the outputs of models.
-use Rattle.std.specs.Prelude.{◌≡◌, ℕ, List, [], Option, Some, None, slice_get}
-use Rattle.std.specs.Option.{unwrap_or}
+use Rattle.std.specs.Prelude.{◌≡◌, List}
 use Rattle.std.specs.List.{AllZip}
 use Rattle.vw_design.specs.declared.design.Design.{Design}
 use Rattle.vw_design.specs.Distinct.{has_name}
@@ -10,8 +9,3 @@ use Rattle.vw_design.specs.Paths.{Word}
 abbrev pub AreOutputs : Design → List (List Word) → Type 0
 AreOutputs design outputs =
     AllZip (λ model names. (name : Word) → has_name names name ≡ has_name model.outputs name) design.models outputs
-
--- the outputs of the model with a number; none where there is no number
-abbrev pub model_outputs_at : List (List Word) → Option ℕ → List Word
-model_outputs_at outputs None = []
-model_outputs_at outputs (Some number) = unwrap_or (slice_get outputs number) []

@@ -1,7 +1,8 @@
 -- How the claims of a model are gathered, item by item.
-use Rattle.std.specs.Prelude.{ℕ, suc, List, [], ◌∷◌, ◌++◌, map, Option, Some, None, if◌then◌else◌}
-use Rattle.std.specs.List.{AllZip}
-use Rattle.std.specs.Option.{option_or}
+use Rattle.std.specs.Prelude.{ℕ, Bool, suc, List, [], ◌∷◌, ◌++◌, map, slice_get, Option, Some, None, if◌then◌else◌}
+use Rattle.std.specs.List.{AllZip, list_any}
+use Rattle.std.specs.Option.{option_or, unwrap_or}
+use Rattle.std.specs.Str.{bytes_eq}
 use Rattle.vw_design.specs.declared.item.Bind.{Bind}
 use Rattle.vw_design.specs.declared.item.Item.{Item}
 use Rattle.vw_design.specs.declared.item.Item.TheVariants.{Names, Latch, Sub}
@@ -12,9 +13,30 @@ use Rattle.vw_design.specs.Paths.{Word, Placing, model_named, model_outputs}
 use Rattle.vw_design.specs.Claims.{and_behind}
 use Rattle.vw_design.specs.ModelNumbers.{IsNumberOfModel}
 use Rattle.vw_claims.specs.declared.claim.Claim.{Claim}
-use Rattle.vw_claims.specs.declared.claim.Claim.TheVariants.{Driven, Bound}
+use Rattle.vw_claims.specs.declared.claim.Claim.TheVariants.{Port, Driven, Bound}
 use Rattle.vw_claims.specs.declared.model_claims.ModelClaims.{ModelClaims}
-use Rattle.vw_claims.specs.Firsts.{First, has_claim, with_first, with_firsts, port_first}
+use Rattle.vw_claims.specs.Firsts.{First}
+
+-- whether a name is claimed
+abbrev pub has_claim : List First → Word → Bool
+has_claim firsts name = list_any (λ first. bytes_eq first.name name) firsts
+
+-- a further claim is kept where it is the first on its name
+abbrev pub with_first : List First → Word → Claim → List First
+with_first firsts name claim = if has_claim firsts name then firsts else firsts ++ record { name = name; claim = claim } ∷ []
+
+abbrev pub with_firsts : List First → List First → List First
+with_firsts firsts [] = firsts
+with_firsts firsts (further ∷ more) = with_firsts (with_first firsts further.name further.claim) more
+
+-- the claim of a port
+abbrev pub port_first : Word → First
+port_first name = record { name = name; claim = Port }
+
+-- the outputs of the model with a number; none where there is no number
+abbrev pub model_outputs_at : List (List Word) → Option ℕ → List Word
+model_outputs_at outputs None = []
+model_outputs_at outputs (Some number) = unwrap_or (slice_get outputs number) []
 
 -- what bindings claim, from a number on: those of these outputs
 abbrev pub binds_made : List Word → ℕ → ℕ → List Bind → List First

@@ -1,6 +1,7 @@
 //! The first claims on the names of a model.
 ghost use Rattle.std.specs.Prelude.{◌≡◌, ◌<◌, not, map, length, IfOk, IfSome, OnOk, []};
-ghost use Rattle.vw_claims.specs.Firsts.{has_claim, claim_at, number_named, with_first, with_firsts, port_first};
+ghost use Rattle.vw_claims.specs.Firsts.{claim_at, number_named};
+ghost use Rattle.vw_claims.specs.Steps.{has_claim, with_first, with_firsts, port_first};
 
 use crate::claim::Claim;
 use indexmap::IndexMap;

@@ -3,10 +3,9 @@ ghost use Rattle.std.specs.Prelude.{◌≡◌, ◌≤◌, ◌<◌, ◌-◌, ◌^
 ghost use Rattle.vw_design.specs.ModelNumbers.{AreTargets};
 ghost use Rattle.vw_design.specs.Paths.{placings};
 ghost use Rattle.vw_design.specs.Claims.{and_behind};
-ghost use Rattle.vw_claims.specs.Outputs.{AreOutputs, model_outputs_at};
-ghost use Rattle.vw_claims.specs.Firsts.{port_first, with_firsts};
+ghost use Rattle.vw_claims.specs.Outputs.{AreOutputs};
+ghost use Rattle.vw_claims.specs.Steps.{model_outputs_at, port_first, with_firsts, binds_made, item_made, with_claim, with_all, with_items, ports_only, AreModelNumbers, IsModelNumber};
 ghost use Rattle.vw_claims.specs.Claimed.{AreClaims};
-ghost use Rattle.vw_claims.specs.Steps.{binds_made, item_made, with_claim, with_all, with_items, ports_only, AreModelNumbers, IsModelNumber};
 
 use crate::claim::{Again, Claim};
 use crate::firsts::Firsts;

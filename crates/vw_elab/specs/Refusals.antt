@@ -1,5 +1,5 @@
 -- Why a design is refused: its fault, by what a message tells of it. Of circles any one may be told.
-use Rattle.std.specs.Prelude.{◌≡◌, Bool, true, false, Result, Ok, Err}
+use Rattle.std.specs.Prelude.{◌≡◌, Bool, true, false}
 use Rattle.vw_design.specs.declared.design.Design.{Design}
 use Rattle.vw_design.specs.Paths.{Word, Net, printed}
 use Rattle.vw_design.specs.NetFaults.{Unlike, Edged}
@@ -33,11 +33,6 @@ IsRefusal design (SeveralClocks first other) = IsFaultOf design (clocks_differ (
 IsRefusal design (SeveralEdges first other) = HasLatches design first other
 IsRefusal design (ClockAsData net) = HasNet design (λ n. clock_read n) net
 IsRefusal design NoMemory = Unit {0}
-
--- something is made of a design, or the design is refused
-abbrev pub Judges : {A : Type 0} → Design → (A → Type 0) → Result A DesignFault → Type 0
-Judges design Good (Ok x) = Good x
-Judges design Good (Err fault) = IsRefusal design fault
 
 -- whether a fault lies in the design; want of memory doesn't
 abbrev pub is_design_fault : DesignFault → Bool

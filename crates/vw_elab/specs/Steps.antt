@@ -1,13 +1,15 @@
 -- How far the search for a design's faults has come.
 pub mod ByColumns
-use Rattle.std.specs.Prelude.{◌≡◌, List, None}
+use Rattle.std.specs.Prelude.{◌≡◌, List, None, Result, Ok, Err}
 use Rattle.vw_design.specs.declared.design.Design.{Design}
 use Rattle.vw_design.specs.Paths.{Word}
 use Rattle.vw_design.specs.ModelFaults.{unknown_model, IsModelCircle, unknown_formal, unbound_input, both_ways}
 use Rattle.vw_design.specs.ModelNumbers.{AreTargets, IsModelOrder}
 use Rattle.vw_design.specs.NetFaults.{undriven, two_drivers}
 use Rattle.vw_design.specs.Accepted.{HasNoModelFault}
+use Rattle.vw_elab.specs.declared.fault.DesignFault.{DesignFault}
 use Rattle.vw_elab.specs.declared.models.Models.{Models}
+use Rattle.vw_elab.specs.Refusals.{IsRefusal}
 
 -- each item names a model, and none places itself
 pub record HasKnownModels (design : Design) : Type 0 where
@@ -32,3 +34,8 @@ pub record HasDrivers (design : Design) : Type 0 where
   pub models : HasNoModelFault design
   pub driven : undriven design ≡ None
   pub one_driver : two_drivers design ≡ None
+
+-- something is made of a design, or the design is refused
+abbrev pub Judges : {A : Type 0} → Design → (A → Type 0) → Result A DesignFault → Type 0
+Judges design Good (Ok x) = Good x
+Judges design Good (Err fault) = IsRefusal design fault

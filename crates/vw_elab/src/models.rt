@@ -3,8 +3,7 @@ ghost use Rattle.std.specs.Prelude.{◌≡◌, None};
 ghost use Rattle.vw_design.specs.ModelFaults.{unknown_model};
 ghost use Rattle.vw_design.specs.ModelNumbers.{AreTargets, AreModelMarks, IsModelOrder};
 ghost use Rattle.vw_sizes.specs.Sizes.{AreSizes};
-ghost use Rattle.vw_elab.specs.Refusals.{Judges};
-ghost use Rattle.vw_elab.specs.Steps.{HasKnownModels, HasBindings, AreModels};
+ghost use Rattle.vw_elab.specs.Steps.{Judges, HasKnownModels, HasBindings, AreModels};
 
 use crate::fault::DesignFault;
 use std::alloc::Global;

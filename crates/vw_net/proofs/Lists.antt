@@ -1,7 +1,8 @@
 -- Bits as numbers, and lists that go round.
 use Rattle.std.proofs.Common.{◌≡◌, ◌≤◌, Bool, true, false, List, [], ◌∷◌, ◌++◌, map, refl, arith}
 use Rattle.std.proofs.lemmas.List.{map-append}
-use Rattle.vw_net.specs.Lists.{one_if, turned}
+use Rattle.vw_net.specs.Lists.{turned}
+use Rattle.vw_net.specs.Steps.{one_if}
 
 pub one_if-le : (bit : Bool) → one_if bit ≤ 1
 one_if-le true = omega arith

@@ -7,3 +7,4 @@ pub mod Parts
 pub mod Order
 pub mod Value
 pub mod History
+pub mod Steps

@@ -1,9 +1,5 @@
--- Bits as numbers, the greatest of some numbers, and lists that go round.
-use Rattle.std.specs.Prelude.{ℕ, Bool, if◌then◌else◌, List, [], ◌∷◌, ◌++◌, max}
-
--- 1 where a bit is true, and 0 where it is false
-abbrev pub one_if : Bool → ℕ
-one_if bit = if bit then 1 else 0
+-- The greatest of some numbers, and lists that go round.
+use Rattle.std.specs.Prelude.{ℕ, List, [], ◌∷◌, ◌++◌, max}
 
 -- the greatest of some numbers; 0 where there is none
 abbrev pub greatest : List ℕ → ℕ

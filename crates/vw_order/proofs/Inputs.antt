@@ -9,7 +9,7 @@ use Rattle.vw_net.specs.Order.{is_gate, is_among, read_nets_at, gate_inputs}
 use Rattle.vw_net.proofs.Orders.{gate_within}
 use Rattle.vw_order.specs.Reads.{gate_reads}
 use Rattle.vw_search.specs.Graphs.{Reads, IsWithin}
-use Rattle.vw_order.specs.Gates.{gate_of, gates}
+use Rattle.vw_order.specs.Steps.Gates.{gate_of, gates}
 
 -- the gate that drives a net
 gate_is : (inputs : ℕ) (cells : List Cell) (net number : ℕ) → gate_of inputs cells net ≡ Some number → (net ≡ inputs + number) × (is_gate (slice_get cells number) ≡ true)

@@ -7,7 +7,7 @@ use Rattle.vw_search.specs.Graphs.{Reads}
 use Rattle.vw_search.specs.Circles.{IsNumberCircle, BeginsWithLeast}
 use Rattle.vw_order.specs.Reads.{gate_reads}
 use Rattle.vw_order.specs.Loops.{IsLoop}
-use Rattle.vw_order.specs.Gates.{gates}
+use Rattle.vw_order.specs.Steps.Gates.{gates}
 use Rattle.vw_order.proofs.Inputs.{reads_of}
 
 AllZip-weaker : {A : Type 0} → (R S : A → A → Type 0) (xs ys : List A) → ((x y : A) → R x y → S x y) → AllZip R xs ys → AllZip S xs ys

@@ -13,7 +13,7 @@ use Rattle.vw_net.proofs.Orders.{gate_or_latch}
 use Rattle.vw_search.specs.Graphs.{ReadsAt}
 use Rattle.vw_search.specs.Orders.{IsNumberOrder}
 use Rattle.vw_search.proofs.Among.{at_among, once_apart}
-use Rattle.vw_order.specs.Gates.{gate_of, gates}
+use Rattle.vw_order.specs.Steps.Gates.{gate_of, gates}
 use Rattle.vw_order.proofs.Inputs.{is_gate_of}
 
 -- all pass, where each one that has a place does

@@ -1,5 +1,4 @@
 pub mod Reads
 pub mod Loops
 pub mod Faults
-pub mod Gates
 pub mod Steps

@@ -1,1 +1,2 @@
 pub mod GateOrders
+pub mod Gates

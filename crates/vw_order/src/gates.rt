@@ -1,4 +1,4 @@
-ghost use Rattle.vw_order.specs.Gates.{gates};
+ghost use Rattle.vw_order.specs.Steps.Gates.{gates};
 
 use crate::read::{gate_inputs, gate_of, is_gate};
 use vw_net::Flat;

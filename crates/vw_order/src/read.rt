@@ -1,7 +1,7 @@
 //! Which gates a gate reads.
 ghost use Rattle.std.specs.Prelude.{◌≡◌, slice_get};
 ghost use Rattle.vw_net.specs.Order.{is_gate, gate_inputs};
-ghost use Rattle.vw_order.specs.Gates.{gate_of};
+ghost use Rattle.vw_order.specs.Steps.Gates.{gate_of};
 
 use vw_net::{Cell, Flat};
 

@@ -1,15 +1,9 @@
 -- Texts in memory under their names.
-use Rattle.std.specs.Prelude.{ℕ, ◌+◌, List, [], ◌∷◌, if◌then◌else◌, Option, Some, None, option_map}
+use Rattle.std.specs.Prelude.{ℕ, List, [], ◌∷◌, if◌then◌else◌}
 use Rattle.std.specs.Str.{bytes_eq}
 use Rattle.vw_outside.specs.declared.held.Held.{Held}
 use Rattle.vw_outside.specs.Told.{Told, absent, held}
 use Rattle.vw_outside.specs.Reads.{SeenShelf}
-
--- the place of the first text of a name
-abbrev pub text_place : List Held → List ℕ → Option ℕ
-text_place [] name = None
-text_place (file ∷ files) name =
-    if bytes_eq file.name name then Some 0 else option_map (λ place. place + 1) (text_place files name)
 
 -- what is told of a name: its first text, or that there is none
 abbrev pub told_in : List Held → List ℕ → Told

@@ -4,3 +4,4 @@ pub mod Reads
 pub mod Writes
 pub mod Files
 pub mod Memory
+pub mod Steps

@@ -2,7 +2,7 @@ ghost use Rattle.std.specs.Prelude.{◌≡◌, ◌≤◌, ◌<◌, ℕ, List, tr
 ghost use Rattle.vw_outside.specs.Told.{held};
 ghost use Rattle.vw_outside.specs.Faults.{one_more, is_listed};
 ghost use Rattle.vw_outside.specs.Reads.{Fills, ReadEnds};
-ghost use Rattle.vw_outside.specs.Files.{text_place};
+ghost use Rattle.vw_outside.specs.Steps.{text_place};
 
 use crate::held::Held;
 use crate::name::Name;

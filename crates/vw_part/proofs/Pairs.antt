@@ -10,7 +10,8 @@ use Rattle.vw_net.specs.Cells.{read_nets}
 use Rattle.vw_net.specs.Order.{is_among}
 use Rattle.vw_plan.specs.declared.need.Need.{Need}
 use Rattle.vw_plan.specs.Good.{pair_count}
-use Rattle.vw_net.specs.Lists.{greatest, one_if}
+use Rattle.vw_net.specs.Lists.{greatest}
+use Rattle.vw_net.specs.Steps.{one_if}
 use Rattle.vw_plan.specs.Needs.{needed_nodes, needed_pairs}
 use Rattle.vw_plan.specs.Nets.{is_needed, node_of}
 use Rattle.vw_part.specs.Steps.Deals.{held, holders}

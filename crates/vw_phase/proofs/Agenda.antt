@@ -10,7 +10,7 @@ use Rattle.std.proofs.lemmas.List.{take_all}
 use Rattle.std.proofs.lemmas.List.Elements.{All-append, All-cons, All-nil}
 use Rattle.std.proofs.lemmas.List.Sums.{sum_by-append, sum_by-cons}
 use Rattle.vw_net.specs.declared.ordered.Ordered.{Ordered}
-use Rattle.vw_net.specs.Lists.{one_if}
+use Rattle.vw_net.specs.Steps.{one_if}
 use Rattle.vw_net.proofs.Lists.{one_if-le}
 use Rattle.vw_plan.specs.declared.need.Route.{Route}
 use Rattle.vw_plan.specs.Needs.{depth}

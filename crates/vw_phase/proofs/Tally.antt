@@ -6,7 +6,7 @@ use Rattle.std.proofs.lemmas.List.{append_assoc, append-nil}
 use Rattle.std.proofs.lemmas.List.Concat.{flat_map-cons}
 use Rattle.std.proofs.lemmas.List.Folds.{list_any-append}
 use Rattle.std.proofs.Math.Bool.{or-false}
-use Rattle.vw_net.specs.Lists.{one_if}
+use Rattle.vw_net.specs.Steps.{one_if}
 use Rattle.vw_plan.specs.declared.board.Board.{Board}
 use Rattle.vw_plan.specs.declared.link.Link.{Link}
 use Rattle.vw_plan.specs.declared.wire.Hop.{Hop}

@@ -8,7 +8,8 @@ use Rattle.std.proofs.lemmas.List.FromFn.{get_or-range_with_len, length-range_wi
 use Rattle.std.proofs.lemmas.List.Sorted.{IsPermutation-refl, IsPermutation-swap, IsPermutation-trans}
 use Rattle.vw_plan.specs.declared.board.Board.{Board}
 use Rattle.vw_plan.specs.Good.{exchanged}
-use Rattle.vw_place.specs.Numbering.{IsNodeList, IsNumbering, moved}
+use Rattle.vw_place.specs.Numbering.{IsNumbering}
+use Rattle.vw_place.specs.Steps.NodeLists.{IsNodeList, moved}
 use Rattle.vw_place.specs.Steps.Tries.{AreTried, IsBefore, IsBoth, IsLater}
 use Rattle.vw_place.proofs.Renumbered.{chip_stays, one_to_one}
 

@@ -20,7 +20,8 @@ use Rattle.vw_net.specs.Lists.{greatest}
 use Rattle.vw_plan.specs.Needs.{needed_nodes, needed_pairs}
 use Rattle.vw_plan.specs.Nets.{is_needed, is_read_at, node_of}
 use Rattle.vw_plan.proofs.NeededPairs.{past_node}
-use Rattle.vw_place.specs.Numbering.{IsNodeList, IsNumbering, moved}
+use Rattle.vw_place.specs.Numbering.{IsNumbering}
+use Rattle.vw_place.specs.Steps.NodeLists.{IsNodeList, moved}
 use Rattle.vw_place.proofs.Sums.{length_sum, range_longer, sum_agree, sum_filter, sum_flat_map, sum_map}
 
 -- ---- a numbering, node by node

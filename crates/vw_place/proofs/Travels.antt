@@ -12,7 +12,7 @@ use Rattle.vw_plan.specs.Distance.{distance, has_walk, least}
 use Rattle.vw_plan.specs.Good.{IsChip, NoExchangeHelps, exchanged, travel}
 use Rattle.vw_plan.specs.Needs.{needed_pairs}
 use Rattle.vw_plan.specs.Nets.{node_of}
-use Rattle.vw_place.specs.Numbering.{IsNodeList, moved}
+use Rattle.vw_place.specs.Steps.NodeLists.{IsNodeList, moved}
 use Rattle.vw_place.specs.Steps.Traffic.{IsTraffic, goes, way, way_between, way_from}
 use Rattle.vw_place.specs.Steps.Tries.{NoneIsUseful}
 use Rattle.vw_place.proofs.Exchanges.{exchanged_itself, exchanged_turned, moved_exchanged, nodes_exchanged}

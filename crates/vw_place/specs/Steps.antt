@@ -1,2 +1,3 @@
 pub mod Traffic
 pub mod Tries
+pub mod NodeLists

@@ -1,6 +1,6 @@
 //! Exchanges of chips, until none makes the way shorter.
 ghost use Rattle.std.specs.Prelude.{◌≡◌, ◌≤◌, ◌<◌, ◌+◌};
-ghost use Rattle.vw_place.specs.Numbering.{IsNodeList};
+ghost use Rattle.vw_place.specs.Steps.NodeLists.{IsNodeList};
 ghost use Rattle.vw_place.specs.Steps.Traffic.{IsPairTable, way};
 ghost use Rattle.vw_place.specs.Steps.Tries.{AreTried, IsBefore, IsBoth, IsLater, NoneIsUseful};
 

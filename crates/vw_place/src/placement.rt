@@ -2,7 +2,8 @@
 ghost use Rattle.std.specs.Prelude.{◌≡◌, ◌≤◌, ◌+◌, ℕ, length, map, IfOk, IfErr};
 ghost use Rattle.std.specs.List.{All};
 ghost use Rattle.vw_plan.specs.Good.{IsChip, NoExchangeHelps, NoMoveHelps, cells_on};
-ghost use Rattle.vw_place.specs.Numbering.{IsNodeList, IsRenumbered, moved};
+ghost use Rattle.vw_place.specs.Numbering.{IsRenumbered};
+ghost use Rattle.vw_place.specs.Steps.NodeLists.{IsNodeList, moved};
 ghost use Rattle.vw_place.specs.Steps.Traffic.{IsPairTable, way};
 ghost use Rattle.vw_place.specs.Steps.Tries.{NoneIsUseful};
 

@@ -1,6 +1,6 @@
 //! How far the needed pairs go, all together.
 ghost use Rattle.std.specs.Prelude.{◌≡◌, ◌≤◌, ◌<◌, ◌+◌};
-ghost use Rattle.vw_place.specs.Numbering.{IsNodeList};
+ghost use Rattle.vw_place.specs.Steps.NodeLists.{IsNodeList};
 ghost use Rattle.vw_place.specs.Steps.Traffic.{IsPairTable, way, way_between, way_from};
 
 use vw_board::Distances;

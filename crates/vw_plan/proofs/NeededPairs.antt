@@ -15,7 +15,8 @@ use Rattle.vw_net.specs.declared.flat.Flat.{Flat}
 use Rattle.vw_net.specs.Cells.{IsWellFormed, read_nets}
 use Rattle.vw_net.specs.Order.{is_among}
 use Rattle.vw_plan.specs.declared.need.Need.{Need}
-use Rattle.vw_net.specs.Lists.{greatest, one_if}
+use Rattle.vw_net.specs.Lists.{greatest}
+use Rattle.vw_net.specs.Steps.{one_if}
 use Rattle.vw_plan.specs.Needs.{comes_before, is_pair, needed_nodes, needed_pairs}
 use Rattle.vw_plan.specs.Nets.{is_needed, node_of}
 

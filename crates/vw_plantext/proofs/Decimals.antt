@@ -1,9 +1,8 @@
 -- The words that spell numbers are those that `decimal` writes.
-use Rattle.std.proofs.Common.{◌≡◌, ◌<◌, ◌≤◌, ◌^◌, ◌+◌, ◌&&◌, ◌==◌, not, ℕ, Bool, true, false, List, [], ◌∷◌, length, get_or, Option, Some, None, if◌then◌else◌, ap, refl, sym, ◌∙◌, eq-eqb, ⊎_elim, ◌≢◌, true≢false, All, arith}
+use Rattle.std.proofs.Common.{◌≡◌, ◌<◌, ◌≤◌, ◌^◌, ◌+◌, ◌&&◌, ◌==◌, not, ℕ, Bool, true, false, List, [], ◌∷◌, length, get_or, Option, Some, None, if◌then◌else◌, ap, refl, sym, ◌∙◌, eq-eqb, ⊎_elim, ◌≢◌, true≢false, All, arith, rules}
 use Rattle.std.specs.Prelude.{nat_le, nat_lt, unwrap_or}
 use Rattle.std.specs.Fmt.{decimal}
 use Rattle.std.specs.List.{list_all}
-use Rattle.std.proofs.Common.{rules}
 use Rattle.std.proofs.lemmas.Bool.{and_parts, and_from, not-true, both_ways, cases_lt, ltb-true, leb-true}
 use Rattle.std.proofs.lemmas.Fmt.{digits_decimal, digits_value-decimal, decimal-digits_value, decimal_nonempty, first_decimal, length-decimal-le_succ}
 use Rattle.std.proofs.lemmas.Str.Parse.{IsNumeralModel, numerals_by_fold}

@@ -1,9 +1,7 @@
 //! The lines of a plan text behind the first two.
 ghost use Rattle.std.specs.Prelude.{◌≡◌, ◌<◌, ◌≤◌, ◌^◌, false, Some, option_map, IfOk, MatchOption};
-ghost use Rattle.vw_plantext.specs.Steps.Hops.{IsHop, IsNoHop, IsHopLine, IsNoHopLine};
-ghost use Rattle.vw_plantext.specs.Steps.Hops.{IsWireHead, IsNoWireHead, IsWireHeadLine, IsNoWireHeadLine};
-ghost use Rattle.vw_plantext.specs.Steps.Bodies.{part_of, part_with_hop, state_of, is_complete, HasSomeLeft};
-ghost use Rattle.vw_plantext.specs.Steps.Bodies.{Fits, TakesPlanLine, RefusesLine, ClosesWire};
+ghost use Rattle.vw_plantext.specs.Steps.Hops.{IsHop, IsNoHop, IsHopLine, IsNoHopLine, IsWireHead, IsNoWireHead, IsWireHeadLine, IsNoWireHeadLine};
+ghost use Rattle.vw_plantext.specs.Steps.Bodies.{part_of, part_with_hop, state_of, is_complete, HasSomeLeft, Fits, TakesPlanLine, RefusesLine, ClosesWire};
 
 use crate::line::read_numbers;
 use std::alloc::{AllocError, Global};

@@ -1,9 +1,7 @@
 //! The first two lines of a plan text.
 ghost use Rattle.std.specs.Prelude.{◌≡◌, MatchOption, IfOk, IfErr, IfSome, IfNone};
 ghost use Rattle.vw_plantext.specs.Steps.Bodies.{state_of};
-ghost use Rattle.vw_plantext.specs.Steps.Starts.{IsPlanHead, IsNoHead, IsHeadLine, IsNoHeadLine};
-ghost use Rattle.vw_plantext.specs.Steps.Starts.{AreChips, AreNoChips, IsChipsLine, IsNoChipsLine};
-ghost use Rattle.vw_plantext.specs.Steps.Starts.{IsReadTo, IsFaultOfText};
+ghost use Rattle.vw_plantext.specs.Steps.Starts.{IsPlanHead, IsNoHead, IsHeadLine, IsNoHeadLine, AreChips, AreNoChips, IsChipsLine, IsNoChipsLine, IsReadTo, IsFaultOfText};
 
 use crate::body::Body;
 use crate::fault::PlanTextFault;

@@ -1,9 +1,8 @@
 -- Counts that are filled in along an order of the models.
 use Rattle.std.proofs.Common.{◌≡◌, ◌<◌, ◌≤◌, ◌+◌, ℕ, Bool, true, false, List, length, take, get_or, slice_get, slice_set, replicate, Option, Some, None, ⊎_elim, refl, sym, ◌∙◌, ap, true≢false, eqb, min, get_or-set_other, get_or-set_same, arith}
-use Rattle.std.proofs.lemmas.List.{length-replicate}
+use Rattle.std.proofs.lemmas.List.{length-replicate, take_all, get_or-take, length-take, length-set, get_or_default}
 use Rattle.std.specs.List.{list_any}
 use Rattle.std.proofs.lemmas.Bool.{cases_lt, eqb-true}
-use Rattle.std.proofs.lemmas.List.{take_all, get_or-take, length-take, length-set, get_or_default}
 use Rattle.std.proofs.lemmas.Map.Keys.{IsDistinct-from_apart}
 use Rattle.std.proofs.lemmas.Option.{slice_get_within, get_or_from_slice_get}
 use Rattle.vw_net.specs.Order.{is_among}

@@ -12,7 +12,7 @@ use Rattle.vw_top.specs.declared.refusal.Refusal.{Refusal}
 use Rattle.vw_top.specs.declared.endings.Unfinished.TheVariants.{Stopped, Refused}
 use Rattle.vw_top.specs.Reasons.{reason_status}
 use Rattle.vw_top.specs.Course.{Course, writes, refuses, reads, makes, Outside, Answer, Follows, EndsWriting, EndsRefused, EndsReading, MayWrite, MayRefuse, AtFile, Outcome, writing, refusing, missing, ComesTo}
-use Rattle.vw_top.specs.Endings.{answer_status}
+use Rattle.vw_top.specs.Steps.Unfinished.{answer_status}
 use Rattle.vw_top.specs.Statuses.{IsDone, IsReadFault, IsWriteFault, IsWantOfMemory, LeavesPart, Statuses}
 
 -- ---- what each way to end says of the course

@@ -1,7 +1,6 @@
 -- How a call ends: its status, and its message on err.
 use Rattle.std.specs.Prelude.{◌≡◌, ◌⊎◌, ℕ, List, Ok, Err}
 use Rattle.vw_outside.specs.Writes.{SeenSink, appended, FailedAfterPart}
-use Rattle.vw_top.specs.declared.stop.Stop.TheVariants.{NoMemory}
 use Rattle.vw_top.specs.declared.endings.Unfinished.{Unfinished}
 use Rattle.vw_top.specs.declared.endings.Unfinished.TheVariants.{Stopped, Refused}
 use Rattle.vw_top.specs.Reasons.{reason_status, reason_line}
@@ -16,10 +15,6 @@ abbrev pub message_line : Unfinished → List ℕ
 message_line (Stopped stop) = stop_line stop
 message_line (Refused refusal) = reason_line refusal.reason
 
-abbrev pub answer_status : Answer → ℕ
-answer_status (Ok done) = 0
-answer_status (Err unfinished) = status_of unfinished
-
 -- err has the line at its end; or a part of it, where a write to err failed
 abbrev pub IsReported : List ℕ → SeenSink → SeenSink → Type 0
 IsReported line before after = (after ≡ appended before line) ⊎ FailedAfterPart line before after
@@ -29,9 +24,3 @@ abbrev pub Ends : Answer → SeenSink → SeenSink → ℕ → Type 0
 Ends (Ok done) before after status = (status ≡ 0) × (after ≡ before)
 Ends (Err unfinished) before after status =
     (status ≡ status_of unfinished) × IsReported (message_line unfinished) before after
-
--- the same of a call that isn't carried out; want of memory for the line of a refusal comes in its place
-abbrev pub EndsUnfinished : Unfinished → SeenSink → SeenSink → ℕ → Type 0
-EndsUnfinished (Stopped stop) before after status = Ends (Err (Stopped stop)) before after status
-EndsUnfinished (Refused refusal) before after status =
-    Ends (Err (Refused refusal)) before after status ⊎ Ends (Err (Stopped NoMemory)) before after status

@@ -4,3 +4,4 @@ pub mod Stage
 pub mod FlatTrace
 pub mod OrderedDesigns
 pub mod Plans
+pub mod Unfinished

@@ -2,7 +2,8 @@ ghost use Rattle.std.specs.Prelude.{◌≡◌};
 ghost use Rattle.vw_top.specs.Words.{spelled_by};
 ghost use Rattle.vw_top.specs.Commands.{course_of};
 ghost use Rattle.vw_top.specs.Course.{Follows, Answer, outside};
-ghost use Rattle.vw_top.specs.Endings.{Ends, EndsUnfinished};
+ghost use Rattle.vw_top.specs.Endings.{Ends};
+ghost use Rattle.vw_top.specs.Steps.Unfinished.{EndsUnfinished};
 ghost use Rattle.vw_top.specs.Statuses.{Statuses};
 
 use crate::check::check;

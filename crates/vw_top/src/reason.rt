@@ -60,17 +60,17 @@ impl Reason {
         ensures { IfOk result (λ line. line.items ≡ reason_line self.now) }
     {
         match self {
-            Reason::Design(fault) => Ok(fault.text(alloc)?),
-            Reason::Elaboration(fault) => Ok(fault.text(alloc)?),
+            Reason::Design(fault) => fault.text(alloc),
+            Reason::Elaboration(fault) => fault.text(alloc),
             Reason::Loop(names) => line_of_names(alloc, b"design 25: loop", names.as_slice()),
             Reason::Usage(place) => {
                 let line = format!(in alloc; "usage: word {place}\n")?;
                 Ok(line.into_bytes())
             }
-            Reason::Board(fault) => Ok(fault.text(alloc)?),
-            Reason::PlanText(fault) => Ok(fault.text(alloc)?),
-            Reason::Plan(fault) => Ok(fault.text(alloc)?),
-            Reason::Stimulus(fault) => Ok(fault.text(alloc)?),
+            Reason::Board(fault) => fault.text(alloc),
+            Reason::PlanText(fault) => fault.text(alloc),
+            Reason::Plan(fault) => fault.text(alloc),
+            Reason::Stimulus(fault) => fault.text(alloc),
             Reason::Fit { cells, room } => {
                 let line = format!(in alloc; "fit: {cells} cells, room for {room}\n")?;
                 Ok(line.into_bytes())

@@ -7,7 +7,7 @@ use Rattle.vw_plan.specs.declared.need.Need.{Need}
 use Rattle.vw_plan.specs.Distance.{distance}
 use Rattle.vw_plan.specs.Needs.{needed_pairs}
 use Rattle.vw_plan.specs.Nets.{node_of}
-use Rattle.vw_place.specs.Numbering.{moved}
+use Rattle.vw_place.specs.Steps.NodeLists.{moved}
 
 -- whether a needed pair goes from a node to another
 abbrev pub goes : Flat → List ℕ → ℕ → ℕ → Need → Bool

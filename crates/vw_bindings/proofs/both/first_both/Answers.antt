@@ -3,7 +3,7 @@ use Rattle.std.proofs.lemmas.Option.{slice_get_read, slice_get_within}
 use Rattle.vw_design.specs.Paths.{Word, is_port}
 use Rattle.vw_bindings.specs.Steps.Placed.{at_placement}
 use Rattle.vw_bindings.specs.Steps.Formals.{IsBothWays}
-use Rattle.vw_bindings.specs.PlacedFaults.{both_ways_at}
+use Rattle.vw_bindings.specs.Steps.PlacedFaults.{both_ways_at}
 use Rattle.vw_models.proofs.NumberedModels.{model_at_place, within_models}
 use Rattle.vw_bindings.proofs.Searched.{the_output, model_of, both_is}
 use Rattle.vw_bindings.proofs.AtPlacedModel.{none_is, zip_at, nothing_at, something_at, nothing_left, made_none, made_some}

@@ -3,7 +3,7 @@ use Rattle.std.proofs.lemmas.Option.{slice_get_within}
 use Rattle.vw_design.specs.Paths.{Word}
 use Rattle.vw_design.specs.ModelFaults.{unbound_input_in}
 use Rattle.vw_bindings.specs.Steps.Placed.{at_placement}
-use Rattle.vw_bindings.specs.PlacedFaults.{unbound_input_at}
+use Rattle.vw_bindings.specs.Steps.PlacedFaults.{unbound_input_at}
 use Rattle.vw_models.proofs.NumberedModels.{model_at_place, within_models}
 use Rattle.vw_bindings.proofs.Searched.{the_name, model_of, unbound_is}
 use Rattle.vw_bindings.proofs.AtPlacedModel.{none_is, nothing_at, something_at, nothing_left, made_none, made_some}

@@ -5,7 +5,7 @@ use Rattle.vw_design.specs.ModelFaults.{unknown_formal_in}
 use Rattle.vw_design.specs.WordSets.{has_word}
 use Rattle.vw_bindings.specs.Steps.Placed.{at_placement}
 use Rattle.vw_bindings.specs.Steps.Formals.{AreFormals}
-use Rattle.vw_bindings.specs.PlacedFaults.{unknown_formal_at}
+use Rattle.vw_bindings.specs.Steps.PlacedFaults.{unknown_formal_at}
 use Rattle.vw_bindings.proofs.Searched.{the_name, model_of, unknown_is}
 use Rattle.vw_bindings.proofs.AtPlacedModel.{none_is, zip_at, nothing_at, something_at, nothing_left, made_none, made_some, unknown_by}
 use Rattle.vw_bindings.proofs.unknown.first_unknown.Goals as goal

@@ -2,7 +2,7 @@
 use Rattle.std.proofs.Common.{◌≡◌, drop}
 use Rattle.vw_design.specs.Lists.{first_found}
 use Rattle.vw_bindings.specs.Steps.Placed.{at_placement}
-use Rattle.vw_bindings.specs.PlacedFaults.{unknown_formal_at}
+use Rattle.vw_bindings.specs.Steps.PlacedFaults.{unknown_formal_at}
 use Rattle.vw_bindings.proofs.unknown.first_unknown.Given as goal
 
 abbrev pub invariant-loop-placement : goal.invariant-loop-placement

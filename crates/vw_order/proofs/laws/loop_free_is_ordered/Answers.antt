@@ -1,5 +1,5 @@
 use Rattle.std.proofs.Common.{⊎_elim}
-use Rattle.vw_order.specs.Gates.{gates}
+use Rattle.vw_order.specs.Steps.Gates.{gates}
 use Rattle.vw_order.proofs.Inputs.{within}
 use Rattle.vw_order.proofs.Orders.{is_order}
 use Rattle.vw_order.proofs.Loops.{is_loop}

@@ -1,6 +1,6 @@
 -- each round but the last makes the way shorter
 use Rattle.std.proofs.Common.{◌≡◌}
-use Rattle.vw_place.specs.Numbering.{IsNodeList}
+use Rattle.vw_place.specs.Steps.NodeLists.{IsNodeList}
 use Rattle.vw_place.specs.Steps.Traffic.{way}
 use Rattle.vw_place.proofs.exchange.exchange.Given as goal
 

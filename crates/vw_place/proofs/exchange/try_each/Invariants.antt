@@ -1,6 +1,6 @@
 -- the exchanges so far were tried
 use Rattle.std.proofs.Common.{◌≡◌, ◌+◌}
-use Rattle.vw_place.specs.Numbering.{IsNodeList}
+use Rattle.vw_place.specs.Steps.NodeLists.{IsNodeList}
 use Rattle.vw_place.specs.Steps.Traffic.{way}
 use Rattle.vw_place.specs.Steps.Tries.{AreTried, IsBefore}
 use Rattle.vw_place.proofs.exchange.try_each.Given as goal

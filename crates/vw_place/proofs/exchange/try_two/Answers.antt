@@ -1,6 +1,6 @@
 use Rattle.std.proofs.Common.{◌≡◌, ◌<◌, ℕ, List, length, ap, sym, subst, ◌∙◌, arith}
 use Rattle.std.specs.List.{swap}
-use Rattle.vw_place.specs.Numbering.{IsNodeList}
+use Rattle.vw_place.specs.Steps.NodeLists.{IsNodeList}
 use Rattle.vw_place.specs.Steps.Traffic.{way}
 use Rattle.vw_place.specs.Steps.Tries.{IsBoth}
 use Rattle.vw_place.proofs.Exchanges.{no_shorter, nodes_exchanged, swap_twice, useless_one}

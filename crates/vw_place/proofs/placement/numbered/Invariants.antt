@@ -1,6 +1,6 @@
 -- the numbers so far, and those of the chips that are left
 use Rattle.std.proofs.Common.{◌≡◌, ◌++◌, drop, map}
-use Rattle.vw_place.specs.Numbering.{moved}
+use Rattle.vw_place.specs.Steps.NodeLists.{moved}
 use Rattle.vw_place.proofs.placement.numbered.Given as goal
 
 abbrev pub invariant-loop-chip : goal.invariant-loop-chip

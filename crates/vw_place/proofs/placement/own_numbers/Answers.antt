@@ -1,6 +1,6 @@
 use Rattle.std.proofs.Common.{◌≡◌, ◌+◌, ◌++◌, ℕ, List, [], ◌∷◌, ap, sym, subst, ◌∙◌, arith}
 use Rattle.std.specs.List.{range_with_len}
-use Rattle.vw_place.specs.Numbering.{IsNodeList}
+use Rattle.vw_place.specs.Steps.NodeLists.{IsNodeList}
 use Rattle.vw_place.proofs.Exchanges.{own_nodes}
 use Rattle.vw_place.proofs.Sums.{range_end}
 use Rattle.vw_place.proofs.placement.own_numbers.Goals as goal

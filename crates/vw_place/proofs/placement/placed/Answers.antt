@@ -4,7 +4,8 @@ use Rattle.std.proofs.lemmas.Result.{IfOk-weaker}
 use Rattle.vw_net.specs.declared.flat.Flat.{Flat}
 use Rattle.vw_plan.specs.declared.board.Board.{Board}
 use Rattle.vw_plan.specs.Good.{IsChip, NoExchangeHelps, NoMoveHelps}
-use Rattle.vw_place.specs.Numbering.{IsNodeList, IsRenumbered, moved}
+use Rattle.vw_place.specs.Numbering.{IsRenumbered}
+use Rattle.vw_place.specs.Steps.NodeLists.{IsNodeList, moved}
 use Rattle.vw_place.specs.Steps.Traffic.{IsTraffic, way}
 use Rattle.vw_place.specs.Steps.Tries.{NoneIsUseful}
 use Rattle.vw_place.proofs.Renumbered.{moves_moved}

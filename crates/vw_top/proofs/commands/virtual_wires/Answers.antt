@@ -6,7 +6,8 @@ use Rattle.vw_top.specs.declared.endings.Unfinished.TheVariants.{Stopped, Refuse
 use Rattle.vw_top.specs.Words.{spelled_by}
 use Rattle.vw_top.specs.Commands.{course_of}
 use Rattle.vw_top.specs.Course.{Course, Outside, outside, Answer, Follows}
-use Rattle.vw_top.specs.Endings.{Ends, EndsUnfinished, answer_status}
+use Rattle.vw_top.specs.Endings.{Ends}
+use Rattle.vw_top.specs.Steps.Unfinished.{EndsUnfinished, answer_status}
 use Rattle.vw_top.specs.Statuses.{Statuses}
 use Rattle.vw_top.proofs.CourseLaws.{memory_instead, statuses}
 use Rattle.vw_top.proofs.commands.virtual_wires.Goals as goal

@@ -1,6 +1,7 @@
 use Rattle.std.proofs.Common.{◌≡◌, ◌++◌, ◌∷◌, [], false, not, List, if◌then◌else◌, rules, sym, ◌∙◌, ap}
 use Rattle.vw_design.specs.Paths.{Word}
-use Rattle.vw_claims.specs.Firsts.{First, has_claim}
+use Rattle.vw_claims.specs.Firsts.{First}
+use Rattle.vw_claims.specs.Steps.{has_claim}
 use Rattle.vw_claims.proofs.Keys.{firsts_of, has_first, new_first}
 use Rattle.vw_claims.proofs.firsts.Firsts.add.Goals as goal
 

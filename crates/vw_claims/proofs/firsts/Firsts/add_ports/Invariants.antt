@@ -1,6 +1,6 @@
 -- the ports so far were added
 use Rattle.std.proofs.Common.{◌≡◌, drop, map}
-use Rattle.vw_claims.specs.Firsts.{port_first, with_firsts}
+use Rattle.vw_claims.specs.Steps.{port_first, with_firsts}
 use Rattle.vw_claims.proofs.firsts.Firsts.add_ports.Given as goal
 
 abbrev pub invariant-loop-name : goal.invariant-loop-name

@@ -5,8 +5,7 @@ use Rattle.vw_design.specs.declared.item.Item.{Item}
 use Rattle.vw_design.specs.Paths.{model_named, model_outputs}
 use Rattle.vw_design.specs.ModelNumbers.{IsNumberOfModel}
 use Rattle.vw_claims.specs.Firsts.{First}
-use Rattle.vw_claims.specs.Outputs.{model_outputs_at}
-use Rattle.vw_claims.specs.Steps.{binds_made, item_made, with_all, IsModelNumber}
+use Rattle.vw_claims.specs.Steps.{model_outputs_at, binds_made, item_made, with_all, IsModelNumber}
 use Rattle.vw_claims.proofs.Targets.{target_within, target_outputs, made_same}
 use Rattle.vw_claims.proofs.model_claims.ModelClaims.add_item.Goals as goal
 

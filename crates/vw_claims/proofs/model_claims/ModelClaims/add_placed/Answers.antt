@@ -1,7 +1,6 @@
 use Rattle.std.proofs.Common.{List, Option, ℕ, sym, ◌∙◌, ap}
 use Rattle.vw_claims.specs.Firsts.{First}
-use Rattle.vw_claims.specs.Outputs.{model_outputs_at}
-use Rattle.vw_claims.specs.Steps.{binds_made, with_all}
+use Rattle.vw_claims.specs.Steps.{model_outputs_at, binds_made, with_all}
 use Rattle.vw_claims.proofs.Targets.{none_made}
 use Rattle.vw_claims.proofs.model_claims.ModelClaims.add_placed.Goals as goal
 

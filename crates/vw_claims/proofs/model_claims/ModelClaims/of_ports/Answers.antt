@@ -2,7 +2,8 @@ use Rattle.std.proofs.Common.{◌≡◌, ◌++◌, [], List, None, map, sym, ◌
 use Rattle.std.proofs.lemmas.List.{map-append}
 use Rattle.vw_design.specs.Paths.{Word}
 use Rattle.vw_claims.specs.declared.model_claims.ModelClaims.{ModelClaims}
-use Rattle.vw_claims.specs.Firsts.{First, with_firsts, port_first}
+use Rattle.vw_claims.specs.Firsts.{First}
+use Rattle.vw_claims.specs.Steps.{with_firsts, port_first}
 use Rattle.vw_claims.proofs.Looks.{with_firsts_append}
 use Rattle.vw_claims.proofs.model_claims.ModelClaims.of_ports.Goals as goal
 

@@ -1,6 +1,6 @@
 use Rattle.std.proofs.Common.{◌≡◌, Some, None, arith, rules, refl, subst}
 use Rattle.vw_outside.specs.Reads.{Fills}
-use Rattle.vw_outside.specs.Files.{text_place}
+use Rattle.vw_outside.specs.Steps.{text_place}
 use Rattle.vw_outside.proofs.FaultCounts.{place_below, counts_at, counts_elsewhere, held_at, not_absent, not_held}
 use Rattle.vw_outside.proofs.memory_shelf.MemShelfShelf.read.Goals as goal
 use Rattle.vw_outside.proofs.memory_shelf.MemShelfShelf.read.Goals.{In-Some, In-None}
