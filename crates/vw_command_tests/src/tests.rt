@@ -11,6 +11,7 @@ mod claims;
 mod designs;
 mod hierarchy;
 mod hostile;
+mod large;
 mod limits;
 mod loops;
 mod plans;
@@ -28,89 +29,168 @@ const TOGGLE_TRACE: &str = "trace 1 1 1\n0 0 0\n1 1 1\n2 0 0\nend 3 0\n";
 const TRIANGLE: &str =
     "board 1\nchips 2\ncells 1\nsettle 0\npins 4\nlink 0 1 1\nlink 0 2 1\nlink 1 0 1\nlink 1 2 1\nlink 2 0 1\nlink 2 1 1\n";
 
+/// The words of a run, over the files d and s.
+const SIM: &[&str] = &["sim", "d", "s"];
+
+/// The words of a check, over the files d, b and p.
+const CHECK: &[&str] = &["check", "d", "b", "p"];
+
+/// As many bytes as a call may take at most, where it doesn't matter.
+const MOST: u32 = 4096;
+
+/// Which call fails: one with this number, from 1.
+#[derive(Clone, Copy)]
+enum Fault {
+    None,
+    Read(u64),
+    Write(u64),
+    Message(u64),
+}
+
+/// A call over files with these names and texts, each of whose reads and writes takes at most so many bytes.
+#[derive(Clone, Copy)]
+struct Call<'a> {
+    words: &'a [&'a str],
+    texts: &'a [(&'a str, &'a str)],
+    most: u32,
+    fault: Fault,
+}
+
+/// How a call ends, and what it writes.
+#[derive(Clone, Copy)]
+struct End<'a> {
+    status: u8,
+    out: &'a str,
+    err: &'a str,
+}
+
 /// How a call ended, and what it wrote.
 #[derive(Drop)]
 struct Ran {
     status: u8,
-    out: Vec<u8>,
-    err: Vec<u8>,
+    out: MemSink,
+    err: MemSink,
 }
 
-/// Calls whose numbers, from 1, fail, and how many bytes a call takes.
-#[derive(Clone, Copy, Drop)]
-struct Faults {
-    most: u32,
-    read: u64,
-    write: u64,
-    message: u64,
-}
-
-const NO_FAULTS: Faults = Faults {
-    most: 4096,
-    read: 0,
-    write: 0,
-    message: 0,
-};
-
-/// A call over files with these names and texts.
-fn call(
-    alloc: Global,
-    words: &[&str],
-    texts: &[(&str, &str)],
-    faults: Faults,
-) -> Result<Ran, AllocError> {
-    let most = faults.most.max(1);
+/// The words of a call, as the program is given them.
+fn names_of(alloc: Global, words: &[&str]) -> Result<Vec<Name>, AllocError> {
     let mut names = Vec::new(alloc);
     for word in words {
         names.push(Name::of(word.as_bytes().to_vec(alloc)?))?;
     }
+    Ok(names)
+}
+
+/// A file with this name and this text.
+fn file(alloc: Global, name: &str, text: &[u8]) -> Result<Held, AllocError> {
+    let name = Name::of(name.as_bytes().to_vec(alloc)?);
+    Ok(Held::make(name, text.to_vec(alloc)?))
+}
+
+/// Files with these names and texts.
+fn files_of(alloc: Global, texts: &[(&str, &str)]) -> Result<Vec<Held>, AllocError> {
     let mut files = Vec::new(alloc);
     for (name, text) in texts {
-        let name = Name::of(name.as_bytes().to_vec(alloc)?);
-        files.push(Held::make(name, text.as_bytes().to_vec(alloc)?))?;
+        files.push(file(alloc, name, text.as_bytes())?)?;
     }
-    let mut shelf = MemShelf::new(files, most, vec![in alloc; faults.read]?);
-    let mut out = MemSink::new(alloc, most, vec![in alloc; faults.write]?);
-    let mut err = MemSink::new(alloc, most, vec![in alloc; faults.message]?);
-    let status = virtual_wires(alloc, &names, &mut shelf, &mut out, &mut err);
-    Ok(Ran {
-        status,
-        out: out.bytes().to_vec(alloc)?,
-        err: err.bytes().to_vec(alloc)?,
-    })
+    Ok(files)
 }
 
-fn run(
+/// A sink whose write with this number fails.
+fn sink(alloc: Global, most: u32, write: u64) -> Result<MemSink, AllocError> {
+    Ok(MemSink::new(alloc, most.max(1), vec![in alloc; write]?))
+}
+
+/// The numbers of the read, the write and the message that fail, or zeros.
+fn numbers_of(fault: Fault) -> (u64, u64, u64) {
+    match fault {
+        Fault::None => (0, 0, 0),
+        Fault::Read(number) => (number, 0, 0),
+        Fault::Write(number) => (0, number, 0),
+        Fault::Message(number) => (0, 0, number),
+    }
+}
+
+/// The program, on what it is given in memory.
+fn program(
+    alloc: Global,
+    words: &[Name],
+    shelf: &mut MemShelf,
+    out: &mut MemSink,
+    err: &mut MemSink,
+) -> u8 {
+    virtual_wires(alloc, words, shelf, out, err)
+}
+
+/// A call over these files.
+fn call_over(
     alloc: Global,
     words: &[&str],
+    files: Vec<Held>,
+    most: u32,
+    fault: Fault,
+) -> Result<Ran, AllocError> {
+    let (read, write, message) = numbers_of(fault);
+    let mut shelf = MemShelf::new(files, most.max(1), vec![in alloc; read]?);
+    let mut out = sink(alloc, most, write)?;
+    let mut err = sink(alloc, most, message)?;
+    let names = names_of(alloc, words)?;
+    let status = program(alloc, &names, &mut shelf, &mut out, &mut err);
+    Ok(Ran { status, out, err })
+}
+
+/// A call, carried out.
+fn carried_out(alloc: Global, call: &Call) -> Result<Ran, AllocError> {
+    let files = files_of(alloc, call.texts)?;
+    call_over(alloc, call.words, files, call.most, call.fault)
+}
+
+/// Asserts that these bytes were found, on what some text tells from other cases.
+fn are_found(rt: &impl Abort, found: &[u8], wanted: &[u8], on: &str) {
+    assert_eq!(rt; found, wanted, "{on}");
+}
+
+/// Asserts how a call ended that some text tells from the others.
+fn has_ended(rt: &impl Abort, ran: &Ran, on: &str, end: End) {
+    are_found(rt, ran.err.bytes(), end.err.as_bytes(), on);
+    are_found(rt, ran.out.bytes(), end.out.as_bytes(), on);
+    are_found(rt, &[ran.status], &[end.status], on);
+}
+
+/// Asserts how a call ends that some text tells from the others.
+fn call_ends(rt: &impl Abort, alloc: Global, call: &Call, on: &str, end: End) -> Result<(), Fail> {
+    let ran = carried_out(alloc, call)?;
+    has_ended(rt, &ran, on, end);
+    Ok(())
+}
+
+/// Asserts how a run of a design over a stimulus ends.
+fn run_ends(
+    rt: &impl Abort,
+    alloc: Global,
     design: &str,
     stimulus: &str,
-    faults: Faults,
-) -> Result<Ran, AllocError> {
-    call(alloc, words, &[("d", design), ("s", stimulus)], faults)
-}
-
-fn sim(alloc: Global, design: &str, stimulus: &str) -> Result<Ran, AllocError> {
-    run(alloc, &["sim", "d", "s"], design, stimulus, NO_FAULTS)
-}
-
-fn check(alloc: Global, design: &str, board: &str, plan: &str) -> Result<Ran, AllocError> {
-    let texts = [("d", design), ("b", board), ("p", plan)];
-    call(alloc, &["check", "d", "b", "p"], &texts, NO_FAULTS)
-}
-
-/// Asserts how a call on some text ended: with this status, this text in its output, and this one in its messages.
-fn has_ended(rt: &impl Abort, ran: &Ran, on: &str, status: u8, out: &str, err: &str) {
-    assert_eq!(rt; ran.status, status, "{on}");
-    assert_eq!(rt; ran.out.as_slice(), out.as_bytes(), "{on}");
-    assert_eq!(rt; ran.err.as_slice(), err.as_bytes(), "{on}");
+    on: &str,
+    end: End,
+) -> Result<(), Fail> {
+    let call = Call {
+        words: SIM,
+        texts: &[("d", design), ("s", stimulus)],
+        most: MOST,
+        fault: Fault::None,
+    };
+    call_ends(rt, alloc, &call, on, end)
 }
 
 /// Asserts that each of these designs is refused with its line.
 fn designs_are_refused(rt: &impl Abort, alloc: Global, table: &[(&str, &str)]) -> Result<(), Fail> {
     for (design, line) in table {
-        let ran = sim(alloc, design, "")?;
-        has_ended(rt, &ran, design, 1, "", line);
+        let end = End {
+            status: 1,
+            out: "",
+            err: line,
+        };
+        run_ends(rt, alloc, design, "", design, end)?;
     }
     Ok(())
 }
@@ -118,8 +198,12 @@ fn designs_are_refused(rt: &impl Abort, alloc: Global, table: &[(&str, &str)]) -
 /// Asserts that each of these designs, over its stimulus, has its trace.
 fn designs_run(rt: &impl Abort, alloc: Global, table: &[(&str, &str, &str)]) -> Result<(), Fail> {
     for (design, stimulus, trace) in table {
-        let ran = sim(alloc, design, stimulus)?;
-        has_ended(rt, &ran, design, 0, trace, "");
+        let end = End {
+            status: 0,
+            out: trace,
+            err: "",
+        };
+        run_ends(rt, alloc, design, stimulus, design, end)?;
     }
     Ok(())
 }
@@ -132,23 +216,12 @@ fn designs_run_alike(
     trace: &str,
 ) -> Result<(), Fail> {
     for design in designs {
-        let ran = sim(alloc, design, "1\n0\n")?;
-        has_ended(rt, &ran, design, 0, trace, "");
-    }
-    Ok(())
-}
-
-/// Asserts that a design, over a stimulus, has its trace for each of these lists of words.
-fn words_run(
-    rt: &impl Abort,
-    alloc: Global,
-    design: &str,
-    stimulus: &str,
-    table: &[(&[&str], &str)],
-) -> Result<(), Fail> {
-    for (words, trace) in table {
-        let ran = run(alloc, words, design, stimulus, NO_FAULTS)?;
-        has_ended(rt, &ran, trace, 0, trace, "");
+        let end = End {
+            status: 0,
+            out: trace,
+            err: "",
+        };
+        run_ends(rt, alloc, design, "1\n0\n", design, end)?;
     }
     Ok(())
 }
@@ -161,83 +234,150 @@ fn stimuli_are_refused(
     table: &[(&str, &str)],
 ) -> Result<(), Fail> {
     for (stimulus, line) in table {
-        let ran = sim(alloc, design, stimulus)?;
-        has_ended(rt, &ran, stimulus, 5, "", line);
+        let end = End {
+            status: 5,
+            out: "",
+            err: line,
+        };
+        run_ends(rt, alloc, design, stimulus, stimulus, end)?;
     }
     Ok(())
 }
 
-#[test]
-fn a_toggle_runs_in_pieces_of_any_size(rt: HostRuntime) -> Result<(), Fail> {
-    for most in [1, 10, 4096] {
-        let faults = Faults { most, ..NO_FAULTS };
-        let ran = run(rt.alloc(), &["sim", "d", "s"], TOGGLE, TOGGLE_ROWS, faults)?;
-        let pieces = format!(in rt.alloc(); "pieces of {most}")?;
-        has_ended(&rt, &ran, pieces.as_str(), 0, TOGGLE_TRACE, "");
+/// Asserts, for each of these lists of words over the same texts, with which status, output and message a call ends.
+fn words_end<'a>(
+    rt: &impl Abort,
+    alloc: Global,
+    texts: &'a [(&'a str, &'a str)],
+    table: &'a [(&'a [&'a str], u8, &'a str, &'a str)],
+) -> Result<(), Fail> {
+    for (words, status, out, err) in table {
+        let call = Call {
+            words,
+            texts,
+            most: MOST,
+            fault: Fault::None,
+        };
+        let end = End {
+            status: *status,
+            out,
+            err,
+        };
+        call_ends(rt, alloc, &call, err, end)?;
     }
     Ok(())
+}
+
+/// Asserts, for each most number of bytes a call takes and each fault, with which status, output and message a call
+/// with these words and texts ends.
+fn faults_end<'a>(
+    rt: &impl Abort,
+    alloc: Global,
+    words: &'a [&'a str],
+    texts: &'a [(&'a str, &'a str)],
+    table: &[(u32, Fault, u8, &str, &str)],
+) -> Result<(), Fail> {
+    for (most, fault, status, out, err) in table {
+        let (read, write, message) = numbers_of(*fault);
+        let on = format!(in alloc; "{most} bytes, read {read}, write {write}, message {message}")?;
+        let call = Call {
+            words,
+            texts,
+            most: *most,
+            fault: *fault,
+        };
+        let end = End {
+            status: *status,
+            out,
+            err,
+        };
+        call_ends(rt, alloc, &call, on.as_str(), end)?;
+    }
+    Ok(())
+}
+
+/// The texts of the program's stored run.
+const TOGGLE_RUN: &[(&str, &str)] = &[("d", TOGGLE), ("s", TOGGLE_ROWS)];
+
+#[test]
+fn a_toggle_runs_in_pieces_of_any_size(rt: HostRuntime) -> Result<(), Fail> {
+    const TABLE: &[(u32, Fault, u8, &str, &str)] = &[
+        (1, Fault::None, 0, TOGGLE_TRACE, ""),
+        (10, Fault::None, 0, TOGGLE_TRACE, ""),
+        (4096, Fault::None, 0, TOGGLE_TRACE, ""),
+    ];
+    faults_end(&rt, rt.alloc(), SIM, TOGGLE_RUN, TABLE)
 }
 
 #[test]
 fn wrong_words_are_named_by_their_place(rt: HostRuntime) -> Result<(), Fail> {
-    let table: [(&[&str], &str); 12] = [
-        (&[], "usage: word 1\n"),
-        (&["fly"], "usage: word 1\n"),
-        (&["", "d", "s"], "usage: word 1\n"),
-        (&["sim"], "usage: word 2\n"),
-        (&["sim", "", "s"], "usage: word 2\n"),
-        (&["sim", "d"], "usage: word 3\n"),
-        (&["sim", "d", ""], "usage: word 3\n"),
-        (&["sim", "d", "s", "x"], "usage: word 4\n"),
-        (&["sim", "d", "s", "unknown=2"], "usage: word 4\n"),
-        (&["sim", "d", "s", "unknown="], "usage: word 4\n"),
-        (&["sim", "d", "s", "unknown=0", "x"], "usage: word 5\n"),
+    const TABLE: &[(&[&str], u8, &str, &str)] = &[
+        (&[], 2, "", "usage: word 1\n"),
+        (&["fly"], 2, "", "usage: word 1\n"),
+        (&["", "d", "s"], 2, "", "usage: word 1\n"),
+        (&["sim"], 2, "", "usage: word 2\n"),
+        (&["sim", "", "s"], 2, "", "usage: word 2\n"),
+        (&["sim", "d"], 2, "", "usage: word 3\n"),
+        (&["sim", "d", ""], 2, "", "usage: word 3\n"),
+        (&["sim", "d", "s", "x"], 2, "", "usage: word 4\n"),
+        (&["sim", "d", "s", "unknown=2"], 2, "", "usage: word 4\n"),
+        (&["sim", "d", "s", "unknown="], 2, "", "usage: word 4\n"),
+        (
+            &["sim", "d", "s", "unknown=0", "x"],
+            2,
+            "",
+            "usage: word 5\n",
+        ),
         (
             &["sim", "d", "s", "unknown=1", "unknown=0"],
+            2,
+            "",
             "usage: word 5\n",
         ),
     ];
-    for (words, line) in table {
-        let ran = run(rt.alloc(), words, TOGGLE, TOGGLE_ROWS, NO_FAULTS)?;
-        has_ended(&rt, &ran, line, 2, "", line);
-    }
-    Ok(())
+    words_end(&rt, rt.alloc(), TOGGLE_RUN, TABLE)
 }
 
 #[test]
 fn free_latches_start_as_the_setting_says(rt: HostRuntime) -> Result<(), Fail> {
-    let design = ".model m\n.inputs a\n.outputs p q r\n.latch a p 2\n.latch a q\n.latch a r 0\n";
-    let table: [(&[&str], &str); 3] = [
-        (&["sim", "d", "s"], "trace 1 3 3\n0 000 000\nend 1 111\n"),
+    const TEXTS: &[(&str, &str)] = &[
+        (
+            "d",
+            ".model m\n.inputs a\n.outputs p q r\n.latch a p 2\n.latch a q\n.latch a r 0\n",
+        ),
+        ("s", "1\n"),
+    ];
+    const TABLE: &[(&[&str], u8, &str, &str)] = &[
+        (SIM, 0, "trace 1 3 3\n0 000 000\nend 1 111\n", ""),
         (
             &["sim", "d", "s", "unknown=0"],
+            0,
             "trace 1 3 3\n0 000 000\nend 1 111\n",
+            "",
         ),
         (
             &["sim", "d", "s", "unknown=1"],
+            0,
             "trace 1 3 3\n0 110 110\nend 1 111\n",
+            "",
         ),
     ];
-    words_run(&rt, rt.alloc(), design, "1\n", &table)
+    words_end(&rt, rt.alloc(), TEXTS, TABLE)
 }
 
 #[test]
 fn a_missing_file_is_a_read_fault(rt: HostRuntime) -> Result<(), Fail> {
-    let table: [([&str; 3], &str); 3] = [
-        (["sim", "unknown=0", "s"], "read fault: design\n"),
-        (["sim", "missing", "s"], "read fault: design\n"),
-        (["sim", "d", "missing"], "read fault: stimulus\n"),
+    const TABLE: &[(&[&str], u8, &str, &str)] = &[
+        (&["sim", "unknown=0", "s"], 7, "", "read fault: design\n"),
+        (&["sim", "missing", "s"], 7, "", "read fault: design\n"),
+        (&["sim", "d", "missing"], 7, "", "read fault: stimulus\n"),
     ];
-    for (words, line) in table {
-        let ran = run(rt.alloc(), words.as_slice(), TOGGLE, TOGGLE_ROWS, NO_FAULTS)?;
-        has_ended(&rt, &ran, line, 7, "", line);
-    }
-    Ok(())
+    words_end(&rt, rt.alloc(), TOGGLE_RUN, TABLE)
 }
 
 #[test]
 fn each_fault_of_a_stimulus_has_its_line(rt: HostRuntime) -> Result<(), Fail> {
-    let table = [
+    const TABLE: &[(&str, &str)] = &[
         ("2", "stimulus 2: line 1: bad line\n"),
         ("10", "stimulus 3: line 1: found 2 bits, wanted 1\n"),
         ("1\n\n-\n", "stimulus 3: line 3: found 0 bits, wanted 1\n"),
@@ -251,12 +391,12 @@ fn each_fault_of_a_stimulus_has_its_line(rt: HostRuntime) -> Result<(), Fail> {
         ("hold 4294967296\n", "stimulus 2: line 1: bad line\n"),
         ("hold 4294967295\n1\n2\n", "stimulus 4: 4294967296 clocks\n"),
     ];
-    stimuli_are_refused(&rt, rt.alloc(), TOGGLE, &table)
+    stimuli_are_refused(&rt, rt.alloc(), TOGGLE, TABLE)
 }
 
 #[test]
 fn rows_may_be_held_and_commented(rt: HostRuntime) -> Result<(), Fail> {
-    let table = [
+    const TABLE: &[(&str, &str, &str)] = &[
         // the row before, at first one of zeros
         (
             TOGGLE,
@@ -298,23 +438,23 @@ fn rows_may_be_held_and_commented(rt: HostRuntime) -> Result<(), Fail> {
             "trace 1 1 0\n0 0 -\nend 1 -\n",
         ),
     ];
-    designs_run(&rt, rt.alloc(), &table)
+    designs_run(&rt, rt.alloc(), TABLE)
 }
 
 #[test]
 fn a_design_without_inputs_has_rows_without_bits(rt: HostRuntime) -> Result<(), Fail> {
     let design = ".model m\n.inputs\n.outputs\n.end\n";
-    let table = [
+    const TABLE: &[(&str, &str)] = &[
         ("1\n", "stimulus 3: line 1: found 1 bits, wanted 0\n"),
         ("- -\n", "stimulus 2: line 1: bad line\n"),
         ("--\n", "stimulus 2: line 1: bad line\n"),
     ];
-    stimuli_are_refused(&rt, rt.alloc(), design, &table)
+    stimuli_are_refused(&rt, rt.alloc(), design, TABLE)
 }
 
 #[test]
 fn designs_do_what_they_say(rt: HostRuntime) -> Result<(), Fail> {
-    let table = [
+    const TABLE: &[(&str, &str, &str)] = &[
         // no rows at all; the last line may lack its end
         (TOGGLE, "", "trace 1 1 1\nend 0 0\n"),
         (TOGGLE, "1", "trace 1 1 1\n0 0 0\nend 1 1\n"),
@@ -349,79 +489,65 @@ fn designs_do_what_they_say(rt: HostRuntime) -> Result<(), Fail> {
             "trace 1 2 1\n0 01 1\n1 10 0\nend 2 1\n",
         ),
     ];
-    designs_run(&rt, rt.alloc(), &table)
+    designs_run(&rt, rt.alloc(), TABLE)
 }
 
 /// The reads of the design are the first 11, of at most 8 bytes each, and those of the stimulus the next two.
 #[test]
 fn each_read_may_fail(rt: HostRuntime) -> Result<(), Fail> {
-    let table = [
-        (1, 11, 7, "read fault: design\n", ""),
-        (12, 13, 7, "read fault: stimulus\n", ""),
-        (14, 14, 0, "", TOGGLE_TRACE),
+    const TABLE: &[(u32, Fault, u8, &str, &str)] = &[
+        (8, Fault::Read(1), 7, "", "read fault: design\n"),
+        (8, Fault::Read(2), 7, "", "read fault: design\n"),
+        (8, Fault::Read(3), 7, "", "read fault: design\n"),
+        (8, Fault::Read(4), 7, "", "read fault: design\n"),
+        (8, Fault::Read(5), 7, "", "read fault: design\n"),
+        (8, Fault::Read(6), 7, "", "read fault: design\n"),
+        (8, Fault::Read(7), 7, "", "read fault: design\n"),
+        (8, Fault::Read(8), 7, "", "read fault: design\n"),
+        (8, Fault::Read(9), 7, "", "read fault: design\n"),
+        (8, Fault::Read(10), 7, "", "read fault: design\n"),
+        (8, Fault::Read(11), 7, "", "read fault: design\n"),
+        (8, Fault::Read(12), 7, "", "read fault: stimulus\n"),
+        (8, Fault::Read(13), 7, "", "read fault: stimulus\n"),
+        (8, Fault::Read(14), 0, TOGGLE_TRACE, ""),
     ];
-    for (first, last, status, line, trace) in table {
-        for read in first..last + 1 {
-            let faults = Faults {
-                most: 8,
-                read,
-                ..NO_FAULTS
-            };
-            let ran = run(rt.alloc(), &["sim", "d", "s"], TOGGLE, TOGGLE_ROWS, faults)?;
-            let on = format!(in rt.alloc(); "read {read}")?;
-            has_ended(&rt, &ran, on.as_str(), status, trace, line);
-        }
-    }
-    Ok(())
+    faults_end(&rt, rt.alloc(), SIM, TOGGLE_RUN, TABLE)
 }
 
 /// The first line takes two calls of at most 10 bytes, the three clocks take two, and the last line takes one.
 #[test]
 fn each_write_may_fail(rt: HostRuntime) -> Result<(), Fail> {
-    let table = [
-        (1, 8, 0),
-        (2, 8, 10),
-        (3, 8, 12),
-        (4, 8, 22),
-        (5, 8, 30),
-        (6, 0, 38),
+    const TABLE: &[(u32, Fault, u8, &str, &str)] = &[
+        (10, Fault::Write(1), 8, "", "write fault\n"),
+        (10, Fault::Write(2), 8, "trace 1 1 ", "write fault\n"),
+        (10, Fault::Write(3), 8, "trace 1 1 1\n", "write fault\n"),
+        (
+            10,
+            Fault::Write(4),
+            8,
+            "trace 1 1 1\n0 0 0\n1 1 ",
+            "write fault\n",
+        ),
+        (
+            10,
+            Fault::Write(5),
+            8,
+            "trace 1 1 1\n0 0 0\n1 1 1\n2 0 0\n",
+            "write fault\n",
+        ),
+        (10, Fault::Write(6), 0, TOGGLE_TRACE, ""),
     ];
-    for (write, status, written) in table {
-        let faults = Faults {
-            most: 10,
-            write,
-            ..NO_FAULTS
-        };
-        let ran = run(rt.alloc(), &["sim", "d", "s"], TOGGLE, TOGGLE_ROWS, faults)?;
-        let line = if status == 8 { "write fault\n" } else { "" };
-        assert_eq!(rt; ran.status, status, "write {write}");
-        assert_eq!(rt; ran.err.as_slice(), line.as_bytes(), "write {write}");
-        assert_eq!(rt;
-            ran.out.as_slice(),
-            &TOGGLE_TRACE.as_bytes()[..written],
-            "write {write}"
-        );
-    }
-    Ok(())
+    faults_end(&rt, rt.alloc(), SIM, TOGGLE_RUN, TABLE)
 }
 
 /// A message of 14 bytes takes three calls of at most 5.
 #[test]
 fn a_fault_of_err_changes_no_status(rt: HostRuntime) -> Result<(), Fail> {
-    for (message, written) in [(1, 0), (2, 5), (3, 10), (4, 14)] {
-        let faults = Faults {
-            most: 5,
-            message,
-            ..NO_FAULTS
-        };
-        let ran = run(rt.alloc(), &["fly"], TOGGLE, TOGGLE_ROWS, faults)?;
-        assert_eq!(rt; ran.status, 2, "call {message}");
-        assert_eq!(rt;
-            ran.err.as_slice(),
-            &b"usage: word 1\n"[..written],
-            "call {message}"
-        );
-        assert!(rt; ran.out.is_empty());
-    }
-    Ok(())
+    const TABLE: &[(u32, Fault, u8, &str, &str)] = &[
+        (5, Fault::Message(1), 2, "", ""),
+        (5, Fault::Message(2), 2, "", "usage"),
+        (5, Fault::Message(3), 2, "", "usage: wor"),
+        (5, Fault::Message(4), 2, "", "usage: word 1\n"),
+    ];
+    faults_end(&rt, rt.alloc(), &["fly"], TOGGLE_RUN, TABLE)
 }

@@ -1,50 +1,84 @@
-use crate::spelled::spelled;
+use crate::plain::{add_number, assert_same};
+use std::alloc::{AllocError, Global};
+use std::process::Abort;
 use std::test::Fail;
-use vw_bindings::{both_ways, unbound_input, unknown_formal};
+use vw_bindings::{FormalAt, OutputOf, both_ways, unbound_input, unknown_formal};
+use vw_blif::read;
+use vw_design::Design;
 use vw_models::{marks_of, targets_of};
+
+/// A formal with its line.
+fn formal_text(alloc: Global, kind: &[u8], found: &FormalAt) -> Result<Vec<u8>, AllocError> {
+    let mut shown = kind.to_vec(alloc)?;
+    add_number(alloc, &mut shown, found.line)?;
+    shown.push(b' ')?;
+    shown.extend_from_slice(found.formal.as_slice())?;
+    Ok(shown)
+}
+
+/// An output with its model.
+fn output_text(alloc: Global, kind: &[u8], found: &OutputOf) -> Result<Vec<u8>, AllocError> {
+    let mut shown = kind.to_vec(alloc)?;
+    shown.extend_from_slice(found.model.as_slice())?;
+    shown.push(b' ')?;
+    shown.extend_from_slice(found.output.as_slice())?;
+    Ok(shown)
+}
+
+/// The first fault of the bindings of a design: an unknown formal, else an input that is unbound, else an output that
+/// is an input too.
+fn first_fault(alloc: Global, design: &Design) -> Result<Vec<u8>, AllocError> {
+    let targets = targets_of(alloc, design)?;
+    let marks = marks_of(alloc, design, targets.as_slice())?;
+    if let Some(found) = unknown_formal(alloc, design, targets.as_slice(), marks.as_slice())? {
+        return formal_text(alloc, b"unknown ", &found);
+    }
+    if let Some(found) = unbound_input(alloc, design, targets.as_slice(), marks.as_slice())? {
+        return formal_text(alloc, b"unbound ", &found);
+    }
+    match both_ways(alloc, design, targets.as_slice(), marks.as_slice())? {
+        Some(found) => output_text(alloc, b"both ways ", &found),
+        None => b"no fault".to_vec(alloc),
+    }
+}
+
+/// The first fault of the bindings of a text, or the message of the text's own fault.
+fn shown(alloc: Global, text: &[u8]) -> Result<Vec<u8>, AllocError> {
+    match read(alloc, text) {
+        Ok(design) => first_fault(alloc, &design),
+        Err(fault) => fault.text(alloc),
+    }
+}
+
+/// Asserts of a text what the first fault of its bindings is.
+fn assert_shown(
+    rt: &impl Abort,
+    alloc: Global,
+    text: &[u8],
+    wanted: &[u8],
+) -> Result<(), AllocError> {
+    let found = shown(alloc, text)?;
+    assert_same(rt, text, &found, wanted);
+    Ok(())
+}
 
 #[test]
 fn a_formal_that_no_port_has_is_unknown(rt: HostRuntime) -> Result<(), Fail> {
-    let alloc = rt.alloc();
     let text = b".model a\n.subckt b z=n\n.model b\n.inputs x\n.outputs y\n";
-    let design = spelled(alloc, text)?;
-    let targets = targets_of(alloc, &design)?;
-    let marks = marks_of(alloc, &design, targets.as_slice())?;
-    let found = unknown_formal(alloc, &design, targets.as_slice(), marks.as_slice())?;
-    let found = found.ok_or("no fault")?;
-    assert_eq!(rt; found.line, 2);
-    assert_eq!(rt; found.formal.as_slice(), b"z".as_slice());
+    assert_shown(&rt, rt.alloc(), text, b"unknown 2 z")?;
     Ok(())
 }
 
 #[test]
 fn an_input_without_a_binding_is_unbound(rt: HostRuntime) -> Result<(), Fail> {
-    let alloc = rt.alloc();
     let text = b".model a\n.subckt b y=n\n.model b\n.inputs x\n.outputs y\n";
-    let design = spelled(alloc, text)?;
-    let targets = targets_of(alloc, &design)?;
-    let marks = marks_of(alloc, &design, targets.as_slice())?;
-    let unknown = unknown_formal(alloc, &design, targets.as_slice(), marks.as_slice())?;
-    assert!(rt; unknown.is_none());
-    let found = unbound_input(alloc, &design, targets.as_slice(), marks.as_slice())?;
-    let found = found.ok_or("no fault")?;
-    assert_eq!(rt; found.line, 2);
-    assert_eq!(rt; found.formal.as_slice(), b"x".as_slice());
+    assert_shown(&rt, rt.alloc(), text, b"unbound 2 x")?;
     Ok(())
 }
 
 #[test]
 fn a_port_of_both_kinds_goes_both_ways(rt: HostRuntime) -> Result<(), Fail> {
-    let alloc = rt.alloc();
     let text = b".model a\n.subckt b x=n\n.model b\n.inputs x\n.outputs x\n";
-    let design = spelled(alloc, text)?;
-    let targets = targets_of(alloc, &design)?;
-    let marks = marks_of(alloc, &design, targets.as_slice())?;
-    let unbound = unbound_input(alloc, &design, targets.as_slice(), marks.as_slice())?;
-    assert!(rt; unbound.is_none());
-    let found = both_ways(alloc, &design, targets.as_slice(), marks.as_slice())?;
-    let found = found.ok_or("no fault")?;
-    assert_eq!(rt; found.model.as_slice(), b"b".as_slice());
-    assert_eq!(rt; found.output.as_slice(), b"x".as_slice());
+    assert_shown(&rt, rt.alloc(), text, b"both ways b x")?;
     Ok(())
 }

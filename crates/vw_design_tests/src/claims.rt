@@ -1,57 +1,108 @@
-use crate::spelled::spelled;
+use crate::plain::{add_number, add_numbers, assert_same, name};
 use std::alloc::{AllocError, Global};
+use std::process::Abort;
 use std::test::Fail;
-use vw_claims::{Claim, Outputs, claims_of, outputs_of};
+use vw_blif::read;
+use vw_claims::{Claim, ModelClaims, Outputs, claims_of, outputs_of};
+use vw_design::Design;
 use vw_models::targets_of;
 use vw_outside::Name;
 
-/// A name with these bytes.
-fn name(alloc: Global, bytes: &[u8]) -> Result<Name, AllocError> {
-    Ok(Name::of(bytes.to_vec(alloc)?))
+/// The names `a` and `b`.
+fn two_names(alloc: Global) -> Result<Vec<Name>, AllocError> {
+    let mut names = Vec::new(alloc);
+    names.push(name(alloc, b"a")?)?;
+    names.push(name(alloc, b"b")?)?;
+    Ok(names)
 }
 
 #[test]
 fn a_set_has_its_names(rt: HostRuntime) -> Result<(), Fail> {
-    let alloc = rt.alloc();
-    let mut names = Vec::new(alloc);
-    names.push(name(alloc, b"a")?)?;
-    names.push(name(alloc, b"b")?)?;
-    let outputs = Outputs::of(alloc, &names)?;
-    assert!(rt; outputs.has(b"a"));
-    assert!(rt; outputs.has(b"b"));
-    assert!(rt; !outputs.has(b"c"));
+    let names = two_names(rt.alloc())?;
+    let outputs = Outputs::of(rt.alloc(), &names)?;
+    assert!(rt; outputs.has(b"a") && outputs.has(b"b") && !outputs.has(b"c"));
     Ok(())
+}
+
+/// The claims of a model of a design, by its number.
+pub fn claims_at(
+    alloc: Global,
+    design: &Design,
+    model: u32,
+) -> Result<Option<ModelClaims>, AllocError> {
+    if design.models().len() <= model as usize {
+        return Ok(None);
+    }
+    let outputs = outputs_of(alloc, design)?;
+    let targets = targets_of(alloc, design)?;
+    let claims = claims_of(alloc, design, outputs.as_slice(), targets.as_slice(), model)?;
+    Ok(Some(claims))
+}
+
+/// The number of a net and what claims it, or `none`.
+fn claim_text(alloc: Global, claims: &ModelClaims, net: &[u8]) -> Result<Vec<u8>, AllocError> {
+    let Some(number) = claims.first(net) else {
+        return b"none".to_vec(alloc);
+    };
+    let mut text = Vec::new(alloc);
+    add_number(alloc, &mut text, u64::from(number))?;
+    match claims.claim(number) {
+        Some(Claim::Port) => text.extend_from_slice(b" port")?,
+        Some(Claim::Driven(item)) => add_numbers(alloc, &mut text, &[item])?,
+        _ => text.extend_from_slice(b" other")?,
+    }
+    Ok(text)
+}
+
+/// The number of claims, and the item that claims a net again with this net.
+fn again_text(alloc: Global, claims: &ModelClaims) -> Result<Vec<u8>, AllocError> {
+    let mut text = Vec::new(alloc);
+    add_number(alloc, &mut text, claims.count() as u64)?;
+    if let Some(again) = claims.again() {
+        add_numbers(alloc, &mut text, &[again.item()])?;
+        text.push(b' ')?;
+        text.extend_from_slice(again.name().as_slice())?;
+    }
+    Ok(text)
+}
+
+/// Nets with their numbers, and `port` or the number of the item that drives them.
+const NETS: &[(&[u8], &[u8])] = &[
+    (b"a", b"0 port"),
+    (b"q", b"1 0"),
+    (b"r", b"2 1"),
+    (b"c", b"none"),
+];
+
+/// Asserts of each net what claims it.
+fn assert_all(
+    rt: &impl Abort,
+    alloc: Global,
+    claims: &ModelClaims,
+    table: &[(&[u8], &[u8])],
+) -> Result<(), AllocError> {
+    for (net, wanted) in table {
+        let found = claim_text(alloc, claims, net)?;
+        assert_same(rt, net, &found, wanted);
+    }
+    Ok(())
+}
+
+/// The claims of the one model of a text.
+fn claims_of_text(alloc: Global, text: &[u8]) -> Result<Option<ModelClaims>, AllocError> {
+    match read(alloc, text) {
+        Ok(design) => claims_at(alloc, &design, 0),
+        Err(_) => Ok(None),
+    }
 }
 
 #[test]
 fn the_first_claims_keep_their_order(rt: HostRuntime) -> Result<(), Fail> {
-    let alloc = rt.alloc();
-    let design = spelled(
-        alloc,
-        b".model m\n.inputs a\n.names a q\n.latch q r\n.names q a\n",
-    )?;
-    if design.models().len() != 1 {
-        Err("not one model")?;
-    }
-    let outputs = outputs_of(alloc, &design)?;
-    let targets = targets_of(alloc, &design)?;
-    let claims = claims_of(alloc, &design, outputs.as_slice(), targets.as_slice(), 0)?;
-    assert_eq!(rt; claims.count(), 3);
-    let rows = [
-        (b"a", Some(0), Some(Claim::Port)),
-        (b"q", Some(1), Some(Claim::Driven(0))),
-        (b"r", Some(2), Some(Claim::Driven(1))),
-        (b"c", None, None),
-    ];
-    for (net, number, claim) in rows {
-        let found = claims.first(net);
-        assert_eq!(rt; found, number);
-        if let Some(found) = found {
-            assert_eq!(rt; claims.claim(found), claim);
-        }
-    }
-    let again = claims.again().ok_or("nothing is claimed again")?;
-    assert_eq!(rt; again.item(), 2);
-    assert_eq!(rt; again.name().as_slice(), b"a".as_slice());
+    let text = b".model m\n.inputs a\n.names a q\n.latch q r\n.names q a\n";
+    let claims = claims_of_text(rt.alloc(), text)?.ok_or("no model")?;
+    assert_all(&rt, rt.alloc(), &claims, NETS)?;
+    // three nets are claimed, and item 2 claims `a` again
+    let again = again_text(rt.alloc(), &claims)?;
+    assert_same(&rt, text, &again, b"3 2 a");
     Ok(())
 }

@@ -1,13 +1,10 @@
+use crate::blif::{add_bind, add_model};
+use crate::plain::{assert_same, name};
 use std::alloc::{AllocError, Global};
 use std::test::Fail;
-use vw_design::{Bind, Design, Edge, Item, Model};
+use vw_design::{Bind, Edge, Item, Model};
 use vw_net::{Init, Sequence};
 use vw_outside::Name;
-
-/// A name with these bytes.
-fn name(alloc: Global, bytes: &[u8]) -> Result<Name, AllocError> {
-    Ok(Name::of(bytes.to_vec(alloc)?))
-}
 
 /// A list of one name with these bytes.
 fn names(alloc: Global, bytes: &[u8]) -> Result<Sequence<Name>, AllocError> {
@@ -16,43 +13,65 @@ fn names(alloc: Global, bytes: &[u8]) -> Result<Sequence<Name>, AllocError> {
     Ok(Sequence::of(names))
 }
 
-#[test]
-fn a_model_gives_back_its_parts(rt: HostRuntime) -> Result<(), Fail> {
-    let alloc = rt.alloc();
-    let mut items = Vec::new(alloc);
-    items.push(Item::Latch {
+/// A latch from `a` to `b`, with the clock `c`.
+fn latch(alloc: Global) -> Result<Item, AllocError> {
+    Ok(Item::Latch {
         line: 5,
         d: name(alloc, b"a")?,
         q: name(alloc, b"b")?,
         edge: Edge::Fall,
         control: Some(name(alloc, b"c")?),
         init: Init::Free,
-    })?;
-    let model = Model::make(
+    })
+}
+
+/// A list of one latch.
+fn latches(alloc: Global) -> Result<Sequence<Item>, AllocError> {
+    let mut items = Vec::new(alloc);
+    items.push(latch(alloc)?)?;
+    Ok(Sequence::of(items))
+}
+
+/// A model with one port of each kind, and one latch.
+fn model(alloc: Global) -> Result<Model, AllocError> {
+    Ok(Model::make(
         name(alloc, b"top")?,
         names(alloc, b"a")?,
         names(alloc, b"b")?,
         names(alloc, b"c")?,
-        Sequence::of(items),
-    );
-    assert_eq!(rt; model.name().as_slice(), b"top".as_slice());
-    let ports = [
-        (model.inputs(), b"a".as_slice()),
-        (model.outputs(), b"b".as_slice()),
-        (model.clocks(), b"c".as_slice()),
-    ];
-    for (found, wanted) in ports {
-        assert_eq!(rt; found.len(), 1);
-        assert_eq!(rt; found[0].as_slice(), wanted);
-    }
-    assert_eq!(rt; model.items().len(), 1);
+        latches(alloc)?,
+    ))
+}
+
+/// The model written plainly.
+fn model_text(alloc: Global) -> Result<Vec<u8>, AllocError> {
+    let mut shown = Vec::new(alloc);
+    add_model(alloc, &mut shown, &model(alloc)?)?;
+    Ok(shown)
+}
+
+#[test]
+fn a_model_gives_back_its_parts(rt: HostRuntime) -> Result<(), Fail> {
+    let found = model_text(rt.alloc())?;
+    assert_same(&rt, b"top", &found, b"top a; b; c|5 a~bfc?|");
     Ok(())
+}
+
+/// A binding of `port` to `net`.
+fn binding(alloc: Global) -> Result<Bind, AllocError> {
+    Ok(Bind::make(name(alloc, b"port")?, name(alloc, b"net")?))
+}
+
+/// The binding written plainly.
+fn binding_text(alloc: Global) -> Result<Vec<u8>, AllocError> {
+    let mut shown = Vec::new(alloc);
+    add_bind(&mut shown, &binding(alloc)?)?;
+    Ok(shown)
 }
 
 #[test]
 fn a_binding_gives_back_its_names(rt: HostRuntime) -> Result<(), Fail> {
-    let bind = Bind::make(name(rt.alloc(), b"port")?, name(rt.alloc(), b"net")?);
-    assert_eq!(rt; bind.formal().as_slice(), b"port".as_slice());
-    assert_eq!(rt; bind.actual().as_slice(), b"net".as_slice());
+    let found = binding_text(rt.alloc())?;
+    assert_same(&rt, b"port", &found, b"port<net");
     Ok(())
 }

@@ -1,108 +1,204 @@
-use crate::spelled::spelled;
+use crate::plain::{add_numbers, assert_same, name};
 use std::alloc::{AllocError, Global};
+use std::process::Abort;
 use std::test::Fail;
+use vw_blif::read;
 use vw_elab::{Driver, Elaborated, elaborate};
 use vw_flat::flatten;
-use vw_net::Cell;
-use vw_outside::Name;
+use vw_net::{Cell, Flat};
 
-/// A name with these bytes.
-fn name(alloc: Global, bytes: &[u8]) -> Result<Name, AllocError> {
-    Ok(Name::of(bytes.to_vec(alloc)?))
-}
-
-/// The elaborated design of a text.
-fn elaborated(alloc: Global, text: &[u8]) -> Result<Elaborated, Fail> {
-    match elaborate(alloc, spelled(alloc, text)?) {
-        Ok(elaborated) => Ok(elaborated),
-        Err(_) => Err("refused")?,
+/// The elaborated design of a text that has no fault.
+fn elaborated(alloc: Global, text: &[u8]) -> Option<Elaborated> {
+    match read(alloc, text) {
+        Ok(design) => elaborate(alloc, design).ok(),
+        Err(_) => None,
     }
 }
 
-#[test]
-fn drivers_are_found_up_and_down(rt: HostRuntime) -> Result<(), Fail> {
-    let alloc = rt.alloc();
-    // a gate, an instance of `c` and a latch; `c` places `b`, which is one gate
-    let text = b".model a\n.inputs x\n.outputs y\n.names x n\n.subckt c p=n q=m\n.latch m y 0\n\
-.model c\n.inputs p\n.outputs q\n.subckt b p=p q=q\n.model b\n.inputs p\n.outputs q\n.names p q\n";
-    let elaborated = elaborated(alloc, text)?;
-    let rows = [
-        (0, b"x", Some(Driver::Column(0))),
-        (0, b"n", Some(Driver::Cell(0))),
-        (0, b"m", Some(Driver::Cell(1))),
-        (0, b"y", Some(Driver::Cell(2))),
-        (0, b"w", None),
-        (1, b"p", Some(Driver::Cell(0))),
-        (1, b"q", Some(Driver::Cell(1))),
-        (2, b"p", Some(Driver::Cell(0))),
-        (2, b"q", Some(Driver::Cell(1))),
-        (3, b"p", None),
-    ];
-    for (instance, net, wanted) in rows {
-        assert_eq!(rt; elaborated.driver(instance, &name(alloc, net)?), wanted);
+/// A driver, or `none`.
+fn driver_text(alloc: Global, driver: Option<Driver>) -> Result<Vec<u8>, AllocError> {
+    let (kind, number) = match driver {
+        Some(Driver::Column(column)) => (b"column".as_slice(), column),
+        Some(Driver::Cell(cell)) => (b"cell".as_slice(), cell),
+        Some(Driver::Clock) => return b"clock".to_vec(alloc),
+        None => return b"none".to_vec(alloc),
+    };
+    let mut text = kind.to_vec(alloc)?;
+    add_numbers(alloc, &mut text, &[number])?;
+    Ok(text)
+}
+
+/// Asserts of nets of instances what drives them.
+fn assert_drivers(
+    rt: &impl Abort,
+    alloc: Global,
+    elaborated: &Elaborated,
+    table: &[(u32, &[u8], &[u8])],
+) -> Result<(), AllocError> {
+    for (instance, net, wanted) in table {
+        let driver = elaborated.driver(*instance, &name(alloc, net)?);
+        let found = driver_text(alloc, driver)?;
+        assert_same(rt, net, &found, wanted);
     }
     Ok(())
 }
+
+/// A gate, an instance of `c` and a latch; `c` places `b`, which is one gate.
+const NESTED: &[u8] =
+    b".model a\n.inputs x\n.outputs y\n.names x n\n.subckt c p=n q=m\n.latch m y 0\n\
+.model c\n.inputs p\n.outputs q\n.subckt b p=p q=q\n.model b\n.inputs p\n.outputs q\n.names p q\n";
+
+/// Instances of that design and nets of them, and what drives these.
+const NESTED_DRIVERS: &[(u32, &[u8], &[u8])] = &[
+    (0, b"x", b"column 0"),
+    (0, b"n", b"cell 0"),
+    (0, b"m", b"cell 1"),
+    (0, b"y", b"cell 2"),
+    (0, b"w", b"none"),
+    (1, b"p", b"cell 0"),
+    (1, b"q", b"cell 1"),
+    (2, b"p", b"cell 0"),
+    (2, b"q", b"cell 1"),
+    (3, b"p", b"none"),
+];
 
 /// Two instances of `t` in a row, from `x` over `y` to `z`. Each is a gate and a latch with the same names.
 const TWINS: &[u8] = b".model a\n.inputs x\n.outputs z\n.subckt t p=x q=y\n.subckt t p=y q=z\n\
 .model t\n.inputs p\n.outputs q\n.names p m\n.latch m q 1\n";
 
-#[test]
-fn drivers_are_those_of_their_instances(rt: HostRuntime) -> Result<(), Fail> {
-    let alloc = rt.alloc();
-    let elaborated = elaborated(alloc, TWINS)?;
-    let rows = [
-        (0, b"x", Some(Driver::Column(0))),
-        (0, b"y", Some(Driver::Cell(1))),
-        (0, b"z", Some(Driver::Cell(3))),
-        (0, b"w", None),
-        (1, b"p", Some(Driver::Column(0))),
-        (1, b"m", Some(Driver::Cell(0))),
-        (2, b"p", Some(Driver::Cell(1))),
-        (2, b"m", Some(Driver::Cell(2))),
-        (3, b"p", None),
-    ];
-    for (instance, net, wanted) in rows {
-        assert_eq!(rt; elaborated.driver(instance, &name(alloc, net)?), wanted);
-    }
-    let reads = [
-        (0, 0, Some(Driver::Column(0))),
-        (1, 0, Some(Driver::Cell(0))),
-        (2, 0, Some(Driver::Cell(1))),
-        (3, 0, Some(Driver::Cell(2))),
-        (3, 1, None),
-        (4, 0, None),
-    ];
-    for (cell, input, wanted) in reads {
-        assert_eq!(rt; elaborated.read(cell, input), wanted);
+/// Instances of that design and nets of them, and what drives these.
+const TWIN_DRIVERS: &[(u32, &[u8], &[u8])] = &[
+    (0, b"x", b"column 0"),
+    (0, b"y", b"cell 1"),
+    (0, b"z", b"cell 3"),
+    (0, b"w", b"none"),
+    (1, b"p", b"column 0"),
+    (1, b"m", b"cell 0"),
+    (2, b"p", b"cell 1"),
+    (2, b"m", b"cell 2"),
+    (3, b"p", b"none"),
+];
+
+/// Cells of that design and inputs of them, and what these read.
+const TWIN_READS: &[(u32, u32, &[u8])] = &[
+    (0, 0, b"column 0"),
+    (1, 0, b"cell 0"),
+    (2, 0, b"cell 1"),
+    (3, 0, b"cell 2"),
+    (3, 1, b"none"),
+    (4, 0, b"none"),
+];
+
+/// Asserts of inputs of cells what they read.
+fn assert_reads(
+    rt: &impl Abort,
+    alloc: Global,
+    elaborated: &Elaborated,
+    table: &[(u32, u32, &[u8])],
+) -> Result<(), AllocError> {
+    for (cell, input, wanted) in table {
+        let found = driver_text(alloc, elaborated.read(*cell, *input))?;
+        assert_same(rt, b"", &found, wanted);
     }
     Ok(())
 }
 
-/// Whether a cell is a gate over one net, or a latch that reads it; and which net that is.
-fn net_read(cell: &Cell) -> (bool, Option<u32>) {
+/// Adds a cell and the nets that it reads.
+fn add_cell(alloc: Global, text: &mut Vec<u8>, cell: &Cell) -> Result<(), AllocError> {
     match cell {
-        Cell::Gate { ins, .. } => (true, ins.as_slice().get(0).copied()),
-        Cell::Latch { d, .. } => (false, Some(*d)),
+        Cell::Gate { ins, .. } => {
+            text.extend_from_slice(b"gate")?;
+            add_numbers(alloc, text, ins.as_slice())
+        }
+        Cell::Latch { d, .. } => {
+            text.extend_from_slice(b"latch")?;
+            add_numbers(alloc, text, &[*d])
+        }
     }
 }
 
-#[test]
-fn equal_names_of_two_instances_are_two_nets(rt: HostRuntime) -> Result<(), Fail> {
-    let alloc = rt.alloc();
-    let flat = flatten(alloc, &elaborated(alloc, TWINS)?)?;
-    let wanted = [
-        (true, Some(0)),
-        (false, Some(1)),
-        (true, Some(2)),
-        (false, Some(3)),
-    ];
-    assert_eq!(rt; flat.inputs(), 1);
-    assert_eq!(rt; flat.outputs(), [4].as_slice());
-    assert_eq!(rt; flat.cells().len(), 4);
-    for (cell, row) in flat.cells().iter().zip(wanted) {
-        assert_eq!(rt; net_read(cell), row);
+/// A flat design: its cells, its outputs and the number of its inputs.
+fn flat_text(alloc: Global, flat: &Flat) -> Result<Vec<u8>, AllocError> {
+    let mut text = Vec::new(alloc);
+    for cell in flat.cells() {
+        add_cell(alloc, &mut text, cell)?;
+        text.push(b'|')?;
     }
+    text.extend_from_slice(b"outputs")?;
+    add_numbers(alloc, &mut text, flat.outputs())?;
+    text.extend_from_slice(b"|inputs")?;
+    add_numbers(alloc, &mut text, &[flat.inputs()])?;
+    Ok(text)
+}
+
+/// The flat design of an elaborated one.
+fn flattened(alloc: Global, elaborated: &Elaborated) -> Result<Vec<u8>, AllocError> {
+    let flat = flatten(alloc, elaborated)?;
+    flat_text(alloc, &flat)
+}
+
+/// What is wanted of a design.
+struct Wanted {
+    /// Instances and nets of them, and what drives these.
+    drivers: &'static [(u32, &'static [u8], &'static [u8])],
+    /// Cells and inputs of them, and what these read.
+    reads: &'static [(u32, u32, &'static [u8])],
+    /// The flat design.
+    flat: &'static [u8],
+}
+
+/// Asserts what is wanted of an elaborated design.
+fn assert_found(
+    rt: &impl Abort,
+    alloc: Global,
+    elaborated: &Elaborated,
+    wanted: &Wanted,
+) -> Result<(), AllocError> {
+    assert_drivers(rt, alloc, elaborated, wanted.drivers)?;
+    assert_reads(rt, alloc, elaborated, wanted.reads)?;
+    let flat = flattened(alloc, elaborated)?;
+    assert_same(rt, b"flat", &flat, wanted.flat);
+    Ok(())
+}
+
+/// Asserts what is wanted of the design of a text that has no fault.
+fn assert_text(
+    rt: &impl Abort,
+    alloc: Global,
+    text: &[u8],
+    wanted: &Wanted,
+) -> Result<(), AllocError> {
+    match elaborated(alloc, text) {
+        Some(elaborated) => assert_found(rt, alloc, &elaborated, wanted),
+        None => {
+            assert_same(rt, text, b"refused", b"elaborated");
+            Ok(())
+        }
+    }
+}
+
+/// What is wanted of the nested design.
+const NESTED_WANTED: &Wanted = &Wanted {
+    drivers: NESTED_DRIVERS,
+    reads: &[],
+    flat: b"gate 0|gate 1|latch 2|outputs 3|inputs 1",
+};
+
+#[test]
+fn drivers_are_found_up_and_down(rt: HostRuntime) -> Result<(), Fail> {
+    assert_text(&rt, rt.alloc(), NESTED, NESTED_WANTED)?;
+    Ok(())
+}
+
+/// What is wanted of the twins: equal names of two instances are two nets.
+const TWINS_WANTED: &Wanted = &Wanted {
+    drivers: TWIN_DRIVERS,
+    reads: TWIN_READS,
+    flat: b"gate 0|latch 1|gate 2|latch 3|outputs 4|inputs 1",
+};
+
+#[test]
+fn drivers_and_nets_are_those_of_their_instances(rt: HostRuntime) -> Result<(), Fail> {
+    assert_text(&rt, rt.alloc(), TWINS, TWINS_WANTED)?;
     Ok(())
 }

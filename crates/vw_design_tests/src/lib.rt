@@ -19,10 +19,10 @@ mod names;
 #[cfg(test)]
 mod outside;
 #[cfg(test)]
+mod plain;
+#[cfg(test)]
 mod rows;
 #[cfg(test)]
 mod sizes;
-#[cfg(test)]
-mod spelled;
 #[cfg(test)]
 mod text;

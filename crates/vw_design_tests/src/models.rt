@@ -1,83 +1,92 @@
-use crate::spelled::spelled;
+use crate::plain::{add_number, add_numbers, add_words, assert_same};
 use std::alloc::{AllocError, Global};
+use std::process::Abort;
 use std::test::Fail;
+use vw_blif::read;
 use vw_design::Design;
 use vw_models::{ModelOrder, marks_of, order_of, targets_of, unknown_model};
-use vw_net::Sequence;
 use vw_outside::Name;
 
-/// The line of an unknown model, or an order or a circle of the models that are reached.
-#[derive(Drop)]
-enum Found {
-    Unknown(u64),
-    Order(Sequence<u32>),
-    Circle(Sequence<Name>),
+/// The line of an unknown model.
+fn unknown(alloc: Global, line: u64) -> Result<Vec<u8>, AllocError> {
+    let mut shown = b"unknown ".to_vec(alloc)?;
+    add_number(alloc, &mut shown, line)?;
+    Ok(shown)
 }
 
-/// What is found of a design.
-fn look_at(alloc: Global, design: &Design) -> Result<Found, AllocError> {
+/// An order of models.
+fn order(alloc: Global, numbers: &[u32]) -> Result<Vec<u8>, AllocError> {
+    let mut shown = b"order".to_vec(alloc)?;
+    add_numbers(alloc, &mut shown, numbers)?;
+    Ok(shown)
+}
+
+/// A circle of models.
+fn circle(alloc: Global, names: &[Name]) -> Result<Vec<u8>, AllocError> {
+    let mut shown = b"circle".to_vec(alloc)?;
+    add_words(&mut shown, names)?;
+    Ok(shown)
+}
+
+/// What is found of a design: the line of an unknown model, or an order or a circle of the models that are reached.
+fn look_at(alloc: Global, design: &Design) -> Result<Vec<u8>, AllocError> {
     let targets = targets_of(alloc, design)?;
     let marks = marks_of(alloc, design, targets.as_slice())?;
     if let Some(line) = unknown_model(design, targets.as_slice(), marks.as_slice()) {
-        return Ok(Found::Unknown(line));
+        return unknown(alloc, line);
     }
     match order_of(alloc, design, targets.as_slice())? {
-        ModelOrder::Order(order) => Ok(Found::Order(order)),
-        ModelOrder::Circle(names) => Ok(Found::Circle(names)),
+        ModelOrder::Order(numbers) => order(alloc, numbers.as_slice()),
+        ModelOrder::Circle(names) => circle(alloc, names.as_slice()),
     }
 }
 
+/// What is found of the design of a text, or the message of its fault.
+fn shown(alloc: Global, text: &[u8]) -> Result<Vec<u8>, AllocError> {
+    match read(alloc, text) {
+        Ok(design) => look_at(alloc, &design),
+        Err(fault) => fault.text(alloc),
+    }
+}
+
+/// Asserts of each text what is found of its design.
+fn assert_all(rt: &impl Abort, alloc: Global, table: &[(&[u8], &[u8])]) -> Result<(), AllocError> {
+    for (text, wanted) in table {
+        let found = shown(alloc, text)?;
+        assert_same(rt, text, &found, wanted);
+    }
+    Ok(())
+}
+
+/// Texts and the order of their models.
+const ORDERS: &[(&[u8], &[u8])] = &[
+    (
+        b".model a\n.subckt b\n.subckt c\n.model b\n.subckt c\n.model c\n",
+        b"order 2 1 0",
+    ),
+    // what is not reached is left out, whatever it places
+    (
+        b".model a\n.model b\n.subckt x\n.model c\n.subckt c\n",
+        b"order 0",
+    ),
+];
+
 #[test]
 fn a_model_stands_behind_those_that_it_places(rt: HostRuntime) -> Result<(), Fail> {
-    let table: [(&[u8], &[u32]); 2] = [
-        (
-            b".model a\n.subckt b\n.subckt c\n.model b\n.subckt c\n.model c\n",
-            &[2, 1, 0],
-        ),
-        // what is not reached is left out, whatever it places
-        (
-            b".model a\n.model b\n.subckt x\n.model c\n.subckt c\n",
-            &[0],
-        ),
-    ];
-    let alloc = rt.alloc();
-    for (text, wanted) in table {
-        let found = match look_at(alloc, &spelled(alloc, text)?)? {
-            Found::Order(order) => Some(order),
-            Found::Unknown(_line) => None,
-            Found::Circle(_names) => None,
-        };
-        let order = found.ok_or("no order")?;
-        assert_eq!(rt; order.as_slice(), wanted, "{text:?}");
-    }
+    assert_all(&rt, rt.alloc(), ORDERS)?;
     Ok(())
 }
 
 #[test]
 fn a_circle_begins_with_the_first_of_the_file(rt: HostRuntime) -> Result<(), Fail> {
-    let alloc = rt.alloc();
     let text = b".model a\n.subckt c\n.model b\n.subckt c\n.model c\n.subckt b\n";
-    let found = match look_at(alloc, &spelled(alloc, text)?)? {
-        Found::Circle(names) => Some(names),
-        Found::Unknown(_line) => None,
-        Found::Order(_order) => None,
-    };
-    let circle = found.ok_or("no circle")?;
-    assert_eq!(rt; circle.len(), 2);
-    assert_eq!(rt; circle.as_slice()[0].as_slice(), b"b".as_slice());
-    assert_eq!(rt; circle.as_slice()[1].as_slice(), b"c".as_slice());
+    assert_all(&rt, rt.alloc(), &[(text, b"circle b c")])?;
     Ok(())
 }
 
 #[test]
 fn a_reached_model_that_is_unknown_has_its_line(rt: HostRuntime) -> Result<(), Fail> {
-    let alloc = rt.alloc();
     let text = b".model a\n.subckt b\n.model b\n.subckt x\n.model c\n.subckt c\n";
-    let found = match look_at(alloc, &spelled(alloc, text)?)? {
-        Found::Unknown(line) => Some(line),
-        Found::Order(_order) => None,
-        Found::Circle(_names) => None,
-    };
-    assert_eq!(rt; found, Some(4));
+    assert_all(&rt, rt.alloc(), &[(text, b"unknown 4")])?;
     Ok(())
 }

@@ -1,57 +1,101 @@
-use crate::spelled::spelled;
-use std::alloc::Global;
+use crate::claims::claims_at;
+use crate::plain::{add_numbers, add_option, add_options, assert_same};
+use std::alloc::{AllocError, Global};
 use std::test::Fail;
-use vw_claims::{ModelClaims, claims_of, outputs_of};
+use vw_blif::read;
+use vw_claims::ModelClaims;
+use vw_design::Design;
 use vw_models::targets_of;
-use vw_names::{ModelNames, Way, names_of};
+use vw_names::{ModelNames, PlacedNames, Way, names_of};
 
 /// A gate, a placed model and a latch whose control nothing drives; the placed model is a gate.
 const TEXT: &[u8] =
     b".model a\n.inputs x\n.outputs y\n.names x n\n.subckt b p=n q=m\n.latch m y re k 0\n\
 .model b\n.inputs p\n.outputs q\n.names p q\n";
 
-/// The names of both models.
-fn all_names(alloc: Global) -> Result<Vec<ModelNames>, Fail> {
-    let design = spelled(alloc, TEXT)?;
-    if design.models().len() != 2 {
-        Err("not two models")?;
+/// The claims of the first two models of a design.
+fn all_claims(alloc: Global, design: &Design) -> Result<Vec<ModelClaims>, AllocError> {
+    let mut all = Vec::new(alloc);
+    for model in 0..2 {
+        if let Some(claims) = claims_at(alloc, design, model)? {
+            all.push(claims)?;
+        }
     }
-    let outputs = outputs_of(alloc, &design)?;
-    let targets = targets_of(alloc, &design)?;
-    let mut claims: Vec<ModelClaims> = Vec::new(alloc);
-    claims.push(claims_of(alloc, &design, outputs.as_slice(), targets.as_slice(), 0)?)?;
-    claims.push(claims_of(alloc, &design, outputs.as_slice(), targets.as_slice(), 1)?)?;
-    Ok(names_of(alloc, &design, targets.as_slice(), claims.as_slice())?)
+    Ok(all)
 }
 
-#[test]
-fn what_items_read_has_the_numbers_of_its_claims(rt: HostRuntime) -> Result<(), Fail> {
-    let names = all_names(rt.alloc())?;
-    assert_eq!(rt; names.len(), 2);
-    let reads = names[0].reads();
-    assert_eq!(rt; reads.len(), 3);
-    assert_eq!(rt; reads[0].as_slice(), [Some(0)].as_slice());
-    assert_eq!(rt; reads[1].len(), 0);
-    assert_eq!(rt; reads[2].as_slice(), [Some(2), None].as_slice());
-    let reads = names[1].reads();
-    assert_eq!(rt; reads.len(), 1);
-    assert_eq!(rt; reads[0].as_slice(), [Some(0)].as_slice());
+/// The names of the models of a design that has two.
+fn names_in(alloc: Global, design: &Design) -> Result<Option<Vec<ModelNames>>, AllocError> {
+    let claims = all_claims(alloc, design)?;
+    if claims.len() != design.models().len() {
+        return Ok(None);
+    }
+    let targets = targets_of(alloc, design)?;
+    let names = names_of(alloc, design, targets.as_slice(), claims.as_slice())?;
+    Ok(Some(names))
+}
+
+/// The names of both models of a text.
+fn names_of_text(alloc: Global, text: &[u8]) -> Result<Option<Vec<ModelNames>>, AllocError> {
+    match read(alloc, text) {
+        Ok(design) => names_in(alloc, &design),
+        Err(_) => Ok(None),
+    }
+}
+
+/// What the items of a model read, with `|` behind each item.
+fn add_reads(alloc: Global, text: &mut Vec<u8>, names: &ModelNames) -> Result<(), AllocError> {
+    for reads in names.reads() {
+        add_options(alloc, text, reads.as_slice())?;
+        text.push(b'|')?;
+    }
     Ok(())
 }
 
+/// Adds a way: for an input, its claim, `<` and that of its actual; for an output, `>` and its claim.
+fn add_way(alloc: Global, text: &mut Vec<u8>, way: Way) -> Result<(), AllocError> {
+    match way {
+        Way::Port { port, actual } => {
+            add_numbers(alloc, text, &[port])?;
+            text.push(b'<')?;
+            add_option(alloc, text, actual)
+        }
+        Way::Output(claim) => {
+            text.extend_from_slice(b" >")?;
+            add_option(alloc, text, claim)
+        }
+    }
+}
+
+/// Adds an item that places a model: its number, its ways and `|`.
+fn add_placed(alloc: Global, text: &mut Vec<u8>, placed: &PlacedNames) -> Result<(), AllocError> {
+    add_option(alloc, text, Some(placed.item))?;
+    for way in placed.ways.as_slice() {
+        add_way(alloc, text, *way)?;
+    }
+    text.push(b'|')?;
+    Ok(())
+}
+
+/// The names of models: what their items read, `/`, and which items place models, with `;` behind each model.
+fn shown(alloc: Global, models: &[ModelNames]) -> Result<Vec<u8>, AllocError> {
+    let mut text = Vec::new(alloc);
+    for names in models {
+        add_reads(alloc, &mut text, names)?;
+        text.push(b'/')?;
+        for placed in names.placed() {
+            add_placed(alloc, &mut text, placed)?;
+        }
+        text.push(b';')?;
+    }
+    Ok(text)
+}
+
 #[test]
-fn an_input_leads_to_its_actual_and_an_output_inside(rt: HostRuntime) -> Result<(), Fail> {
-    let names = all_names(rt.alloc())?;
-    assert_eq!(rt; names.len(), 2);
-    let placed = names[0].placed();
-    assert_eq!(rt; placed.len(), 1);
-    assert_eq!(rt; placed[0].item, 1);
-    let ways = placed[0].ways.as_slice();
-    let input = Way::Port {
-        port: 0,
-        actual: Some(1),
-    };
-    assert_eq!(rt; ways, [input, Way::Output(Some(1))].as_slice());
-    assert_eq!(rt; names[1].placed().len(), 0);
+fn reads_have_the_numbers_of_claims_and_bindings_lead_to_them(rt: HostRuntime) -> Result<(), Fail> {
+    let names = names_of_text(rt.alloc(), TEXT)?.ok_or("not two models")?;
+    let found = shown(rt.alloc(), &names)?;
+    // an input leads to its actual and an output inside; nothing drives the control of the latch
+    assert_same(&rt, TEXT, &found, b" 0|| 2 -|/1 0<1 >1|; 0|/;");
     Ok(())
 }

@@ -1,8 +1,11 @@
+ghost use Rattle.std.specs.Prelude.{◌<◌};
+
+use crate::plain::{assert_same, name};
+use std::alloc::{AllocError, Global};
 use std::test::Fail;
 use std::{fs, process};
 use vw_outside::{
-    ErrSink, Failed, FileShelf, Held, MemShelf, MemSink, Name, OutSink, Shelf, Sink, TextRefused,
-    put_all, read_text,
+    ErrSink, FileShelf, Held, MemShelf, MemSink, OutSink, Shelf, TextRefused, put_all, read_text,
 };
 
 /// A path of this process under `/tmp`.
@@ -11,27 +14,75 @@ fn path(rt: &HostRuntime, name: &str) -> Result<String, Fail> {
     Ok(format!(in rt.alloc(); "/tmp/vw_outside_{number}_{name}")?)
 }
 
-/// The name of a path.
-fn name_of(rt: &HostRuntime, path: &[u8]) -> Result<Name, Fail> {
-    Ok(Name::of(path.to_vec(rt.alloc())?))
+/// What one read of at most so many bytes gives, or `fault`.
+fn piece<S: Shelf>(
+    alloc: Global,
+    shelf: &mut S,
+    path: &[u8],
+    from: u64,
+    most: usize,
+) -> Result<Vec<u8>, AllocError> {
+    let name = name(alloc, path)?;
+    let mut piece = vec![in alloc; 0; most]?;
+    match shelf.read(&name, from, &mut piece) {
+        Ok(count) => {
+            piece.truncate(count);
+            Ok(piece)
+        }
+        Err(_) => b"fault".to_vec(alloc),
+    }
+}
+
+/// Adds what one read gives, and `|`.
+fn add_piece<S: Shelf>(
+    shown: &mut Vec<u8>,
+    shelf: &mut S,
+    path: &[u8],
+    from: u64,
+    most: usize,
+) -> Result<(), AllocError> {
+    let piece = piece(*shown.allocator(), shelf, path, from, most)?;
+    shown.extend_from_slice(&piece)?;
+    shown.push(b'|')?;
+    Ok(())
+}
+
+/// Adds what reads of a file from three places give.
+fn add_places(rt: &HostRuntime, shown: &mut Vec<u8>, path: &[u8]) -> Result<(), AllocError> {
+    let mut shelf = FileShelf::new(rt.alloc(), rt);
+    add_piece(shown, &mut shelf, path, 0, 6)?;
+    add_piece(shown, &mut shelf, path, 7, 6)?;
+    add_piece(shown, &mut shelf, path, 12, 6)
 }
 
 #[test]
 fn files_are_read_from_any_place(rt: HostRuntime) -> Result<(), Fail> {
     let path = path(&rt, "places")?;
     fs::write(&rt, path.as_str(), b"eleven chars")?;
-    let mut shelf = FileShelf::new(rt.alloc(), &rt);
-    let name = name_of(&rt, path.as_bytes())?;
-    let mut piece = [0u8; 6];
-    let whole = shelf.read(&name, 0, &mut piece);
-    assert_eq!(rt; whole, Ok(6));
-    assert_eq!(rt; piece.as_slice(), b"eleven".as_slice());
-    let rest = shelf.read(&name, 7, &mut piece);
-    assert_eq!(rt; rest, Ok(5));
-    assert_eq!(rt; &piece[..5], b"chars".as_slice());
-    let past = shelf.read(&name, 12, &mut piece);
-    assert_eq!(rt; past, Ok(0));
+    let mut shown = Vec::new(rt.alloc());
+    add_places(&rt, &mut shown, path.as_bytes())?;
+    assert_same(&rt, path.as_bytes(), &shown, b"eleven|chars||");
     fs::remove_file(&rt, path.as_str())?;
+    Ok(())
+}
+
+/// Gives a path to another file.
+fn replace(rt: &HostRuntime, path: &str) -> Result<(), Fail> {
+    fs::remove_file(rt, path)?;
+    fs::write(rt, path, b"another one")?;
+    Ok(())
+}
+
+/// Adds what reads of a file give that is replaced meanwhile.
+fn add_kept(rt: &HostRuntime, shown: &mut Vec<u8>, path: &str) -> Result<(), Fail> {
+    let mut shelf = FileShelf::new(rt.alloc(), rt);
+    add_piece(shown, &mut shelf, path.as_bytes(), 0, 4)?;
+    // the name is given to another file between two reads
+    replace(rt, path)?;
+    add_piece(shown, &mut shelf, path.as_bytes(), 4, 4)?;
+    // the file stays open until another name is read, here one that is missing
+    add_piece(shown, &mut shelf, b"/tmp/vw_outside_missing", 0, 4)?;
+    add_piece(shown, &mut shelf, path.as_bytes(), 0, 4)?;
     Ok(())
 }
 
@@ -39,41 +90,38 @@ fn files_are_read_from_any_place(rt: HostRuntime) -> Result<(), Fail> {
 fn one_reading_sees_one_file(rt: HostRuntime) -> Result<(), Fail> {
     let path = path(&rt, "kept")?;
     fs::write(&rt, path.as_str(), b"the old text")?;
-    let mut shelf = FileShelf::new(rt.alloc(), &rt);
-    let name = name_of(&rt, path.as_bytes())?;
-    let mut piece = [0u8; 4];
-    assert_eq!(rt; shelf.read(&name, 0, &mut piece), Ok(4));
-    // the name is given to another file between two reads
-    fs::remove_file(&rt, path.as_str())?;
-    fs::write(&rt, path.as_str(), b"another one")?;
-    assert_eq!(rt; shelf.read(&name, 4, &mut piece), Ok(4));
-    assert_eq!(rt; piece.as_slice(), b"old ".as_slice());
-    // the file stays open until another name is read, here one that is missing
-    let missing = name_of(&rt, b"/tmp/vw_outside_missing")?;
-    assert_eq!(rt; shelf.read(&missing, 0, &mut piece), Err(Failed));
-    assert_eq!(rt; shelf.read(&name, 0, &mut piece), Ok(4));
-    assert_eq!(rt; piece.as_slice(), b"anot".as_slice());
+    let mut shown = Vec::new(rt.alloc());
+    add_kept(&rt, &mut shown, path.as_str())?;
+    assert_same(&rt, path.as_bytes(), &shown, b"the |old |fault|anot|");
     fs::remove_file(&rt, path.as_str())?;
     Ok(())
 }
 
+/// A missing file, a folder, devices, a name that isn't UTF-8, and none.
+const NO_FILES: &[&[u8]] = &[
+    b"/tmp/vw_outside_missing",
+    b"/tmp",
+    b"/dev/null",
+    b"/dev/zero",
+    b"/tmp/\xff",
+    b"",
+];
+
+/// What a read of each path gives.
+fn first_pieces(rt: &HostRuntime, paths: &[&[u8]]) -> Result<Vec<u8>, AllocError> {
+    let mut shelf = FileShelf::new(rt.alloc(), rt);
+    let mut shown = Vec::new(rt.alloc());
+    for path in paths {
+        add_piece(&mut shown, &mut shelf, path, 0, 6)?;
+    }
+    Ok(shown)
+}
+
 #[test]
 fn what_is_no_regular_file_is_a_fault(rt: HostRuntime) -> Result<(), Fail> {
-    let mut shelf = FileShelf::new(rt.alloc(), &rt);
-    let mut piece = [0u8; 6];
-    // a missing file, a folder, devices, a name that isn't UTF-8, and none
-    let table: [&[u8]; 6] = [
-        b"/tmp/vw_outside_missing",
-        b"/tmp",
-        b"/dev/null",
-        b"/dev/zero",
-        b"/tmp/\xff",
-        b"",
-    ];
-    for path in table {
-        let name = name_of(&rt, path)?;
-        assert_eq!(rt; shelf.read(&name, 0, &mut piece), Err(Failed), "{path:?}");
-    }
+    let shown = first_pieces(&rt, NO_FILES)?;
+    let wanted = b"fault|fault|fault|fault|fault|fault|";
+    assert_same(&rt, b"", &shown, wanted);
     Ok(())
 }
 
@@ -89,25 +137,55 @@ fn error_takes_what_is_put(rt: HostRuntime) {
     assert_eq!(rt; put_all(&mut err, b"to standard error\n"), Ok(()));
 }
 
+/// A text under the name `a`.
+fn held(alloc: Global, text: &[u8]) -> Result<Held, AllocError> {
+    Ok(Held::make(name(alloc, b"a")?, text.to_vec(alloc)?))
+}
+
+/// Two texts under one name.
+fn two_texts(alloc: Global) -> Result<Vec<Held>, AllocError> {
+    let mut texts = Vec::new(alloc);
+    texts.push(held(alloc, b"first")?)?;
+    texts.push(held(alloc, b"second")?)?;
+    Ok(texts)
+}
+
+/// The whole text of the name `a`, or why it is refused.
+fn whole(alloc: Global, shelf: &mut MemShelf, limit: u32) -> Result<Vec<u8>, AllocError> {
+    let name = name(alloc, b"a")?;
+    match read_text(alloc, shelf, &name, u64::from(limit)) {
+        Ok(text) => Ok(text),
+        Err(TextRefused::TooLarge) => b"too large".to_vec(alloc),
+        Err(_) => b"fault".to_vec(alloc),
+    }
+}
+
+/// Adds the whole text of the name `a`, or why it is refused, and `|`.
+fn add_whole(shown: &mut Vec<u8>, shelf: &mut MemShelf, limit: u32) -> Result<(), AllocError> {
+    let text = whole(*shown.allocator(), shelf, limit)?;
+    shown.extend_from_slice(&text)?;
+    shown.push(b'|')?;
+    Ok(())
+}
+
+/// Adds what is read, with two limits, of two texts where each read gives at most so many bytes.
+fn add_texts(alloc: Global, shown: &mut Vec<u8>, most: u32) -> Result<(), AllocError>
+    requires { 0 < most }
+{
+    let texts = two_texts(alloc)?;
+    let mut shelf = MemShelf::new(texts, most, Vec::new(alloc));
+    add_whole(shown, &mut shelf, 5)?;
+    add_whole(shown, &mut shelf, 4)
+}
+
 #[test]
 fn a_text_in_memory_is_read_whole(rt: HostRuntime) -> Result<(), Fail> {
-    let alloc = rt.alloc();
-    for most in [1, 3, 100] {
-        let name = Name::of(b"a".to_vec(alloc)?);
-        let again = Name::of(b"a".to_vec(alloc)?);
-        let files = vec![in alloc;
-            Held::make(name, b"first".to_vec(alloc)?),
-            Held::make(again, b"second".to_vec(alloc)?),
-        ]?;
-        let mut shelf = MemShelf::new(files, most, Vec::new(alloc));
-        let name = Name::of(b"a".to_vec(alloc)?);
-        let text = read_text(alloc, &mut shelf, &name, 5)
-            .ok()
-            .ok_or("it is short enough")?;
-        assert_eq!(rt; text.as_slice(), b"first".as_slice());
-        let large = read_text(alloc, &mut shelf, &name, 4);
-        assert!(rt; matches!(&large, Err(TextRefused::TooLarge)));
-    }
+    let mut shown = Vec::new(rt.alloc());
+    add_texts(rt.alloc(), &mut shown, 1)?;
+    add_texts(rt.alloc(), &mut shown, 3)?;
+    add_texts(rt.alloc(), &mut shown, 100)?;
+    let wanted = b"first|too large|first|too large|first|too large|";
+    assert_same(&rt, b"", &shown, wanted);
     Ok(())
 }
 

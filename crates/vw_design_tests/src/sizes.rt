@@ -1,56 +1,12 @@
-use crate::spelled::spelled;
+use crate::plain::{add_number, assert_same};
 use std::alloc::{AllocError, Global};
+use std::process::Abort;
 use std::test::Fail;
+use vw_blif::read;
 use vw_design::Design;
 use vw_models::{ModelOrder, marks_of, order_of, targets_of, unknown_model};
-use vw_sizes::{Before, Measured, Quantity, Sizes, sizes_of};
-
-/// Adds a model with this name and, for each `l`, a latch; for each other byte, a placing of a model.
-fn add_model(
-    alloc: Global,
-    text: &mut Vec<u8>,
-    name: &[u8],
-    items: &[u8],
-    placed: &[u8],
-) -> Result<(), AllocError> {
-    text.extend_from_slice(b".model ")?;
-    text.extend_from_slice(name)?;
-    text.push(b'\n')?;
-    for item in items {
-        if *item == b'l' {
-            text.extend_from_slice(b".latch d q\n")?;
-        } else {
-            text.extend_from_slice(b".subckt ")?;
-            text.extend_from_slice(placed)?;
-            text.push(b'\n')?;
-        }
-    }
-    Ok(())
-}
-
-/// The design of `a`, which places `b`, which places `c`.
-fn design(alloc: Global, first: &[u8], second: &[u8], third: &[u8]) -> Result<Design, Fail> {
-    let mut text = Vec::new(alloc);
-    add_model(alloc, &mut text, b"a", first, b"b")?;
-    add_model(alloc, &mut text, b"b", second, b"c")?;
-    add_model(alloc, &mut text, b"c", third, b"c")?;
-    spelled(alloc, text.as_slice())
-}
-
-/// A chain of models, of which each has these items and places the next one, and the last one has items of its own.
-/// Each name is longer by a letter.
-fn chain(alloc: Global, count: u8, items: &[u8], last: &[u8]) -> Result<Design, Fail> {
-    let mut text = Vec::new(alloc);
-    let mut name = vec![in alloc; b'm'; 1]?;
-    for _ in 1..count {
-        let mut next = name.as_slice().to_vec(alloc)?;
-        next.push(b'm')?;
-        add_model(alloc, &mut text, name.as_slice(), items, next.as_slice())?;
-        name = next;
-    }
-    add_model(alloc, &mut text, name.as_slice(), last, b"")?;
-    spelled(alloc, text.as_slice())
-}
+use vw_net::Sequence;
+use vw_sizes::{Before, Measured, Sizes, sizes_of};
 
 /// What counting a design gives, if its models are known and place each other in no circle.
 fn measured(alloc: Global, design: &Design) -> Result<Option<Measured>, AllocError> {
@@ -70,44 +26,120 @@ fn measured(alloc: Global, design: &Design) -> Result<Option<Measured>, AllocErr
     }
 }
 
-/// The sizes of a design that fits.
-fn fitting(alloc: Global, design: &Design) -> Result<Option<Sizes>, AllocError> {
-    match measured(alloc, design)? {
-        Some(Measured::Fits(sizes)) => Ok(Some(sizes)),
-        Some(Measured::TooBig(_quantity)) => Ok(None),
-        None => Ok(None),
+/// Adds the counts before each item of a model: the cells, `/` and the instances.
+fn add_before(alloc: Global, shown: &mut Vec<u8>, before: &[Before]) -> Result<(), AllocError> {
+    for entry in before {
+        shown.push(b' ')?;
+        add_number(alloc, shown, u64::from(entry.cells))?;
+        shown.push(b'/')?;
+        add_number(alloc, shown, u64::from(entry.instances))?;
+    }
+    Ok(())
+}
+
+/// The counts before each item of each model, with `|` behind each model.
+fn all_before(alloc: Global, models: &[Sequence<Before>]) -> Result<Vec<u8>, AllocError> {
+    let mut shown = Vec::new(alloc);
+    for before in models {
+        add_before(alloc, &mut shown, before.as_slice())?;
+        shown.push(b'|')?;
+    }
+    Ok(shown)
+}
+
+/// The numbers of instances and cells.
+fn totals(alloc: Global, sizes: &Sizes) -> Result<Vec<u8>, AllocError> {
+    let mut shown = Vec::new(alloc);
+    add_number(alloc, &mut shown, u64::from(sizes.instances()))?;
+    shown.extend_from_slice(b" instances, ")?;
+    add_number(alloc, &mut shown, u64::from(sizes.cells()))?;
+    shown.extend_from_slice(b" cells")?;
+    Ok(shown)
+}
+
+/// The totals of these sizes, or the counts before each item.
+fn fitting(alloc: Global, sizes: &Sizes, before: bool) -> Result<Vec<u8>, AllocError> {
+    if before {
+        all_before(alloc, sizes.before())
+    } else {
+        totals(alloc, sizes)
     }
 }
 
 /// The quantity that is too big.
-fn excess(alloc: Global, design: &Design) -> Result<Option<Quantity>, AllocError> {
+fn too_big(alloc: Global, quantity: &[u8]) -> Result<Vec<u8>, AllocError> {
+    let mut shown = b"too big: ".to_vec(alloc)?;
+    shown.extend_from_slice(quantity)?;
+    Ok(shown)
+}
+
+/// The totals of a design that fits, or the counts before each of its items; or the quantity that is too big.
+fn counted(alloc: Global, design: &Design, before: bool) -> Result<Vec<u8>, AllocError> {
     match measured(alloc, design)? {
-        Some(Measured::Fits(_sizes)) => Ok(None),
-        Some(Measured::TooBig(quantity)) => Ok(Some(quantity)),
-        None => Ok(None),
+        Some(Measured::Fits(sizes)) => fitting(alloc, &sizes, before),
+        Some(Measured::TooBig(quantity)) => too_big(alloc, quantity.name()),
+        None => b"not measured".to_vec(alloc),
     }
 }
 
-/// So many cells and instances.
-fn entry(cells: u32, instances: u32) -> Before {
-    Before { cells, instances }
+/// What counting the design of a text gives, or the message of its fault.
+fn shown(alloc: Global, text: &[u8], before: bool) -> Result<Vec<u8>, AllocError> {
+    match read(alloc, text) {
+        Ok(design) => counted(alloc, &design, before),
+        Err(fault) => fault.text(alloc),
+    }
+}
+
+/// Asserts what counting the design of a text gives.
+fn assert_shown(
+    rt: &impl Abort,
+    alloc: Global,
+    text: &[u8],
+    wanted: &[u8],
+) -> Result<(), AllocError> {
+    let found = shown(alloc, text, false)?;
+    // the text may be long, so no message has it
+    assert_same(rt, b"", &found, wanted);
+    Ok(())
+}
+
+/// Adds a model with this name and, for each `l`, a latch; for each other byte, a placing of a model.
+fn add_model(
+    text: &mut Vec<u8>,
+    name: &[u8],
+    items: &[u8],
+    placed: &[u8],
+) -> Result<(), AllocError> {
+    text.extend_from_slice(b".model ")?;
+    text.extend_from_slice(name)?;
+    for item in items {
+        if *item == b'l' {
+            text.extend_from_slice(b"\n.latch d q")?;
+        } else {
+            text.extend_from_slice(b"\n.subckt ")?;
+            text.extend_from_slice(placed)?;
+        }
+    }
+    text.push(b'\n')?;
+    Ok(())
+}
+
+/// A text of `a`, which places `b`, which places `c`.
+fn three(alloc: Global, first: &[u8], second: &[u8], third: &[u8]) -> Result<Vec<u8>, AllocError> {
+    let mut text = Vec::new(alloc);
+    add_model(&mut text, b"a", first, b"b")?;
+    add_model(&mut text, b"b", second, b"c")?;
+    add_model(&mut text, b"c", third, b"c")?;
+    Ok(text)
 }
 
 #[test]
 fn all_that_is_placed_stands_before_the_next_item(rt: HostRuntime) -> Result<(), Fail> {
-    let alloc = rt.alloc();
-    let design = design(alloc, b"slsl", b"lsl", b"ll")?;
-    let sizes = fitting(alloc, &design)?.ok_or("no sizes")?;
-    assert_eq!(rt; sizes.instances(), 5);
-    assert_eq!(rt; sizes.cells(), 10);
-    let before = sizes.before();
-    let first = [entry(0, 0), entry(4, 2), entry(5, 2), entry(9, 4)];
-    let second = [entry(0, 0), entry(1, 0), entry(3, 1)];
-    let third = [entry(0, 0), entry(1, 0)];
-    assert_eq!(rt; before.len(), 3);
-    assert_eq!(rt; before[0].as_slice(), first.as_slice());
-    assert_eq!(rt; before[1].as_slice(), second.as_slice());
-    assert_eq!(rt; before[2].as_slice(), third.as_slice());
+    let text = three(rt.alloc(), b"slsl", b"lsl", b"ll")?;
+    assert_shown(&rt, rt.alloc(), &text, b"5 instances, 10 cells")?;
+    let before = shown(rt.alloc(), &text, true)?;
+    let wanted = b" 0/0 4/2 5/2 9/4| 0/0 1/0 3/1| 0/0 1/0|";
+    assert_same(&rt, &text, &before, wanted);
     Ok(())
 }
 
@@ -116,117 +148,175 @@ fn many(alloc: Global, item: u8, count: u32) -> Result<Vec<u8>, AllocError> {
     vec![in alloc; item; count as usize]
 }
 
+/// How many models `a` places, the kind and the number of the items of `b`, and what is counted. `c` has no items, and
+/// counts end at the greatest number.
+const LIMITS: &[(u32, u8, u32, &[u8])] = &[
+    (255, b's', 256, b"65536 instances, 0 cells"),
+    (256, b's', 256, b"too big: instances"),
+    (70000, b's', 70000, b"too big: instances"),
+    (256, b'l', 256, b"257 instances, 65536 cells"),
+    (256, b'l', 257, b"too big: cells"),
+];
+
+/// The text of a row of these limits.
+fn limit_text(alloc: Global, first: u32, item: u8, second: u32) -> Result<Vec<u8>, AllocError> {
+    let first = many(alloc, b's', first)?;
+    let second = many(alloc, item, second)?;
+    three(alloc, &first, &second, b"")
+}
+
+/// Asserts of each row what is counted.
+fn assert_limits(
+    rt: &impl Abort,
+    alloc: Global,
+    table: &[(u32, u8, u32, &[u8])],
+) -> Result<(), AllocError> {
+    for (first, item, second, wanted) in table {
+        let text = limit_text(alloc, *first, *item, *second)?;
+        assert_shown(rt, alloc, &text, wanted)?;
+    }
+    Ok(())
+}
+
 #[test]
 fn instances_and_cells_have_limits(rt: HostRuntime) -> Result<(), Fail> {
-    let alloc = rt.alloc();
-    // the items of `a`, `b` and `c`, and what is too big; counts end at the greatest number
-    let rows = [
-        (255, b's', 256, None),
-        (256, b's', 256, Some(Quantity::Instances)),
-        (70000, b's', 70000, Some(Quantity::Instances)),
-        (256, b'l', 256, None),
-        (256, b'l', 257, Some(Quantity::Cells)),
-    ];
-    for (first, item, second, wanted) in rows {
-        let first = many(alloc, b's', first)?;
-        let second = many(alloc, item, second)?;
-        let design = design(alloc, first.as_slice(), second.as_slice(), b"")?;
-        assert_eq!(rt; excess(alloc, &design)?, wanted);
+    assert_limits(&rt, rt.alloc(), LIMITS)?;
+    Ok(())
+}
+
+/// Adds the model of a chain that has a name of this length, and places the next one.
+fn add_link(alloc: Global, text: &mut Vec<u8>, length: u8, items: &[u8]) -> Result<(), AllocError> {
+    let mut name = many(alloc, b'm', u32::from(length))?;
+    let place = name.as_slice().to_vec(alloc)?;
+    name.push(b'm')?;
+    add_model(text, &place, items, &name)
+}
+
+/// A text of a chain of models, of which each has these items and places the next one, and the last one has items of its
+/// own. Each name is longer by a letter.
+fn chain(alloc: Global, count: u8, items: &[u8], last: &[u8]) -> Result<Vec<u8>, AllocError> {
+    let mut text = Vec::new(alloc);
+    for length in 1..count {
+        add_link(alloc, &mut text, length, items)?;
+    }
+    let name = many(alloc, b'm', u32::from(count))?;
+    add_model(&mut text, &name, last, b"")?;
+    Ok(text)
+}
+
+/// The number of models of a chain, the items of each but the last, which has none, and what is counted.
+const CHAINS: &[(u8, &[u8], &[u8])] = &[
+    (16, b"ss", b"65535 instances, 0 cells"),
+    (40, b"ss", b"too big: instances"),
+    (64, b"s", b"64 instances, 0 cells"),
+    (65, b"s", b"too big: depth"),
+];
+
+/// Asserts of each chain what is counted.
+fn assert_chains(
+    rt: &impl Abort,
+    alloc: Global,
+    table: &[(u8, &[u8], &[u8])],
+) -> Result<(), AllocError> {
+    for (count, items, wanted) in table {
+        let text = chain(alloc, *count, items, b"")?;
+        assert_shown(rt, alloc, &text, wanted)?;
     }
     Ok(())
 }
 
 #[test]
 fn chains_are_counted_and_not_expanded(rt: HostRuntime) -> Result<(), Fail> {
-    let alloc = rt.alloc();
-    let rows: [(u8, &[u8], Option<u32>, Option<Quantity>); 4] = [
-        (16, b"ss", Some(65535), None),
-        (40, b"ss", None, Some(Quantity::Instances)),
-        (64, b"s", Some(64), None),
-        (65, b"s", None, Some(Quantity::Depth)),
-    ];
-    for (count, items, instances, wanted) in rows {
-        let design = chain(alloc, count, items, b"")?;
-        let sizes = fitting(alloc, &design)?;
-        assert_eq!(rt; sizes.map(|sizes| sizes.instances()), instances);
-        assert_eq!(rt; excess(alloc, &design)?, wanted);
-    }
+    assert_chains(&rt, rt.alloc(), CHAINS)?;
     Ok(())
 }
 
 #[test]
 fn only_reached_models_are_counted(rt: HostRuntime) -> Result<(), Fail> {
-    let alloc = rt.alloc();
-    let latches = many(alloc, b'l', 70000)?;
-    let design = design(alloc, b"l", b"s", latches.as_slice())?;
-    let sizes = fitting(alloc, &design)?.ok_or("no sizes")?;
-    assert_eq!(rt; sizes.instances(), 1);
-    assert_eq!(rt; sizes.cells(), 1);
+    let latches = many(rt.alloc(), b'l', 70000)?;
+    let text = three(rt.alloc(), b"l", b"s", &latches)?;
+    assert_shown(&rt, rt.alloc(), &text, b"1 instances, 1 cells")?;
     Ok(())
 }
 
-/// Adds a line of ports with the numbers below a count as their names.
-fn add_ports(
+/// Adds the numbers below a count, each behind a blank and before these bytes.
+fn add_numbers(
     alloc: Global,
     text: &mut Vec<u8>,
-    keyword: &[u8],
-    count: u32,
+    count: u64,
+    behind: &[u8],
 ) -> Result<(), AllocError> {
-    text.extend_from_slice(keyword)?;
     for number in 0..count {
         text.push(b' ')?;
-        text.extend_from_slice(number.to_string(alloc)?.as_bytes())?;
+        add_number(alloc, text, number)?;
+        text.extend_from_slice(behind)?;
     }
     text.push(b'\n')?;
     Ok(())
 }
 
-/// A design with so many inputs, of which one is a clock, and so many outputs. It places `c` so often, `c` places `b` 256
-/// times, and `b` has two latches and 17 outputs, all bound.
-fn large(alloc: Global, inputs: u32, outputs: u32, placed: u32) -> Result<Design, Fail> {
-    let mut text = Vec::new(alloc);
-    text.extend_from_slice(b".model a\n")?;
-    add_ports(alloc, &mut text, b".inputs", inputs)?;
-    text.extend_from_slice(b".clock 0\n")?;
-    add_ports(alloc, &mut text, b".outputs", outputs)?;
-    for _ in 0..placed {
-        text.extend_from_slice(b".subckt c\n")?;
+/// Adds a line so many times.
+fn add_lines(text: &mut Vec<u8>, line: &[u8], count: u32) -> Result<(), AllocError> {
+    for _ in 0..count {
+        text.extend_from_slice(line)?;
     }
+    Ok(())
+}
+
+/// A placing of `b` with 17 outputs, all bound.
+fn placing(alloc: Global) -> Result<Vec<u8>, AllocError> {
+    let mut text = b".subckt b".to_vec(alloc)?;
+    add_numbers(alloc, &mut text, 17, b"=n")?;
+    Ok(text)
+}
+
+/// A text of a design with so many inputs, of which one is a clock, and so many outputs. It places `c` so often, `c`
+/// places `b` 256 times, and `b` has two latches and 17 outputs, all bound.
+fn large(alloc: Global, inputs: u64, outputs: u64, placed: u32) -> Result<Vec<u8>, AllocError> {
+    let placing = placing(alloc)?;
+    let mut text = b".model a\n.inputs".to_vec(alloc)?;
+    add_numbers(alloc, &mut text, inputs, b"")?;
+    text.extend_from_slice(b".clock 0\n.outputs")?;
+    add_numbers(alloc, &mut text, outputs, b"")?;
+    add_lines(&mut text, b".subckt c\n", placed)?;
     text.extend_from_slice(b".model c\n")?;
-    for _ in 0..256 {
-        text.extend_from_slice(b".subckt b")?;
-        for number in 0..17 {
-            text.push(b' ')?;
-            text.extend_from_slice(number.to_string(alloc)?.as_bytes())?;
-            text.extend_from_slice(b"=n")?;
-        }
-        text.push(b'\n')?;
-    }
-    text.extend_from_slice(b".model b\n")?;
-    add_ports(alloc, &mut text, b".outputs", 17)?;
+    add_lines(&mut text, &placing, 256)?;
+    text.extend_from_slice(b".model b\n.outputs")?;
+    add_numbers(alloc, &mut text, 17, b"")?;
     text.extend_from_slice(b".latch d q\n.latch d q\n")?;
-    spelled(alloc, text.as_slice())
+    Ok(text)
+}
+
+/// Inputs, outputs and how often `c` is placed, and what is counted.
+const LARGE: &[(u64, u64, u32, &[u8])] = &[
+    // the clock isn't counted among the inputs
+    (4097, 4096, 1, b"258 instances, 512 cells"),
+    (4098, 4097, 256, b"too big: inputs"),
+    (4097, 4097, 256, b"too big: outputs"),
+    (4097, 4096, 256, b"too big: instances"),
+    (4097, 4096, 241, b"too big: bindings"),
+    (4097, 4096, 240, b"too big: cells"),
+];
+
+/// Asserts of each row what is counted.
+fn assert_large(
+    rt: &impl Abort,
+    alloc: Global,
+    table: &[(u64, u64, u32, &[u8])],
+) -> Result<(), AllocError> {
+    for (inputs, outputs, placed, wanted) in table {
+        let text = large(alloc, *inputs, *outputs, *placed)?;
+        assert_shown(rt, alloc, &text, wanted)?;
+    }
+    Ok(())
 }
 
 #[test]
 fn each_quantity_is_tried_in_its_turn(rt: HostRuntime) -> Result<(), Fail> {
-    let alloc = rt.alloc();
-    let rows = [
-        // the clock isn't counted among the inputs
-        (4097, 4096, 1, None),
-        (4098, 4097, 256, Some(Quantity::Inputs)),
-        (4097, 4097, 256, Some(Quantity::Outputs)),
-        (4097, 4096, 256, Some(Quantity::Instances)),
-        (4097, 4096, 241, Some(Quantity::Bindings)),
-        (4097, 4096, 240, Some(Quantity::Cells)),
-    ];
-    for (inputs, outputs, placed, wanted) in rows {
-        let design = large(alloc, inputs, outputs, placed)?;
-        assert_eq!(rt; excess(alloc, &design)?, wanted);
-    }
+    assert_large(&rt, rt.alloc(), LARGE)?;
     // cells come before the depth
-    let latches = many(alloc, b'l', 65537)?;
-    let deep = chain(alloc, 65, b"s", latches.as_slice())?;
-    assert_eq!(rt; excess(alloc, &deep)?, Some(Quantity::Cells));
+    let latches = many(rt.alloc(), b'l', 65537)?;
+    let deep = chain(rt.alloc(), 65, b"s", &latches)?;
+    assert_shown(&rt, rt.alloc(), &deep, b"too big: cells")?;
     Ok(())
 }

@@ -1,7 +1,8 @@
 use crate::boards::board;
+use crate::same::are_either;
 use std::alloc::{AllocError, Global};
+use std::process::Abort;
 use std::test::Fail;
-use vw_board::read;
 use vw_hint::hint;
 use vw_net::Sequence;
 
@@ -21,25 +22,43 @@ fn lists(alloc: Global, cells: &[&[u32]]) -> Result<Vec<Sequence<u32>>, AllocErr
     Ok(lists)
 }
 
-#[test]
-fn cells_that_share_nets_get_one_chip(rt: HostRuntime) -> Result<(), Fail> {
-    let alloc = rt.alloc();
-    let board = board(alloc, TWO_EACH)?;
-    // the first and third cell read each other, and so do the second and fourth one
-    let cells = lists(alloc, &[&[0, 2], &[1, 3], &[0, 2], &[1, 3]])?;
-    let wishes = hint(alloc, 4, cells.as_slice(), &board)?;
-    let chips = wishes.as_slice();
-    assert!(rt; chips == [1, 2, 1, 2].as_slice() || chips == [2, 1, 2, 1].as_slice());
+/// Asserts that cells with these nets, of which there are so many, get these chips on a board, or those.
+fn are_wished(
+    rt: &impl Abort,
+    alloc: Global,
+    text: &[u8],
+    nets: u32,
+    cells: &[&[u32]],
+    these: &[u32],
+    those: &[u32],
+) -> Result<(), Fail> {
+    let board = board(alloc, text)?;
+    let cells = lists(alloc, cells)?;
+    let wishes = hint(alloc, nets, &cells, &board)?;
+    are_either(rt, wishes.as_slice(), these, those);
     Ok(())
 }
 
+/// The first and third cell read each other, and so do the second and fourth one.
+const PAIRS: &[&[u32]] = &[&[0, 2], &[1, 3], &[0, 2], &[1, 3]];
+
+#[test]
+fn cells_that_share_nets_get_one_chip(rt: HostRuntime) -> Result<(), Fail> {
+    are_wished(
+        &rt,
+        rt.alloc(),
+        TWO_EACH,
+        4,
+        PAIRS,
+        &[1, 2, 1, 2],
+        &[2, 1, 2, 1],
+    )
+}
+
+/// More cells than the one chip has room for.
+const MANY: &[&[u32]] = &[&[0, 2], &[0, 1], &[2]];
+
 #[test]
 fn on_one_chip_every_wish_is_that_chip(rt: HostRuntime) -> Result<(), Fail> {
-    let alloc = rt.alloc();
-    let board = board(alloc, ONE)?;
-    // more cells than the chip has room for
-    let cells = lists(alloc, &[&[0, 2], &[0, 1], &[2]])?;
-    let wishes = hint(alloc, 3, cells.as_slice(), &board)?;
-    assert!(rt; wishes.as_slice() == [1, 1, 1].as_slice());
-    Ok(())
+    are_wished(&rt, rt.alloc(), ONE, 3, MANY, &[1, 1, 1], &[1, 1, 1])
 }

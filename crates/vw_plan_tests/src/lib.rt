@@ -25,7 +25,11 @@ mod plan;
 #[cfg(test)]
 mod plan_text;
 #[cfg(test)]
+mod plans;
+#[cfg(test)]
 mod route;
+#[cfg(test)]
+mod same;
 #[cfg(test)]
 mod schedule;
 #[cfg(test)]

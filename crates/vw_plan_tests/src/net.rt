@@ -1,6 +1,8 @@
 ghost use Rattle.std.specs.Prelude.{◌≡◌, length, IfOk};
 
+use crate::netlists::gate;
 use std::alloc::{AllocError, Global};
+use std::process::Abort;
 use std::test::Fail;
 use vw_net::{Bits, Cell, Cover, Flat, Init, Mark, Row, Sequence};
 
@@ -44,78 +46,97 @@ fn value(alloc: Global, width: u32, on: bool, rows: &[&[u8]], text: &[u8]) -> Re
     Ok(cover.value(&bits(alloc, width, text)?))
 }
 
-#[test]
-fn tables_have_their_values(rt: HostRuntime) -> Result<(), Fail> {
-    let alloc = rt.alloc();
-    let none: &[&[u8]] = &[];
-    let empty: &[&[u8]] = &[b""];
-    let one: &[&[u8]] = &[b"1"];
-    let zero: &[&[u8]] = &[b"0"];
-    let any: &[&[u8]] = &[b"-"];
-    let six: &[&[u8]] = &[b"1----0", b"-01---"];
-    let last_of_six: &[&[u8]] = &[b"-----1"];
-    let seven: &[&[u8]] = &[b"1-----0", b"-01----"];
-    for (width, rows, text, matches) in [
-        (0, none, b"".as_slice(), false),
-        (0, empty, b"", true),
-        (1, none, b"1", false),
-        (1, one, b"0", false),
-        (1, one, b"1", true),
-        (1, zero, b"0", true),
-        (1, zero, b"1", false),
-        (1, any, b"0", true),
-        (1, any, b"1", true),
-        (6, six, b"100000", true),
-        (6, six, b"100001", false),
-        (6, six, b"001001", true),
-        (6, six, b"011000", false),
-        (6, last_of_six, b"000001", true),
-        (6, last_of_six, b"111110", false),
-        (7, seven, b"1000000", true),
-        (7, seven, b"1000001", false),
-        (7, seven, b"0010001", true),
-        (7, seven, b"0110000", false),
-        (128, one, b"1", true),
-        (128, one, b"01", false),
-        (128, none, b"1", false),
-        (128, any, b"", true),
-    ] {
-        assert_eq!(rt;
-            value(alloc, width, true, rows, text)?,
-            matches,
-            "of {width} inputs"
-        );
-        assert_eq!(rt;
-            value(alloc, width, false, rows, text)?,
-            !matches,
-            "of {width} inputs"
-        );
+/// The rows of tables.
+const EMPTY: &[&[u8]] = &[b""];
+
+const ONE: &[&[u8]] = &[b"1"];
+
+const ZERO: &[&[u8]] = &[b"0"];
+
+const ANY: &[&[u8]] = &[b"-"];
+
+const SIX: &[&[u8]] = &[b"1----0", b"-01---"];
+
+const LAST_OF_SIX: &[&[u8]] = &[b"-----1"];
+
+const SEVEN: &[&[u8]] = &[b"1-----0", b"-01----"];
+
+/// How many inputs a table has, its rows, some bits, and whether a row matches them.
+type Line<'a> = (u32, &'a [&'a [u8]], &'a [u8], bool);
+
+const MATCHES: &[Line] = &[
+    (0, &[], b"", false),
+    (0, EMPTY, b"", true),
+    (1, &[], b"1", false),
+    (1, ONE, b"0", false),
+    (1, ONE, b"1", true),
+    (1, ZERO, b"0", true),
+    (1, ZERO, b"1", false),
+    (1, ANY, b"0", true),
+    (1, ANY, b"1", true),
+    (6, SIX, b"100000", true),
+    (6, SIX, b"100001", false),
+    (6, SIX, b"001001", true),
+    (6, SIX, b"011000", false),
+    (6, LAST_OF_SIX, b"000001", true),
+    (6, LAST_OF_SIX, b"111110", false),
+    (7, SEVEN, b"1000000", true),
+    (7, SEVEN, b"1000001", false),
+    (7, SEVEN, b"0010001", true),
+    (7, SEVEN, b"0110000", false),
+    (128, ONE, b"1", true),
+    (128, ONE, b"01", false),
+    (128, &[], b"1", false),
+    (128, ANY, b"", true),
+];
+
+/// Asserts for each line that the table has its value, both where its rows give 1 and where they give 0.
+fn have_values(rt: &impl Abort, alloc: Global, lines: &[Line]) -> Result<(), Fail> {
+    for (width, rows, text, matches) in lines {
+        let on = value(alloc, *width, true, rows, text)?;
+        let off = value(alloc, *width, false, rows, text)?;
+        assert!(rt; on == *matches && off != *matches, "of {width} inputs");
     }
     Ok(())
 }
 
-/// Each of the netlists has a latch that reads net 0, and a gate that reads one net.
 #[test]
-fn netlists_are_made_of_parts_that_fit(rt: HostRuntime) -> Result<(), Fail> {
-    let alloc = rt.alloc();
-    for (inputs, net, output, fits) in [
-        (1, 2, 2, true),
-        (4096, 4097, 4097, true),
-        (4097, 0, 0, false),
-        (0, 2, 0, false),
-        (1, 3, 0, false),
-        (1, 0, 3, false),
-    ] {
-        let latch = Cell::Latch {
-            d: 0,
-            init: Init::One,
-        };
-        let ins = Sequence::of(vec![in alloc; net]?);
-        let gate = Cell::gate(ins, true, Sequence::of(Vec::new(alloc))).ok_or("no gate")?;
-        let cells = Sequence::of(vec![in alloc; latch, gate]?);
-        let outputs = Sequence::of(vec![in alloc; output]?);
-        let found = Flat::checked(inputs, cells, outputs);
-        assert_eq!(rt; found.is_some(), fits, "{inputs} {net} {output}");
+fn tables_have_their_values(rt: HostRuntime) -> Result<(), Fail> {
+    have_values(&rt, rt.alloc(), MATCHES)
+}
+
+/// Whether a latch that reads net 0 and a gate that reads one net, with one output, make a netlist.
+fn fit(alloc: Global, inputs: u32, net: u32, output: u32) -> Result<bool, Fail> {
+    let mut cells = Vec::new(alloc);
+    cells.push(Cell::Latch {
+        d: 0,
+        init: Init::One,
+    })?;
+    cells.push(gate(alloc, &[net])?)?;
+    let outputs = Sequence::of([output].to_vec(alloc)?);
+    Ok(Flat::checked(inputs, Sequence::of(cells), outputs).is_some())
+}
+
+/// How many inputs there are, the net that the gate reads, the output, and whether all fit.
+const PARTS: &[(u32, u32, u32, bool)] = &[
+    (1, 2, 2, true),
+    (4096, 4097, 4097, true),
+    (4097, 0, 0, false),
+    (0, 2, 0, false),
+    (1, 3, 0, false),
+    (1, 0, 3, false),
+];
+
+/// Asserts whether the parts of each line fit.
+fn are_fit(rt: &impl Abort, alloc: Global, lines: &[(u32, u32, u32, bool)]) -> Result<(), Fail> {
+    for (inputs, net, output, fits) in lines {
+        let found = fit(alloc, *inputs, *net, *output)?;
+        assert!(rt; found == *fits, "{inputs} {net} {output}");
     }
     Ok(())
+}
+
+#[test]
+fn netlists_are_made_of_parts_that_fit(rt: HostRuntime) -> Result<(), Fail> {
+    are_fit(&rt, rt.alloc(), PARTS)
 }

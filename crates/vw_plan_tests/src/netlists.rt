@@ -1,5 +1,5 @@
 //! Netlists of a few cells, for tests.
-use std::alloc::Global;
+use std::alloc::{AllocError, Global};
 use std::test::Fail;
 use vw_net::{Cell, Flat, Init, Ordered, Sequence};
 use vw_order::order;
@@ -27,6 +27,14 @@ pub enum Part<'a> {
     Latch(u32),
 }
 
+/// A netlist of a test: so many inputs, its cells in order, and its outputs.
+#[derive(Clone, Copy)]
+pub struct Netlist<'a> {
+    pub inputs: u32,
+    pub parts: &'a [Part<'a>],
+    pub outputs: &'a [u32],
+}
+
 /// The cells of these parts.
 pub fn cells_of(alloc: Global, parts: &[Part]) -> Result<Vec<Cell>, Fail> {
     let mut cells = Vec::new(alloc);
@@ -50,4 +58,25 @@ pub fn ordered(
     let outputs = Sequence::of(outputs.to_vec(alloc)?);
     let flat = Flat::checked(inputs, Sequence::of(cells), outputs).ok_or("no netlist")?;
     Ok(order(alloc, flat).ok().ok_or("no order")?)
+}
+
+/// That netlist, with its order.
+pub fn made(alloc: Global, netlist: &Netlist) -> Result<Ordered, Fail> {
+    let cells = cells_of(alloc, netlist.parts)?;
+    ordered(alloc, netlist.inputs, cells, netlist.outputs)
+}
+
+/// So many latches, each of which reads net 0.
+fn latches(alloc: Global, count: u32) -> Result<Vec<Cell>, AllocError> {
+    let mut cells = Vec::new(alloc);
+    for _ in 0..count {
+        cells.push(latch(0))?;
+    }
+    Ok(cells)
+}
+
+/// The netlist of one input, of so many latches that read it, and of these outputs.
+pub fn of_latches(alloc: Global, count: u32, outputs: &[u32]) -> Result<Ordered, Fail> {
+    let cells = latches(alloc, count)?;
+    ordered(alloc, 1, cells, outputs)
 }

@@ -1,10 +1,12 @@
 use crate::boards::{TRIANGLE, board, may_be_chips};
-use crate::netlists::{Part, cells_of, gate, latch, ordered};
+use crate::netlists::{Netlist, Part, gate, latch, made, of_latches, ordered};
+use crate::same::{are_either, is_count};
 use std::alloc::Global;
+use std::process::Abort;
 use std::test::Fail;
-use vw_board::read;
 use vw_net::Ordered;
 use vw_part::{PartFault, partition};
+use vw_plan::Board;
 use vw_wires::needed;
 
 /// That with room for two cells on each chip.
@@ -32,64 +34,101 @@ fn pairs(alloc: Global, ordered: &Ordered, chips: &[u32]) -> Result<usize, Fail>
     Ok(needed(alloc, ordered, chips)?.len())
 }
 
+/// Asserts how many pairs are needed where a netlist's cells are dealt to a board.
+fn has_pairs(
+    rt: &impl Abort,
+    alloc: Global,
+    ordered: &Ordered,
+    text: &[u8],
+    count: usize,
+) -> Result<(), Fail> {
+    let chips = chips_of(alloc, ordered, text)?;
+    is_count(rt, pairs(alloc, ordered, &chips)?, count);
+    Ok(())
+}
+
 /// How many cells are on a chip.
 fn on_chip(chips: &[u32], chip: u32) -> usize {
-    chips.iter().filter(|other| **other == chip).count()
+    let mut count = 0;
+    for other in chips {
+        if *other == chip && count < chips.len() {
+            count += 1;
+        }
+    }
+    count
 }
 
 /// A gate that reads the input and a latch, which reads the gate and is the output.
-fn toggle(alloc: Global) -> Result<Ordered, Fail> {
-    let cells = cells_of(alloc, &[Part::Gate(&[0, 2]), Part::Latch(1)])?;
-    ordered(alloc, 1, cells, &[2])
+const TOGGLE: Netlist = Netlist {
+    inputs: 1,
+    parts: &[Part::Gate(&[0, 2]), Part::Latch(1)],
+    outputs: &[2],
+};
+
+/// Asserts that a netlist's cells are dealt to these chips, or to those, and how many pairs are needed.
+fn is_either(
+    rt: &impl Abort,
+    alloc: Global,
+    ordered: &Ordered,
+    text: &[u8],
+    these: &[u32],
+    those: &[u32],
+    count: usize,
+) -> Result<(), Fail> {
+    let chips = chips_of(alloc, ordered, text)?;
+    are_either(rt, &chips, these, those);
+    is_count(rt, pairs(alloc, ordered, &chips)?, count);
+    Ok(())
 }
 
 #[test]
 fn two_cells_of_which_each_fills_a_chip_are_apart(rt: HostRuntime) -> Result<(), Fail> {
-    let alloc = rt.alloc();
-    let toggle = toggle(alloc)?;
-    let chips = chips_of(alloc, &toggle, TRIANGLE)?;
-    assert!(rt; chips.as_slice() == [1, 2].as_slice() || chips.as_slice() == [2, 1].as_slice());
-    assert_eq!(rt; pairs(alloc, &toggle, chips.as_slice())?, 4);
-    Ok(())
+    let toggle = made(rt.alloc(), &TOGGLE)?;
+    is_either(&rt, rt.alloc(), &toggle, TRIANGLE, &[1, 2], &[2, 1], 4)
 }
 
 #[test]
 fn two_cells_that_read_each_other_are_together(rt: HostRuntime) -> Result<(), Fail> {
-    let alloc = rt.alloc();
-    let toggle = toggle(alloc)?;
-    let chips = chips_of(alloc, &toggle, TWO_EACH)?;
-    assert!(rt; chips.as_slice() == [1, 1].as_slice() || chips.as_slice() == [2, 2].as_slice());
-    assert_eq!(rt; pairs(alloc, &toggle, chips.as_slice())?, 2);
-    Ok(())
+    let toggle = made(rt.alloc(), &TOGGLE)?;
+    is_either(&rt, rt.alloc(), &toggle, TWO_EACH, &[1, 1], &[2, 2], 2)
 }
 
-/// So many latches that read the input.
-fn latches(alloc: Global, count: u32) -> Result<Ordered, Fail> {
-    let mut cells = Vec::new(alloc);
-    for _ in 0..count {
-        cells.push(latch(0))?;
+/// How many cells there are, and for how many there is room, where they are too many.
+fn too_many(alloc: Global, ordered: &Ordered, board: &Board) -> Option<(u64, u64)> {
+    match partition(alloc, ordered, board) {
+        Err(PartFault::TooManyCells { cells, room }) => Some((cells, room)),
+        _ => None,
     }
-    ordered(alloc, 1, cells, &[])
 }
 
 #[test]
 fn five_cells_are_too_many_for_two_chips_of_two(rt: HostRuntime) -> Result<(), Fail> {
-    let five = latches(rt.alloc(), 5)?;
+    let five = of_latches(rt.alloc(), 5, &[])?;
     let board = board(rt.alloc(), TWO_EACH)?;
-    let fault = match partition(rt.alloc(), &five, &board) {
-        Err(fault) => Some(fault),
-        Ok(_) => None,
-    };
-    assert_eq!(rt; fault, Some(PartFault::TooManyCells { cells: 5, room: 4 }));
+    let found = too_many(rt.alloc(), &five, &board);
+    assert!(rt; found == Some((5, 4)));
     Ok(())
+}
+
+/// Asserts how many of a netlist's cells are dealt to two chips of a board.
+fn are_dealt(
+    rt: &impl Abort,
+    alloc: Global,
+    ordered: &Ordered,
+    text: &[u8],
+    one: (u32, usize),
+    other: (u32, usize),
+) -> Result<usize, Fail> {
+    let chips = chips_of(alloc, ordered, text)?;
+    is_count(rt, on_chip(&chips, one.0), one.1);
+    is_count(rt, on_chip(&chips, other.0), other.1);
+    Ok(chips.len())
 }
 
 #[test]
 fn as_many_cells_as_there_is_room_for_are_dealt(rt: HostRuntime) -> Result<(), Fail> {
-    let four = latches(rt.alloc(), 4)?;
-    let chips = chips_of(rt.alloc(), &four, TWO_EACH)?;
-    assert_eq!(rt; on_chip(chips.as_slice(), 1), 2);
-    assert_eq!(rt; on_chip(chips.as_slice(), 2), 2);
+    let four = of_latches(rt.alloc(), 4, &[])?;
+    are_dealt(&rt, rt.alloc(), &four, TWO_EACH, (1, 2), (2, 2))?;
     Ok(())
 }
 
@@ -103,25 +142,49 @@ fn tangle(alloc: Global) -> Result<Ordered, Fail> {
     ordered(alloc, 10, cells, &[309, 100, 200])
 }
 
+/// How many pairs are needed where one cell is moved to a chip.
+fn moved_pairs(
+    alloc: Global,
+    ordered: &Ordered,
+    chips: &[u32],
+    cell: usize,
+    chip: u32,
+) -> Result<usize, Fail> {
+    let mut moved = chips.to_vec(alloc)?;
+    if let Some(old) = moved.get_mut(cell) {
+        *old = chip;
+    }
+    pairs(alloc, ordered, &moved)
+}
+
+/// Asserts that at least so many pairs are needed where one cell is moved to a chip that has room for it.
+fn no_move_helps(
+    rt: &impl Abort,
+    alloc: Global,
+    ordered: &Ordered,
+    chips: &[u32],
+    chip: u32,
+    least: usize,
+) -> Result<(), Fail> {
+    let load = on_chip(chips, chip);
+    assert!(rt; load <= 80);
+    if load < 80 {
+        for cell in 0..chips.len() {
+            let moved = moved_pairs(alloc, ordered, chips, cell, chip)?;
+            assert!(rt; least <= moved, "cell {cell} to chip {chip}");
+        }
+    }
+    Ok(())
+}
+
 #[test]
 fn no_move_lowers_the_pairs_of_a_tangle(rt: HostRuntime) -> Result<(), Fail> {
-    let alloc = rt.alloc();
-    let tangle = tangle(alloc)?;
-    let mut chips = chips_of(alloc, &tangle, RING)?;
-    let least = pairs(alloc, &tangle, chips.as_slice())?;
-    assert_eq!(rt; on_chip(chips.as_slice(), 0), 0);
-    for cell in 0..chips.len() {
-        let old = chips[cell];
-        for chip in 1..5u32 {
-            let load = on_chip(chips.as_slice(), chip);
-            assert!(rt; load <= 80);
-            if load < 80 {
-                chips[cell] = chip;
-                let moved = pairs(alloc, &tangle, chips.as_slice())?;
-                assert!(rt; least <= moved, "cell {cell} to chip {chip}");
-                chips[cell] = old;
-            }
-        }
+    let tangle = tangle(rt.alloc())?;
+    let chips = chips_of(rt.alloc(), &tangle, RING)?;
+    let least = pairs(rt.alloc(), &tangle, &chips)?;
+    is_count(&rt, on_chip(&chips, 0), 0);
+    for chip in 1..5u32 {
+        no_move_helps(&rt, rt.alloc(), &tangle, &chips, chip, least)?;
     }
     Ok(())
 }
@@ -130,9 +193,8 @@ fn no_move_lowers_the_pairs_of_a_tangle(rt: HostRuntime) -> Result<(), Fail> {
 const TWO_HUNDRED: &[u8] =
     b"board 1\nchips 2\ncells 100\nsettle 0\npins 2\nlink 0 1 1\nlink 1 2 1\nlink 2 0 1\n";
 
-#[test]
-fn two_chains_whose_cells_alternate_are_apart(rt: HostRuntime) -> Result<(), Fail> {
-    let alloc = rt.alloc();
+/// 200 gates, each of which reads the two before it that have the same parity.
+fn chains(alloc: Global) -> Result<Ordered, Fail> {
     let mut cells = Vec::new(alloc);
     for number in 0..200u32 {
         let before = number.saturating_sub(1);
@@ -142,44 +204,46 @@ fn two_chains_whose_cells_alternate_are_apart(rt: HostRuntime) -> Result<(), Fai
         let second = if number < 4 { first } else { earlier };
         cells.push(gate(alloc, &[first, second])?)?;
     }
-    let chains = ordered(alloc, 1, cells, &[])?;
-    let chips = chips_of(alloc, &chains, TWO_HUNDRED)?;
-    // the input at both chips
-    assert_eq!(rt; pairs(alloc, &chains, chips.as_slice())?, 2);
-    Ok(())
+    ordered(alloc, 1, cells, &[])
 }
 
 #[test]
-fn rings_whose_cells_are_mixed_stay_whole(rt: HostRuntime) -> Result<(), Fail> {
-    let alloc = rt.alloc();
-    // forty rings of eight latches, whose cells take turns; ten rings just fill a chip
+fn two_chains_whose_cells_alternate_are_apart(rt: HostRuntime) -> Result<(), Fail> {
+    // the input at both chips
+    has_pairs(&rt, rt.alloc(), &chains(rt.alloc())?, TWO_HUNDRED, 2)
+}
+
+/// Forty rings of eight latches, whose cells take turns; ten rings just fill a chip.
+fn rings(alloc: Global) -> Result<Ordered, Fail> {
     let mut cells = Vec::new(alloc);
     for number in 0..320u32 {
         cells.push(latch((number + 40) % 320))?;
     }
-    let rings = ordered(alloc, 0, cells, &[])?;
-    let chips = chips_of(alloc, &rings, RING)?;
-    assert_eq!(rt; pairs(alloc, &rings, chips.as_slice())?, 0);
-    Ok(())
+    ordered(alloc, 0, cells, &[])
 }
 
 #[test]
-fn the_most_cells_and_chips_are_dealt(rt: HostRuntime) -> Result<(), Fail> {
-    let alloc = rt.alloc();
+fn rings_whose_cells_are_mixed_stay_whole(rt: HostRuntime) -> Result<(), Fail> {
+    has_pairs(&rt, rt.alloc(), &rings(rt.alloc())?, RING, 0)
+}
+
+/// 65536 gates, each of which reads the net before its own, and one that is half as far.
+fn chain(alloc: Global) -> Result<Ordered, Fail> {
     let mut cells = Vec::new(alloc);
     for number in 0..65536u32 {
         cells.push(gate(alloc, &[number, number / 2])?)?;
     }
-    let chain = ordered(alloc, 1, cells, &[65536])?;
-    let mut text = b"board 1\nchips 32\ncells 2048\nsettle 0\npins 2\nlink 32 0 1\n".to_vec(alloc)?;
-    for chip in 0..32u32 {
-        let next = chip + 1;
-        let line = format!(in alloc; "link {chip} {next} 1\n")?;
-        text.extend_from_slice(line.as_bytes())?;
-    }
-    let chips = chips_of(alloc, &chain, text.as_slice())?;
-    assert_eq!(rt; chips.len(), 65536);
-    assert_eq!(rt; on_chip(chips.as_slice(), 1), 2048);
-    assert_eq!(rt; on_chip(chips.as_slice(), 32), 2048);
+    ordered(alloc, 1, cells, &[65536])
+}
+
+/// 32 chips in a ring with the host, which just have room for these gates.
+const MOST: &[u8] =
+    b"board 1\nchips 32\ncells 2048\nsettle 0\npins 2\nlink 32 0 1\nlink 0 1 1\nlink 1 2 1\nlink 2 3 1\nlink 3 4 1\nlink 4 5 1\nlink 5 6 1\nlink 6 7 1\nlink 7 8 1\nlink 8 9 1\nlink 9 10 1\nlink 10 11 1\nlink 11 12 1\nlink 12 13 1\nlink 13 14 1\nlink 14 15 1\nlink 15 16 1\nlink 16 17 1\nlink 17 18 1\nlink 18 19 1\nlink 19 20 1\nlink 20 21 1\nlink 21 22 1\nlink 22 23 1\nlink 23 24 1\nlink 24 25 1\nlink 25 26 1\nlink 26 27 1\nlink 27 28 1\nlink 28 29 1\nlink 29 30 1\nlink 30 31 1\nlink 31 32 1\n";
+
+#[test]
+fn the_most_cells_and_chips_are_dealt(rt: HostRuntime) -> Result<(), Fail> {
+    let chain = chain(rt.alloc())?;
+    let count = are_dealt(&rt, rt.alloc(), &chain, MOST, (1, 2048), (32, 2048))?;
+    is_count(&rt, count, 65536);
     Ok(())
 }

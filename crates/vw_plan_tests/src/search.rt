@@ -1,6 +1,8 @@
 ghost use Rattle.vw_plan_tests.specs.GraphTables.{graph_of_table};
 
+use crate::same::are_numbers;
 use std::alloc::{AllocError, Global};
+use std::process::Abort;
 use std::test::Fail;
 use vw_search::{Digraph, Found, search};
 
@@ -70,38 +72,43 @@ fn look_at(
     }
 }
 
-#[test]
-fn what_is_read_comes_first(rt: HostRuntime) -> Result<(), Fail> {
-    let alloc = rt.alloc();
-    let lines = [(0, 2), (2, 3), (0, 3), (1, 0)];
-    let all = look_at(alloc, 4, 4, &lines)?;
-    assert!(rt; all.is_order);
-    assert_eq!(rt; all.numbers.as_slice(), [3, 2, 0, 1].as_slice());
-    let empty = look_at(alloc, 0, 0, &[])?;
-    assert!(rt; empty.is_order);
-    assert_eq!(rt; empty.numbers.len(), 0);
+/// How many numbers there are and how many of them have to be reached, what is read, whether there is an order, and the
+/// order or the circle.
+type Row<'a> = (u32, u32, &'a [(u32, u32)], bool, &'a [u32]);
+
+/// Asserts what is found of each row.
+fn are_found(rt: &impl Abort, alloc: Global, rows: &[Row]) -> Result<(), AllocError> {
+    for (count, starts, lines, is_order, numbers) in rows {
+        let found = look_at(alloc, *count, *starts, lines)?;
+        assert!(rt; found.is_order == *is_order);
+        are_numbers(rt, &found.numbers, numbers);
+    }
     Ok(())
 }
+
+const ORDERS: &[Row] = &[
+    (4, 4, &[(0, 2), (2, 3), (0, 3), (1, 0)], true, &[3, 2, 0, 1]),
+    (0, 0, &[], true, &[]),
+];
+
+#[test]
+fn what_is_read_comes_first(rt: HostRuntime) -> Result<(), Fail> {
+    Ok(are_found(&rt, rt.alloc(), ORDERS)?)
+}
+
+const REACHED: &[Row] = &[(4, 1, &[(0, 2), (1, 0), (3, 3)], true, &[2, 0])];
 
 #[test]
 fn what_no_one_reads_is_left_out(rt: HostRuntime) -> Result<(), Fail> {
-    let alloc = rt.alloc();
-    let lines = [(0, 2), (1, 0), (3, 3)];
-    let reached = look_at(alloc, 4, 1, &lines)?;
-    assert!(rt; reached.is_order);
-    assert_eq!(rt; reached.numbers.as_slice(), [2, 0].as_slice());
-    Ok(())
+    Ok(are_found(&rt, rt.alloc(), REACHED)?)
 }
+
+const CIRCLES: &[Row] = &[
+    (4, 1, &[(0, 3), (3, 2), (2, 1), (1, 3)], false, &[1, 3, 2]),
+    (3, 3, &[(0, 1), (1, 1)], false, &[1]),
+];
 
 #[test]
 fn a_circle_begins_with_its_least_number(rt: HostRuntime) -> Result<(), Fail> {
-    let alloc = rt.alloc();
-    let lines = [(0, 3), (3, 2), (2, 1), (1, 3)];
-    let three = look_at(alloc, 4, 1, &lines)?;
-    assert!(rt; !three.is_order);
-    assert_eq!(rt; three.numbers.as_slice(), [1, 3, 2].as_slice());
-    let own = look_at(alloc, 3, 3, &[(0, 1), (1, 1)])?;
-    assert!(rt; !own.is_order);
-    assert_eq!(rt; own.numbers.as_slice(), [1].as_slice());
-    Ok(())
+    Ok(are_found(&rt, rt.alloc(), CIRCLES)?)
 }

@@ -5,23 +5,29 @@ use std::{fs, process};
 const TOGGLE: &[u8] =
     b".model toggle\n.inputs en\n.outputs q\n.names en q d\n10 1\n01 1\n.latch d q 0\n.end\n";
 
+/// The exit status of these words.
+fn status(rt: &HostRuntime, words: &[&[u8]]) -> Result<u8, AllocError> {
+    let mut names = Vec::new(rt.alloc());
+    for word in words {
+        names.push(Name::of(word.to_vec(rt.alloc())?))?;
+    }
+    Ok(status_of(rt, &names))
+}
+
 /// The exit status of `sim` on two files of the machine with these texts.
 fn sim_status(rt: &HostRuntime, design: &[u8], stimulus: &[u8]) -> Result<u8, Fail> {
-    let alloc = rt.alloc();
     let number = process::id(rt.process());
-    let design_path = format!(in alloc; "/tmp/vwires_{number}.blif")?;
-    let stimulus_path = format!(in alloc; "/tmp/vwires_{number}.stim")?;
+    let design_path = format!(in rt.alloc(); "/tmp/vwires_{number}.blif")?;
+    let stimulus_path = format!(in rt.alloc(); "/tmp/vwires_{number}.stim")?;
     fs::write(rt, design_path.as_str(), design)?;
     fs::write(rt, stimulus_path.as_str(), stimulus)?;
-    let words = vec![in alloc;
-        Name::of(b"sim".to_vec(alloc)?),
-        Name::of(design_path.as_bytes().to_vec(alloc)?),
-        Name::of(stimulus_path.as_bytes().to_vec(alloc)?),
-    ]?;
-    let status = status_of(rt, &words);
+    let found = status(
+        rt,
+        &[b"sim", design_path.as_bytes(), stimulus_path.as_bytes()],
+    )?;
     fs::remove_file(rt, design_path.as_str())?;
     fs::remove_file(rt, stimulus_path.as_str())?;
-    Ok(status)
+    Ok(found)
 }
 
 #[test]
@@ -34,14 +40,7 @@ fn texts_in_files_have_their_statuses(rt: HostRuntime) -> Result<(), Fail> {
 
 #[test]
 fn wrong_words_and_a_folder_have_their_statuses(rt: HostRuntime) -> Result<(), Fail> {
-    let alloc = rt.alloc();
-    let words = vec![in alloc; Name::of(b"fly".to_vec(alloc)?)]?;
-    assert_eq!(rt; status_of(&rt, &words), 2);
-    let words = vec![in alloc;
-        Name::of(b"sim".to_vec(alloc)?),
-        Name::of(b"/tmp".to_vec(alloc)?),
-        Name::of(b"/dev/null".to_vec(alloc)?),
-    ]?;
-    assert_eq!(rt; status_of(&rt, &words), 7);
+    assert_eq!(rt; status(&rt, &[b"fly"])?, 2);
+    assert_eq!(rt; status(&rt, &[b"sim", b"/tmp", b"/dev/null"])?, 7);
     Ok(())
 }

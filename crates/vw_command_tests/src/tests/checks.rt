@@ -15,125 +15,200 @@ const FLIP: &str = ".model m\n.outputs q\n.names q d\n0 1\n.latch d q 0\n.end\n"
 
 const FLIP_PLAN: &str = "plan 1 2 1 2\nchips 2 2\nwire 1 0 2\nhop 2 1 0 0\nhop 1 0 0 1\nend\n";
 
-/// A chain of two chips behind the host, with so many cells a chip, and so long for a gate to settle.
-fn chain(alloc: Global, cells: u32, settle: u32) -> Result<String, AllocError> {
-    Ok(format!(in alloc;
-        "board 1\nchips 2\ncells {cells}\nsettle {settle}\npins 4\nlink 0 1 1\nlink 1 0 1\nlink 1 2 1\nlink 2 1 1\n"
-    )?)
+/// A chain of two chips behind the host, with two cells a chip.
+const CHAIN: &str =
+    "board 1\nchips 2\ncells 2\nsettle 0\npins 4\nlink 0 1 1\nlink 1 0 1\nlink 1 2 1\nlink 2 1 1\n";
+
+/// Such a chain whose gates take 3 to settle, and one of one cell a chip.
+const SLOW_CHAIN: &str =
+    "board 1\nchips 2\ncells 2\nsettle 3\npins 4\nlink 0 1 1\nlink 1 0 1\nlink 1 2 1\nlink 2 1 1\n";
+
+const SMALL_CHAIN: &str =
+    "board 1\nchips 2\ncells 1\nsettle 0\npins 4\nlink 0 1 1\nlink 1 0 1\nlink 1 2 1\nlink 2 1 1\n";
+
+/// The triangle, with gates that take 1 to settle.
+const SLOW_TRIANGLE: &str =
+    "board 1\nchips 2\ncells 1\nsettle 1\npins 4\nlink 0 1 1\nlink 0 2 1\nlink 1 0 1\nlink 1 2 1\nlink 2 0 1\nlink 2 1 1\n";
+
+/// Asserts, for each of these designs, boards and plans, with which status, output and message a check ends.
+fn checks_end(
+    rt: &impl Abort,
+    alloc: Global,
+    table: &[(&str, &str, &str, u8, &str, &str)],
+) -> Result<(), Fail> {
+    for (design, board, plan, status, out, err) in table {
+        let call = Call {
+            words: CHECK,
+            texts: &[("d", design), ("b", board), ("p", plan)],
+            most: MOST,
+            fault: Fault::None,
+        };
+        let end = End {
+            status: *status,
+            out,
+            err,
+        };
+        call_ends(rt, alloc, &call, plan, end)?;
+    }
+    Ok(())
 }
 
 #[test]
 fn sound_plans_are_accepted(rt: HostRuntime) -> Result<(), Fail> {
-    let flip_board = chain(rt.alloc(), 2, 0)?;
-    let table = [
-        (TOGGLE, TRIANGLE, TOGGLE_PLAN, "sound 4 4 2\n"),
+    const TABLE: &[(&str, &str, &str, u8, &str, &str)] = &[
+        (TOGGLE, TRIANGLE, TOGGLE_PLAN, 0, "sound 4 4 2\n", ""),
         (
             AND,
             ONE_CHIP,
             "plan 1 1 3 3\nchips 1\nwire 0 1 1\nhop 0 1 0 0\nwire 1 1 1\nhop 0 1 0 1\nwire 2 0 1\nhop 1 0 0 2\nend\n",
+            0,
             "sound 3 3 3\n",
+            "",
         ),
-        (FLIP, flip_board.as_str(), FLIP_PLAN, "sound 1 2 2\n"),
+        (FLIP, CHAIN, FLIP_PLAN, 0, "sound 1 2 2\n", ""),
         // nothing to place, and nothing to send
         (
             ".model m\n",
             TRIANGLE,
             "plan 1 0 0 1\nchips\nend\n",
+            0,
             "sound 0 0 1\n",
+            "",
         ),
     ];
-    for (design, board, plan, line) in table {
-        let ran = check(rt.alloc(), design, board, plan)?;
-        has_ended(&rt, &ran, plan, 0, line, "");
-    }
-    Ok(())
+    checks_end(&rt, rt.alloc(), TABLE)
 }
 
 #[test]
 fn each_single_change_of_a_plan_has_its_line(rt: HostRuntime) -> Result<(), Fail> {
-    let table = [
+    const TABLE: &[(&str, &str, &str, u8, &str, &str)] = &[
         (
+            AND,
+            ONE_CHIP,
             "plan 1 1 3 3\nchips 1\nwire 0 1 1\nhop 0 1 0 0\nwire 1 1 1\nhop 0 1 0 0\nwire 2 0 1\nhop 1 0 0 2\nend\n",
+            4,
+            "",
             "plan 13: wire 0 hop 0 and wire 1 hop 0 share a pin\n",
         ),
         (
+            AND,
+            ONE_CHIP,
             "plan 1 1 3 3\nchips 1\nwire 0 1 1\nhop 0 1 0 0\nwire 1 1 1\nhop 0 1 0 1\nwire 2 0 1\nhop 1 0 0 1\nend\n",
+            4,
+            "",
             "plan 14: wire 2 sent at 1, usable at 2\n",
         ),
         (
+            AND,
+            ONE_CHIP,
             "plan 1 1 3 3\nchips 1\nwire 0 1 1\nhop 0 1 1 0\nwire 1 1 1\nhop 0 1 0 1\nwire 2 0 1\nhop 1 0 0 2\nend\n",
+            4,
+            "",
             "plan 10: wire 0 hop 0 has no pin\n",
         ),
         (
+            AND,
+            ONE_CHIP,
             "plan 1 1 3 3\nchips 1\nwire 0 1 1\nhop 1 0 0 0\nwire 1 1 1\nhop 0 1 0 1\nwire 2 0 1\nhop 1 0 0 2\nend\n",
+            4,
+            "",
             "plan 9: wire 0 hop 0 breaks the route\n",
         ),
         (
+            AND,
+            ONE_CHIP,
             "plan 1 1 3 2\nchips 1\nwire 0 1 1\nhop 0 1 0 0\nwire 1 1 1\nhop 0 1 0 1\nwire 2 0 1\nhop 1 0 0 2\nend\n",
+            4,
+            "",
             "plan 12: wire 2 hop 0 is past the period\n",
         ),
         (
+            AND,
+            ONE_CHIP,
             "plan 1 1 3 0\nchips 1\nwire 0 1 1\nhop 0 1 0 0\nwire 1 1 1\nhop 0 1 0 1\nwire 2 0 1\nhop 1 0 0 2\nend\n",
+            4,
+            "",
             "plan 4: period 0\n",
         ),
         (
+            AND,
+            ONE_CHIP,
             "plan 1 1 3 3\nchips 2\nwire 0 1 1\nhop 0 1 0 0\nwire 1 1 1\nhop 0 1 0 1\nwire 2 0 1\nhop 1 0 0 2\nend\n",
+            4,
+            "",
             "plan 5: cell 0 has no chip\n",
         ),
         (
+            AND,
+            ONE_CHIP,
             "plan 1 0 3 3\nchips\nwire 0 1 1\nhop 0 1 0 0\nwire 1 1 1\nhop 0 1 0 1\nwire 2 0 1\nhop 1 0 0 2\nend\n",
+            4,
+            "",
             "plan 3: 0 cells, wanted 1\n",
         ),
         (
+            AND,
+            ONE_CHIP,
             "plan 1 1 2 3\nchips 1\nwire 0 1 1\nhop 0 1 0 0\nwire 2 0 1\nhop 1 0 0 2\nend\n",
+            4,
+            "",
             "plan 7: no wire of net 1 to node 1\n",
         ),
         (
+            AND,
+            ONE_CHIP,
             "plan 1 1 4 3\nchips 1\nwire 0 1 1\nhop 0 1 0 0\nwire 1 1 1\nhop 0 1 0 1\nwire 2 0 1\nhop 1 0 0 2\nwire 0 1 1\nhop 0 1 0 0\nend\n",
+            4,
+            "",
             "plan 8: wire 3 isn't needed\n",
         ),
         // not a plan's spelling at all: a word too many, and a text that stops early
-        ("plan 1 1 3 3 3\n", "plan 2: line 1\n"),
-        ("plan 1 1 3 3\nchips 1\n", "plan 2: line 3\n"),
+        (AND, ONE_CHIP, "plan 1 1 3 3 3\n", 4, "", "plan 2: line 1\n"),
+        (
+            AND,
+            ONE_CHIP,
+            "plan 1 1 3 3\nchips 1\n",
+            4,
+            "",
+            "plan 2: line 3\n",
+        ),
     ];
-    for (plan, line) in table {
-        let ran = check(rt.alloc(), AND, ONE_CHIP, plan)?;
-        has_ended(&rt, &ran, plan, 4, "", line);
-    }
-    Ok(())
+    checks_end(&rt, rt.alloc(), TABLE)
 }
 
 #[test]
 fn gates_need_time_to_settle(rt: HostRuntime) -> Result<(), Fail> {
-    let slow_triangle = format!(in rt.alloc();
-        "board 1\nchips 2\ncells 1\nsettle 1\npins 4\nlink 0 1 1\nlink 0 2 1\nlink 1 0 1\nlink 1 2 1\nlink 2 0 1\nlink 2 1 1\n"
-    )?;
-    let slow = chain(rt.alloc(), 2, 3)?;
-    let small = chain(rt.alloc(), 1, 0)?;
-    let fast = chain(rt.alloc(), 2, 0)?;
-    let table = [
+    const TABLE: &[(&str, &str, &str, u8, &str, &str)] = &[
         (
             TOGGLE,
-            slow_triangle.as_str(),
+            SLOW_TRIANGLE,
             TOGGLE_PLAN,
+            4,
+            "",
             "plan 14: wire 1 sent at 1, usable at 2\n",
         ),
         (
             FLIP,
-            slow.as_str(),
+            SLOW_CHAIN,
             FLIP_PLAN,
+            4,
+            "",
             "plan 15: latch 1 usable at 3\n",
         ),
         (
             FLIP,
-            small.as_str(),
+            SMALL_CHAIN,
             FLIP_PLAN,
+            4,
+            "",
             "plan 6: chip 2 has 2 cells\n",
         ),
         (
             FLIP,
-            fast.as_str(),
+            CHAIN,
             "plan 1 2 1 2\nchips 2 2\nwire 1 0 2\nhop 2 1 0 0\nhop 1 0 0 0\nend\n",
+            4,
+            "",
             "plan 11: wire 0 hop 1 is out of order\n",
         ),
         // the last four bytes are cut off
@@ -141,132 +216,127 @@ fn gates_need_time_to_settle(rt: HostRuntime) -> Result<(), Fail> {
             TOGGLE,
             TRIANGLE,
             "plan 1 2 4 2\nchips 1 2\nwire 0 1 1\nhop 0 1 0 0\nwire 1 2 1\nhop 1 2 0 1\nwire 2 0 1\nhop 2 0 0 0\nwire 2 1 1\nhop 2 1 0 0\n",
+            4,
+            "",
             "plan 2: line 11\n",
         ),
     ];
-    for (design, board, plan, line) in table {
-        let ran = check(rt.alloc(), design, board, plan)?;
-        has_ended(&rt, &ran, plan, 4, "", line);
-    }
-    Ok(())
+    checks_end(&rt, rt.alloc(), TABLE)
 }
 
 #[test]
 fn each_fault_of_a_board_has_its_line(rt: HostRuntime) -> Result<(), Fail> {
-    let table = [
+    // whatever the plan is: the board comes first
+    const TABLE: &[(&str, &str, &str, u8, &str, &str)] = &[
         (
+            TOGGLE,
             "board 1\nchips 2\ncells 4\nsettle 0\npins 4\nlink 0 1 1\nlink 1 0 1\nlink 1 2 1\n",
+            "plan\n",
+            3,
+            "",
             "board 7: no walk from 2 to 0\n",
         ),
-        ("board 1\nchips 2\n", "board 2: line 3: bad line\n"),
-        ("board 1\nchips 40\n", "board 3: line 2: bad number\n"),
         (
+            TOGGLE,
+            "board 1\nchips 2\n",
+            "plan\n",
+            3,
+            "",
+            "board 2: line 3: bad line\n",
+        ),
+        (
+            TOGGLE,
+            "board 1\nchips 40\n",
+            "plan\n",
+            3,
+            "",
+            "board 3: line 2: bad number\n",
+        ),
+        (
+            TOGGLE,
             "board 1\nchips 1\ncells 1\nsettle 0\npins 2\nlink 1 1 1\n",
+            "plan\n",
+            3,
+            "",
             "board 4: self link 1\n",
         ),
         (
+            TOGGLE,
             "board 1\nchips 1\ncells 1\nsettle 0\npins 2\nlink 0 1 1\nlink 0 1 2\n",
+            "plan\n",
+            3,
+            "",
             "board 5: duplicate link 0 1\n",
         ),
         (
+            TOGGLE,
             "board 1\nchips 1\ncells 1\nsettle 0\npins 2\nlink 0 1 2\nlink 1 0 1\n",
+            "plan\n",
+            3,
+            "",
             "board 6: chip 1 uses 3 pins of 2\n",
         ),
     ];
-    for (board, line) in table {
-        // whatever the plan is: the board comes first
-        let ran = check(rt.alloc(), TOGGLE, board, "plan\n")?;
-        has_ended(&rt, &ran, board, 3, "", line);
-    }
-    Ok(())
+    checks_end(&rt, rt.alloc(), TABLE)
 }
 
 #[test]
 fn an_earlier_stage_of_check_comes_first(rt: HostRuntime) -> Result<(), Fail> {
-    let table: [(&[&str], &str, u8, &str); 8] = [
-        (
-            &["check", "d", "b", "p"],
-            "",
-            1,
-            "design 2: line 0: no model\n",
-        ),
-        (
-            &["check", "gone", "b", "p"],
-            TOGGLE,
-            7,
-            "read fault: design\n",
-        ),
-        (
-            &["check", "d", "gone", "p"],
-            TOGGLE,
-            7,
-            "read fault: board\n",
-        ),
+    const NO_DESIGN: &[(&str, &str)] = &[("d", ""), ("b", ""), ("board", TRIANGLE), ("p", "")];
+    const NO_DESIGN_TABLE: &[(&[&str], u8, &str, &str)] = &[(
+        CHECK,
+        1,
+        "",
+        "design 2: line 0: no model\n",
+    )];
+    const TEXTS: &[(&str, &str)] = &[("d", TOGGLE), ("b", ""), ("board", TRIANGLE), ("p", "")];
+    const TABLE: &[(&[&str], u8, &str, &str)] = &[
+        (&["check", "gone", "b", "p"], 7, "", "read fault: design\n"),
+        (&["check", "d", "gone", "p"], 7, "", "read fault: board\n"),
         (
             &["check", "d", "board", "gone"],
-            TOGGLE,
             7,
+            "",
             "read fault: plan\n",
         ),
         (
             &["check", "d", "b", "gone"],
-            TOGGLE,
             3,
+            "",
             "board 2: line 1: bad line\n",
         ),
-        (&["check", "d", "b"], TOGGLE, 2, "usage: word 4\n"),
-        (&["check", "d", "", "p"], TOGGLE, 2, "usage: word 3\n"),
+        (&["check", "d", "b"], 2, "", "usage: word 4\n"),
+        (&["check", "d", "", "p"], 2, "", "usage: word 3\n"),
         (
             &["check", "d", "b", "p", "unknown=0"],
-            TOGGLE,
             2,
+            "",
             "usage: word 5\n",
         ),
     ];
-    for (words, design, status, line) in table {
-        let texts = [("d", design), ("b", ""), ("board", TRIANGLE), ("p", "")];
-        let ran = call(rt.alloc(), words, &texts, NO_FAULTS)?;
-        has_ended(&rt, &ran, line, status, "", line);
-    }
-    Ok(())
+    words_end(&rt, rt.alloc(), NO_DESIGN, NO_DESIGN_TABLE)?;
+    words_end(&rt, rt.alloc(), TEXTS, TABLE)
 }
 
 /// With at most 64 bytes a read, the design of 78 bytes, the board of 106 and the plan of 119 take three reads each, of
 /// which the last finds the end; the line of 12 bytes takes two writes of at most 10.
 #[test]
 fn each_read_and_write_of_check_may_fail(rt: HostRuntime) -> Result<(), Fail> {
-    let texts = [("d", TOGGLE), ("b", TRIANGLE), ("p", TOGGLE_PLAN)];
-    let reads = [
-        (1, 3, 7, "read fault: design\n", ""),
-        (4, 6, 7, "read fault: board\n", ""),
-        (7, 9, 7, "read fault: plan\n", ""),
-        (10, 10, 0, "", "sound 4 4 2\n"),
+    const TEXTS: &[(&str, &str)] = &[("d", TOGGLE), ("b", TRIANGLE), ("p", TOGGLE_PLAN)];
+    const TABLE: &[(u32, Fault, u8, &str, &str)] = &[
+        (64, Fault::Read(1), 7, "", "read fault: design\n"),
+        (64, Fault::Read(2), 7, "", "read fault: design\n"),
+        (64, Fault::Read(3), 7, "", "read fault: design\n"),
+        (64, Fault::Read(4), 7, "", "read fault: board\n"),
+        (64, Fault::Read(5), 7, "", "read fault: board\n"),
+        (64, Fault::Read(6), 7, "", "read fault: board\n"),
+        (64, Fault::Read(7), 7, "", "read fault: plan\n"),
+        (64, Fault::Read(8), 7, "", "read fault: plan\n"),
+        (64, Fault::Read(9), 7, "", "read fault: plan\n"),
+        (64, Fault::Read(10), 0, "sound 4 4 2\n", ""),
+        (10, Fault::Write(1), 8, "", "write fault\n"),
+        (10, Fault::Write(2), 8, "sound 4 4 ", "write fault\n"),
+        (10, Fault::Write(3), 0, "sound 4 4 2\n", ""),
     ];
-    for (first, last, status, line, out) in reads {
-        for read in first..last + 1 {
-            let faults = Faults {
-                most: 64,
-                read,
-                ..NO_FAULTS
-            };
-            let ran = call(rt.alloc(), &["check", "d", "b", "p"], &texts, faults)?;
-            let on = format!(in rt.alloc(); "read {read}")?;
-            has_ended(&rt, &ran, on.as_str(), status, out, line);
-        }
-    }
-    for (write, status, written) in [(1, 8, 0), (2, 8, 10), (3, 0, 12)] {
-        let faults = Faults {
-            most: 10,
-            write,
-            ..NO_FAULTS
-        };
-        let ran = call(rt.alloc(), &["check", "d", "b", "p"], &texts, faults)?;
-        assert_eq!(rt; ran.status, status, "write {write}");
-        assert_eq!(rt;
-            ran.out.as_slice(),
-            &b"sound 4 4 2\n"[..written],
-            "write {write}"
-        );
-    }
-    Ok(())
+    faults_end(&rt, rt.alloc(), CHECK, TEXTS, TABLE)
 }

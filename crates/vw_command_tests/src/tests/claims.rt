@@ -3,7 +3,7 @@ use super::*;
 
 #[test]
 fn a_net_has_one_driver(rt: HostRuntime) -> Result<(), Fail> {
-    let table = [
+    const TABLE: &[(&str, &str)] = &[
         // a port and a gate, a gate and a latch, a port and an output that is bound
         (
             ".model m\n.inputs a\n.outputs a\n.names a\n1\n.end\n",
@@ -58,12 +58,12 @@ fn a_net_has_one_driver(rt: HostRuntime) -> Result<(), Fail> {
             "design 19: undriven y\n",
         ),
     ];
-    designs_are_refused(&rt, rt.alloc(), &table)
+    designs_are_refused(&rt, rt.alloc(), TABLE)
 }
 
 #[test]
 fn what_is_read_has_a_driver(rt: HostRuntime) -> Result<(), Fail> {
-    let table = [
+    const TABLE: &[(&str, &str)] = &[
         (
             ".model m\n.inputs a\n.outputs y\n.end\n",
             "design 19: undriven y\n",
@@ -102,12 +102,12 @@ fn what_is_read_has_a_driver(rt: HostRuntime) -> Result<(), Fail> {
             "design 19: undriven 1/t\n",
         ),
     ];
-    designs_are_refused(&rt, rt.alloc(), &table)
+    designs_are_refused(&rt, rt.alloc(), TABLE)
 }
 
 #[test]
 fn what_nothing_reads_needs_no_driver(rt: HostRuntime) -> Result<(), Fail> {
-    let table = [
+    const TABLE: &[&str] = &[
         // an actual of a formal that nothing reads
         ".model m\n.inputs a\n.outputs a\n.subckt n i=u\n.model n\n.inputs i\n",
         // an output of a placed model, bound and not bound
@@ -118,12 +118,12 @@ fn what_nothing_reads_needs_no_driver(rt: HostRuntime) -> Result<(), Fail> {
         ".model m\n.inputs a\n.outputs a\n.end\n.model n\n.inputs i c\n.outputs i o\n.subckt none x=y\n.subckt n z=u\n.latch c q re g 0\n.latch i q fe c 0\n.names g\n.names o\n.names u v\n1 1\n.names w w\n1 1\n.end\n",
     ];
     let trace = "trace 1 1 0\n0 1 -\n1 0 -\nend 2 -\n";
-    designs_run_alike(&rt, rt.alloc(), &table, trace)
+    designs_run_alike(&rt, rt.alloc(), TABLE, trace)
 }
 
 #[test]
 fn clocks_are_ports_of_the_root_that_only_controls_read(rt: HostRuntime) -> Result<(), Fail> {
-    let table = [
+    const TABLE: &[(&str, &str)] = &[
         // each declared clock is one, whether a control leads to it or not
         (
             ".model m\n.outputs y\n.clock k\n.names k y\n1 1\n",
@@ -183,13 +183,13 @@ fn clocks_are_ports_of_the_root_that_only_controls_read(rt: HostRuntime) -> Resu
             "design 23: several edges p r\n",
         ),
     ];
-    designs_are_refused(&rt, rt.alloc(), &table)
+    designs_are_refused(&rt, rt.alloc(), TABLE)
 }
 
 /// Each of the designs has the one column d, and one latch that takes it.
 #[test]
 fn clocks_are_no_columns(rt: HostRuntime) -> Result<(), Fail> {
-    let table = [
+    const TABLE: &[&str] = &[
         // no control, no clock
         ".model m\n.inputs d\n.outputs q\n.latch d q re NIL 0\n.end\n",
         // a clock that isn't used, and one that isn't declared
@@ -205,16 +205,16 @@ fn clocks_are_no_columns(rt: HostRuntime) -> Result<(), Fail> {
         ".model m\n.inputs d\n.outputs q\n.clock k\n.subckt l d=d i=k c=k q=q\n.model l\n.inputs i d\n.outputs q\n.clock c\n.subckt n d=d k=c q=q\n.model n\n.inputs d\n.outputs q\n.clock k\n.latch d q re k 0\n",
     ];
     let trace = "trace 1 1 1\n0 0 0\n1 1 1\nend 2 0\n";
-    designs_run_alike(&rt, rt.alloc(), &table, trace)
+    designs_run_alike(&rt, rt.alloc(), TABLE, trace)
 }
 
 /// A latch without a type goes along with any other one, and so does one that has the type of the others.
 #[test]
 fn latches_without_a_type_have_any_edge(rt: HostRuntime) -> Result<(), Fail> {
-    let table = [
+    const TABLE: &[&str] = &[
         ".model m\n.inputs c d\n.outputs p q r\n.latch d p 1\n.latch d q fe c 0\n.latch d r 0\n",
         ".model m\n.inputs c d\n.outputs p q r\n.latch d p re c 1\n.latch d q re NIL 0\n.latch d r 0\n",
     ];
     let trace = "trace 1 3 3\n0 100 100\n1 111 111\nend 2 000\n";
-    designs_run_alike(&rt, rt.alloc(), &table, trace)
+    designs_run_alike(&rt, rt.alloc(), TABLE, trace)
 }

@@ -1,9 +1,10 @@
 //! What designs do, and which are refused.
+use super::large::{Large, REFUSED, large_designs_end};
 use super::*;
 
 #[test]
 fn texts_of_other_tools_run(rt: HostRuntime) -> Result<(), Fail> {
-    let table = [
+    const TABLE: &[(&str, &str, &str)] = &[
         // a comment, a continued line, and a latch of three words that starts at the free value
         (
             "# continued line\n.model top\n.inputs \\\n a b\n.outputs y\n.latch n1 q 2\n.names a b n1\n11 1\n.names q y\n1 1\n.end\n",
@@ -35,12 +36,12 @@ fn texts_of_other_tools_run(rt: HostRuntime) -> Result<(), Fail> {
             "trace 1 3 0\nend 0 -\n",
         ),
     ];
-    designs_run(&rt, rt.alloc(), &table)
+    designs_run(&rt, rt.alloc(), TABLE)
 }
 
 #[test]
 fn each_fault_of_a_design_has_its_line(rt: HostRuntime) -> Result<(), Fail> {
-    let table = [
+    const TABLE: &[(&str, &str)] = &[
         ("", "design 2: line 0: no model\n"),
         ("\n# nothing\n", "design 2: line 0: no model\n"),
         (
@@ -88,38 +89,36 @@ fn each_fault_of_a_design_has_its_line(rt: HostRuntime) -> Result<(), Fail> {
             "design 12: line 2: bad binding\n",
         ),
     ];
-    designs_are_refused(&rt, rt.alloc(), &table)
+    designs_are_refused(&rt, rt.alloc(), TABLE)
 }
 
 #[test]
 fn a_table_of_129_inputs_is_refused(rt: HostRuntime) -> Result<(), Fail> {
-    let mut design = String::from_str(rt.alloc(), ".model m\n.inputs a\n.outputs b\n.names")?;
-    for _ in 0..129u32 {
-        design.push_str(" a")?;
-    }
-    design.push_str(" b\n")?;
-    let line = "design 7: line 4: more than 128 inputs\n";
-    designs_are_refused(&rt, rt.alloc(), &[(design.as_str(), line)])
+    const TABLE: &[Large] = &[Large {
+        design: &[
+            (1, ".model m\n.inputs a\n.outputs b\n.names"),
+            (129, " a"),
+            (1, " b\n"),
+        ],
+        err: &[(1, "design 7: line 4: more than 128 inputs\n")],
+        ..REFUSED
+    }];
+    large_designs_end(&rt, rt.alloc(), TABLE)
+}
+
+/// A run of a design that need not be text.
+fn run_of(alloc: Global, design: &[u8]) -> Result<Ran, AllocError> {
+    let mut files = Vec::new(alloc);
+    files.push(file(alloc, "d", design)?)?;
+    call_over(alloc, SIM, files, MOST, Fault::None)
 }
 
 #[test]
 fn a_word_is_shown_as_its_bytes(rt: HostRuntime) -> Result<(), Fail> {
-    let alloc = rt.alloc();
-    let words = vec![in alloc;
-        Name::of(b"sim".to_vec(alloc)?),
-        Name::of(b"d".to_vec(alloc)?),
-        Name::of(b"s".to_vec(alloc)?),
-    ]?;
-    let design = b".model m\n.\x00\xff # a comment\n".to_vec(alloc)?;
-    let files = vec![in alloc; Held::make(Name::of(b"d".to_vec(alloc)?), design)]?;
-    let mut shelf = MemShelf::new(files, 4096, Vec::new(alloc));
-    let mut out = MemSink::new(alloc, 4096, Vec::new(alloc));
-    let mut err = MemSink::new(alloc, 4096, Vec::new(alloc));
-    let status = virtual_wires(alloc, &words, &mut shelf, &mut out, &mut err);
-    assert_eq!(rt; status, 1);
-    assert_eq!(rt;
-        err.bytes(),
-        b"design 3: line 2: unsupported .\x00\xff\n".as_slice()
-    );
+    const DESIGN: &[u8] = b".model m\n.\x00\xff # a comment\n";
+    const LINE: &[u8] = b"design 3: line 2: unsupported .\x00\xff\n";
+    let ran = run_of(rt.alloc(), DESIGN)?;
+    are_found(&rt, ran.err.bytes(), LINE, "bytes");
+    are_found(&rt, &[ran.status], &[1], "bytes");
     Ok(())
 }

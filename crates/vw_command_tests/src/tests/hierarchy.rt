@@ -8,14 +8,17 @@ const HALVES: &str =
 /// The latches, in preorder, are that of the first half's store, that of the root, and that of the second half's store.
 #[test]
 fn equal_names_at_three_levels_are_different_nets(rt: HostRuntime) -> Result<(), Fail> {
-    let stimulus = "11\n10\n11\n01\n";
-    let trace = "trace 1 2 3\n0 01 010\n1 11 010\n2 00 101\n3 00 001\nend 4 101\n";
-    designs_run(&rt, rt.alloc(), &[(HALVES, stimulus, trace)])
+    const TABLE: &[(&str, &str, &str)] = &[(
+        HALVES,
+        "11\n10\n11\n01\n",
+        "trace 1 2 3\n0 01 010\n1 11 010\n2 00 101\n3 00 001\nend 4 101\n",
+    )];
+    designs_run(&rt, rt.alloc(), TABLE)
 }
 
 #[test]
 fn placed_models_run(rt: HostRuntime) -> Result<(), Fail> {
-    let table = [
+    const TABLE: &[(&str, &str, &str)] = &[
         // a model that stands later, placed twice
         (
             ".model top\n.inputs a b\n.outputs y\n.subckt inv i=a o=na\n.subckt inv i=b o=nb\n.names na nb y\n11 1\n.end\n.model inv\n.inputs i\n.outputs o\n.names i t\n0 1\n.names t o\n1 1\n.end\n",
@@ -47,74 +50,97 @@ fn placed_models_run(rt: HostRuntime) -> Result<(), Fail> {
             "trace 1 1 0\n0 1 -\n1 0 -\nend 2 -\n",
         ),
     ];
-    designs_run(&rt, rt.alloc(), &table)
+    designs_run(&rt, rt.alloc(), TABLE)
 }
 
 /// A text with tables of constants and a latch of five words. Its clock is no column.
 #[test]
 fn a_clocked_toggle_runs(rt: HostRuntime) -> Result<(), Fail> {
-    let design =
-        "# constants and a clock\n\n.model top\n.inputs clk en\n.outputs q\n.names $false\n.names $true\n1\n.names $undef\n.names en q d\n10 1\n01 1\n.latch d q re clk 2\n.end\n";
-    let table: [(&[&str], &str); 3] = [
-        (&["sim", "d", "s"], TOGGLE_TRACE),
-        (&["sim", "d", "s", "unknown=0"], TOGGLE_TRACE),
+    const TEXTS: &[(&str, &str)] = &[
+        (
+            "d",
+            "# constants and a clock\n\n.model top\n.inputs clk en\n.outputs q\n.names $false\n.names $true\n1\n.names $undef\n.names en q d\n10 1\n01 1\n.latch d q re clk 2\n.end\n",
+        ),
+        ("s", TOGGLE_ROWS),
+    ];
+    const TABLE: &[(&[&str], u8, &str, &str)] = &[
+        (SIM, 0, TOGGLE_TRACE, ""),
+        (&["sim", "d", "s", "unknown=0"], 0, TOGGLE_TRACE, ""),
         (
             &["sim", "d", "s", "unknown=1"],
+            0,
             "trace 1 1 1\n0 1 1\n1 0 0\n2 1 1\nend 3 1\n",
+            "",
         ),
     ];
-    words_run(&rt, rt.alloc(), design, TOGGLE_ROWS, &table)
+    words_end(&rt, rt.alloc(), TEXTS, TABLE)
 }
 
 /// The setting is for latches that are free, in each instance alike.
 #[test]
 fn only_free_latches_start_at_the_setting(rt: HostRuntime) -> Result<(), Fail> {
-    let design =
-        ".model m\n.inputs a\n.outputs a\n.subckt n i=a\n.latch a r 1\n.subckt n i=a\n.model n\n.inputs i\n.latch i p 0\n.latch i q\n.latch i r 1\n.latch i s 2\n";
-    let table: [(&[&str], &str); 2] = [
+    const TEXTS: &[(&str, &str)] = &[
+        (
+            "d",
+            ".model m\n.inputs a\n.outputs a\n.subckt n i=a\n.latch a r 1\n.subckt n i=a\n.model n\n.inputs i\n.latch i p 0\n.latch i q\n.latch i r 1\n.latch i s 2\n",
+        ),
+        ("s", "0\n"),
+    ];
+    const TABLE: &[(&[&str], u8, &str, &str)] = &[
         (
             &["sim", "d", "s", "unknown=0"],
+            0,
             "trace 1 1 9\n0 0 001010010\nend 1 000000000\n",
+            "",
         ),
         (
             &["sim", "d", "s", "unknown=1"],
+            0,
             "trace 1 1 9\n0 0 011110111\nend 1 000000000\n",
+            "",
         ),
     ];
-    words_run(&rt, rt.alloc(), design, "0\n", &table)
+    words_end(&rt, rt.alloc(), TEXTS, TABLE)
 }
 
 #[test]
 fn constants_have_their_value_at_each_clock(rt: HostRuntime) -> Result<(), Fail> {
-    let table = [
-        ("", "trace 1 1 0\n0 0 -\n1 0 -\nend 2 -\n"),
-        ("1\n", "trace 1 1 0\n0 1 -\n1 1 -\nend 2 -\n"),
-        ("0\n", "trace 1 1 0\n0 0 -\n1 0 -\nend 2 -\n"),
+    const TABLE: &[(&str, &str, &str)] = &[
+        (
+            ".model m\n.inputs a\n.outputs k\n.names k\n",
+            "0\n1\n",
+            "trace 1 1 0\n0 0 -\n1 0 -\nend 2 -\n",
+        ),
+        (
+            ".model m\n.inputs a\n.outputs k\n.names k\n1\n",
+            "0\n1\n",
+            "trace 1 1 0\n0 1 -\n1 1 -\nend 2 -\n",
+        ),
+        (
+            ".model m\n.inputs a\n.outputs k\n.names k\n0\n",
+            "0\n1\n",
+            "trace 1 1 0\n0 0 -\n1 0 -\nend 2 -\n",
+        ),
     ];
-    for (rows, trace) in table {
-        let design = format!(in rt.alloc(); ".model m\n.inputs a\n.outputs k\n.names k\n{rows}")?;
-        let ran = sim(rt.alloc(), design.as_str(), "0\n1\n")?;
-        has_ended(&rt, &ran, design.as_str(), 0, trace, "");
-    }
-    Ok(())
+    designs_run(&rt, rt.alloc(), TABLE)
 }
 
 /// A design that is refused ends the call before the stimulus is read.
 #[test]
 fn a_refused_design_hides_a_missing_stimulus(rt: HostRuntime) -> Result<(), Fail> {
-    let table = [
-        (
-            ".model m\n.outputs y\n.names y y\n1 1\n",
-            1,
-            "design 25: loop y\n",
-        ),
-        (".model m\n.outputs y\n", 1, "design 19: undriven y\n"),
-        (".model m\n", 7, "read fault: stimulus\n"),
-    ];
-    for (design, status, line) in table {
-        let words = ["sim", "d", "missing"];
-        let ran = run(rt.alloc(), words.as_slice(), design, "", NO_FAULTS)?;
-        has_ended(&rt, &ran, design, status, "", line);
-    }
-    Ok(())
+    const WORDS: &[&str] = &["sim", "d", "missing"];
+    const LOOP: &[(&str, &str)] = &[("d", ".model m\n.outputs y\n.names y y\n1 1\n"), ("s", "")];
+    const UNDRIVEN: &[(&str, &str)] = &[("d", ".model m\n.outputs y\n"), ("s", "")];
+    const SOUND: &[(&str, &str)] = &[("d", ".model m\n"), ("s", "")];
+    const LOOP_TOLD: &[(&[&str], u8, &str, &str)] = &[(WORDS, 1, "", "design 25: loop y\n")];
+    const UNDRIVEN_TOLD: &[(&[&str], u8, &str, &str)] = &[(
+        WORDS,
+        1,
+        "",
+        "design 19: undriven y\n",
+    )];
+    const MISSING_TOLD: &[(&[&str], u8, &str, &str)] = &[(WORDS, 7, "", "read fault: stimulus\n")];
+    words_end(&rt, rt.alloc(), LOOP, LOOP_TOLD)?;
+    words_end(&rt, rt.alloc(), UNDRIVEN, UNDRIVEN_TOLD)?;
+    words_end(&rt, rt.alloc(), SOUND, MISSING_TOLD)
 }

@@ -1,164 +1,185 @@
 //! Small texts that spell large designs.
-ghost use Rattle.std.specs.Prelude.{◌<◌};
-
-use super::refusals::chain_of_models;
+use super::large::{DONE, Large, Piece, REFUSED, large_designs_end};
 use super::*;
 
-/// Models that each place the next one twice: so many, the first of which is the root. The text ends within the last.
-fn doubled_models(alloc: Global, count: u32) -> Result<Vec<u8>, AllocError> {
-    let mut text = Vec::new(alloc);
-    text.extend_from_slice(b".model m0\n")?;
-    for number in 1..count {
-        let lines = format!(in alloc; ".subckt m{number}\n.subckt m{number}\n.model m{number}\n")?;
-        text.extend_from_slice(lines.as_bytes())?;
-    }
-    Ok(text)
-}
+/// What follows a model that places the next one twice: with that one's head, it can be spelled again and again.
+const DOUBLED: &str = ".subckt m+\n.subckt m+\n.model m+\n";
 
-/// The status and the message of a design that is run without rows.
-fn told(alloc: Global, text: &[u8]) -> Result<(u8, Vec<u8>), Fail> {
-    let design = str::from_utf8(text).ok().ok_or("it is ASCII")?;
-    let ran = sim(alloc, design, "")?;
-    Ok((ran.status, ran.err))
-}
+/// What follows a model that places the next one once.
+const CHAINED: &str = ".subckt m+\n.model m+\n";
+
+/// How the run of a design without rows ends that has neither ports nor latches.
+const NOTHING: &[Piece] = &[(1, "trace 1 0 0\nend 0 -\n")];
+
+const INSTANCES: &[Piece] = &[(1, "design 18: more than 65536 instances\n")];
+
+const DEPTH: &[Piece] = &[(1, "design 18: more than 64 depth\n")];
 
 #[test]
 fn doubled_models_are_counted_and_not_placed(rt: HostRuntime) -> Result<(), Fail> {
-    // one less than 2 to the number of models
-    let table = [
-        (16, 0, ""),
-        (17, 1, "design 18: more than 65536 instances\n"),
-        (40, 1, "design 18: more than 65536 instances\n"),
-        (64, 1, "design 18: more than 65536 instances\n"),
-        (65, 1, "design 18: more than 65536 instances\n"),
-        (300, 1, "design 18: more than 65536 instances\n"),
+    // the root and so many models; the instances are one less than 2 to the number of all models
+    const TABLE: &[Large] = &[
+        Large {
+            on: "16 models",
+            design: &[(1, ".model m0\n"), (15, DOUBLED)],
+            out: NOTHING,
+            ..DONE
+        },
+        Large {
+            on: "17 models",
+            design: &[(1, ".model m0\n"), (16, DOUBLED)],
+            err: INSTANCES,
+            ..REFUSED
+        },
+        Large {
+            on: "40 models",
+            design: &[(1, ".model m0\n"), (39, DOUBLED)],
+            err: INSTANCES,
+            ..REFUSED
+        },
+        Large {
+            on: "64 models",
+            design: &[(1, ".model m0\n"), (63, DOUBLED)],
+            err: INSTANCES,
+            ..REFUSED
+        },
+        Large {
+            on: "65 models",
+            design: &[(1, ".model m0\n"), (64, DOUBLED)],
+            err: INSTANCES,
+            ..REFUSED
+        },
+        Large {
+            on: "300 models",
+            design: &[(1, ".model m0\n"), (299, DOUBLED)],
+            err: INSTANCES,
+            ..REFUSED
+        },
     ];
-    for (count, status, line) in table {
-        let text = doubled_models(rt.alloc(), count)?;
-        let (ended, err) = told(rt.alloc(), &text)?;
-        assert_eq!(rt; ended, status, "{count}");
-        assert_eq!(rt; err.as_slice(), line.as_bytes(), "{count}");
-    }
-    Ok(())
+    large_designs_end(&rt, rt.alloc(), TABLE)
 }
 
 #[test]
 fn models_are_placed_64_deep_and_no_deeper(rt: HostRuntime) -> Result<(), Fail> {
-    let table = [
-        (64, 0, ""),
-        (65, 1, "design 18: more than 64 depth\n"),
-        (2000, 1, "design 18: more than 64 depth\n"),
+    const TABLE: &[Large] = &[
+        Large {
+            on: "64 models",
+            design: &[(1, ".model m0\n"), (63, CHAINED)],
+            out: NOTHING,
+            ..DONE
+        },
+        Large {
+            on: "65 models",
+            design: &[(1, ".model m0\n"), (64, CHAINED)],
+            err: DEPTH,
+            ..REFUSED
+        },
+        Large {
+            on: "2000 models",
+            design: &[(1, ".model m0\n"), (1999, CHAINED)],
+            err: DEPTH,
+            ..REFUSED
+        },
     ];
-    for (count, status, line) in table {
-        let text = chain_of_models(rt.alloc(), count)?;
-        let (ended, err) = told(rt.alloc(), &text)?;
-        assert_eq!(rt; ended, status, "{count}");
-        assert_eq!(rt; err.as_slice(), line.as_bytes(), "{count}");
-    }
-    Ok(())
+    large_designs_end(&rt, rt.alloc(), TABLE)
 }
 
 #[test]
 fn a_net_of_the_deepest_model_has_its_whole_path(rt: HostRuntime) -> Result<(), Fail> {
-    let alloc = rt.alloc();
-    let mut text = chain_of_models(alloc, 64)?;
-    text.extend_from_slice(b".names x y\n1 1\n")?;
-    let mut line = String::from_str(alloc, "design 19: undriven ")?;
-    for _ in 0..63 {
-        line.push_str("1/")?;
-    }
-    line.push_str("x\n")?;
-    let (status, err) = told(alloc, &text)?;
-    assert_eq!(rt; status, 1);
-    assert_eq!(rt; err.as_slice(), line.as_bytes());
-    Ok(())
+    const TABLE: &[Large] = &[Large {
+        design: &[(1, ".model m0\n"), (63, CHAINED), (1, ".names x y\n1 1\n")],
+        err: &[(1, "design 19: undriven "), (63, "1/"), (1, "x\n")],
+        ..REFUSED
+    }];
+    large_designs_end(&rt, rt.alloc(), TABLE)
 }
 
 /// Each model places the next one, and the last one the first; the root places one in the middle.
 #[test]
 fn a_circle_of_500_models_is_listed(rt: HostRuntime) -> Result<(), Fail> {
-    let alloc = rt.alloc();
-    let mut text = Vec::new(alloc);
-    text.extend_from_slice(b".model root\n.subckt m250\n.model m0\n")?;
-    let mut line = String::from_str(alloc, "design 14: recursive models m0")?;
-    for number in 1..500u32 {
-        let lines = format!(in alloc; ".subckt m{number}\n.model m{number}\n")?;
-        text.extend_from_slice(lines.as_bytes())?;
-        line.push_str(format!(in alloc; " m{number}")?.as_str())?;
-    }
-    text.extend_from_slice(b".subckt m0\n")?;
-    line.push_str("\n")?;
-    let (status, err) = told(alloc, &text)?;
-    assert_eq!(rt; status, 1);
-    assert_eq!(rt; err.as_slice(), line.as_bytes());
-    Ok(())
+    const TABLE: &[Large] = &[Large {
+        design: &[
+            (1, ".model root\n.subckt m250\n.model m0\n"),
+            (499, CHAINED),
+            (1, ".subckt m0\n"),
+        ],
+        err: &[
+            (1, "design 14: recursive models m0"),
+            (499, " m+"),
+            (1, "\n"),
+        ],
+        ..REFUSED
+    }];
+    large_designs_end(&rt, rt.alloc(), TABLE)
 }
 
 /// A million outputs over all instances, none of which is bound or has a driver.
 #[test]
 fn many_instances_of_many_unbound_outputs_run(rt: HostRuntime) -> Result<(), Fail> {
-    let alloc = rt.alloc();
-    let mut text = Vec::new(alloc);
-    text.extend_from_slice(b".model root\n.inputs a\n.outputs a\n")?;
-    for _ in 0..1000 {
-        text.extend_from_slice(b".subckt n\n")?;
-    }
-    text.extend_from_slice(b".model n\n.outputs")?;
-    for number in 0..1000u32 {
-        text.extend_from_slice(format!(in alloc; " o{number}")?.as_bytes())?;
-    }
-    let design = str::from_utf8(&text).ok().ok_or("it is ASCII")?;
-    let ran = sim(alloc, design, "1\n")?;
-    assert_eq!(rt; ran.status, 0);
-    assert_eq!(rt;
-        ran.out.as_slice(),
-        b"trace 1 1 0\n0 1 -\nend 1 -\n".as_slice()
-    );
-    assert!(rt; ran.err.is_empty());
-    Ok(())
+    const TABLE: &[Large] = &[Large {
+        design: &[
+            (1, ".model root\n.inputs a\n.outputs a\n"),
+            (1000, ".subckt n\n"),
+            (1, ".model n\n.outputs"),
+            (1000, " o#"),
+        ],
+        stimulus: &[(1, "1\n")],
+        out: &[(1, "trace 1 1 0\n0 1 -\nend 1 -\n")],
+        ..DONE
+    }];
+    large_designs_end(&rt, rt.alloc(), TABLE)
 }
 
 /// Of eleven models that are doubled, the last stands at 1,024 places.
 #[test]
 fn bindings_are_counted_over_all_instances(rt: HostRuntime) -> Result<(), Fail> {
-    let table = [
-        (1024u32, 0, ""),
-        (1025u32, 1, "design 18: more than 1048576 bindings\n"),
+    const TABLE: &[Large] = &[
+        Large {
+            on: "1024 bindings",
+            design: &[
+                (1, ".model m0\n"),
+                (10, DOUBLED),
+                (1, ".subckt n"),
+                (1024, " i#=u"),
+                (1, "\n.model n\n.inputs"),
+                (1024, " i#"),
+            ],
+            out: NOTHING,
+            ..DONE
+        },
+        Large {
+            on: "1025 bindings",
+            design: &[
+                (1, ".model m0\n"),
+                (10, DOUBLED),
+                (1, ".subckt n"),
+                (1025, " i#=u"),
+                (1, "\n.model n\n.inputs"),
+                (1025, " i#"),
+            ],
+            err: &[(1, "design 18: more than 1048576 bindings\n")],
+            ..REFUSED
+        },
     ];
-    for (count, status, line) in table {
-        let alloc = rt.alloc();
-        let mut text = doubled_models(alloc, 11)?;
-        text.extend_from_slice(b".subckt n")?;
-        for number in 0..count {
-            text.extend_from_slice(format!(in alloc; " i{number}=u")?.as_bytes())?;
-        }
-        text.extend_from_slice(b"\n.model n\n.inputs")?;
-        for number in 0..count {
-            text.extend_from_slice(format!(in alloc; " i{number}")?.as_bytes())?;
-        }
-        let (ended, err) = told(alloc, &text)?;
-        assert_eq!(rt; ended, status, "{count}");
-        assert_eq!(rt; err.as_slice(), line.as_bytes(), "{count}");
-    }
-    Ok(())
+    large_designs_end(&rt, rt.alloc(), TABLE)
 }
 
 /// Of seven models that are doubled, the last stands at 64 places.
 #[test]
 fn cells_are_counted_over_all_instances(rt: HostRuntime) -> Result<(), Fail> {
-    let table = [
-        (1024u32, 0, ""),
-        (1025u32, 1, "design 18: more than 65536 cells\n"),
+    const TABLE: &[Large] = &[
+        Large {
+            on: "1024 cells",
+            design: &[(1, ".model m0\n"), (6, DOUBLED), (1024, ".names k#\n")],
+            out: NOTHING,
+            ..DONE
+        },
+        Large {
+            on: "1025 cells",
+            design: &[(1, ".model m0\n"), (6, DOUBLED), (1025, ".names k#\n")],
+            err: &[(1, "design 18: more than 65536 cells\n")],
+            ..REFUSED
+        },
     ];
-    for (count, status, line) in table {
-        let alloc = rt.alloc();
-        let mut text = doubled_models(alloc, 7)?;
-        for number in 0..count {
-            text.extend_from_slice(format!(in alloc; ".names k{number}\n")?.as_bytes())?;
-        }
-        let (ended, err) = told(alloc, &text)?;
-        assert_eq!(rt; ended, status, "{count}");
-        assert_eq!(rt; err.as_slice(), line.as_bytes(), "{count}");
-    }
-    Ok(())
+    large_designs_end(&rt, rt.alloc(), TABLE)
 }

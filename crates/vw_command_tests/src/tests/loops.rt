@@ -1,9 +1,10 @@
 //! Gates that read each other, and gates in any order.
+use super::large::{DONE, Large, Piece, REFUSED, is_spelled, large_designs_end};
 use super::*;
 
 #[test]
 fn gates_that_read_each_other_are_a_loop(rt: HostRuntime) -> Result<(), Fail> {
-    let table = [
+    const TABLE: &[(&str, &str)] = &[
         // a gate that reads its own net, also one without rows, and one that nothing else reads
         (
             ".model m\n.inputs a\n.outputs y\n.names y y\n1 1\n.end\n",
@@ -48,39 +49,33 @@ fn gates_that_read_each_other_are_a_loop(rt: HostRuntime) -> Result<(), Fail> {
             "design 25: loop 1/2/o n\n",
         ),
     ];
-    designs_are_refused(&rt, rt.alloc(), &table)
+    designs_are_refused(&rt, rt.alloc(), TABLE)
 }
+
+/// The nets of a loop of a thousand gates, as they are listed: ten names of 3 bytes with their blanks, 90 of 4 and 900 of
+/// 5.
+const THOUSAND: &[Piece] = &[(1, "design 25: loop k0"), (999, " k~"), (1, "\n")];
 
 /// Each gate but the first reads the one before it, and the first reads the last. So the second of the list is the last
 /// of the text.
 #[test]
 fn a_loop_of_a_thousand_gates_is_listed(rt: HostRuntime) -> Result<(), Fail> {
-    let alloc = rt.alloc();
-    let mut design = String::from_str(alloc, ".model m\n.outputs k0\n.names k999 k0\n1 1\n")?;
-    let mut before = 0u32;
-    for number in 1..1000u32 {
-        design.push_str(format!(in alloc; ".names k{before} k{number}\n1 1\n")?.as_str())?;
-        before = number;
-    }
-    let mut line = String::from_str(alloc, "design 25: loop k0")?;
-    for number in (1..1000u32).rev() {
-        line.push_str(format!(in alloc; " k{number}")?.as_str())?;
-    }
-    line.push_str("\n")?;
-    let ran = sim(alloc, design.as_str(), "")?;
-    assert_eq!(rt; ran.status, 1);
-    assert!(rt; ran.err.starts_with(b"design 25: loop k0 k999 k998 k997 "));
-    assert!(rt; ran.err.ends_with(b" k3 k2 k1\n"));
-    // ten names of 3 bytes with their blanks, 90 of 4 and 900 of 5
-    assert_eq!(rt; ran.err.len(), 4906);
-    assert_eq!(rt; ran.err.as_slice(), line.as_bytes());
-    assert!(rt; ran.out.is_empty());
-    Ok(())
+    const TABLE: &[Large] = &[Large {
+        design: &[
+            (1, ".model m\n.outputs k0\n.names k999 k0\n1 1\n"),
+            (999, ".names k# k+\n1 1\n"),
+        ],
+        err: THOUSAND,
+        ..REFUSED
+    }];
+    let begin = "design 25: loop k0 k999 k998 k997 ";
+    is_spelled(&rt, rt.alloc(), 1, THOUSAND, begin, " k3 k2 k1\n", 4906)?;
+    large_designs_end(&rt, rt.alloc(), TABLE)
 }
 
 #[test]
 fn gates_run_in_any_order(rt: HostRuntime) -> Result<(), Fail> {
-    let table = [
+    const TABLE: &[(&str, &str, &str)] = &[
         // a gate that reads a later one
         (
             ".model m\n.inputs a\n.outputs y\n.names n y\n0 1\n.names a n\n1 1\n.end\n",
@@ -111,24 +106,25 @@ fn gates_run_in_any_order(rt: HostRuntime) -> Result<(), Fail> {
             "trace 1 2 2\n0 00 00\n1 11 11\nend 2 00\n",
         ),
     ];
-    designs_run(&rt, rt.alloc(), &table)
+    designs_run(&rt, rt.alloc(), TABLE)
 }
 
 /// A thousand gates, each of which inverts the next one's net, and one that passes the input on. The latches read the
 /// first gate and the second.
 #[test]
 fn a_thousand_gates_in_reverse_order_run(rt: HostRuntime) -> Result<(), Fail> {
-    let alloc = rt.alloc();
-    let mut design = String::from_str(
-        alloc,
-        ".model m\n.inputs a\n.outputs k0 k1\n.latch k0 p 0\n.latch k1 q 0\n",
-    )?;
-    let mut before = 0u32;
-    for number in 1..1001u32 {
-        design.push_str(format!(in alloc; ".names k{number} k{before}\n0 1\n")?.as_str())?;
-        before = number;
-    }
-    design.push_str(".names a k1000\n1 1\n")?;
-    let trace = "trace 1 2 2\n0 10 00\n1 01 10\n2 10 01\nend 3 10\n";
-    designs_run(&rt, rt.alloc(), &[(design.as_str(), "1\n0\n1\n", trace)])
+    const TABLE: &[Large] = &[Large {
+        design: &[
+            (
+                1,
+                ".model m\n.inputs a\n.outputs k0 k1\n.latch k0 p 0\n.latch k1 q 0\n",
+            ),
+            (1000, ".names k+ k#\n0 1\n"),
+            (1, ".names a k1000\n1 1\n"),
+        ],
+        stimulus: &[(1, "1\n0\n1\n")],
+        out: &[(1, "trace 1 2 2\n0 10 00\n1 01 10\n2 10 01\nend 3 10\n")],
+        ..DONE
+    }];
+    large_designs_end(&rt, rt.alloc(), TABLE)
 }

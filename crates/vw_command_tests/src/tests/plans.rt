@@ -1,21 +1,73 @@
 //! The command `plan`: good plans, which `check` accepts, and designs that have no room.
+use super::large::{Piece, push_form, spelled};
 use super::*;
 
-fn plan(alloc: Global, design: &str, board: &str) -> Result<Ran, AllocError> {
-    let texts = [("d", design), ("b", board)];
-    call(alloc, &["plan", "d", "b"], &texts, NO_FAULTS)
+/// The words of a plan, over the files d and b.
+const PLAN: &[&str] = &["plan", "d", "b"];
+
+/// How a plan of a design on a board ends.
+fn planned(alloc: Global, design: &str, board: &str) -> Result<Ran, AllocError> {
+    let call = Call {
+        words: PLAN,
+        texts: &[("d", design), ("b", board)],
+        most: MOST,
+        fault: Fault::None,
+    };
+    carried_out(alloc, &call)
+}
+
+/// How `check` ends on a plan that `plan` wrote.
+fn checked(alloc: Global, design: &str, board: &str, plan: &[u8]) -> Result<Ran, Fail> {
+    let plan = str::from_utf8(plan).ok().ok_or("it is ASCII")?;
+    let call = Call {
+        words: CHECK,
+        texts: &[("d", design), ("b", board), ("p", plan)],
+        most: MOST,
+        fault: Fault::None,
+    };
+    Ok(carried_out(alloc, &call)?)
 }
 
 /// How `check` ends on what `plan` writes.
 fn planned_and_checked(alloc: Global, design: &str, board: &str) -> Result<Ran, Fail> {
-    let planned = plan(alloc, design, board)?;
-    let text = String::from_utf8(planned.out)?;
-    Ok(check(alloc, design, board, text.as_str())?)
+    let planned = planned(alloc, design, board)?;
+    checked(alloc, design, board, planned.out.bytes())
+}
+
+/// Asserts that `check` accepts what `plan` writes.
+fn plan_is_sound(
+    rt: &impl Abort,
+    alloc: Global,
+    design: &[Piece],
+    board: &str,
+) -> Result<(), Fail> {
+    let design = spelled(alloc, design)?;
+    let ran = planned_and_checked(alloc, design.as_str(), board)?;
+    assert_eq!(rt; ran.status, 0);
+    Ok(())
+}
+
+/// Asserts that `check` accepts what `plan` writes for a design on a board, with its line.
+fn plans_are_sound(
+    rt: &impl Abort,
+    alloc: Global,
+    table: &[(&str, &str, &str)],
+) -> Result<(), Fail> {
+    for (design, board, line) in table {
+        let ran = planned_and_checked(alloc, design, board)?;
+        let end = End {
+            status: 0,
+            out: line,
+            err: "",
+        };
+        has_ended(rt, &ran, design, end);
+    }
+    Ok(())
 }
 
 #[test]
 fn plans_are_sound_and_short(rt: HostRuntime) -> Result<(), Fail> {
-    let table = [
+    const TABLE: &[(&str, &str, &str)] = &[
         // by hand: the input and the latch are sent in microcycle 0, and the gate behind them
         (TOGGLE, TRIANGLE, "sound 4 4 2\n"),
         // both inputs over one link, one after the other; the outputs begin behind them
@@ -37,56 +89,45 @@ fn plans_are_sound_and_short(rt: HostRuntime) -> Result<(), Fail> {
             "sound 2 2 5\n",
         ),
     ];
-    for (design, board, line) in table {
-        let ran = planned_and_checked(rt.alloc(), design, board)?;
-        has_ended(&rt, &ran, design, 0, line, "");
-    }
-    Ok(())
+    plans_are_sound(&rt, rt.alloc(), TABLE)
 }
 
 #[test]
 fn a_design_without_cells_has_an_empty_plan(rt: HostRuntime) -> Result<(), Fail> {
-    let ran = plan(rt.alloc(), ".model m\n", TRIANGLE)?;
-    let text = "plan 1 0 0 1\nchips\nend\n";
-    has_ended(&rt, &ran, "no cells", 0, text, "");
-    Ok(())
+    const TEXTS: &[(&str, &str)] = &[("d", ".model m\n"), ("b", TRIANGLE)];
+    const TABLE: &[(&[&str], u8, &str, &str)] = &[(PLAN, 0, "plan 1 0 0 1\nchips\nend\n", "")];
+    words_end(&rt, rt.alloc(), TEXTS, TABLE)
 }
 
-/// A chain of gates behind an input.
-fn chain_of_gates(alloc: Global, count: u32) -> Result<String, AllocError> {
-    let mut text = format!(in alloc; ".model m\n.inputs n0\n.outputs n{count}\n")?;
-    for gate in 0..count {
-        let next = gate + 1;
-        let cell = format!(in alloc; ".names n{gate} n{next}\n1 1\n")?;
-        text.push_str(cell.as_str())?;
-    }
-    text.push_str(".end\n")?;
-    Ok(text)
-}
+/// Two chips of two cells each, and the host, each joined to each other.
+const FOUR_CELLS: &str =
+    "board 1\nchips 2\ncells 2\nsettle 0\npins 4\nlink 0 1 1\nlink 0 2 1\nlink 1 0 1\nlink 1 2 1\nlink 2 0 1\nlink 2 1 1\n";
+
+/// A chain of five gates behind an input, and one of four.
+const FIVE_GATES: &str =
+    ".model m\n.inputs n0\n.outputs n5\n.names n0 n1\n1 1\n.names n1 n2\n1 1\n.names n2 n3\n1 1\n.names n3 n4\n1 1\n.names n4 n5\n1 1\n.end\n";
+
+const FOUR_GATES: &[Piece] = &[
+    (1, ".model m\n.inputs n0\n.outputs n4\n"),
+    (4, ".names n# n+\n1 1\n"),
+    (1, ".end\n"),
+];
 
 #[test]
 fn designs_that_have_no_room_are_refused(rt: HostRuntime) -> Result<(), Fail> {
-    let board =
-        "board 1\nchips 2\ncells 2\nsettle 0\npins 4\nlink 0 1 1\nlink 0 2 1\nlink 1 0 1\nlink 1 2 1\nlink 2 0 1\nlink 2 1 1\n";
-    let five = chain_of_gates(rt.alloc(), 5)?;
-    let ran = plan(rt.alloc(), five.as_str(), board)?;
-    has_ended(&rt, &ran, "five cells", 6, "", "fit: 5 cells, room for 4\n");
-    let four = chain_of_gates(rt.alloc(), 4)?;
-    assert_eq!(rt;
-        planned_and_checked(rt.alloc(), four.as_str(), board)?.status,
-        0
-    );
-    Ok(())
+    const TEXTS: &[(&str, &str)] = &[("d", FIVE_GATES), ("b", FOUR_CELLS)];
+    const TABLE: &[(&[&str], u8, &str, &str)] = &[(PLAN, 6, "", "fit: 5 cells, room for 4\n")];
+    words_end(&rt, rt.alloc(), TEXTS, TABLE)?;
+    plan_is_sound(&rt, rt.alloc(), FOUR_GATES, FOUR_CELLS)
 }
 
-/// A mesh of 4 by 4 chips behind the host, which is linked to each, with so many cells a chip.
-fn mesh(alloc: Global, cells: u32) -> Result<String, AllocError> {
-    let mut text = format!(in alloc; "board 1\nchips 16\ncells {cells}\nsettle 1\npins 64\n")?;
+/// A mesh of 4 by 4 chips behind the host, which is linked to each, with 32 cells a chip.
+fn mesh(alloc: Global) -> Result<String, AllocError> {
+    let mut text = String::from_str(alloc, "board 1\nchips 16\ncells 32\nsettle 1\npins 64\n")?;
     for from in 0u32..17 {
         for to in 0u32..17 {
             if are_linked(from, to) {
-                let link = format!(in alloc; "link {from} {to} 2\n")?;
-                text.push_str(link.as_str())?;
+                push_form(&mut text, "link # ~ 2\n", from, to)?;
             }
         }
     }
@@ -106,18 +147,16 @@ fn are_linked(from: u32, to: u32) -> bool {
     more == less + 4 || (more == less + 1 && less % 4 != 0)
 }
 
-/// Gates that read near nets before them, and latches between them.
-fn near_reads(alloc: Global, count: u32) -> Result<String, AllocError> {
-    let mut text = format!(in alloc; ".model m\n.inputs n0 n1 n2 n3\n.outputs n{count}\n")?;
-    for cell in 0..u64::from(count) {
-        let next = cell + 4;
-        let (near, far) = (cell + 3, cell + 1 - cell % 2);
-        let line = if cell % 7 == 6 {
-            format!(in alloc; ".latch n{near} n{next} 0\n")?
+/// 500 cells: gates that read near nets before them, and latches between them.
+fn near_reads(alloc: Global) -> Result<String, AllocError> {
+    let mut text = String::from_str(alloc, ".model m\n.inputs n0 n1 n2 n3\n.outputs n500\n")?;
+    for cell in 0u32..500 {
+        let form = if cell % 7 == 6 {
+            ".latch n# n+ 0\n"
         } else {
-            format!(in alloc; ".names n{near} n{far} n{next}\n10 1\n01 1\n")?
+            ".names n# n~ n+\n10 1\n01 1\n"
         };
-        text.push_str(line.as_str())?;
+        push_form(&mut text, form, cell.saturating_add(3), cell | 1)?;
     }
     text.push_str(".end\n")?;
     Ok(text)
@@ -125,8 +164,8 @@ fn near_reads(alloc: Global, count: u32) -> Result<String, AllocError> {
 
 #[test]
 fn five_hundred_cells_are_planned_on_a_mesh(rt: HostRuntime) -> Result<(), Fail> {
-    let design = near_reads(rt.alloc(), 500)?;
-    let board = mesh(rt.alloc(), 32)?;
+    let design = near_reads(rt.alloc())?;
+    let board = mesh(rt.alloc())?;
     let ran = planned_and_checked(rt.alloc(), design.as_str(), board.as_str())?;
     assert_eq!(rt; ran.status, 0);
     Ok(())
@@ -134,46 +173,26 @@ fn five_hundred_cells_are_planned_on_a_mesh(rt: HostRuntime) -> Result<(), Fail>
 
 #[test]
 fn what_stops_a_plan_is_named(rt: HostRuntime) -> Result<(), Fail> {
-    let table: [(&str, &str, Faults, u8, &str); 4] = [
-        (
-            ".model",
-            TRIANGLE,
-            NO_FAULTS,
-            1,
-            "design 4: line 1: wrong number of words\n",
-        ),
-        (
-            TOGGLE,
-            "board 2\n",
-            NO_FAULTS,
-            3,
-            "board 3: line 1: bad number\n",
-        ),
-        (
-            TOGGLE,
-            TRIANGLE,
-            Faults {
-                read: 1,
-                ..NO_FAULTS
-            },
-            7,
-            "read fault: design\n",
-        ),
-        (
-            TOGGLE,
-            TRIANGLE,
-            Faults {
-                write: 1,
-                ..NO_FAULTS
-            },
-            8,
-            "write fault\n",
-        ),
+    const BAD_DESIGN: &[(&str, &str)] = &[("d", ".model"), ("b", TRIANGLE)];
+    const DESIGN_TOLD: &[(&[&str], u8, &str, &str)] = &[(
+        PLAN,
+        1,
+        "",
+        "design 4: line 1: wrong number of words\n",
+    )];
+    const BAD_BOARD: &[(&str, &str)] = &[("d", TOGGLE), ("b", "board 2\n")];
+    const BOARD_TOLD: &[(&[&str], u8, &str, &str)] = &[(
+        PLAN,
+        3,
+        "",
+        "board 3: line 1: bad number\n",
+    )];
+    const TEXTS: &[(&str, &str)] = &[("d", TOGGLE), ("b", TRIANGLE)];
+    const FAULTS: &[(u32, Fault, u8, &str, &str)] = &[
+        (MOST, Fault::Read(1), 7, "", "read fault: design\n"),
+        (MOST, Fault::Write(1), 8, "", "write fault\n"),
     ];
-    for (design, board, faults, status, line) in table {
-        let texts = [("d", design), ("b", board)];
-        let ran = call(rt.alloc(), &["plan", "d", "b"], &texts, faults)?;
-        has_ended(&rt, &ran, line, status, "", line);
-    }
-    Ok(())
+    words_end(&rt, rt.alloc(), BAD_DESIGN, DESIGN_TOLD)?;
+    words_end(&rt, rt.alloc(), BAD_BOARD, BOARD_TOLD)?;
+    faults_end(&rt, rt.alloc(), PLAN, TEXTS, FAULTS)
 }

@@ -1,28 +1,16 @@
 //! Designs that are refused for what they place, bind, drive and clock.
+use super::large::{Large, Piece, REFUSED, large_designs_end};
 use super::*;
 
-/// Models that each place the next one: so many, the first of which is the root. The text ends within the last.
-pub fn chain_of_models(alloc: Global, count: u32) -> Result<Vec<u8>, AllocError> {
-    let mut text = Vec::new(alloc);
-    text.extend_from_slice(b".model m0\n")?;
-    for number in 1..count {
-        let lines = format!(in alloc; ".subckt m{number}\n.model m{number}\n")?;
-        text.extend_from_slice(lines.as_bytes())?;
-    }
-    Ok(text)
-}
+/// The message of designs whose models stand too deep.
+const DEPTH: &[Piece] = &[(1, "design 18: more than 64 depth\n")];
 
-/// Such a chain of 65 models, with further lines.
-fn deep_with(alloc: Global, lines: &str) -> Result<String, Fail> {
-    let mut text = chain_of_models(alloc, 65)?;
-    text.extend_from_slice(lines.as_bytes())?;
-    Ok(String::from_utf8(text).ok().ok_or("it is ASCII")?)
-}
+/// What follows a model that places the next one.
+const CHAINED: &str = ".subckt m+\n.model m+\n";
 
 #[test]
 fn each_fault_over_several_models_has_its_line(rt: HostRuntime) -> Result<(), Fail> {
-    let deep = deep_with(rt.alloc(), "")?;
-    let table = [
+    const TABLE: &[(&str, &str)] = &[
         (
             ".model m\n.inputs a\n.subckt n i=a\n.end\n",
             "design 13: line 3: unknown model\n",
@@ -44,7 +32,6 @@ fn each_fault_over_several_models_has_its_line(rt: HostRuntime) -> Result<(), Fa
             ".model m\n.inputs a\n.subckt n p=a\n.end\n.model n\n.inputs p\n.outputs o p\n.end\n",
             "design 17: model n: p is input and output\n",
         ),
-        (deep.as_str(), "design 18: more than 64 depth\n"),
         // the second item of the model that the first one places
         (
             ".model m\n.subckt n\n.model n\n.subckt l\n.subckt k\n.model l\n.model k\n.names x y\n1 1\n",
@@ -72,7 +59,14 @@ fn each_fault_over_several_models_has_its_line(rt: HostRuntime) -> Result<(), Fa
             "design 24: clock as data 1/2/i\n",
         ),
     ];
-    designs_are_refused(&rt, rt.alloc(), &table)
+    // and of kind 18
+    const DEEP: &[Large] = &[Large {
+        design: &[(1, ".model m0\n"), (64, CHAINED)],
+        err: DEPTH,
+        ..REFUSED
+    }];
+    designs_are_refused(&rt, rt.alloc(), TABLE)?;
+    large_designs_end(&rt, rt.alloc(), DEEP)
 }
 
 /// Each design has two faults, and the one that comes later in the text is of the kind that is looked for first.
@@ -80,12 +74,7 @@ fn each_fault_over_several_models_has_its_line(rt: HostRuntime) -> Result<(), Fa
 fn each_kind_is_looked_for_in_the_whole_design_before_the_next(
     rt: HostRuntime,
 ) -> Result<(), Fail> {
-    let both_ways = deep_with(
-        rt.alloc(),
-        ".subckt n p=a\n.model n\n.inputs p\n.outputs p\n",
-    )?;
-    let undriven = deep_with(rt.alloc(), ".names x y\n1 1\n")?;
-    let table = [
+    const TABLE: &[(&str, &str)] = &[
         // a row that is wrong behind a model that isn't there
         (
             ".model m\n.outputs y\n.subckt n\n.names y\n11 1\n",
@@ -111,11 +100,6 @@ fn each_kind_is_looked_for_in_the_whole_design_before_the_next(
             ".model m\n.inputs a\n.subckt n p=a\n.subckt k\n.model n\n.inputs p\n.outputs p\n.model k\n.inputs i\n",
             "design 16: line 4: unbound input i\n",
         ),
-        (
-            both_ways.as_str(),
-            "design 17: model n: p is input and output\n",
-        ),
-        (undriven.as_str(), "design 18: more than 64 depth\n"),
         // two drivers, and then none
         (
             ".model m\n.outputs y\n.names y\n.names y\n.names x z\n1 1\n",
@@ -147,12 +131,33 @@ fn each_kind_is_looked_for_in_the_whole_design_before_the_next(
             "design 24: clock as data c\n",
         ),
     ];
-    designs_are_refused(&rt, rt.alloc(), &table)
+    const DEEP: &[Large] = &[
+        // a name that is input and output, behind models that stand too deep
+        Large {
+            on: "both ways",
+            design: &[
+                (1, ".model m0\n"),
+                (64, CHAINED),
+                (1, ".subckt n p=a\n.model n\n.inputs p\n.outputs p\n"),
+            ],
+            err: &[(1, "design 17: model n: p is input and output\n")],
+            ..REFUSED
+        },
+        // and a net that nothing drives
+        Large {
+            on: "undriven",
+            design: &[(1, ".model m0\n"), (64, CHAINED), (1, ".names x y\n1 1\n")],
+            err: DEPTH,
+            ..REFUSED
+        },
+    ];
+    designs_are_refused(&rt, rt.alloc(), TABLE)?;
+    large_designs_end(&rt, rt.alloc(), DEEP)
 }
 
 #[test]
 fn the_first_place_of_a_kind_counts(rt: HostRuntime) -> Result<(), Fail> {
-    let table = [
+    const TABLE: &[(&str, &str)] = &[
         // the root places itself
         (
             ".model m\n.inputs a\n.outputs a\n.subckt m a=a\n.end\n",
@@ -229,5 +234,5 @@ fn the_first_place_of_a_kind_counts(rt: HostRuntime) -> Result<(), Fail> {
             "design 24: clock as data c\n",
         ),
     ];
-    designs_are_refused(&rt, rt.alloc(), &table)
+    designs_are_refused(&rt, rt.alloc(), TABLE)
 }
