@@ -13,16 +13,16 @@ use vw_plan::{Hop, Plan, Wire};
 /// The pins that hops use, each with the wire and the number of the hop that uses it first. A pin is given by the nodes of
 /// its link, its number and the microcycle. The hasher has a key, since strangers write plans.
 #[derive(Drop)]
-pub struct Pins {
+pub struct PinUsers {
     pub users: HashMap<((u32, u32), (u32, u64)), (u32, u32), BuildHasherDefault<DefaultHasher>>,
 }
 
-impl Pins {
+impl PinUsers {
     /// No pin.
     fn none(alloc: Global) -> Self
         ensures { HasPins [] result.users }
     {
-        Pins {
+        PinUsers {
             users: HashMap::with_hasher(alloc, BuildHasherDefault::new()),
         }
     }
@@ -37,7 +37,7 @@ impl Pins {
 }
 
 /// The first hop of a wire that shares its pin with an earlier one, of this wire or of those before it.
-fn clash_in(pins: &mut Pins, number: u32, wire: &Wire) -> Result<Option<PlanFault>, AllocError>
+fn clash_in(pins: &mut PinUsers, number: u32, wire: &Wire) -> Result<Option<PlanFault>, AllocError>
     requires { length wire.now.hops < 2 ^ 32 }
     ensures { IfOk result (IsClashIn number wire.now.hops pins.old.users pins.new.users) }
 {
@@ -54,7 +54,7 @@ fn clash_in(pins: &mut Pins, number: u32, wire: &Wire) -> Result<Option<PlanFaul
 pub fn pin_clash(alloc: Global, plan: &Plan) -> Result<Option<PlanFault>, AllocError>
     ensures { IfOk result (λ found. found ≡ pin_clash plan.now) }
 {
-    let mut pins = Pins::none(alloc);
+    let mut pins = PinUsers::none(alloc);
     for (number, wire) in plan.wires().iter().enumerate() {
         let found = clash_in(&mut pins, number as u32, wire)?;
         if found.is_some() {

@@ -138,7 +138,7 @@ fn flattened(alloc: Global, elaborated: &Elaborated) -> Result<Vec<u8>, AllocErr
 }
 
 /// What is wanted of a design.
-struct Wanted {
+struct Expected {
     /// Instances and nets of them, and what drives these.
     drivers: &'static [(u32, &'static [u8], &'static [u8])],
     /// Cells and inputs of them, and what these read.
@@ -152,7 +152,7 @@ fn assert_found(
     rt: &impl Abort,
     alloc: Global,
     elaborated: &Elaborated,
-    wanted: &Wanted,
+    wanted: &Expected,
 ) -> Result<(), AllocError> {
     assert_drivers(rt, alloc, elaborated, wanted.drivers)?;
     assert_reads(rt, alloc, elaborated, wanted.reads)?;
@@ -166,7 +166,7 @@ fn assert_text(
     rt: &impl Abort,
     alloc: Global,
     text: &[u8],
-    wanted: &Wanted,
+    wanted: &Expected,
 ) -> Result<(), AllocError> {
     match elaborated(alloc, text) {
         Some(elaborated) => assert_found(rt, alloc, &elaborated, wanted),
@@ -178,7 +178,7 @@ fn assert_text(
 }
 
 /// What is wanted of the nested design.
-const NESTED_WANTED: &Wanted = &Wanted {
+const NESTED_EXPECTED: &Expected = &Expected {
     drivers: NESTED_DRIVERS,
     reads: &[],
     flat: b"gate 0|gate 1|latch 2|outputs 3|inputs 1",
@@ -186,12 +186,12 @@ const NESTED_WANTED: &Wanted = &Wanted {
 
 #[test]
 fn drivers_are_found_up_and_down(rt: HostRuntime) -> Result<(), Fail> {
-    assert_text(&rt, rt.alloc(), NESTED, NESTED_WANTED)?;
+    assert_text(&rt, rt.alloc(), NESTED, NESTED_EXPECTED)?;
     Ok(())
 }
 
 /// What is wanted of the twins: equal names of two instances are two nets.
-const TWINS_WANTED: &Wanted = &Wanted {
+const TWINS_EXPECTED: &Expected = &Expected {
     drivers: TWIN_DRIVERS,
     reads: TWIN_READS,
     flat: b"gate 0|latch 1|gate 2|latch 3|outputs 4|inputs 1",
@@ -199,6 +199,6 @@ const TWINS_WANTED: &Wanted = &Wanted {
 
 #[test]
 fn drivers_and_nets_are_those_of_their_instances(rt: HostRuntime) -> Result<(), Fail> {
-    assert_text(&rt, rt.alloc(), TWINS, TWINS_WANTED)?;
+    assert_text(&rt, rt.alloc(), TWINS, TWINS_EXPECTED)?;
     Ok(())
 }

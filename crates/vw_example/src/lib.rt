@@ -48,6 +48,3 @@ pub fn simulate(alloc: Global, design: Vec<u8>, stimulus: Vec<u8>) -> Result<Sim
         err: err.bytes().to_vec(alloc)?,
     })
 }
-
-#[cfg(test)]
-mod tests;

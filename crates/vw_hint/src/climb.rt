@@ -1,7 +1,7 @@
 //! Chains of moves between two chips, of which the first ones may cost something.
 use crate::cut::Cut;
 use crate::level::Level;
-use crate::numbers::Numbers;
+use crate::numbers::NumberList;
 use std::alloc::{AllocError, Global};
 use std::collections::BinaryHeap;
 
@@ -19,7 +19,7 @@ struct Candidate {
 #[derive(Drop)]
 struct Climb {
     /// The gain of each vertex that may still move; 0 for one that has moved.
-    gains: Numbers,
+    gains: NumberList,
     /// The vertices of the first chip and of the second one, some with gains that they have no more.
     low: BinaryHeap<Candidate>,
     high: BinaryHeap<Candidate>,
@@ -31,7 +31,7 @@ impl Climb {
     /// The gains before the first move. Vertices whose nets are all on their own chip aren't candidates yet.
     fn of(alloc: Global, level: &Level, cut: &Cut) -> Result<Self, AllocError> {
         let mut climb = Climb {
-            gains: Numbers::zeros(alloc, level.vertices())?,
+            gains: NumberList::zeros(alloc, level.vertices())?,
             low: BinaryHeap::new(alloc),
             high: BinaryHeap::new(alloc),
             moved: Vec::new(alloc),

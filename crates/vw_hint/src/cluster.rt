@@ -1,6 +1,6 @@
 //! Clusters of vertices that share nets.
 use crate::level::Level;
-use crate::numbers::Numbers;
+use crate::numbers::NumberList;
 use std::alloc::{AllocError, Global};
 
 /// How much two vertices are drawn to each other by a net of so many.
@@ -30,11 +30,11 @@ pub struct Limits {
 #[derive(Drop)]
 struct Clusters {
     /// The cluster of each vertex.
-    of: Numbers,
+    of: NumberList,
     /// How many cells each cluster stands for.
-    weights: Numbers,
+    weights: NumberList,
     /// How much the vertex that is looked at is drawn to each cluster.
-    scores: Numbers,
+    scores: NumberList,
     /// The clusters with a score.
     seen: Vec<u32>,
     /// The last vertex that found no cluster.
@@ -45,14 +45,14 @@ impl Clusters {
     /// Each vertex alone.
     fn of(alloc: Global, level: &Level) -> Result<Self, AllocError> {
         let vertices = level.vertices();
-        let mut weights = Numbers::zeros(alloc, vertices)?;
+        let mut weights = NumberList::zeros(alloc, vertices)?;
         for vertex in 0..vertices {
             weights.set(vertex, level.weights.at(vertex));
         }
         Ok(Clusters {
-            of: Numbers::below(alloc, vertices)?,
+            of: NumberList::below(alloc, vertices)?,
             weights,
-            scores: Numbers::zeros(alloc, vertices)?,
+            scores: NumberList::zeros(alloc, vertices)?,
             seen: Vec::new(alloc),
             lonely: None,
         })
@@ -170,13 +170,13 @@ pub fn clustered(
     alloc: Global,
     level: &Level,
     limits: Limits,
-) -> Result<(Numbers, u32), AllocError> {
+) -> Result<(NumberList, u32), AllocError> {
     let mut found = Clusters::of(alloc, level)?;
     for place in 0..level.vertices() {
         let vertex = nth(place, limits.order, level.vertices());
         found.place(level, vertex, limits)?;
     }
-    let mut numbers = Numbers::zeros(alloc, level.vertices())?;
+    let mut numbers = NumberList::zeros(alloc, level.vertices())?;
     let mut many: u32 = 0;
     for vertex in 0..level.vertices() {
         if found.of.at(vertex) == vertex {
@@ -184,7 +184,7 @@ pub fn clustered(
             many = many.saturating_add(1);
         }
     }
-    let mut map = Numbers::zeros(alloc, level.vertices())?;
+    let mut map = NumberList::zeros(alloc, level.vertices())?;
     for vertex in 0..level.vertices() {
         map.set(vertex, numbers.at(found.of.at(vertex)));
     }

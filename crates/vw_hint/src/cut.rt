@@ -1,6 +1,6 @@
 //! Vertices on chips, and moves of single vertices.
 use crate::level::Level;
-use crate::numbers::Numbers;
+use crate::numbers::NumberList;
 use std::alloc::{AllocError, Global};
 
 /// The chip of each vertex, from 0 on, and what the moves look up.
@@ -8,14 +8,14 @@ use std::alloc::{AllocError, Global};
 pub struct Cut {
     chips: u32,
     /// How many cells each chip may have.
-    rooms: Numbers,
-    pub chip_of: Numbers,
+    rooms: NumberList,
+    pub chip_of: NumberList,
     /// How many cells each chip has.
-    sizes: Numbers,
+    sizes: NumberList,
     /// For each net and then each chip, how many vertices of the net are on the chip.
-    counts: Numbers,
+    counts: NumberList,
     /// For each chip, how many nets of the vertex that is looked at have a vertex on it.
-    there: Numbers,
+    there: NumberList,
 }
 
 impl Cut {
@@ -23,17 +23,17 @@ impl Cut {
     pub fn of(
         alloc: Global,
         level: &Level,
-        rooms: &Numbers,
-        chip_of: Numbers,
+        rooms: &NumberList,
+        chip_of: NumberList,
     ) -> Result<Self, AllocError> {
         let chips = rooms.len();
         let mut cut = Cut {
             chips,
             rooms: rooms.copied(alloc)?,
             chip_of,
-            sizes: Numbers::zeros(alloc, chips)?,
-            counts: Numbers::zeros(alloc, level.of_net.len().saturating_mul(chips))?,
-            there: Numbers::zeros(alloc, chips)?,
+            sizes: NumberList::zeros(alloc, chips)?,
+            counts: NumberList::zeros(alloc, level.of_net.len().saturating_mul(chips))?,
+            there: NumberList::zeros(alloc, chips)?,
         };
         for vertex in 0..level.vertices() {
             let chip = cut.chip_of.at(vertex);

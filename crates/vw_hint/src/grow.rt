@@ -1,7 +1,7 @@
 //! Chips that are filled one after the other, each with vertices that share nets.
 use crate::cluster::pull;
 use crate::level::Level;
-use crate::numbers::Numbers;
+use crate::numbers::NumberList;
 use std::alloc::{AllocError, Global};
 
 /// The chips so far.
@@ -9,22 +9,22 @@ use std::alloc::{AllocError, Global};
 struct Growth {
     chips: u32,
     /// How many cells each chip may have.
-    rooms: Numbers,
+    rooms: NumberList,
     /// The chip of each vertex; the number of chips for one that has none.
-    chip_of: Numbers,
-    sizes: Numbers,
+    chip_of: NumberList,
+    sizes: NumberList,
     /// How much the chip that is filled draws each vertex.
-    scores: Numbers,
+    scores: NumberList,
     /// For each net, one more than the last chip for which it counted.
-    marks: Numbers,
+    marks: NumberList,
 }
 
 impl Growth {
     /// No vertex has a chip.
-    fn of(alloc: Global, level: &Level, rooms: &Numbers) -> Result<Self, AllocError> {
+    fn of(alloc: Global, level: &Level, rooms: &NumberList) -> Result<Self, AllocError> {
         let vertices = level.vertices();
         let chips = rooms.len();
-        let mut chip_of = Numbers::zeros(alloc, vertices)?;
+        let mut chip_of = NumberList::zeros(alloc, vertices)?;
         for vertex in 0..vertices {
             chip_of.set(vertex, chips);
         }
@@ -32,9 +32,9 @@ impl Growth {
             chips,
             rooms: rooms.copied(alloc)?,
             chip_of,
-            sizes: Numbers::zeros(alloc, chips)?,
-            scores: Numbers::zeros(alloc, vertices)?,
-            marks: Numbers::zeros(alloc, level.of_net.len())?,
+            sizes: NumberList::zeros(alloc, chips)?,
+            scores: NumberList::zeros(alloc, vertices)?,
+            marks: NumberList::zeros(alloc, level.of_net.len())?,
         })
     }
 
@@ -116,9 +116,9 @@ impl Growth {
 pub fn grown(
     alloc: Global,
     level: &Level,
-    rooms: &Numbers,
+    rooms: &NumberList,
     seed: u32,
-) -> Result<Numbers, AllocError> {
+) -> Result<NumberList, AllocError> {
     let mut growth = Growth::of(alloc, level, rooms)?;
     let chips = rooms.len();
     growth.fill(level, 0, seed);

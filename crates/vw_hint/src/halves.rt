@@ -1,21 +1,21 @@
 //! Cells on chips by halves of halves.
 use crate::cut::{Cut, better};
 use crate::level::Level;
-use crate::numbers::Numbers;
-use crate::run::Run;
+use crate::numbers::NumberList;
+use crate::run::MultilevelRun;
 use std::alloc::{AllocError, Global};
 
 /// Cells in parts of which each is to be dealt to some chips in a row.
 #[derive(Drop)]
-struct Parts {
+struct CellParts {
     /// How many cells a chip may have.
     room: u32,
     /// The first chip of the part of each cell.
-    first_of: Numbers,
+    first_of: NumberList,
     /// For each chip, how many chips the part has that begins with it; 0 where none does.
-    many: Numbers,
+    many: NumberList,
     /// The number of each cell within the part that is halved; the greatest number for one that isn't in it.
-    map: Numbers,
+    map: NumberList,
 }
 
 /// How often so many chips are halved until each one stands alone.
@@ -29,16 +29,16 @@ fn halvings(chips: u32) -> u64 {
     }
 }
 
-impl Parts {
+impl CellParts {
     /// All cells in one part.
     fn whole(alloc: Global, cells: u32, chips: u32, room: u32) -> Result<Self, AllocError> {
-        let mut many = Numbers::zeros(alloc, chips)?;
+        let mut many = NumberList::zeros(alloc, chips)?;
         many.set(0, chips);
-        Ok(Parts {
+        Ok(CellParts {
             room,
-            first_of: Numbers::zeros(alloc, cells)?,
+            first_of: NumberList::zeros(alloc, cells)?,
             many,
-            map: Numbers::zeros(alloc, cells)?,
+            map: NumberList::zeros(alloc, cells)?,
         })
     }
 
@@ -68,15 +68,21 @@ impl Parts {
     }
 
     /// How the cells of a part are dealt to two halves of its chips, the first one with so many of them.
-    fn halving(&self, alloc: Global, low: u32, all: u32, cells: u32) -> Result<Run, AllocError> {
-        let mut rooms = Numbers::new(alloc);
+    fn halving(
+        &self,
+        alloc: Global,
+        low: u32,
+        all: u32,
+        cells: u32,
+    ) -> Result<MultilevelRun, AllocError> {
+        let mut rooms = NumberList::new(alloc);
         rooms.push(self.room_of(low, all, cells))?;
         rooms.push(self.room_of(all.saturating_sub(low), all, cells))?;
-        let mut wide = Numbers::new(alloc);
+        let mut wide = NumberList::new(alloc);
         for half in 0..2 {
             wide.push(rooms.at(half).saturating_add(cells / 256))?;
         }
-        Ok(Run {
+        Ok(MultilevelRun {
             rooms,
             wide,
             order: 0,
@@ -131,8 +137,8 @@ pub fn halved(
     chips: u32,
     room: u32,
     tries: u32,
-) -> Result<Numbers, AllocError> {
-    let mut parts = Parts::whole(alloc, top.vertices(), chips, room)?;
+) -> Result<NumberList, AllocError> {
+    let mut parts = CellParts::whole(alloc, top.vertices(), chips, room)?;
     for _round in 0..6u32 {
         for first in 0..chips {
             if parts.many.at(first) > 1 {

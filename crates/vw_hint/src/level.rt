@@ -1,6 +1,6 @@
 //! A netlist as nets over vertices, of which each stands for one or more cells.
-use crate::numbers::Numbers;
-use crate::rows::Rows;
+use crate::numbers::NumberList;
+use crate::rows::NumberRows;
 use std::alloc::{AllocError, Global};
 use vw_net::Sequence;
 
@@ -8,11 +8,11 @@ use vw_net::Sequence;
 #[derive(Drop)]
 pub struct Level {
     /// The vertices of each net.
-    pub of_net: Rows,
+    pub of_net: NumberRows,
     /// The nets of each vertex.
-    pub of_vertex: Rows,
+    pub of_vertex: NumberRows,
     /// How many cells each vertex stands for.
-    pub weights: Numbers,
+    pub weights: NumberList,
 }
 
 impl Level {
@@ -22,8 +22,8 @@ impl Level {
         nets: u32,
         of_cells: &[Sequence<u32>],
     ) -> Result<Self, AllocError> {
-        let mut of_cell = Rows::new(alloc)?;
-        let mut weights = Numbers::new(alloc);
+        let mut of_cell = NumberRows::new(alloc)?;
+        let mut weights = NumberList::new(alloc);
         for own in of_cells {
             for net in own.as_slice() {
                 of_cell.push(*net)?;
@@ -32,7 +32,7 @@ impl Level {
             weights.push(1)?;
         }
         let of_net = of_cell.turned(alloc, nets)?;
-        let map = Numbers::below(alloc, weights.len())?;
+        let map = NumberList::below(alloc, weights.len())?;
         merged(alloc, &of_net, &map, weights)
     }
 
@@ -48,8 +48,8 @@ impl Level {
 
     /// The level of some of the vertices alone, given the new number of each one, in their order; the others have a number
     /// that is too great.
-    pub fn of_some(&self, alloc: Global, map: &Numbers, many: u32) -> Result<Self, AllocError> {
-        let mut weights = Numbers::zeros(alloc, many)?;
+    pub fn of_some(&self, alloc: Global, map: &NumberList, many: u32) -> Result<Self, AllocError> {
+        let mut weights = NumberList::zeros(alloc, many)?;
         for vertex in 0..self.vertices() {
             weights.set(map.at(vertex), self.weights.at(vertex));
         }
@@ -60,10 +60,10 @@ impl Level {
     pub fn of_clusters(
         &self,
         alloc: Global,
-        map: &Numbers,
+        map: &NumberList,
         clusters: u32,
     ) -> Result<Self, AllocError> {
-        let mut weights = Numbers::zeros(alloc, clusters)?;
+        let mut weights = NumberList::zeros(alloc, clusters)?;
         for vertex in 0..self.vertices() {
             weights.add(map.at(vertex), self.weights.at(vertex));
         }
@@ -75,12 +75,12 @@ impl Level {
 /// is left out, and so is a net that keeps a single vertex.
 fn merged(
     alloc: Global,
-    nets: &Rows,
-    map: &Numbers,
-    weights: Numbers,
+    nets: &NumberRows,
+    map: &NumberList,
+    weights: NumberList,
 ) -> Result<Level, AllocError> {
-    let mut of_net = Rows::new(alloc)?;
-    let mut seen = Numbers::zeros(alloc, weights.len())?;
+    let mut of_net = NumberRows::new(alloc)?;
+    let mut seen = NumberList::zeros(alloc, weights.len())?;
     for net in 0..nets.len() {
         let mark = net.saturating_add(1);
         for vertex in nets.row(net) {

@@ -3,21 +3,21 @@ use std::alloc::{AllocError, Global};
 
 /// Numbers by their places. Past the end they are 0, and what is written there is lost.
 #[derive(Drop)]
-pub struct Numbers {
+pub struct NumberList {
     items: Vec<u32>,
 }
 
-impl Numbers {
+impl NumberList {
     /// No numbers.
     pub fn new(alloc: Global) -> Self {
-        Numbers {
+        NumberList {
             items: Vec::new(alloc),
         }
     }
 
     /// So many zeros.
     pub fn zeros(alloc: Global, many: u32) -> Result<Self, AllocError> {
-        Ok(Numbers {
+        Ok(NumberList {
             items: vec![in alloc; 0; many as usize]?,
         })
     }
@@ -28,7 +28,7 @@ impl Numbers {
         for number in 0..limit {
             items.push(number)?;
         }
-        Ok(Numbers { items })
+        Ok(NumberList { items })
     }
 
     /// The same numbers once more.
@@ -37,7 +37,7 @@ impl Numbers {
         for number in self.items.as_slice() {
             items.push(*number)?;
         }
-        Ok(Numbers { items })
+        Ok(NumberList { items })
     }
 
     /// How many there are.

@@ -1,21 +1,21 @@
 //! Lists of numbers, one after the other.
-use crate::numbers::Numbers;
+use crate::numbers::NumberList;
 use std::alloc::{AllocError, Global};
 
 /// Rows of numbers.
 #[derive(Drop)]
-pub struct Rows {
+pub struct NumberRows {
     /// Where each row begins, and where the last one ends.
-    starts: Numbers,
-    items: Numbers,
+    starts: NumberList,
+    items: NumberList,
 }
 
-impl Rows {
+impl NumberRows {
     /// No rows.
     pub fn new(alloc: Global) -> Result<Self, AllocError> {
-        Ok(Rows {
-            starts: Numbers::zeros(alloc, 1)?,
-            items: Numbers::new(alloc),
+        Ok(NumberRows {
+            starts: NumberList::zeros(alloc, 1)?,
+            items: NumberList::new(alloc),
         })
     }
 
@@ -57,8 +57,8 @@ impl Rows {
     }
 
     /// For each number below a limit, where it begins if the numbers of all rows are sorted.
-    fn sorted_starts(&self, alloc: Global, limit: u32) -> Result<Numbers, AllocError> {
-        let mut starts = Numbers::zeros(alloc, limit.saturating_add(1))?;
+    fn sorted_starts(&self, alloc: Global, limit: u32) -> Result<NumberList, AllocError> {
+        let mut starts = NumberList::zeros(alloc, limit.saturating_add(1))?;
         for number in self.items.between(0, self.items.len()) {
             starts.add(number.saturating_add(1), 1);
         }
@@ -69,16 +69,16 @@ impl Rows {
     }
 
     /// For each number below a limit, the rows in which it stands.
-    pub fn turned(&self, alloc: Global, limit: u32) -> Result<Rows, AllocError> {
+    pub fn turned(&self, alloc: Global, limit: u32) -> Result<NumberRows, AllocError> {
         let starts = self.sorted_starts(alloc, limit)?;
         let mut next = self.sorted_starts(alloc, limit)?;
-        let mut items = Numbers::zeros(alloc, self.items.len())?;
+        let mut items = NumberList::zeros(alloc, self.items.len())?;
         for row in 0..self.len() {
             for number in self.row(row) {
                 items.set(next.at(*number), row);
                 next.add(*number, 1);
             }
         }
-        Ok(Rows { starts, items })
+        Ok(NumberRows { starts, items })
     }
 }

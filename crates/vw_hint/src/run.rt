@@ -4,30 +4,30 @@ use crate::cluster::{Limits, clustered};
 use crate::cut::Cut;
 use crate::grow::grown;
 use crate::level::Level;
-use crate::numbers::Numbers;
+use crate::numbers::NumberList;
 use std::alloc::{AllocError, Global};
 
 /// A level of clusters, and the cluster of each vertex of the level before it.
 #[derive(Drop)]
 struct Coarser {
     level: Level,
-    map: Numbers,
+    map: NumberList,
 }
 
 /// How a run goes.
 #[derive(Drop)]
-pub struct Run {
+pub struct MultilevelRun {
     /// How many cells each chip may have at last.
-    pub rooms: Numbers,
+    pub rooms: NumberList,
     /// How many it may have before.
-    pub wide: Numbers,
+    pub wide: NumberList,
     /// In which order the vertices are looked at, as a number.
     pub order: u32,
     /// The most cells of a cluster.
     pub most: u32,
 }
 
-impl Run {
+impl MultilevelRun {
     /// How few vertices are dealt to the chips without further clusters.
     fn few(&self) -> u32 {
         if self.rooms.len() == 2 {
@@ -43,7 +43,7 @@ impl Run {
         alloc: Global,
         level: &Level,
         choosy: bool,
-    ) -> Result<(Numbers, u32), AllocError> {
+    ) -> Result<(NumberList, u32), AllocError> {
         let average = level.weight().div_ceil(level.vertices().max(1));
         let window = 16_000_000 / level.of_net.size().saturating_add(1);
         let limits = Limits {
@@ -91,7 +91,7 @@ impl Run {
     }
 
     /// The best of some growths, after sweeps.
-    fn start(&self, alloc: Global, level: &Level) -> Result<Numbers, AllocError> {
+    fn start(&self, alloc: Global, level: &Level) -> Result<NumberList, AllocError> {
         let seeds = self.seeds(level);
         let mut best = None;
         let mut least = u64::MAX;
@@ -108,7 +108,7 @@ impl Run {
         }
         match best {
             Some(chip_of) => Ok(chip_of),
-            None => Numbers::zeros(alloc, level.vertices()),
+            None => NumberList::zeros(alloc, level.vertices()),
         }
     }
 
@@ -132,8 +132,8 @@ impl Run {
         &self,
         alloc: Global,
         level: &Level,
-        rooms: &Numbers,
-        chip_of: Numbers,
+        rooms: &NumberList,
+        chip_of: NumberList,
     ) -> Result<Cut, AllocError> {
         let mut cut = Cut::of(alloc, level, rooms, chip_of)?;
         cut.sweeps(level);
@@ -145,8 +145,8 @@ impl Run {
 }
 
 /// The chip of each vertex of a finer level, given that of each cluster.
-fn finer(alloc: Global, map: &Numbers, chip_of: &Numbers) -> Result<Numbers, AllocError> {
-    let mut chips = Numbers::zeros(alloc, map.len())?;
+fn finer(alloc: Global, map: &NumberList, chip_of: &NumberList) -> Result<NumberList, AllocError> {
+    let mut chips = NumberList::zeros(alloc, map.len())?;
     for vertex in 0..map.len() {
         chips.set(vertex, chip_of.at(map.at(vertex)));
     }

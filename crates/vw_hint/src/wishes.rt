@@ -6,15 +6,15 @@ ghost use Rattle.vw_plan.specs.Good.{IsChip};
 use crate::cut::{Cut, better};
 use crate::halves::halved;
 use crate::level::Level;
-use crate::numbers::Numbers;
-use crate::run::Run;
+use crate::numbers::NumberList;
+use crate::run::MultilevelRun;
 use std::alloc::{AllocError, Global};
 use vw_net::Sequence;
 use vw_plan::Board;
 
 /// The same number for each of some chips.
-fn each(alloc: Global, chips: u32, number: u32) -> Result<Numbers, AllocError> {
-    let mut numbers = Numbers::zeros(alloc, chips)?;
+fn each(alloc: Global, chips: u32, number: u32) -> Result<NumberList, AllocError> {
+    let mut numbers = NumberList::zeros(alloc, chips)?;
     for chip in 0..chips {
         numbers.set(chip, number);
     }
@@ -24,7 +24,7 @@ fn each(alloc: Global, chips: u32, number: u32) -> Result<Numbers, AllocError> {
 /// The cells on chips as they follow each other, after sweeps. Many designs come in a good order.
 fn in_order(alloc: Global, top: &Level, chips: u32, room: u32) -> Result<Cut, AllocError> {
     let cells = u64::from(top.vertices());
-    let mut chip_of = Numbers::new(alloc);
+    let mut chip_of = NumberList::new(alloc);
     for cell in 0..top.vertices() {
         let chip = (u64::from(cell) * u64::from(chips))
             .checked_div(cells)
@@ -72,7 +72,7 @@ fn run_of(
     runs: u32,
     cells: u32,
     board: &Board,
-) -> Result<Run, AllocError> {
+) -> Result<MultilevelRun, AllocError> {
     let few = cells.div_ceil(board.cells()).max(1);
     let chips = if order.saturating_add(1) < runs {
         board.chips()
@@ -90,7 +90,7 @@ fn run_of(
     } else {
         share / 12
     };
-    Ok(Run {
+    Ok(MultilevelRun {
         rooms: each(alloc, chips, board.cells())?,
         wide: each(alloc, chips, wide)?,
         order,

@@ -62,9 +62,9 @@ const LAST_OF_SIX: &[&[u8]] = &[b"-----1"];
 const SEVEN: &[&[u8]] = &[b"1-----0", b"-01----"];
 
 /// How many inputs a table has, its rows, some bits, and whether a row matches them.
-type Line<'a> = (u32, &'a [&'a [u8]], &'a [u8], bool);
+type TableCase<'a> = (u32, &'a [&'a [u8]], &'a [u8], bool);
 
-const MATCHES: &[Line] = &[
+const MATCHES: &[TableCase] = &[
     (0, &[], b"", false),
     (0, EMPTY, b"", true),
     (1, &[], b"1", false),
@@ -91,7 +91,7 @@ const MATCHES: &[Line] = &[
 ];
 
 /// Asserts for each line that the table has its value, both where its rows give 1 and where they give 0.
-fn have_values(rt: &impl Abort, alloc: Global, lines: &[Line]) -> Result<(), Fail> {
+fn have_values(rt: &impl Abort, alloc: Global, lines: &[TableCase]) -> Result<(), Fail> {
     for (width, rows, text, matches) in lines {
         let on = value(alloc, *width, true, rows, text)?;
         let off = value(alloc, *width, false, rows, text)?;

@@ -9,14 +9,14 @@ use vw_search::{Digraph, Found, search};
 /// A graph as a table of lines, each with a number and one that it reads. A line with a number past the last one is
 /// passed over.
 #[derive(Drop)]
-struct Table<'a> {
+struct GraphTable<'a> {
     count: u32,
     /// How many numbers, from 0 on, have to be reached.
     starts: u32,
     lines: &'a [(u32, u32)],
 }
 
-impl Digraph for Table<'_> {
+impl Digraph for GraphTable<'_> {
     ghost graph = { λ table. graph_of_table table.count table.starts table.lines.now };
 
     fn count(&self) -> u32 {
@@ -55,7 +55,7 @@ fn look_at(
     starts: u32,
     lines: &[(u32, u32)],
 ) -> Result<Listed, AllocError> {
-    let table = Table {
+    let table = GraphTable {
         count,
         starts,
         lines,
@@ -74,10 +74,10 @@ fn look_at(
 
 /// How many numbers there are and how many of them have to be reached, what is read, whether there is an order, and the
 /// order or the circle.
-type Row<'a> = (u32, u32, &'a [(u32, u32)], bool, &'a [u32]);
+type SearchCase<'a> = (u32, u32, &'a [(u32, u32)], bool, &'a [u32]);
 
 /// Asserts what is found of each row.
-fn are_found(rt: &impl Abort, alloc: Global, rows: &[Row]) -> Result<(), AllocError> {
+fn are_found(rt: &impl Abort, alloc: Global, rows: &[SearchCase]) -> Result<(), AllocError> {
     for (count, starts, lines, is_order, numbers) in rows {
         let found = look_at(alloc, *count, *starts, lines)?;
         assert!(rt; found.is_order == *is_order);
@@ -86,7 +86,7 @@ fn are_found(rt: &impl Abort, alloc: Global, rows: &[Row]) -> Result<(), AllocEr
     Ok(())
 }
 
-const ORDERS: &[Row] = &[
+const ORDERS: &[SearchCase] = &[
     (4, 4, &[(0, 2), (2, 3), (0, 3), (1, 0)], true, &[3, 2, 0, 1]),
     (0, 0, &[], true, &[]),
 ];
@@ -96,14 +96,14 @@ fn what_is_read_comes_first(rt: HostRuntime) -> Result<(), Fail> {
     Ok(are_found(&rt, rt.alloc(), ORDERS)?)
 }
 
-const REACHED: &[Row] = &[(4, 1, &[(0, 2), (1, 0), (3, 3)], true, &[2, 0])];
+const REACHED: &[SearchCase] = &[(4, 1, &[(0, 2), (1, 0), (3, 3)], true, &[2, 0])];
 
 #[test]
 fn what_no_one_reads_is_left_out(rt: HostRuntime) -> Result<(), Fail> {
     Ok(are_found(&rt, rt.alloc(), REACHED)?)
 }
 
-const CIRCLES: &[Row] = &[
+const CIRCLES: &[SearchCase] = &[
     (4, 1, &[(0, 3), (3, 2), (2, 1), (1, 3)], false, &[1, 3, 2]),
     (3, 3, &[(0, 1), (1, 1)], false, &[1]),
 ];

@@ -10,7 +10,7 @@ use vw_slots::{Slot, SlotTable};
 const BOARD: &[u8] = b"board 1\nchips 1\ncells 1\nsettle 0\npins 3\nlink 0 1 2\nlink 1 0 1\n";
 
 /// A link and the earliest microcycle, and the pin and the microcycle that are taken.
-type Row = (u32, u64, u32, u64);
+type SlotCase = (u32, u64, u32, u64);
 
 /// A table of that board with so much room.
 fn table_of(alloc: Global, room: u64) -> Result<SlotTable, Fail>
@@ -28,7 +28,7 @@ fn table_of(alloc: Global, room: u64) -> Result<SlotTable, Fail>
 }
 
 /// Takes slots in an empty table, and asserts what each row says.
-fn take(rt: &impl Abort, table: &mut SlotTable, rows: &[Row])
+fn take(rt: &impl Abort, table: &mut SlotTable, rows: &[SlotCase])
     requires links { length table.old.widths ≡ 2 }
     requires room { length rows.now ≤ table.old.spare }
     requires none { table.old.taken ≡ [] }
@@ -49,7 +49,7 @@ fn refuses(table: &mut SlotTable) -> bool {
 
 /// Takes slots in a table of that board with so much room. Asserts what each row says, and that the table then refuses room
 /// for 2 ^ 62 more slots.
-fn are_taken(rt: &impl Abort, alloc: Global, room: u64, rows: &[Row]) -> Result<(), Fail> {
+fn are_taken(rt: &impl Abort, alloc: Global, room: u64, rows: &[SlotCase]) -> Result<(), Fail> {
     let mut table = table_of(alloc, room)?;
     assert!(rt; rows.len() as u64 <= room && rows.len() <= 1_000_000);
     take(rt, &mut table, rows);
@@ -57,7 +57,7 @@ fn are_taken(rt: &impl Abort, alloc: Global, room: u64, rows: &[Row]) -> Result<
     Ok(())
 }
 
-const FREE: &[Row] = &[
+const FREE: &[SlotCase] = &[
     (0, 0, 0, 0),
     (0, 0, 1, 0),
     (0, 0, 0, 1),
@@ -77,7 +77,7 @@ fn the_earliest_free_pin_is_taken(rt: HostRuntime) -> Result<(), Fail> {
 }
 
 /// Rows that fill the one pin of the second link from the first microcycle on.
-fn rows_from_front(alloc: Global) -> Result<Vec<Row>, AllocError> {
+fn rows_from_front(alloc: Global) -> Result<Vec<SlotCase>, AllocError> {
     let mut rows = Vec::new(alloc);
     for count in 0..200_000u64 {
         rows.push((1, 0, 0, count))?;
@@ -92,7 +92,7 @@ fn a_full_link_is_quick(rt: HostRuntime) -> Result<(), Fail> {
 }
 
 /// Rows that fill microcycles 99,999 down to 0 of that pin, and then 100,000 and on.
-fn rows_from_behind(alloc: Global) -> Result<Vec<Row>, AllocError> {
+fn rows_from_behind(alloc: Global) -> Result<Vec<SlotCase>, AllocError> {
     let mut rows = Vec::new(alloc);
     for count in 0..100_000u64 {
         rows.push((1, 99_999 - count, 0, 99_999 - count))?;

@@ -6,8 +6,8 @@ use Rattle.std.proofs.Math.Seq.{take-append_seam, get_or-append_seam}
 use Rattle.std.proofs.lemmas.List.{get_or_append_left, get_or-replicate, get_or_past, take-append-le, length-set, length-replicate}
 use Rattle.std.proofs.lemmas.List.Folds.{list_any-append}
 use Rattle.vw_net.specs.Order.{is_among}
-use Rattle.vw_search.specs.declared.mark.Mark.{Mark}
-use Rattle.vw_search.specs.declared.mark.Mark.TheVariants.{Fresh, Open, Done}
+use Rattle.vw_search.specs.declared.mark.Progress.{Progress}
+use Rattle.vw_search.specs.declared.mark.Progress.TheVariants.{Fresh, Open, Done}
 use Rattle.vw_search.specs.declared.mark.Ahead.{Ahead}
 use Rattle.vw_search.specs.Steps.Marks.{IsAhead}
 use Rattle.vw_search.specs.Steps.Rounds.{round_from}
@@ -59,7 +59,7 @@ behind_more graph order number behind kid = λ i place read before reads.
         ∙ kid place read (subst (λ (n : ℕ). ReadsAt graph n place read) (ap (λ (n : ℕ). get_or (order ++ number ∷ []) n 0) is ∙ get_or-append_seam order number [] 0) reads)
 
 -- the last open number and those that it reads have places in the tables, and there are no more numbers than are counted
-pub record IsAtTop (graph : Graph) (marks : List Mark) (cursors order stack : List ℕ) (number : ℕ) : Type 0 where
+pub record IsAtTop (graph : Graph) (marks : List Progress) (cursors order stack : List ℕ) (number : ℕ) : Type 0 where
   pub in_marks : number < length marks
   pub in_cursors : number < length cursors
   pub read_in : (place read : ℕ) → ReadsAt graph number place read → read < length marks
@@ -67,13 +67,13 @@ pub record IsAtTop (graph : Graph) (marks : List Mark) (cursors order stack : Li
 
 module _ (graph : Graph) where
   -- the same lists
-  pub same_search : (marks others : List Mark) (cursors cursors' order order' stack stack' : List ℕ) → IsSearch graph marks cursors order stack → others ≡ marks → cursors' ≡ cursors → order' ≡ order → stack' ≡ stack
+  pub same_search : (marks others : List Progress) (cursors cursors' order order' stack stack' : List ℕ) → IsSearch graph marks cursors order stack → others ≡ marks → cursors' ≡ cursors → order' ≡ order → stack' ≡ stack
       → IsSearch graph others cursors' order' stack'
   same_search marks others cursors cursors' order order' stack stack' far m c o s =
       subst (λ (l : List ℕ). IsSearch graph others cursors' order' l) (sym s)
       (subst (λ (l : List ℕ). IsSearch graph others cursors' l stack) (sym o)
       (subst (λ (l : List ℕ). IsSearch graph others l order stack) (sym c)
-      (subst (λ (l : List Mark). IsSearch graph l cursors order stack) (sym m) far)))
+      (subst (λ (l : List Progress). IsSearch graph l cursors order stack) (sym m) far)))
 
   -- nothing is open
   pub begun : IsSearch graph (replicate graph.count Fresh) (replicate graph.count 0) [] []
@@ -91,7 +91,7 @@ module _ (graph : Graph) where
     zeros other = ⊎_elim (λ inside. get_or-replicate {A = ℕ} graph.count other 0 0 inside) (λ past. get_or_past (replicate {A = ℕ} graph.count 0) other 0 (omega (arith, length-replicate {A = ℕ} graph.count 0))) (cases_lt other graph.count)
 
   -- a first one is opened
-  pub rooted : (marks : List Mark) (cursors order : List ℕ) (root : ℕ) → IsSearch graph marks cursors order [] → get_or marks root Fresh ≡ Fresh → root < graph.count → graph.counts root ≡ true
+  pub rooted : (marks : List Progress) (cursors order : List ℕ) (root : ℕ) → IsSearch graph marks cursors order [] → get_or marks root Fresh ≡ Fresh → root < graph.count → graph.counts root ≡ true
       → IsSearch graph (slice_set marks root Open) cursors order (root ∷ [])
   rooted marks cursors order root far fresh within counts = record {
     marks_each = length-set marks root Open ∙ far.marks_each;
@@ -120,7 +120,7 @@ module _ (graph : Graph) where
         ∙ ap (λ (b : Bool). cond (is_among order other) Done (cond b Open Fresh)) (sym (among_other [] root other differ))
 
   module _ (within : IsWithin graph) where
-    module _ (marks : List Mark) (cursors order stack : List ℕ) (number : ℕ) (far : IsSearch graph marks cursors order (stack ++ number ∷ [])) where
+    module _ (marks : List Progress) (cursors order stack : List ℕ) (number : ℕ) (far : IsSearch graph marks cursors order (stack ++ number ∷ [])) where
       top_counts : graph.counts number ≡ true
       top_counts = far.counted number (among_right order (stack ++ number ∷ []) number (among_last stack number))
 
@@ -253,7 +253,7 @@ module _ (graph : Graph) where
             (λ other among. far.counted other (among_right order (stack ++ number ∷ []) other among))
 
   -- nothing is open, and all is reached
-  pub ended : (marks : List Mark) (cursors order : List ℕ) → IsSearch graph marks cursors order [] → ((number : ℕ) → graph.starts number ≡ true → is_among order number ≡ true) → IsNumberOrder graph order
+  pub ended : (marks : List Progress) (cursors order : List ℕ) → IsSearch graph marks cursors order [] → ((number : ℕ) → graph.starts number ≡ true → is_among order number ≡ true) → IsNumberOrder graph order
   ended marks cursors order far all = record {
     all = all;
     counted = λ number among. far.counted number (ap (λ (s : List ℕ). is_among s number) (append-nil order) ∙ among);

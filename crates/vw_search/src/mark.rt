@@ -2,7 +2,7 @@
 
 /// How far a number is.
 #[derive(Clone, Copy)]
-pub enum Mark {
+pub enum Progress {
     /// It hasn't been reached.
     Fresh,
     /// It is on the stack.

@@ -22,7 +22,7 @@ use Rattle.vw_sizes.specs.declared.measure.Measure.TheVariants.{Instances, Cells
 use Rattle.vw_sizes.specs.declared.quantity.Quantity.{Quantity}
 use Rattle.vw_sizes.specs.declared.sizes.Before.{Before}
 use Rattle.vw_sizes.specs.declared.sizes.Sizes.{Sizes}
-use Rattle.vw_sizes.specs.declared.tables.Tables.{Tables}
+use Rattle.vw_sizes.specs.declared.tables.CountingTables.{CountingTables}
 use Rattle.vw_sizes.specs.declared.totals.Totals.{Totals}
 use Rattle.vw_sizes.specs.Steps.Counting.{most, count_in, IsRanked, AreCountingTables, AreEntries}
 use Rattle.vw_sizes.specs.Steps.Quantified.{AreTotals, first_above}
@@ -67,7 +67,7 @@ module _ (design : Design) (ranked : IsRanked design) where
         let capped = capped_weight design (is_reached design) ranked.rank ranked.ranking weight most count counted (64 + length design.models - length path) placing.model below.0 low in
         omega (arith, capped, placed_weighs weight count placing model.items among, few))
 
-module _ (design : Design) (tables : Tables) (are : AreCountingTables design tables) (small : too_big design ≡ None) where
+module _ (design : Design) (tables : CountingTables) (are : AreCountingTables design tables) (small : too_big design ≡ None) where
   root : (root : Model) × (model_at design [] ≡ Some root)
   root = at_within design.models 0 design.some
 
@@ -112,7 +112,7 @@ module _ (design : Design) (totals : Totals) (are : AreTotals design totals) whe
   nothing_big None is none = sym (first_is design totals are) ∙ sym is
   nothing_big (Some quantity) is none = absurd (none quantity refl)
 
-  pub are_sizes : (tables : Tables) → AreCountingTables design tables → too_big design ≡ None → (sizes : Sizes) → sizes.instances ≡ totals.instances → sizes.cells ≡ totals.cells
+  pub are_sizes : (tables : CountingTables) → AreCountingTables design tables → too_big design ≡ None → (sizes : Sizes) → sizes.instances ≡ totals.instances → sizes.cells ≡ totals.cells
       → AllZip (λ model list. AreEntries design tables model.items list) design.models sizes.before → AreSizes design sizes
   are_sizes tables are_tables small sizes instances cells along = record {
     small = small;

@@ -8,7 +8,7 @@ use Rattle.vw_design.specs.declared.design.Design.{Design}
 use Rattle.vw_design.proofs.FilteredLists.{AllZip-append}
 use Rattle.vw_sizes.specs.declared.measure.Measure.TheVariants.{Instances, Cells}
 use Rattle.vw_sizes.specs.declared.sizes.Before.{Before}
-use Rattle.vw_sizes.specs.declared.tables.Tables.{Tables}
+use Rattle.vw_sizes.specs.declared.tables.CountingTables.{CountingTables}
 use Rattle.vw_sizes.specs.Steps.Counting.{most, amount, count_in, AreEntries}
 
 -- what stands in a list that got one more
@@ -19,13 +19,13 @@ last_or (z ∷ xs) x y zero at = inl at
 last_or (z ∷ xs) x y (suc k) at = ⊎_elim (λ there. inl there) (λ last. inr (omega (arith, last.0), last.1)) (last_or xs x y k at)
 
 -- the entries of the first items
-pub record ArePrefixes (design : Design) (tables : Tables) (items : List Item) (entries : List Before) (i : ℕ) : Type 0 where
+pub record ArePrefixes (design : Design) (tables : CountingTables) (items : List Item) (entries : List Before) (i : ℕ) : Type 0 where
   pub long : length entries ≡ i
   pub each : (k : ℕ) (entry : Before) → slice_get entries k ≡ Some entry
       → (entry.cells ≡ min most (amount Cells (count_in design tables.cells.items) (take k items)))
       × (entry.instances ≡ min most (amount Instances (count_in design tables.instances.items) (take k items)))
 
-module _ (design : Design) (tables : Tables) (items : List Item) where
+module _ (design : Design) (tables : CountingTables) (items : List Item) where
   pub none : ArePrefixes design tables items [] 0
   none = record { long = refl; each = λ k entry at. absurd (none-some entry at) }
 

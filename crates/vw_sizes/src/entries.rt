@@ -8,7 +8,7 @@ ghost use Rattle.vw_sizes.specs.Steps.Counting.{AreEntries};
 use crate::amounts::{count_of, target_of};
 use crate::measure::{Measure, places};
 use crate::sizes::Before;
-use crate::tables::Tables;
+use crate::tables::CountingTables;
 use std::alloc::{AllocError, Global};
 use vw_design::{Design, Item};
 use vw_net::Sequence;
@@ -19,7 +19,7 @@ fn entries_of(
     design: &Design,
     items: &[Item],
     targets: &[Option<u32>],
-    tables: &Tables,
+    tables: &CountingTables,
 ) -> Result<Sequence<Before>, AllocError>
     requires cells { length tables.now.cells.items ≡ length design.now.models }
     requires instances { length tables.now.instances.items ≡ length design.now.models }
@@ -48,7 +48,7 @@ pub fn all_entries(
     alloc: Global,
     design: &Design,
     targets: &[Sequence<Option<u32>>],
-    tables: &Tables,
+    tables: &CountingTables,
 ) -> Result<Vec<Sequence<Before>>, AllocError>
     requires cells { length tables.now.cells.items ≡ length design.now.models }
     requires instances { length tables.now.instances.items ≡ length design.now.models }

@@ -11,7 +11,7 @@ use vw_net::Sequence;
 
 /// For each model by its number, how much it has, with all that it places.
 #[derive(Drop)]
-pub struct Tables {
+pub struct CountingTables {
     /// The instances below one of the model.
     pub instances: Vec<u32>,
     /// The bindings.
@@ -28,12 +28,12 @@ pub fn tables_of(
     design: &Design,
     targets: &[Sequence<Option<u32>>],
     order: &[u32],
-) -> Result<Tables, AllocError>
+) -> Result<CountingTables, AllocError>
     requires targets { AreTargets design.now targets.now }
     requires order { IsModelOrder design.now order.now }
     ensures { IfOk result (AreCountingTables design.now) }
 {
-    Ok(Tables {
+    Ok(CountingTables {
         instances: counts_of(alloc, design, Measure::Instances, targets, order)?,
         bindings: counts_of(alloc, design, Measure::Bindings, targets, order)?,
         cells: counts_of(alloc, design, Measure::Cells, targets, order)?,

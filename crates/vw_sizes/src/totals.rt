@@ -7,7 +7,7 @@ ghost use Rattle.vw_sizes.specs.Steps.Quantified.{total_of, first_above, AreTota
 
 use crate::inputs::input_count;
 use crate::quantity::Quantity;
-use crate::tables::Tables;
+use crate::tables::CountingTables;
 use std::alloc::{AllocError, Global};
 use vw_design::Design;
 
@@ -68,7 +68,11 @@ impl Totals {
 }
 
 /// The quantities of a design, from its root's.
-pub fn totals_of(alloc: Global, design: &Design, tables: &Tables) -> Result<Totals, AllocError>
+pub fn totals_of(
+    alloc: Global,
+    design: &Design,
+    tables: &CountingTables,
+) -> Result<Totals, AllocError>
     requires { AreCountingTables design.now tables.now }
     ensures { IfOk result (AreTotals design.now) }
 {

@@ -4,15 +4,15 @@ use Rattle.std.specs.Prelude.{◌≡◌, ◌<◌, ◌==◌, ℕ, List, [], ◌�
 use Rattle.std.specs.Global.{Vec}
 use Rattle.std.specs.List.{IsDistinct}
 use Rattle.vw_net.specs.Order.{is_among}
-use Rattle.vw_search.specs.declared.mark.Mark.{Mark}
-use Rattle.vw_search.specs.declared.mark.Mark.TheVariants.{Fresh, Open, Done}
+use Rattle.vw_search.specs.declared.mark.Progress.{Progress}
+use Rattle.vw_search.specs.declared.mark.Progress.TheVariants.{Fresh, Open, Done}
 use Rattle.vw_search.specs.declared.depth.Depth.{Depth}
 use Rattle.vw_search.specs.Graphs.{Graph, ReadsAt, Reads}
 use Rattle.vw_search.specs.Orders.{IsBehind}
 use Rattle.vw_search.specs.Circles.{IsNumberCircle}
 
 -- the mark of a number
-abbrev pub mark_of : List ℕ → List ℕ → ℕ → Mark
+abbrev pub mark_of : List ℕ → List ℕ → ℕ → Progress
 mark_of order stack number = if is_among order number then Done else (if is_among stack number then Open else Fresh)
 
 -- each number reads the next one
@@ -22,7 +22,7 @@ Leads graph (number ∷ []) = Unit {0}
 Leads graph (number ∷ next ∷ rest) = Reads graph number next × Leads graph (next ∷ rest)
 
 -- how far a search has come
-pub record IsSearch (graph : Graph) (marks : List Mark) (cursors order stack : List ℕ) : Type 0 where
+pub record IsSearch (graph : Graph) (marks : List Progress) (cursors order stack : List ℕ) : Type 0 where
   pub marks_each : length marks ≡ graph.count
   pub cursors_each : length cursors ≡ graph.count
   pub marked : (number : ℕ) → slice_index_or marks number Fresh ≡ mark_of order stack number

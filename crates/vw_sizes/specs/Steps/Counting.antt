@@ -10,7 +10,7 @@ use Rattle.vw_design.specs.Counts.{placed_one, cell_one, items_weight, items_hei
 use Rattle.vw_sizes.specs.declared.measure.Measure.{Measure}
 use Rattle.vw_sizes.specs.declared.measure.Measure.TheVariants.{Instances, Bindings, Cells, Levels}
 use Rattle.vw_sizes.specs.declared.sizes.Before.{Before}
-use Rattle.vw_sizes.specs.declared.tables.Tables.{Tables}
+use Rattle.vw_sizes.specs.declared.tables.CountingTables.{CountingTables}
 
 -- the greatest count
 abbrev pub most : ℕ
@@ -80,7 +80,7 @@ pub record IsRanked (design : Design) : Type 0 where
   pub low : (name : Word) → IsTrue (is_reached design name) → rank name < length design.models
 
 -- the tables of a design
-pub record AreCountingTables (design : Design) (tables : Tables) : Type 0 where
+pub record AreCountingTables (design : Design) (tables : CountingTables) : Type 0 where
   pub ranked : IsRanked design
   pub instances : AreCounts design Instances tables.instances.items
   pub bindings : AreCounts design Bindings tables.bindings.items
@@ -88,7 +88,7 @@ pub record AreCountingTables (design : Design) (tables : Tables) : Type 0 where
   pub levels : AreCounts design Levels tables.levels.items
 
 -- what stands before each of some items
-abbrev pub AreEntries : Design → Tables → List Item → List Before → Type 0
+abbrev pub AreEntries : Design → CountingTables → List Item → List Before → Type 0
 AreEntries design tables items entries = (length entries ≡ length items)
     × ((k : ℕ) (entry : Before) → slice_get entries k ≡ Some entry
     → (entry.cells ≡ min most (amount Cells (count_in design tables.cells.items) (take k items)))

@@ -3,8 +3,8 @@ use Rattle.std.specs.Vec.{vec_len}
 use Rattle.std.specs.Option.{option_to_list, MatchOption}
 use Rattle.std.proofs.lemmas.Option.{none-some}
 use Rattle.vw_net.specs.Order.{is_among}
-use Rattle.vw_search.specs.declared.mark.Mark.{Mark}
-use Rattle.vw_search.specs.declared.mark.Mark.TheVariants.{Fresh, Open, Done}
+use Rattle.vw_search.specs.declared.mark.Progress.{Progress}
+use Rattle.vw_search.specs.declared.mark.Progress.TheVariants.{Fresh, Open, Done}
 use Rattle.vw_search.specs.declared.depth.Depth.{Depth}
 use Rattle.vw_search.specs.Circles.{IsNumberCircle}
 use Rattle.vw_search.specs.Steps.Marks.{is_open_mark}
@@ -16,12 +16,12 @@ use Rattle.vw_search.proofs.depth_first.go_on.Goals as goal
 use Rattle.vw_search.proofs.depth_first.go_on.Goals.{In-Some}
 
 -- what a test of a mark says
-open_is : (mark : Mark) → is_open_mark mark ≡ true → mark ≡ Open
+open_is : (mark : Progress) → is_open_mark mark ≡ true → mark ≡ Open
 open_is Fresh is = absurd (true≢false (sym is))
 open_is Open is = refl
 open_is Done is = absurd (true≢false (sym is))
 
-open_not : (mark : Mark) → is_open_mark mark ≡ false → mark ≢ Open
+open_not : (mark : Progress) → is_open_mark mark ≡ false → mark ≢ Open
 open_not Fresh is same = cc
 open_not Open is same = absurd (true≢false is)
 open_not Done is same = cc

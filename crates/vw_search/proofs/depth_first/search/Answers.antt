@@ -1,5 +1,5 @@
 use Rattle.std.proofs.Common.{ℕ, List, replicate, sym, ◌∙◌, ap, subst, arith}
-use Rattle.vw_search.specs.declared.mark.Mark.TheVariants.{Fresh}
+use Rattle.vw_search.specs.declared.mark.Progress.TheVariants.{Fresh}
 use Rattle.vw_search.specs.Circles.{IsNumberCircle, BeginsWithLeast}
 use Rattle.vw_search.proofs.LeastFirst.{from_least}
 use Rattle.vw_search.proofs.Searches.{begun, same_search}

@@ -1,12 +1,12 @@
 use Rattle.std.proofs.Common.{◌≡◌, ◌++◌, ℕ, List, [], ◌∷◌, true, true≢false, get_or, sym, ◌∙◌, ap, subst, refl}
-use Rattle.vw_search.specs.declared.mark.Mark.{Mark}
-use Rattle.vw_search.specs.declared.mark.Mark.TheVariants.{Fresh, Open, Done}
+use Rattle.vw_search.specs.declared.mark.Progress.{Progress}
+use Rattle.vw_search.specs.declared.mark.Progress.TheVariants.{Fresh, Open, Done}
 use Rattle.vw_search.specs.Steps.Marks.{is_fresh_mark}
 use Rattle.vw_search.specs.Steps.Searches.{IsSearch}
 use Rattle.vw_search.proofs.Searches.{rooted, same_search}
 use Rattle.vw_search.proofs.depth_first.visit.Goals as goal
 
-fresh_is : (mark : Mark) → is_fresh_mark mark ≡ true → mark ≡ Fresh
+fresh_is : (mark : Progress) → is_fresh_mark mark ≡ true → mark ≡ Fresh
 fresh_is Fresh is = refl
 fresh_is Open is = absurd (true≢false (sym is))
 fresh_is Done is = absurd (true≢false (sym is))

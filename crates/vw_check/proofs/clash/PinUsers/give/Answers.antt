@@ -1,7 +1,7 @@
 use Rattle.std.proofs.Common.{Bool, Some, cond, ap, ◌∙◌, sym}
 use Rattle.vw_check.specs.Steps.Tables.{user_in}
 use Rattle.vw_check.proofs.Clashes.{pins_given, share_pin-parts, used_by}
-use Rattle.vw_check.proofs.clash.Pins.give.Goals as goal
+use Rattle.vw_check.proofs.clash.PinUsers.give.Goals as goal
 
 -- the pin had this user, and where it had none, it has the hop now
 pub returns : goal.returns
