@@ -1,7 +1,7 @@
 //! Latches.
 ghost use Rattle.std.specs.Prelude.{◌≡◌, ◌≤◌, ◌<◌, true, false, length, IfOk, IfErr};
 ghost use Rattle.vw_blif.specs.Latches.{Written, written_of, is_type, is_init, edge_of, control_of, init_of, latch_of, has_bad_type, has_bad_init};
-ghost use Rattle.vw_blif.specs.Spelled.{spelled_item};
+ghost use Rattle.vw_blif.specs.Spelled.{latch, spelled_item};
 ghost use Rattle.vw_blif.specs.Steps.Says.{SaysLatch};
 ghost use Rattle.vw_design.specs.Paths.{lent};
 
@@ -110,6 +110,28 @@ fn written_of(words: &[Name]) -> Written<'_>
     }
 }
 
+/// The latch with this input and output, by the words behind them.
+fn item_of(
+    alloc: Global,
+    line: u64,
+    d: &Name,
+    q: &Name,
+    written: Written<'_>,
+) -> Result<Item, AllocError>
+    ensures { IfOk result (λ item. spelled_item item ≡ latch line d.now q.now
+        (edge_of (lent written.entry.type_)) (control_of (lent written.entry.control))
+        (init_of (lent written.entry.init))) }
+{
+    Ok(Item::Latch {
+        line,
+        d: copy(alloc, d.as_slice())?,
+        q: copy(alloc, q.as_slice())?,
+        edge: edge_of(written.type_),
+        control: control_of(alloc, written.control)?,
+        init: init_of(written.init),
+    })
+}
+
 /// The latch of the words behind the keyword.
 pub fn latch_of(alloc: Global, line: u64, words: &[Name]) -> Result<Item, TextFault>
     requires few { length words.now ≤ 5 }
@@ -129,12 +151,5 @@ pub fn latch_of(alloc: Global, line: u64, words: &[Name]) -> Result<Item, TextFa
     if !is_init(written.init) {
         return Err(TextFault::BadInit(line));
     }
-    Ok(Item::Latch {
-        line,
-        d: copy(alloc, d.as_slice())?,
-        q: copy(alloc, q.as_slice())?,
-        edge: edge_of(written.type_),
-        control: control_of(alloc, written.control)?,
-        init: init_of(written.init),
-    })
+    Ok(item_of(alloc, line, d, q, written)?)
 }

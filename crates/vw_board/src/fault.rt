@@ -1,4 +1,7 @@
-ghost use Rattle.std.specs.Prelude.{◌≡◌, IfOk};
+ghost use Rattle.std.specs.Prelude.{◌≡◌, ◌++◌, ◌∷◌, [], IfOk};
+ghost use Rattle.std.specs.Fmt.{decimal};
+ghost use Rattle.vw_board.specs.declared.fault.BoardFault.TheVariants.{PinsExceeded};
+ghost use Rattle.vw_board.specs.Messages.{fault_text};
 
 use std::alloc::{AllocError, AllocFailed, Global};
 use thiserror::Error;
@@ -51,40 +54,61 @@ impl<T: Drop> From<AllocFailed<T>> for BoardFault {
     }
 }
 
-impl BoardFault {
-    ghost use Rattle.vw_board.specs.Messages.{fault_text};
+/// A line with one number in it, with the end of the line.
+fn with_one(alloc: Global, before: &str, number: u64, after: &str) -> Result<Vec<u8>, AllocError>
+    ensures { IfOk result (λ line. line.items ≡ before.now ++ decimal number ++ after.now ++ 10 ∷ []) }
+{
+    let line = format!(in alloc; "{before}{number}{after}\n")?;
+    Ok(line.into_bytes())
+}
 
+/// A line with two numbers, the second as its last word, with the end of the line.
+fn with_two(
+    alloc: Global,
+    before: &str,
+    first: u32,
+    between: &str,
+    second: u32,
+) -> Result<Vec<u8>, AllocError>
+    ensures { IfOk result (λ line. line.items
+        ≡ before.now ++ decimal first ++ between.now ++ decimal second ++ 10 ∷ []) }
+{
+    let line = format!(in alloc; "{before}{first}{between}{second}\n")?;
+    Ok(line.into_bytes())
+}
+
+/// The message of a chip that uses more pins than it has.
+fn of_pins(alloc: Global, chip: u32, used: u32, limit: u32) -> Result<Vec<u8>, AllocError>
+    ensures { IfOk result (λ line. line.items ≡ fault_text (PinsExceeded chip used limit)) }
+{
+    let line = format!(in alloc; "board 6: chip {chip} uses {used} pins of {limit}\n")?;
+    Ok(line.into_bytes())
+}
+
+impl BoardFault {
     /// The message line, with the end of the line.
     pub fn text(&self, alloc: Global) -> Result<Vec<u8>, AllocError>
         ensures { IfOk result (λ line. line.items ≡ fault_text self.now) }
     {
         match *self {
-            BoardFault::TooLarge => Ok(b"board 1: text longer than 1048576 bytes\n".to_vec(alloc)?),
-            BoardFault::BadLine(number) => {
-                let line = format!(in alloc; "board 2: line {number}: bad line\n")?;
-                Ok(line.into_bytes())
-            }
+            BoardFault::TooLarge => b"board 1: text longer than 1048576 bytes\n".to_vec(alloc),
+            BoardFault::BadLine(number) => with_one(alloc, "board 2: line ", number, ": bad line"),
             BoardFault::BadNumber(number) => {
-                let line = format!(in alloc; "board 3: line {number}: bad number\n")?;
-                Ok(line.into_bytes())
+                with_one(alloc, "board 3: line ", number, ": bad number")
             }
-            BoardFault::SelfLink(a) => {
-                let line = format!(in alloc; "board 4: self link {a}\n")?;
-                Ok(line.into_bytes())
-            }
+            BoardFault::SelfLink(a) => with_one(alloc, "board 4: self link ", u64::from(a), ""),
             BoardFault::DuplicateLink(a, b) => {
-                let line = format!(in alloc; "board 5: duplicate link {a} {b}\n")?;
-                Ok(line.into_bytes())
+                with_two(alloc, "board 5: duplicate link ", a, " ", b)
             }
-            BoardFault::PinsExceeded(chip, used, limit) => {
-                let line = format!(in alloc; "board 6: chip {chip} uses {used} pins of {limit}\n")?;
-                Ok(line.into_bytes())
-            }
-            BoardFault::Unreachable(a, b) => {
-                let line = format!(in alloc; "board 7: no walk from {a} to {b}\n")?;
-                Ok(line.into_bytes())
-            }
-            BoardFault::NoMemory => Ok(b"out of memory\n".to_vec(alloc)?),
+            BoardFault::PinsExceeded(chip, used, limit) => of_pins(alloc, chip, used, limit),
+            BoardFault::Unreachable(a, b) => with_two(
+                alloc,
+                "board 7: no walk from ",
+                a,
+                " to ",
+                b,
+            ),
+            BoardFault::NoMemory => b"out of memory\n".to_vec(alloc),
         }
     }
 }

@@ -1,4 +1,7 @@
-ghost use Rattle.std.specs.Prelude.{◌≡◌, IfOk};
+ghost use Rattle.std.specs.Prelude.{◌≡◌, ◌++◌, IfOk};
+ghost use Rattle.std.specs.Fmt.{decimal};
+ghost use Rattle.vw_check.specs.declared.fault.PlanFault.TheVariants.{LateLatch, PinClash, TooEarly};
+ghost use Rattle.vw_check.specs.Messages.{fault_text};
 
 use std::alloc::{AllocError, AllocFailed, Global};
 
@@ -57,70 +60,126 @@ impl<T: Drop> From<AllocFailed<T>> for PlanFault {
     }
 }
 
-impl PlanFault {
-    ghost use Rattle.vw_check.specs.Messages.{fault_text};
+/// A line with one number in it.
+fn with_one(alloc: Global, before: &str, number: u32, after: &str) -> Result<Vec<u8>, AllocError>
+    ensures { IfOk result (λ line. line.items ≡ before.now ++ (decimal number ++ after.now)) }
+{
+    let line = format!(in alloc; "{before}{number}{after}")?;
+    Ok(line.into_bytes())
+}
 
+/// A line with two numbers in it.
+fn with_two(
+    alloc: Global,
+    before: &str,
+    first: u32,
+    between: &str,
+    second: u32,
+    after: &str,
+) -> Result<Vec<u8>, AllocError>
+    ensures { IfOk result (λ line. line.items
+        ≡ before.now ++ (decimal first ++ (between.now ++ (decimal second ++ after.now)))) }
+{
+    let line = format!(in alloc; "{before}{first}{between}{second}{after}")?;
+    Ok(line.into_bytes())
+}
+
+/// The message of two hops that share a pin.
+fn of_clash(
+    alloc: Global,
+    wire: u32,
+    hop: u32,
+    other: u32,
+    clash: u32,
+) -> Result<Vec<u8>, AllocError>
+    ensures { IfOk result (λ line. line.items ≡ fault_text (PinClash wire hop other clash)) }
+{
+    let line = format!(in alloc;
+        "plan 13: wire {wire} hop {hop} and wire {other} hop {clash} share a pin\n"
+    )?;
+    Ok(line.into_bytes())
+}
+
+/// The message of a wire that is sent too early.
+fn of_early(alloc: Global, wire: u32, sent: u64, usable: u64) -> Result<Vec<u8>, AllocError>
+    ensures { IfOk result (λ line. line.items ≡ fault_text (TooEarly wire sent usable)) }
+{
+    let line = format!(in alloc; "plan 14: wire {wire} sent at {sent}, usable at {usable}\n")?;
+    Ok(line.into_bytes())
+}
+
+/// The message of a latch that reads a net too late.
+fn of_late(alloc: Global, cell: u32, usable: u64) -> Result<Vec<u8>, AllocError>
+    ensures { IfOk result (λ line. line.items ≡ fault_text (LateLatch cell usable)) }
+{
+    let line = format!(in alloc; "plan 15: latch {cell} usable at {usable}\n")?;
+    Ok(line.into_bytes())
+}
+
+impl PlanFault {
     /// The message line, with the end of the line.
     pub fn text(&self, alloc: Global) -> Result<Vec<u8>, AllocError>
         ensures { IfOk result (λ line. line.items ≡ fault_text self.now) }
     {
         match *self {
             PlanFault::WrongCells(found, wanted) => {
-                let line = format!(in alloc; "plan 3: {found} cells, wanted {wanted}\n")?;
-                Ok(line.into_bytes())
+                with_two(alloc, "plan 3: ", found, " cells, wanted ", wanted, "\n")
             }
-            PlanFault::ZeroPeriod => Ok(b"plan 4: period 0\n".to_vec(alloc)?),
-            PlanFault::BadChip(cell) => {
-                let line = format!(in alloc; "plan 5: cell {cell} has no chip\n")?;
-                Ok(line.into_bytes())
-            }
+            PlanFault::ZeroPeriod => b"plan 4: period 0\n".to_vec(alloc),
+            PlanFault::BadChip(cell) => with_one(alloc, "plan 5: cell ", cell, " has no chip\n"),
             PlanFault::Overfull(chip, count) => {
-                let line = format!(in alloc; "plan 6: chip {chip} has {count} cells\n")?;
-                Ok(line.into_bytes())
+                with_two(alloc, "plan 6: chip ", chip, " has ", count, " cells\n")
             }
             PlanFault::MissingWire(net, node) => {
-                let line = format!(in alloc; "plan 7: no wire of net {net} to node {node}\n")?;
-                Ok(line.into_bytes())
+                with_two(
+                    alloc,
+                    "plan 7: no wire of net ",
+                    net,
+                    " to node ",
+                    node,
+                    "\n",
+                )
             }
-            PlanFault::ExtraWire(wire) => {
-                let line = format!(in alloc; "plan 8: wire {wire} isn't needed\n")?;
-                Ok(line.into_bytes())
-            }
+            PlanFault::ExtraWire(wire) => with_one(alloc, "plan 8: wire ", wire, " isn't needed\n"),
             PlanFault::BrokenRoute(wire, hop) => {
-                let line = format!(in alloc; "plan 9: wire {wire} hop {hop} breaks the route\n")?;
-                Ok(line.into_bytes())
+                with_two(
+                    alloc,
+                    "plan 9: wire ",
+                    wire,
+                    " hop ",
+                    hop,
+                    " breaks the route\n",
+                )
             }
             PlanFault::BadPin(wire, hop) => {
-                let line = format!(in alloc; "plan 10: wire {wire} hop {hop} has no pin\n")?;
-                Ok(line.into_bytes())
+                with_two(alloc, "plan 10: wire ", wire, " hop ", hop, " has no pin\n")
             }
             PlanFault::OutOfOrder(wire, hop) => {
-                let line = format!(in alloc; "plan 11: wire {wire} hop {hop} is out of order\n")?;
-                Ok(line.into_bytes())
+                with_two(
+                    alloc,
+                    "plan 11: wire ",
+                    wire,
+                    " hop ",
+                    hop,
+                    " is out of order\n",
+                )
             }
             PlanFault::PastPeriod(wire, hop) => {
-                let line = format!(in alloc;
-                    "plan 12: wire {wire} hop {hop} is past the period\n"
-                )?;
-                Ok(line.into_bytes())
+                with_two(
+                    alloc,
+                    "plan 12: wire ",
+                    wire,
+                    " hop ",
+                    hop,
+                    " is past the period\n",
+                )
             }
-            PlanFault::PinClash(wire, hop, other, clash) => {
-                let line = format!(in alloc;
-                    "plan 13: wire {wire} hop {hop} and wire {other} hop {clash} share a pin\n"
-                )?;
-                Ok(line.into_bytes())
-            }
-            PlanFault::TooEarly(wire, sent, usable) => {
-                let line = format!(in alloc;
-                    "plan 14: wire {wire} sent at {sent}, usable at {usable}\n"
-                )?;
-                Ok(line.into_bytes())
-            }
-            PlanFault::LateLatch(cell, usable) => {
-                let line = format!(in alloc; "plan 15: latch {cell} usable at {usable}\n")?;
-                Ok(line.into_bytes())
-            }
-            PlanFault::NoMemory => Ok(b"out of memory\n".to_vec(alloc)?),
+            PlanFault::PinClash(wire, hop, other, clash) => of_clash(
+                alloc, wire, hop, other, clash,
+            ),
+            PlanFault::TooEarly(wire, sent, usable) => of_early(alloc, wire, sent, usable),
+            PlanFault::LateLatch(cell, usable) => of_late(alloc, cell, usable),
+            PlanFault::NoMemory => b"out of memory\n".to_vec(alloc),
         }
     }
 }

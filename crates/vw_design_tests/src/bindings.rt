@@ -1,18 +1,21 @@
-use crate::plain::{add_number, assert_same};
+ghost use Rattle.vw_design.specs.ModelNumbers.{AreTargets, AreModelMarks};
+
+use crate::plain::{add_behind, add_number, assert_same};
 use std::alloc::{AllocError, Global};
 use std::process::Abort;
 use std::test::Fail;
-use vw_bindings::{FormalAt, OutputOf, both_ways, unbound_input, unknown_formal};
 use vw_blif::read;
 use vw_design::Design;
-use vw_models::{marks_of, targets_of};
+use vw_models::{
+    FormalAt, OutputOf, both_ways, marks_of, targets_of, unbound_input, unknown_formal,
+};
+use vw_net::Sequence;
 
 /// A formal with its line.
 fn formal_text(alloc: Global, kind: &[u8], found: &FormalAt) -> Result<Vec<u8>, AllocError> {
     let mut shown = kind.to_vec(alloc)?;
     add_number(alloc, &mut shown, found.line)?;
-    shown.push(b' ')?;
-    shown.extend_from_slice(found.formal.as_slice())?;
+    add_behind(&mut shown, b' ', found.formal.as_slice())?;
     Ok(shown)
 }
 
@@ -20,9 +23,30 @@ fn formal_text(alloc: Global, kind: &[u8], found: &FormalAt) -> Result<Vec<u8>, 
 fn output_text(alloc: Global, kind: &[u8], found: &OutputOf) -> Result<Vec<u8>, AllocError> {
     let mut shown = kind.to_vec(alloc)?;
     shown.extend_from_slice(found.model.as_slice())?;
-    shown.push(b' ')?;
-    shown.extend_from_slice(found.output.as_slice())?;
+    add_behind(&mut shown, b' ', found.output.as_slice())?;
     Ok(shown)
+}
+
+/// The first fault of the bindings of a design, with the tables of its models.
+fn fault_at(
+    alloc: Global,
+    design: &Design,
+    targets: &[Sequence<Option<u32>>],
+    marks: &[bool],
+) -> Result<Vec<u8>, AllocError>
+    requires targets { AreTargets design.now targets.now }
+    requires marks { AreModelMarks design.now marks.now }
+{
+    if let Some(found) = unknown_formal(alloc, design, targets, marks)? {
+        return formal_text(alloc, b"unknown ", &found);
+    }
+    if let Some(found) = unbound_input(alloc, design, targets, marks)? {
+        return formal_text(alloc, b"unbound ", &found);
+    }
+    match both_ways(alloc, design, targets, marks)? {
+        Some(found) => output_text(alloc, b"both ways ", &found),
+        None => b"no fault".to_vec(alloc),
+    }
 }
 
 /// The first fault of the bindings of a design: an unknown formal, else an input that is unbound, else an output that
@@ -30,16 +54,7 @@ fn output_text(alloc: Global, kind: &[u8], found: &OutputOf) -> Result<Vec<u8>, 
 fn first_fault(alloc: Global, design: &Design) -> Result<Vec<u8>, AllocError> {
     let targets = targets_of(alloc, design)?;
     let marks = marks_of(alloc, design, targets.as_slice())?;
-    if let Some(found) = unknown_formal(alloc, design, targets.as_slice(), marks.as_slice())? {
-        return formal_text(alloc, b"unknown ", &found);
-    }
-    if let Some(found) = unbound_input(alloc, design, targets.as_slice(), marks.as_slice())? {
-        return formal_text(alloc, b"unbound ", &found);
-    }
-    match both_ways(alloc, design, targets.as_slice(), marks.as_slice())? {
-        Some(found) => output_text(alloc, b"both ways ", &found),
-        None => b"no fault".to_vec(alloc),
-    }
+    fault_at(alloc, design, targets.as_slice(), marks.as_slice())
 }
 
 /// The first fault of the bindings of a text, or the message of the text's own fault.

@@ -1,4 +1,4 @@
-use crate::plain::{add_number, add_words, assert_same};
+use crate::plain::{add_behind, add_number, add_words, assert_number, assert_same};
 use std::alloc::{AllocError, Global};
 use std::process::Abort;
 use std::test::Fail;
@@ -33,9 +33,7 @@ fn add_cover(shown: &mut Vec<u8>, cover: &Cover) -> Result<(), AllocError> {
 /// Adds a binding of a placed model.
 pub fn add_bind(shown: &mut Vec<u8>, bind: &Bind) -> Result<(), AllocError> {
     shown.extend_from_slice(bind.formal().as_slice())?;
-    shown.push(b'<')?;
-    shown.extend_from_slice(bind.actual().as_slice())?;
-    Ok(())
+    add_behind(shown, b'<', bind.actual().as_slice())
 }
 
 /// Adds the bindings of a placed model.
@@ -65,26 +63,44 @@ fn init_letter(init: Init) -> u8 {
     }
 }
 
-/// Adds the nets of a latch, with the letter of its edge, and its control.
+/// Adds the inputs, the output and the rows of a table.
+fn add_table(
+    shown: &mut Vec<u8>,
+    ins: &[Name],
+    out: &Name,
+    cover: &Cover,
+) -> Result<(), AllocError> {
+    add_words(shown, ins)?;
+    add_behind(shown, b'>', out.as_slice())?;
+    add_cover(shown, cover)
+}
+
+/// Adds the nets of a latch, with the letter of its edge, its control, and the letter of its initial value.
 fn add_latch(
     shown: &mut Vec<u8>,
     d: &Name,
     q: &Name,
     edge: u8,
     control: &Option<Name>,
+    init: u8,
 ) -> Result<(), AllocError> {
-    shown.push(b' ')?;
-    shown.extend_from_slice(d.as_slice())?;
-    shown.push(b'~')?;
-    shown.extend_from_slice(q.as_slice())?;
-    shown.push(edge)?;
-    if let Some(control) = control {
-        shown.extend_from_slice(control.as_slice())?;
+    add_behind(shown, b' ', d.as_slice())?;
+    add_behind(shown, b'~', q.as_slice())?;
+    match control {
+        Some(control) => add_behind(shown, edge, control.as_slice())?,
+        None => shown.push(edge)?,
     }
+    shown.push(init)?;
     Ok(())
 }
 
-/// Adds an item, with the number of its line, and `|`.
+/// Adds the name of a placed model and its bindings.
+fn add_placed(shown: &mut Vec<u8>, model: &Name, binds: &[Bind]) -> Result<(), AllocError> {
+    add_behind(shown, b' ', model.as_slice())?;
+    add_binds(shown, binds)
+}
+
+/// Adds an item, with the number of its line.
 fn add_item(alloc: Global, shown: &mut Vec<u8>, item: &Item) -> Result<(), AllocError> {
     match item {
         Item::Names {
@@ -94,10 +110,7 @@ fn add_item(alloc: Global, shown: &mut Vec<u8>, item: &Item) -> Result<(), Alloc
             cover,
         } => {
             add_number(alloc, shown, *line)?;
-            add_words(shown, ins.as_slice())?;
-            shown.push(b'>')?;
-            shown.extend_from_slice(out.as_slice())?;
-            add_cover(shown, cover)?;
+            add_table(shown, ins.as_slice(), out, cover)
         }
         Item::Latch {
             line,
@@ -108,31 +121,31 @@ fn add_item(alloc: Global, shown: &mut Vec<u8>, item: &Item) -> Result<(), Alloc
             init,
         } => {
             add_number(alloc, shown, *line)?;
-            add_latch(shown, d, q, edge_letter(*edge), control)?;
-            shown.push(init_letter(*init))?;
+            add_latch(shown, d, q, edge_letter(*edge), control, init_letter(*init))
         }
         Item::Sub { line, model, binds } => {
             add_number(alloc, shown, *line)?;
-            shown.push(b' ')?;
-            shown.extend_from_slice(model.as_slice())?;
-            add_binds(shown, binds.as_slice())?;
+            add_placed(shown, model, binds.as_slice())
         }
     }
-    shown.push(b'|')?;
+}
+
+/// Adds names, each behind a blank, and a sign behind them all.
+fn add_ports(shown: &mut Vec<u8>, names: &[Name], sign: u8) -> Result<(), AllocError> {
+    add_words(shown, names)?;
+    shown.push(sign)?;
     Ok(())
 }
 
 /// Adds a model: its name, inputs, outputs and clocks, and its items.
 pub fn add_model(alloc: Global, shown: &mut Vec<u8>, model: &Model) -> Result<(), AllocError> {
     shown.extend_from_slice(model.name().as_slice())?;
-    add_words(shown, model.inputs())?;
-    shown.push(b';')?;
-    add_words(shown, model.outputs())?;
-    shown.push(b';')?;
-    add_words(shown, model.clocks())?;
-    shown.push(b'|')?;
+    add_ports(shown, model.inputs(), b';')?;
+    add_ports(shown, model.outputs(), b';')?;
+    add_ports(shown, model.clocks(), b'|')?;
     for item in model.items() {
         add_item(alloc, shown, item)?;
+        shown.push(b'|')?;
     }
     Ok(())
 }
@@ -358,7 +371,8 @@ fn wide_table(alloc: Global, inputs: usize) -> Result<Vec<u8>, AllocError> {
 fn a_table_has_at_most_128_inputs(rt: HostRuntime) -> Result<(), Fail> {
     let alloc = rt.alloc();
     let text = wide_table(alloc, 128)?;
-    assert!(rt; read(alloc, &text).is_ok());
+    // it is read, and has no inputs of its own
+    assert_number(&rt, b"128", input_count(alloc, &text), Some(0));
     let text = wide_table(alloc, 129)?;
     assert_shown(
         &rt,
@@ -376,14 +390,22 @@ fn text_of(alloc: Global, bytes: usize) -> Result<Vec<u8>, AllocError> {
     Ok(text)
 }
 
+/// Asserts what the design of such a text is, or the message of the fault.
+fn assert_filled(
+    rt: &impl Abort,
+    alloc: Global,
+    bytes: usize,
+    wanted: &[u8],
+) -> Result<(), AllocError> {
+    let text = text_of(alloc, bytes)?;
+    assert_shown(rt, alloc, &text, wanted)
+}
+
 #[test]
 fn a_text_has_at_most_16777216_bytes(rt: HostRuntime) -> Result<(), Fail> {
-    let alloc = rt.alloc();
-    let text = text_of(alloc, 16_777_216)?;
-    assert_shown(&rt, alloc, &text, b"m;;|")?;
-    let text = text_of(alloc, 16_777_217)?;
+    assert_filled(&rt, rt.alloc(), 16_777_216, b"m;;|")?;
     let wanted = b"design 1: text longer than 16777216 bytes\n";
-    assert_shown(&rt, alloc, &text, wanted)?;
+    assert_filled(&rt, rt.alloc(), 16_777_217, wanted)?;
     Ok(())
 }
 
@@ -400,10 +422,10 @@ fn colliding_names(alloc: Global) -> Result<Vec<u8>, AllocError> {
 }
 
 /// The number of inputs of the one model that a text has, where it has no fault.
-fn input_count(alloc: Global, text: &[u8]) -> Option<usize> {
+fn input_count(alloc: Global, text: &[u8]) -> Option<u64> {
     match read(alloc, text) {
         Ok(design) => match design.models() {
-            [model] => Some(model.inputs().len()),
+            [model] => Some(model.inputs().len() as u64),
             _ => None,
         },
         Err(_) => None,
@@ -414,7 +436,7 @@ fn input_count(alloc: Global, text: &[u8]) -> Option<usize> {
 fn names_made_to_collide_are_read(rt: HostRuntime) -> Result<(), Fail> {
     let alloc = rt.alloc();
     let mut text = colliding_names(alloc)?;
-    assert_eq!(rt; input_count(alloc, &text), Some(1000));
+    assert_number(&rt, b"colliding", input_count(alloc, &text), Some(1000));
     text.extend_from_slice(b" 10000500\x15\x7c\x4a\x7f\xb9\x79\x37\x9e")?;
     let wanted = b"design 11: line 2: duplicate port\n";
     assert_shown(&rt, alloc, &text, wanted)?;

@@ -1,10 +1,10 @@
-use crate::plain::{add_number, add_numbers, assert_same, name};
+use crate::plain::{add_behind, add_number, add_numbers, assert_same, name};
 use std::alloc::{AllocError, Global};
 use std::process::Abort;
 use std::test::Fail;
 use vw_blif::read;
-use vw_claims::{Claim, ModelClaims, Outputs, claims_of, outputs_of};
 use vw_design::Design;
+use vw_drivers::{Claim, ModelClaims, Outputs, claims_of, outputs_of};
 use vw_models::targets_of;
 use vw_outside::Name;
 
@@ -25,18 +25,22 @@ fn a_set_has_its_names(rt: HostRuntime) -> Result<(), Fail> {
 }
 
 /// The claims of a model of a design, by its number.
-pub fn claims_at(
-    alloc: Global,
-    design: &Design,
-    model: u32,
-) -> Result<Option<ModelClaims>, AllocError> {
+pub fn claims_at(alloc: Global, design: &Design, model: u32) -> Result<ModelClaims, Fail> {
     if design.models().len() <= model as usize {
-        return Ok(None);
+        return Err("no model".into());
     }
     let outputs = outputs_of(alloc, design)?;
     let targets = targets_of(alloc, design)?;
-    let claims = claims_of(alloc, design, outputs.as_slice(), targets.as_slice(), model)?;
-    Ok(Some(claims))
+    Ok(claims_of(alloc, design, outputs.as_slice(), targets.as_slice(), model)?)
+}
+
+/// Adds what claims a net.
+fn add_claim(alloc: Global, text: &mut Vec<u8>, claim: Option<Claim>) -> Result<(), AllocError> {
+    match claim {
+        Some(Claim::Port) => text.extend_from_slice(b" port"),
+        Some(Claim::Driven(item)) => add_numbers(alloc, text, &[item]),
+        _ => text.extend_from_slice(b" other"),
+    }
 }
 
 /// The number of a net and what claims it, or `none`.
@@ -46,11 +50,7 @@ fn claim_text(alloc: Global, claims: &ModelClaims, net: &[u8]) -> Result<Vec<u8>
     };
     let mut text = Vec::new(alloc);
     add_number(alloc, &mut text, u64::from(number))?;
-    match claims.claim(number) {
-        Some(Claim::Port) => text.extend_from_slice(b" port")?,
-        Some(Claim::Driven(item)) => add_numbers(alloc, &mut text, &[item])?,
-        _ => text.extend_from_slice(b" other")?,
-    }
+    add_claim(alloc, &mut text, claims.claim(number))?;
     Ok(text)
 }
 
@@ -60,8 +60,7 @@ fn again_text(alloc: Global, claims: &ModelClaims) -> Result<Vec<u8>, AllocError
     add_number(alloc, &mut text, claims.count() as u64)?;
     if let Some(again) = claims.again() {
         add_numbers(alloc, &mut text, &[again.item()])?;
-        text.push(b' ')?;
-        text.extend_from_slice(again.name().as_slice())?;
+        add_behind(&mut text, b' ', again.name().as_slice())?;
     }
     Ok(text)
 }
@@ -89,20 +88,25 @@ fn assert_all(
 }
 
 /// The claims of the one model of a text.
-fn claims_of_text(alloc: Global, text: &[u8]) -> Result<Option<ModelClaims>, AllocError> {
+fn claims_of_text(alloc: Global, text: &[u8]) -> Result<ModelClaims, Fail> {
     match read(alloc, text) {
         Ok(design) => claims_at(alloc, &design, 0),
-        Err(_) => Ok(None),
+        Err(_) => Err("no design".into()),
     }
+}
+
+/// Asserts what claims each of these nets, how many nets are claimed, and which item claims a net again.
+fn assert_claims(rt: &impl Abort, alloc: Global, claims: &ModelClaims) -> Result<(), Fail> {
+    assert_all(rt, alloc, claims, NETS)?;
+    // three nets are claimed, and item 2 claims `a` again
+    let again = again_text(alloc, claims)?;
+    assert_same(rt, b"again", &again, b"3 2 a");
+    Ok(())
 }
 
 #[test]
 fn the_first_claims_keep_their_order(rt: HostRuntime) -> Result<(), Fail> {
     let text = b".model m\n.inputs a\n.names a q\n.latch q r\n.names q a\n";
-    let claims = claims_of_text(rt.alloc(), text)?.ok_or("no model")?;
-    assert_all(&rt, rt.alloc(), &claims, NETS)?;
-    // three nets are claimed, and item 2 claims `a` again
-    let again = again_text(rt.alloc(), &claims)?;
-    assert_same(&rt, text, &again, b"3 2 a");
-    Ok(())
+    let claims = claims_of_text(rt.alloc(), text)?;
+    assert_claims(&rt, rt.alloc(), &claims)
 }

@@ -43,16 +43,22 @@ fn model(alloc: Global) -> Result<Model, AllocError> {
     ))
 }
 
-/// The model written plainly.
-fn model_text(alloc: Global) -> Result<Vec<u8>, AllocError> {
+/// A model written plainly.
+fn model_text(alloc: Global, model: &Model) -> Result<Vec<u8>, AllocError> {
     let mut shown = Vec::new(alloc);
-    add_model(alloc, &mut shown, &model(alloc)?)?;
+    add_model(alloc, &mut shown, model)?;
     Ok(shown)
+}
+
+/// That model written plainly.
+fn made_text(alloc: Global) -> Result<Vec<u8>, AllocError> {
+    let model = model(alloc)?;
+    model_text(alloc, &model)
 }
 
 #[test]
 fn a_model_gives_back_its_parts(rt: HostRuntime) -> Result<(), Fail> {
-    let found = model_text(rt.alloc())?;
+    let found = made_text(rt.alloc())?;
     assert_same(&rt, b"top", &found, b"top a; b; c|5 a~bfc?|");
     Ok(())
 }

@@ -1,4 +1,4 @@
-use crate::plain::{add_numbers, assert_same, name};
+use crate::plain::{add_list, assert_same, name};
 use std::alloc::{AllocError, Global};
 use std::process::Abort;
 use std::test::Fail;
@@ -23,9 +23,20 @@ fn driver_text(alloc: Global, driver: Option<Driver>) -> Result<Vec<u8>, AllocEr
         Some(Driver::Clock) => return b"clock".to_vec(alloc),
         None => return b"none".to_vec(alloc),
     };
-    let mut text = kind.to_vec(alloc)?;
-    add_numbers(alloc, &mut text, &[number])?;
+    let mut text = Vec::new(alloc);
+    add_list(alloc, &mut text, kind, &[number])?;
     Ok(text)
+}
+
+/// What drives a net of an instance.
+fn driven_by(
+    alloc: Global,
+    elaborated: &Elaborated,
+    instance: u32,
+    net: &[u8],
+) -> Result<Vec<u8>, AllocError> {
+    let net = name(alloc, net)?;
+    driver_text(alloc, elaborated.driver(instance, &net))
 }
 
 /// Asserts of nets of instances what drives them.
@@ -36,8 +47,7 @@ fn assert_drivers(
     table: &[(u32, &[u8], &[u8])],
 ) -> Result<(), AllocError> {
     for (instance, net, wanted) in table {
-        let driver = elaborated.driver(*instance, &name(alloc, net)?);
-        let found = driver_text(alloc, driver)?;
+        let found = driven_by(alloc, elaborated, *instance, net)?;
         assert_same(rt, net, &found, wanted);
     }
     Ok(())
@@ -106,14 +116,8 @@ fn assert_reads(
 /// Adds a cell and the nets that it reads.
 fn add_cell(alloc: Global, text: &mut Vec<u8>, cell: &Cell) -> Result<(), AllocError> {
     match cell {
-        Cell::Gate { ins, .. } => {
-            text.extend_from_slice(b"gate")?;
-            add_numbers(alloc, text, ins.as_slice())
-        }
-        Cell::Latch { d, .. } => {
-            text.extend_from_slice(b"latch")?;
-            add_numbers(alloc, text, &[*d])
-        }
+        Cell::Gate { ins, .. } => add_list(alloc, text, b"gate", ins.as_slice()),
+        Cell::Latch { d, .. } => add_list(alloc, text, b"latch", &[*d]),
     }
 }
 
@@ -124,10 +128,8 @@ fn flat_text(alloc: Global, flat: &Flat) -> Result<Vec<u8>, AllocError> {
         add_cell(alloc, &mut text, cell)?;
         text.push(b'|')?;
     }
-    text.extend_from_slice(b"outputs")?;
-    add_numbers(alloc, &mut text, flat.outputs())?;
-    text.extend_from_slice(b"|inputs")?;
-    add_numbers(alloc, &mut text, &[flat.inputs()])?;
+    add_list(alloc, &mut text, b"outputs", flat.outputs())?;
+    add_list(alloc, &mut text, b"|inputs", &[flat.inputs()])?;
     Ok(text)
 }
 
@@ -161,6 +163,46 @@ fn assert_found(
     Ok(())
 }
 
+/// What is found of a text, and can be compared with what is wanted.
+trait Found {
+    /// Asserts that it is what is wanted.
+    fn assert_is(
+        &self,
+        rt: &impl Abort,
+        alloc: Global,
+        wanted: &Expected,
+    ) -> Result<(), AllocError>;
+}
+
+impl Found for Elaborated {
+    fn assert_is(
+        &self,
+        rt: &impl Abort,
+        alloc: Global,
+        wanted: &Expected,
+    ) -> Result<(), AllocError> {
+        assert_found(rt, alloc, self, wanted)
+    }
+}
+
+/// Asserts that something is found, and that it is what is wanted. It knows nothing of the type, since each step beside
+/// an `Elaborated` takes long to prove.
+fn assert_some<F: Found + Drop>(
+    rt: &impl Abort,
+    alloc: Global,
+    text: &[u8],
+    found: Option<F>,
+    wanted: &Expected,
+) -> Result<(), AllocError> {
+    match found {
+        Some(found) => found.assert_is(rt, alloc, wanted),
+        None => {
+            assert_same(rt, text, b"refused", b"elaborated");
+            Ok(())
+        }
+    }
+}
+
 /// Asserts what is wanted of the design of a text that has no fault.
 fn assert_text(
     rt: &impl Abort,
@@ -168,13 +210,7 @@ fn assert_text(
     text: &[u8],
     wanted: &Expected,
 ) -> Result<(), AllocError> {
-    match elaborated(alloc, text) {
-        Some(elaborated) => assert_found(rt, alloc, &elaborated, wanted),
-        None => {
-            assert_same(rt, text, b"refused", b"elaborated");
-            Ok(())
-        }
-    }
+    assert_some(rt, alloc, text, elaborated(alloc, text), wanted)
 }
 
 /// What is wanted of the nested design.

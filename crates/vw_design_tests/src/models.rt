@@ -1,4 +1,4 @@
-use crate::plain::{add_number, add_numbers, add_words, assert_same};
+use crate::plain::{add_list, add_number, add_words, assert_same};
 use std::alloc::{AllocError, Global};
 use std::process::Abort;
 use std::test::Fail;
@@ -16,8 +16,8 @@ fn unknown(alloc: Global, line: u64) -> Result<Vec<u8>, AllocError> {
 
 /// An order of models.
 fn order(alloc: Global, numbers: &[u32]) -> Result<Vec<u8>, AllocError> {
-    let mut shown = b"order".to_vec(alloc)?;
-    add_numbers(alloc, &mut shown, numbers)?;
+    let mut shown = Vec::new(alloc);
+    add_list(alloc, &mut shown, b"order", numbers)?;
     Ok(shown)
 }
 

@@ -3,10 +3,9 @@ use crate::plain::{add_numbers, add_option, add_options, assert_same};
 use std::alloc::{AllocError, Global};
 use std::test::Fail;
 use vw_blif::read;
-use vw_claims::ModelClaims;
 use vw_design::Design;
+use vw_drivers::{ModelClaims, ModelNames, PlacedNames, Way, names_of};
 use vw_models::targets_of;
-use vw_names::{ModelNames, PlacedNames, Way, names_of};
 
 /// A gate, a placed model and a latch whose control nothing drives; the placed model is a gate.
 const TEXT: &[u8] =
@@ -14,32 +13,29 @@ const TEXT: &[u8] =
 .model b\n.inputs p\n.outputs q\n.names p q\n";
 
 /// The claims of the first two models of a design.
-fn all_claims(alloc: Global, design: &Design) -> Result<Vec<ModelClaims>, AllocError> {
+fn all_claims(alloc: Global, design: &Design) -> Result<Vec<ModelClaims>, Fail> {
     let mut all = Vec::new(alloc);
     for model in 0..2 {
-        if let Some(claims) = claims_at(alloc, design, model)? {
-            all.push(claims)?;
-        }
+        all.push(claims_at(alloc, design, model)?)?;
     }
     Ok(all)
 }
 
 /// The names of the models of a design that has two.
-fn names_in(alloc: Global, design: &Design) -> Result<Option<Vec<ModelNames>>, AllocError> {
+fn names_in(alloc: Global, design: &Design) -> Result<Vec<ModelNames>, Fail> {
     let claims = all_claims(alloc, design)?;
     if claims.len() != design.models().len() {
-        return Ok(None);
+        return Err("not two models".into());
     }
     let targets = targets_of(alloc, design)?;
-    let names = names_of(alloc, design, targets.as_slice(), claims.as_slice())?;
-    Ok(Some(names))
+    Ok(names_of(alloc, design, targets.as_slice(), claims.as_slice())?)
 }
 
 /// The names of both models of a text.
-fn names_of_text(alloc: Global, text: &[u8]) -> Result<Option<Vec<ModelNames>>, AllocError> {
+fn names_of_text(alloc: Global, text: &[u8]) -> Result<Vec<ModelNames>, Fail> {
     match read(alloc, text) {
         Ok(design) => names_in(alloc, &design),
-        Err(_) => Ok(None),
+        Err(_) => Err("no design".into()),
     }
 }
 
@@ -93,7 +89,7 @@ fn shown(alloc: Global, models: &[ModelNames]) -> Result<Vec<u8>, AllocError> {
 
 #[test]
 fn reads_have_the_numbers_of_claims_and_bindings_lead_to_them(rt: HostRuntime) -> Result<(), Fail> {
-    let names = names_of_text(rt.alloc(), TEXT)?.ok_or("not two models")?;
+    let names = names_of_text(rt.alloc(), TEXT)?;
     let found = shown(rt.alloc(), &names)?;
     // an input leads to its actual and an output inside; nothing drives the control of the latch
     assert_same(&rt, TEXT, &found, b" 0|| 2 -|/1 0<1 >1|; 0|/;");

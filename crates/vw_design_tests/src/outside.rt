@@ -2,16 +2,25 @@ ghost use Rattle.std.specs.Prelude.{◌<◌};
 
 use crate::plain::{assert_same, name};
 use std::alloc::{AllocError, Global};
+use std::process::Abort;
 use std::test::Fail;
 use std::{fs, process};
 use vw_outside::{
-    ErrSink, FileShelf, Held, MemShelf, MemSink, OutSink, Shelf, TextRefused, put_all, read_text,
+    ErrSink, FileShelf, Held, MemShelf, MemSink, OutSink, Shelf, Sink, TextRefused, put_all,
+    read_text,
 };
 
 /// A path of this process under `/tmp`.
-fn path(rt: &HostRuntime, name: &str) -> Result<String, Fail> {
+fn path(rt: &HostRuntime, name: &str) -> Result<String, AllocError> {
     let number = process::id(rt.process());
-    Ok(format!(in rt.alloc(); "/tmp/vw_outside_{number}_{name}")?)
+    format!(in rt.alloc(); "/tmp/vw_outside_{number}_{name}")
+}
+
+/// The path of a new file with these bytes.
+fn new_file(rt: &HostRuntime, name: &str, bytes: &[u8]) -> Result<String, Fail> {
+    let path = path(rt, name)?;
+    fs::write(rt, path.as_str(), bytes)?;
+    Ok(path)
 }
 
 /// What one read of at most so many bytes gives, or `fault`.
@@ -33,34 +42,41 @@ fn piece<S: Shelf>(
     }
 }
 
-/// Adds what one read gives, and `|`.
-fn add_piece<S: Shelf>(
+/// A read: a path, the place to read from, and the most bytes that it may give.
+type Read<'a> = (&'a [u8], u64, usize);
+
+/// Adds what each of these reads gives, and `|` behind it.
+fn add_pieces<S: Shelf>(
+    alloc: Global,
     shown: &mut Vec<u8>,
     shelf: &mut S,
-    path: &[u8],
-    from: u64,
-    most: usize,
+    reads: &[Read],
 ) -> Result<(), AllocError> {
-    let piece = piece(*shown.allocator(), shelf, path, from, most)?;
-    shown.extend_from_slice(&piece)?;
-    shown.push(b'|')?;
+    for (path, from, most) in reads {
+        let piece = piece(alloc, shelf, path, *from, *most)?;
+        shown.extend_from_slice(&piece)?;
+        shown.push(b'|')?;
+    }
     Ok(())
 }
 
-/// Adds what reads of a file from three places give.
-fn add_places(rt: &HostRuntime, shown: &mut Vec<u8>, path: &[u8]) -> Result<(), AllocError> {
+/// What these reads of files give, with `|` behind each.
+fn pieces(rt: &HostRuntime, reads: &[Read]) -> Result<Vec<u8>, AllocError> {
     let mut shelf = FileShelf::new(rt.alloc(), rt);
-    add_piece(shown, &mut shelf, path, 0, 6)?;
-    add_piece(shown, &mut shelf, path, 7, 6)?;
-    add_piece(shown, &mut shelf, path, 12, 6)
+    let mut shown = Vec::new(rt.alloc());
+    add_pieces(rt.alloc(), &mut shown, &mut shelf, reads)?;
+    Ok(shown)
+}
+
+/// What reads of a file from three places give.
+fn places(rt: &HostRuntime, path: &[u8]) -> Result<Vec<u8>, AllocError> {
+    pieces(rt, &[(path, 0, 6), (path, 7, 6), (path, 12, 6)])
 }
 
 #[test]
 fn files_are_read_from_any_place(rt: HostRuntime) -> Result<(), Fail> {
-    let path = path(&rt, "places")?;
-    fs::write(&rt, path.as_str(), b"eleven chars")?;
-    let mut shown = Vec::new(rt.alloc());
-    add_places(&rt, &mut shown, path.as_bytes())?;
+    let path = new_file(&rt, "places", b"eleven chars")?;
+    let shown = places(&rt, path.as_bytes())?;
     assert_same(&rt, path.as_bytes(), &shown, b"eleven|chars||");
     fs::remove_file(&rt, path.as_str())?;
     Ok(())
@@ -73,72 +89,79 @@ fn replace(rt: &HostRuntime, path: &str) -> Result<(), Fail> {
     Ok(())
 }
 
-/// Adds what reads of a file give that is replaced meanwhile.
-fn add_kept(rt: &HostRuntime, shown: &mut Vec<u8>, path: &str) -> Result<(), Fail> {
-    let mut shelf = FileShelf::new(rt.alloc(), rt);
-    add_piece(shown, &mut shelf, path.as_bytes(), 0, 4)?;
+/// Adds what reads of a shelf give while a file is replaced.
+fn add_kept<S: Shelf>(
+    rt: &HostRuntime,
+    shown: &mut Vec<u8>,
+    shelf: &mut S,
+    path: &str,
+) -> Result<(), Fail> {
+    add_pieces(rt.alloc(), shown, shelf, &[(path.as_bytes(), 0, 4)])?;
     // the name is given to another file between two reads
     replace(rt, path)?;
-    add_piece(shown, &mut shelf, path.as_bytes(), 4, 4)?;
     // the file stays open until another name is read, here one that is missing
-    add_piece(shown, &mut shelf, b"/tmp/vw_outside_missing", 0, 4)?;
-    add_piece(shown, &mut shelf, path.as_bytes(), 0, 4)?;
-    Ok(())
+    let reads = &[
+        (path.as_bytes(), 4, 4),
+        (b"/tmp/vw_outside_missing".as_slice(), 0, 4),
+        (path.as_bytes(), 0, 4),
+    ];
+    Ok(add_pieces(rt.alloc(), shown, shelf, reads)?)
+}
+
+/// What reads of a file give that is replaced meanwhile.
+fn kept(rt: &HostRuntime, path: &str) -> Result<Vec<u8>, Fail> {
+    let mut shelf = FileShelf::new(rt.alloc(), rt);
+    let mut shown = Vec::new(rt.alloc());
+    add_kept(rt, &mut shown, &mut shelf, path)?;
+    Ok(shown)
 }
 
 #[test]
 fn one_reading_sees_one_file(rt: HostRuntime) -> Result<(), Fail> {
-    let path = path(&rt, "kept")?;
-    fs::write(&rt, path.as_str(), b"the old text")?;
-    let mut shown = Vec::new(rt.alloc());
-    add_kept(&rt, &mut shown, path.as_str())?;
+    let path = new_file(&rt, "kept", b"the old text")?;
+    let shown = kept(&rt, path.as_str())?;
     assert_same(&rt, path.as_bytes(), &shown, b"the |old |fault|anot|");
     fs::remove_file(&rt, path.as_str())?;
     Ok(())
 }
 
-/// A missing file, a folder, devices, a name that isn't UTF-8, and none.
-const NO_FILES: &[&[u8]] = &[
-    b"/tmp/vw_outside_missing",
-    b"/tmp",
-    b"/dev/null",
-    b"/dev/zero",
-    b"/tmp/\xff",
-    b"",
+/// Reads of a missing file, a folder, devices, a name that isn't UTF-8, and none.
+const NO_FILES: &[Read] = &[
+    (b"/tmp/vw_outside_missing", 0, 6),
+    (b"/tmp", 0, 6),
+    (b"/dev/null", 0, 6),
+    (b"/dev/zero", 0, 6),
+    (b"/tmp/\xff", 0, 6),
+    (b"", 0, 6),
 ];
-
-/// What a read of each path gives.
-fn first_pieces(rt: &HostRuntime, paths: &[&[u8]]) -> Result<Vec<u8>, AllocError> {
-    let mut shelf = FileShelf::new(rt.alloc(), rt);
-    let mut shown = Vec::new(rt.alloc());
-    for path in paths {
-        add_piece(&mut shown, &mut shelf, path, 0, 6)?;
-    }
-    Ok(shown)
-}
 
 #[test]
 fn what_is_no_regular_file_is_a_fault(rt: HostRuntime) -> Result<(), Fail> {
-    let shown = first_pieces(&rt, NO_FILES)?;
+    let shown = pieces(&rt, NO_FILES)?;
     let wanted = b"fault|fault|fault|fault|fault|fault|";
     assert_same(&rt, b"", &shown, wanted);
     Ok(())
 }
 
+/// Asserts that a sink takes these bytes.
+fn takes<S: Sink>(rt: &impl Abort, sink: &mut S, bytes: &[u8]) {
+    assert_eq!(rt; put_all(sink, bytes), Ok(()));
+}
+
 #[test]
 fn output_takes_what_is_put(rt: HostRuntime) {
     let mut out = OutSink::new(&rt);
-    assert_eq!(rt; put_all(&mut out, b"to standard output\n"), Ok(()));
+    takes(&rt, &mut out, b"to standard output\n");
 }
 
 #[test]
 fn error_takes_what_is_put(rt: HostRuntime) {
     let mut err = ErrSink::new(&rt);
-    assert_eq!(rt; put_all(&mut err, b"to standard error\n"), Ok(()));
+    takes(&rt, &mut err, b"to standard error\n");
 }
 
 /// A text under the name `a`.
-fn held(alloc: Global, text: &[u8]) -> Result<Held, AllocError> {
+pub fn held(alloc: Global, text: &[u8]) -> Result<Held, AllocError> {
     Ok(Held::make(name(alloc, b"a")?, text.to_vec(alloc)?))
 }
 
@@ -193,10 +216,10 @@ fn a_text_in_memory_is_read_whole(rt: HostRuntime) -> Result<(), Fail> {
 fn a_sink_in_memory_has_room_to_spare(rt: HostRuntime) -> Result<(), Fail> {
     let mut sink = MemSink::new(rt.alloc(), 4, Vec::new(rt.alloc()));
     sink.reserve(6)?;
-    assert_eq!(rt; put_all(&mut sink, b"abcdef"), Ok(()));
-    assert_eq!(rt; sink.bytes(), b"abcdef".as_slice());
+    takes(&rt, &mut sink, b"abcdef");
+    assert_same(&rt, b"put", sink.bytes(), b"abcdef");
     let too_much = sink.reserve(u64::MAX);
     assert!(rt; too_much.is_err());
-    assert_eq!(rt; sink.bytes(), b"abcdef".as_slice());
+    assert_same(&rt, b"too much", sink.bytes(), b"abcdef");
     Ok(())
 }

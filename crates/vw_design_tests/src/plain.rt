@@ -17,10 +17,15 @@ pub fn add_number(alloc: Global, text: &mut Vec<u8>, number: u64) -> Result<(), 
 /// Adds words, each behind a blank.
 pub fn add_words(text: &mut Vec<u8>, words: &[Name]) -> Result<(), AllocError> {
     for word in words {
-        text.push(b' ')?;
-        text.extend_from_slice(word.as_slice())?;
+        add_behind(text, b' ', word.as_slice())?;
     }
     Ok(())
+}
+
+/// Adds a sign, and these bytes behind it.
+pub fn add_behind(text: &mut Vec<u8>, sign: u8, bytes: &[u8]) -> Result<(), AllocError> {
+    text.push(sign)?;
+    text.extend_from_slice(bytes)
 }
 
 /// Adds numbers, each behind a blank.
@@ -30,6 +35,17 @@ pub fn add_numbers(alloc: Global, text: &mut Vec<u8>, numbers: &[u32]) -> Result
         add_number(alloc, text, u64::from(*number))?;
     }
     Ok(())
+}
+
+/// Adds a title, and numbers behind it, each behind a blank.
+pub fn add_list(
+    alloc: Global,
+    text: &mut Vec<u8>,
+    title: &[u8],
+    numbers: &[u32],
+) -> Result<(), AllocError> {
+    text.extend_from_slice(title)?;
+    add_numbers(alloc, text, numbers)
 }
 
 /// Adds numbers, each behind a blank, with `-` for none.
@@ -59,5 +75,10 @@ pub fn add_option(
 
 /// Asserts that what is found of a text is what is wanted.
 pub fn assert_same(rt: &impl Abort, text: &[u8], found: &[u8], wanted: &[u8]) {
+    assert_eq!(rt; found, wanted, "{text:?}");
+}
+
+/// Asserts that the number that is found of a text is the one that is wanted, or that there is none.
+pub fn assert_number(rt: &impl Abort, text: &[u8], found: Option<u64>, wanted: Option<u64>) {
     assert_eq!(rt; found, wanted, "{text:?}");
 }

@@ -1,17 +1,23 @@
-use crate::plain::{assert_same, name};
+use crate::outside::held;
+use crate::plain::{assert_number, assert_same, name};
 use std::alloc::{AllocError, Global};
 use std::process::Abort;
 use std::test::Fail;
 use vw_net::Bits;
-use vw_outside::{Held, MemShelf};
+use vw_outside::MemShelf;
 use vw_rows::{RowRuns, StimFault, read_all};
+
+/// A shelf that holds a text under the name `a`.
+fn shelf(alloc: Global, text: &[u8]) -> Result<MemShelf, AllocError> {
+    let mut files = Vec::new(alloc);
+    files.push(held(alloc, text)?)?;
+    Ok(MemShelf::new(files, 65_536, Vec::new(alloc)))
+}
 
 /// What reading a stimulus gives.
 fn read(alloc: Global, text: &[u8], width: u32) -> Result<RowRuns, StimFault> {
-    let mut files = Vec::new(alloc);
-    files.push(Held::make(name(alloc, b"s")?, text.to_vec(alloc)?))?;
-    let mut shelf = MemShelf::new(files, 65_536, Vec::new(alloc));
-    let name = name(alloc, b"s")?;
+    let mut shelf = shelf(alloc, text)?;
+    let name = name(alloc, b"a")?;
     read_all(alloc, &mut shelf, &name, width)
 }
 
@@ -210,17 +216,17 @@ fn clocks_are_counted_over_all_lines(rt: HostRuntime) -> Result<(), Fail> {
 }
 
 /// The clocks of rows and the size of their first batch of at most 256.
-fn counts(alloc: Global, rows: &RowRuns) -> Result<(u64, usize), AllocError> {
+fn counts(alloc: Global, rows: &RowRuns) -> Result<(u64, u64), AllocError> {
     let mut reader = rows.reader();
     let batch = reader.next_batch(alloc, 256)?;
-    Ok((rows.clocks(), batch.len()))
+    Ok((rows.clocks(), batch.len() as u64))
 }
 
 /// The counts of the rows of a text, where it has no fault.
-fn counted(alloc: Global, text: &[u8], width: u32) -> Result<Option<(u64, usize)>, AllocError> {
+fn counted(alloc: Global, text: &[u8], width: u32) -> Result<(u64, u64), Fail> {
     match read(alloc, text, width) {
-        Ok(rows) => Ok(Some(counts(alloc, &rows)?)),
-        Err(_) => Ok(None),
+        Ok(rows) => Ok(counts(alloc, &rows)?),
+        Err(_) => Err("a fault".into()),
     }
 }
 
@@ -228,17 +234,18 @@ fn counted(alloc: Global, text: &[u8], width: u32) -> Result<Option<(u64, usize)
 fn assert_counts(
     rt: &impl Abort,
     alloc: Global,
-    table: &[(&[u8], u32, u64, usize)],
-) -> Result<(), AllocError> {
+    table: &[(&[u8], u32, u64, u64)],
+) -> Result<(), Fail> {
     for (text, width, clocks, rows) in table {
         let found = counted(alloc, text, *width)?;
-        assert_eq!(rt; found, Some((*clocks, *rows)), "{text:?}");
+        assert_number(rt, text, Some(found.0), Some(*clocks));
+        assert_number(rt, text, Some(found.1), Some(*rows));
     }
     Ok(())
 }
 
 /// Texts and their columns, each with as many clocks as there may be.
-const MOST_CLOCKS: &[(&[u8], u32, u64, usize)] = &[
+const MOST_CLOCKS: &[(&[u8], u32, u64, u64)] = &[
     (b"hold 4294967295", 1, 4_294_967_295, 256),
     (b"1\nhold 4294967294\nhold 0\n", 1, 4_294_967_295, 256),
     (b"hold 4294967293\n1\n0\n", 1, 4_294_967_295, 256),
@@ -247,8 +254,7 @@ const MOST_CLOCKS: &[(&[u8], u32, u64, usize)] = &[
 
 #[test]
 fn as_many_clocks_as_there_may_be_take_little_memory(rt: HostRuntime) -> Result<(), Fail> {
-    assert_counts(&rt, rt.alloc(), MOST_CLOCKS)?;
-    Ok(())
+    assert_counts(&rt, rt.alloc(), MOST_CLOCKS)
 }
 
 /// A text of six runs, with two columns.

@@ -4,9 +4,9 @@ use std::process::Abort;
 use std::test::Fail;
 use vw_blif::read;
 use vw_design::Design;
+use vw_instances::{Before, Measured, Sizes, sizes_of};
 use vw_models::{ModelOrder, marks_of, order_of, targets_of, unknown_model};
 use vw_net::Sequence;
-use vw_sizes::{Before, Measured, Sizes, sizes_of};
 
 /// What counting a design gives, if its models are known and place each other in no circle.
 fn measured(alloc: Global, design: &Design) -> Result<Option<Measured>, AllocError> {
@@ -94,10 +94,10 @@ fn shown(alloc: Global, text: &[u8], before: bool) -> Result<Vec<u8>, AllocError
 fn assert_shown(
     rt: &impl Abort,
     alloc: Global,
-    text: &[u8],
+    text: Vec<u8>,
     wanted: &[u8],
 ) -> Result<(), AllocError> {
-    let found = shown(alloc, text, false)?;
+    let found = shown(alloc, &text, false)?;
     // the text may be long, so no message has it
     assert_same(rt, b"", &found, wanted);
     Ok(())
@@ -136,10 +136,10 @@ fn three(alloc: Global, first: &[u8], second: &[u8], third: &[u8]) -> Result<Vec
 #[test]
 fn all_that_is_placed_stands_before_the_next_item(rt: HostRuntime) -> Result<(), Fail> {
     let text = three(rt.alloc(), b"slsl", b"lsl", b"ll")?;
-    assert_shown(&rt, rt.alloc(), &text, b"5 instances, 10 cells")?;
     let before = shown(rt.alloc(), &text, true)?;
     let wanted = b" 0/0 4/2 5/2 9/4| 0/0 1/0 3/1| 0/0 1/0|";
     assert_same(&rt, &text, &before, wanted);
+    assert_shown(&rt, rt.alloc(), text, b"5 instances, 10 cells")?;
     Ok(())
 }
 
@@ -173,7 +173,7 @@ fn assert_limits(
 ) -> Result<(), AllocError> {
     for (first, item, second, wanted) in table {
         let text = limit_text(alloc, *first, *item, *second)?;
-        assert_shown(rt, alloc, &text, wanted)?;
+        assert_shown(rt, alloc, text, wanted)?;
     }
     Ok(())
 }
@@ -220,7 +220,7 @@ fn assert_chains(
 ) -> Result<(), AllocError> {
     for (count, items, wanted) in table {
         let text = chain(alloc, *count, items, b"")?;
-        assert_shown(rt, alloc, &text, wanted)?;
+        assert_shown(rt, alloc, text, wanted)?;
     }
     Ok(())
 }
@@ -235,21 +235,16 @@ fn chains_are_counted_and_not_expanded(rt: HostRuntime) -> Result<(), Fail> {
 fn only_reached_models_are_counted(rt: HostRuntime) -> Result<(), Fail> {
     let latches = many(rt.alloc(), b'l', 70000)?;
     let text = three(rt.alloc(), b"l", b"s", &latches)?;
-    assert_shown(&rt, rt.alloc(), &text, b"1 instances, 1 cells")?;
+    assert_shown(&rt, rt.alloc(), text, b"1 instances, 1 cells")?;
     Ok(())
 }
 
-/// Adds the numbers below a count, each behind a blank and before these bytes.
-fn add_numbers(
-    alloc: Global,
-    text: &mut Vec<u8>,
-    count: u64,
-    behind: &[u8],
-) -> Result<(), AllocError> {
+/// Adds a line of ports of a kind, which have the numbers below a count for names.
+fn add_ports(alloc: Global, text: &mut Vec<u8>, kind: &[u8], count: u64) -> Result<(), AllocError> {
+    text.extend_from_slice(kind)?;
     for number in 0..count {
         text.push(b' ')?;
         add_number(alloc, text, number)?;
-        text.extend_from_slice(behind)?;
     }
     text.push(b'\n')?;
     Ok(())
@@ -263,27 +258,24 @@ fn add_lines(text: &mut Vec<u8>, line: &[u8], count: u32) -> Result<(), AllocErr
     Ok(())
 }
 
-/// A placing of `b` with 17 outputs, all bound.
-fn placing(alloc: Global) -> Result<Vec<u8>, AllocError> {
-    let mut text = b".subckt b".to_vec(alloc)?;
-    add_numbers(alloc, &mut text, 17, b"=n")?;
-    Ok(text)
-}
+/// A placing of `b` with its 17 outputs, all bound.
+const PLACING: &[u8] =
+    b".subckt b 0=n 1=n 2=n 3=n 4=n 5=n 6=n 7=n 8=n 9=n 10=n 11=n 12=n 13=n 14=n 15=n 16=n\n";
+
+/// The model `b`.
+const PLACED: &[u8] =
+    b".model b\n.outputs 0 1 2 3 4 5 6 7 8 9 10 11 12 13 14 15 16\n.latch d q\n.latch d q\n";
 
 /// A text of a design with so many inputs, of which one is a clock, and so many outputs. It places `c` so often, `c`
 /// places `b` 256 times, and `b` has two latches and 17 outputs, all bound.
 fn large(alloc: Global, inputs: u64, outputs: u64, placed: u32) -> Result<Vec<u8>, AllocError> {
-    let placing = placing(alloc)?;
-    let mut text = b".model a\n.inputs".to_vec(alloc)?;
-    add_numbers(alloc, &mut text, inputs, b"")?;
-    text.extend_from_slice(b".clock 0\n.outputs")?;
-    add_numbers(alloc, &mut text, outputs, b"")?;
+    let mut text = b".model a\n".to_vec(alloc)?;
+    add_ports(alloc, &mut text, b".inputs", inputs)?;
+    add_ports(alloc, &mut text, b".clock 0\n.outputs", outputs)?;
     add_lines(&mut text, b".subckt c\n", placed)?;
     text.extend_from_slice(b".model c\n")?;
-    add_lines(&mut text, &placing, 256)?;
-    text.extend_from_slice(b".model b\n.outputs")?;
-    add_numbers(alloc, &mut text, 17, b"")?;
-    text.extend_from_slice(b".latch d q\n.latch d q\n")?;
+    add_lines(&mut text, PLACING, 256)?;
+    text.extend_from_slice(PLACED)?;
     Ok(text)
 }
 
@@ -306,7 +298,7 @@ fn assert_large(
 ) -> Result<(), AllocError> {
     for (inputs, outputs, placed, wanted) in table {
         let text = large(alloc, *inputs, *outputs, *placed)?;
-        assert_shown(rt, alloc, &text, wanted)?;
+        assert_shown(rt, alloc, text, wanted)?;
     }
     Ok(())
 }
@@ -317,6 +309,6 @@ fn each_quantity_is_tried_in_its_turn(rt: HostRuntime) -> Result<(), Fail> {
     // cells come before the depth
     let latches = many(rt.alloc(), b'l', 65537)?;
     let deep = chain(rt.alloc(), 65, b"s", &latches)?;
-    assert_shown(&rt, rt.alloc(), &deep, b"too big: cells")?;
+    assert_shown(&rt, rt.alloc(), deep, b"too big: cells")?;
     Ok(())
 }

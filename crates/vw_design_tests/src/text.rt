@@ -1,4 +1,4 @@
-use crate::plain::{add_number, add_words, assert_same, name};
+use crate::plain::{add_number, add_words, assert_number, assert_same, name};
 use std::alloc::{AllocError, Global};
 use std::process::Abort;
 use std::test::Fail;
@@ -72,8 +72,8 @@ fn assert_numbers(
     table: &[(&[u8], Option<u64>)],
 ) -> Result<(), AllocError> {
     for (word, wanted) in table {
-        let word = name(alloc, word)?;
-        assert_eq!(rt; number(&word), *wanted, "{:?}", word.as_slice());
+        let found = number(&name(alloc, word)?);
+        assert_number(rt, word, found, *wanted);
     }
     Ok(())
 }

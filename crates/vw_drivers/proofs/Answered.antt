@@ -10,10 +10,10 @@ use Rattle.vw_design.specs.Drivers.{Source as PathSource, at_port, at_cell, driv
 use Rattle.vw_design.specs.Paths.{Word, Path, model_at, is_port}
 use Rattle.vw_design.specs.Preorder.{instances}
 use Rattle.vw_design.proofs.DriverNumbers.{IsFound, driver_is, cell_place}
-use Rattle.vw_claims.specs.declared.claim.Claim.{Claim}
-use Rattle.vw_claims.specs.declared.claim.Claim.TheVariants.{Port as ClaimedPort}
-use Rattle.vw_claims.specs.declared.model_claims.ModelClaims.{ModelClaims}
-use Rattle.vw_claims.specs.Firsts.{First, number_named, claim_at, claim_named}
+use Rattle.vw_drivers.specs.declared.claim.Claim.{Claim}
+use Rattle.vw_drivers.specs.declared.claim.Claim.TheVariants.{Port as ClaimedPort}
+use Rattle.vw_drivers.specs.declared.model_claims.ModelClaims.{ModelClaims}
+use Rattle.vw_drivers.specs.Firsts.{First, number_named, claim_at, claim_named}
 use Rattle.vw_drivers.specs.declared.drivers.Drivers.{Drivers}
 use Rattle.vw_drivers.specs.declared.source.Source.{Source}
 use Rattle.vw_drivers.specs.declared.source.Source.TheVariants.{Port, Cell}
@@ -21,7 +21,7 @@ use Rattle.vw_drivers.specs.declared.tables.Tables.{Tables}
 use Rattle.vw_drivers.specs.Sources.{source_of}
 use Rattle.vw_drivers.specs.Tables.{AreTables, root_firsts, instance_firsts}
 use Rattle.vw_drivers.specs.Drivers.{driver_by_numbers, IsSource, AreDrivers}
-use Rattle.vw_drivers.specs.Steps.{led}
+use Rattle.vw_drivers.specs.Steps.FoundDrivers.{led}
 use Rattle.vw_drivers.proofs.Leads.{led_is}
 use Rattle.vw_drivers.proofs.PortRows.{meant_port, port_is}
 

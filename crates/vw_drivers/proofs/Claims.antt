@@ -4,8 +4,8 @@ use Rattle.std.proofs.lemmas.Bool.{cases_lt}
 use Rattle.vw_design.specs.declared.model.Model.{Model}
 use Rattle.vw_design.specs.declared.design.Design.{Design}
 use Rattle.vw_design.proofs.ListPlaces.{in_front, at_end}
-use Rattle.vw_claims.specs.declared.model_claims.ModelClaims.{ModelClaims}
-use Rattle.vw_claims.specs.Claimed.{AreClaims}
+use Rattle.vw_drivers.specs.declared.model_claims.ModelClaims.{ModelClaims}
+use Rattle.vw_drivers.specs.Claimed.{AreClaims}
 
 -- the models below a number have their claims
 pub record AreClaimsBelow (design : Design) (below : ℕ) (claims : List ModelClaims) : Type 0 where

@@ -20,13 +20,13 @@ use Rattle.vw_design.proofs.Has.{Has, Has-at, Has-left, Has-right, Has-map, from
 use Rattle.vw_design.proofs.Names.{same_name, equal_names, has_name-Has, Has-has_name}
 use Rattle.vw_design.proofs.Instances.{placing_of_placed}
 use Rattle.vw_design.proofs.Reached.{faultless_shallow, nothing_placed}
-use Rattle.vw_claims.specs.Firsts.{First}
-use Rattle.vw_walk.specs.declared.tables.Placed.{Placed}
-use Rattle.vw_names.specs.declared.model_names.PlacedNames.{PlacedNames}
-use Rattle.vw_names.specs.Names.{way_of}
+use Rattle.vw_drivers.specs.Firsts.{First}
+use Rattle.vw_instances.specs.declared.tables.Placed.{Placed}
+use Rattle.vw_drivers.specs.declared.model_names.PlacedNames.{PlacedNames}
+use Rattle.vw_drivers.specs.Names.{way_of}
 use Rattle.vw_drivers.specs.declared.tables.Tables.{Tables}
 use Rattle.vw_drivers.specs.Tables.{AreTables, instance_firsts}
-use Rattle.vw_drivers.specs.Steps.{placed_of, ways_of}
+use Rattle.vw_drivers.specs.Steps.FoundDrivers.{placed_of, ways_of}
 use Rattle.vw_drivers.proofs.Instances.{instance_of, placed_is}
 
 -- the item that places an instance

@@ -16,19 +16,19 @@ use Rattle.vw_design.specs.Preorder.{is_cell, instances, cells}
 use Rattle.vw_design.proofs.FlatValues.{site_of_place}
 use Rattle.vw_design.proofs.ListPlaces.{none_at_place}
 use Rattle.vw_design.proofs.Numbers.{cell_number, instance_number}
-use Rattle.vw_claims.specs.declared.model_claims.ModelClaims.{ModelClaims}
-use Rattle.vw_claims.specs.Claimed.{AreClaims}
-use Rattle.vw_walk.specs.declared.tables.Placed.{Placed}
-use Rattle.vw_walk.specs.Tables.{IsEntryAt}
-use Rattle.vw_walk.proofs.Entries.{stands_behind}
-use Rattle.vw_sizes.specs.declared.sizes.Before.{Before}
-use Rattle.vw_names.specs.declared.model_names.ModelNames.{ModelNames}
-use Rattle.vw_names.specs.declared.model_names.PlacedNames.{PlacedNames}
-use Rattle.vw_names.specs.Names.{firsts_of, IsPlacedNames}
+use Rattle.vw_drivers.specs.declared.model_claims.ModelClaims.{ModelClaims}
+use Rattle.vw_drivers.specs.Claimed.{AreClaims}
+use Rattle.vw_instances.specs.declared.tables.Placed.{Placed}
+use Rattle.vw_instances.specs.Tables.{IsEntryAt}
+use Rattle.vw_instances.proofs.EntryNumbers.{stands_behind}
+use Rattle.vw_instances.specs.declared.sizes.Before.{Before}
+use Rattle.vw_drivers.specs.declared.model_names.ModelNames.{ModelNames}
+use Rattle.vw_drivers.specs.declared.model_names.PlacedNames.{PlacedNames}
+use Rattle.vw_drivers.specs.Names.{firsts_of, IsPlacedNames}
 use Rattle.vw_drivers.specs.declared.source.Source.TheVariants.{Cell}
 use Rattle.vw_drivers.specs.declared.tables.Tables.{Tables}
 use Rattle.vw_drivers.specs.Tables.{AreTables, instance_firsts}
-use Rattle.vw_drivers.specs.Steps.{before_of, placed_of, cell_source, child_of}
+use Rattle.vw_drivers.specs.Steps.FoundDrivers.{before_of, placed_of, cell_source, child_of}
 
 -- a place isn't 0
 no_root : (before : ℕ) → suc before == 0 ≡ false

@@ -16,19 +16,19 @@ use Rattle.vw_design.specs.Counts.{placed_one}
 use Rattle.vw_design.proofs.ModelNumbers.{one_number}
 use Rattle.vw_design.proofs.Reached.{faultless_shallow, faultless_one_way}
 use Rattle.vw_design.proofs.Ways.{claim_at as claim_of, no_port, driver-turn}
-use Rattle.vw_claims.specs.declared.claim.Claim.{Claim}
-use Rattle.vw_claims.specs.declared.claim.Claim.TheVariants as claims
-use Rattle.vw_claims.specs.Claimed.{bind_at, meant}
-use Rattle.vw_claims.specs.Firsts.{First, number_named, claim_at, claim_named}
-use Rattle.vw_walk.specs.declared.tables.Placed.{Placed}
-use Rattle.vw_walk.specs.Tables.{IsPlacedBy, IsJustBehind}
-use Rattle.vw_names.specs.Names.{firsts_of}
+use Rattle.vw_drivers.specs.declared.claim.Claim.{Claim}
+use Rattle.vw_drivers.specs.declared.claim.Claim.TheVariants as claims
+use Rattle.vw_drivers.specs.Claimed.{bind_at, meant}
+use Rattle.vw_drivers.specs.Firsts.{First, number_named, claim_at, claim_named}
+use Rattle.vw_instances.specs.declared.tables.Placed.{Placed}
+use Rattle.vw_instances.specs.Tables.{IsPlacedBy, IsJustBehind}
+use Rattle.vw_drivers.specs.Names.{firsts_of}
 use Rattle.vw_drivers.specs.declared.source.Source.TheVariants.{Port}
 use Rattle.vw_drivers.specs.declared.tables.Tables.{Tables}
 use Rattle.vw_drivers.specs.Sources.{source_of}
 use Rattle.vw_drivers.specs.Tables.{AreTables, root_firsts, instance_firsts}
 use Rattle.vw_drivers.specs.Drivers.{at_rows, driver_by_numbers, HasOutputs}
-use Rattle.vw_drivers.specs.Steps.{Rows, child_of, led_by, led_at, led}
+use Rattle.vw_drivers.specs.Steps.FoundDrivers.{Rows, child_of, led_by, led_at, led}
 use Rattle.vw_drivers.proofs.Instances.{HasInstance, instance_of, cell_is, child_is}
 
 -- the first claim by numbers and that of the design

@@ -1,3 +1,10 @@
+pub mod PlacedItems
+pub mod AllNames
+pub mod Keys
+pub mod Looks
+pub mod FirstClaims
+pub mod ClaimedAgain
+pub mod Targets
 pub mod Rows
 pub mod Claims
 pub mod Instances

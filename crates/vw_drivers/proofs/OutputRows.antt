@@ -8,19 +8,19 @@ use Rattle.vw_design.specs.Accepted.{HasNoModelFault}
 use Rattle.vw_design.specs.Claims.{port, first_claim}
 use Rattle.vw_design.specs.Paths.{Word, Path, Placing, model_at}
 use Rattle.vw_design.specs.Preorder.{instances}
-use Rattle.vw_claims.specs.declared.claim.Claim.{Claim}
-use Rattle.vw_claims.specs.declared.claim.Claim.TheVariants as claims
-use Rattle.vw_claims.specs.Claimed.{bind_at, meant}
-use Rattle.vw_claims.specs.Firsts.{number_named, claim_named}
-use Rattle.vw_walk.specs.declared.tables.Placed.{Placed}
-use Rattle.vw_names.specs.declared.model_names.Way.{Way}
-use Rattle.vw_names.specs.declared.model_names.Way.TheVariants.{Output}
-use Rattle.vw_names.specs.Names.{way_by, way_of}
+use Rattle.vw_drivers.specs.declared.claim.Claim.{Claim}
+use Rattle.vw_drivers.specs.declared.claim.Claim.TheVariants as claims
+use Rattle.vw_drivers.specs.Claimed.{bind_at, meant}
+use Rattle.vw_drivers.specs.Firsts.{number_named, claim_named}
+use Rattle.vw_instances.specs.declared.tables.Placed.{Placed}
+use Rattle.vw_drivers.specs.declared.model_names.Way.{Way}
+use Rattle.vw_drivers.specs.declared.model_names.Way.TheVariants.{Output}
+use Rattle.vw_drivers.specs.Names.{way_by, way_of}
 use Rattle.vw_drivers.specs.declared.source.Source.{Source}
 use Rattle.vw_drivers.specs.declared.tables.Tables.{Tables}
 use Rattle.vw_drivers.specs.Tables.{AreTables, instance_firsts}
 use Rattle.vw_drivers.specs.Drivers.{at_row, at_rows, driver_by_numbers, HasOutputs}
-use Rattle.vw_drivers.specs.Steps.{Rows, ways_of, output_led, outputs_made}
+use Rattle.vw_drivers.specs.Steps.FoundDrivers.{Rows, ways_of, output_led, outputs_made}
 use Rattle.vw_drivers.proofs.Rows.{row_set, row_not_set}
 use Rattle.vw_drivers.proofs.Instances.{instance_of}
 use Rattle.vw_drivers.proofs.Leads.{some_first, named_first, led_is}

@@ -15,20 +15,20 @@ use Rattle.vw_design.specs.Preorder.{instances}
 use Rattle.vw_design.proofs.Has.{Has, Has-map, from-map, at-place}
 use Rattle.vw_design.proofs.Names.{same_name}
 use Rattle.vw_design.proofs.Ways.{claim_at as claim_of}
-use Rattle.vw_claims.specs.declared.claim.Claim.{Claim}
-use Rattle.vw_claims.specs.declared.claim.Claim.TheVariants as claims
-use Rattle.vw_claims.specs.Claimed.{bind_at, meant}
-use Rattle.vw_claims.specs.Firsts.{First, number_named, claim_named}
-use Rattle.vw_walk.specs.declared.tables.Placed.{Placed}
-use Rattle.vw_names.specs.declared.model_names.Way.{Way}
-use Rattle.vw_names.specs.declared.model_names.Way.TheVariants as ways
-use Rattle.vw_names.specs.Names.{way_by, way_of}
+use Rattle.vw_drivers.specs.declared.claim.Claim.{Claim}
+use Rattle.vw_drivers.specs.declared.claim.Claim.TheVariants as claims
+use Rattle.vw_drivers.specs.Claimed.{bind_at, meant}
+use Rattle.vw_drivers.specs.Firsts.{First, number_named, claim_named}
+use Rattle.vw_instances.specs.declared.tables.Placed.{Placed}
+use Rattle.vw_drivers.specs.declared.model_names.Way.{Way}
+use Rattle.vw_drivers.specs.declared.model_names.Way.TheVariants as ways
+use Rattle.vw_drivers.specs.Names.{way_by, way_of}
 use Rattle.vw_drivers.specs.declared.source.Source.{Source}
 use Rattle.vw_drivers.specs.declared.tables.Tables.{Tables}
 use Rattle.vw_drivers.specs.Sources.{source_of}
 use Rattle.vw_drivers.specs.Tables.{AreTables, root_firsts, instance_firsts}
 use Rattle.vw_drivers.specs.Drivers.{at_row, at_rows, driver_by_numbers, HasOutputs, HasPorts}
-use Rattle.vw_drivers.specs.Steps.{Rows, led, with_ways, ports_made}
+use Rattle.vw_drivers.specs.Steps.FoundDrivers.{Rows, led, with_ways, ports_made}
 use Rattle.vw_drivers.proofs.Rows.{found, row_before, row_last}
 use Rattle.vw_drivers.proofs.Instances.{instance_of}
 use Rattle.vw_drivers.proofs.Leads.{PortIs, turned, named_first, led_is}

@@ -3,12 +3,12 @@ use Rattle.std.proofs.Common.{◌≡◌, ◌≢◌, ◌<◌, ◌≤◌, ℕ, zer
 use Rattle.std.proofs.lemmas.Bool.{cases_eq}
 use Rattle.vw_design.proofs.Has.{Has}
 use Rattle.vw_design.proofs.ListPlaces.{at_end, same_front, set_here, set_elsewhere}
-use Rattle.vw_names.specs.declared.model_names.Way.{Way}
-use Rattle.vw_names.specs.declared.model_names.Way.TheVariants as ways
+use Rattle.vw_drivers.specs.declared.model_names.Way.{Way}
+use Rattle.vw_drivers.specs.declared.model_names.Way.TheVariants as ways
 use Rattle.vw_drivers.specs.declared.source.Source.{Source}
 use Rattle.vw_drivers.specs.declared.tables.Tables.{Tables}
 use Rattle.vw_drivers.specs.Drivers.{at_row, at_rows}
-use Rattle.vw_drivers.specs.Steps.{Rows, led, with_port, with_way, with_ways}
+use Rattle.vw_drivers.specs.Steps.FoundDrivers.{Rows, led, with_port, with_way, with_ways}
 
 abbrev Row : Type 0
 Row = List (Option Source)

@@ -6,8 +6,8 @@ use Rattle.vw_design.specs.Paths.{Word, Path, model_at}
 use Rattle.vw_design.specs.Claims.{port, first_claim}
 use Rattle.vw_design.specs.Preorder.{instances}
 use Rattle.vw_design.specs.Drivers.{driver}
-use Rattle.vw_claims.specs.Claimed.{bind_at}
-use Rattle.vw_claims.specs.Firsts.{number_named}
+use Rattle.vw_drivers.specs.Claimed.{bind_at}
+use Rattle.vw_drivers.specs.Firsts.{number_named}
 use Rattle.vw_drivers.specs.declared.drivers.Drivers.{Drivers}
 use Rattle.vw_drivers.specs.declared.source.Source.{Source}
 use Rattle.vw_drivers.specs.declared.tables.Tables.{Tables}

@@ -4,7 +4,7 @@ use Rattle.vw_design.specs.declared.design.Design.{Design}
 use Rattle.vw_design.specs.Drivers.{Source as PathSource, at_port, at_cell}
 use Rattle.vw_design.specs.Preorder.{cells}
 use Rattle.vw_design.specs.PathValue.{place_of_site}
-use Rattle.vw_claims.specs.Firsts.{First, number_named}
+use Rattle.vw_drivers.specs.Firsts.{First, number_named}
 use Rattle.vw_drivers.specs.declared.source.Source.{Source}
 use Rattle.vw_drivers.specs.declared.source.Source.TheVariants.{Port, Cell}
 

@@ -2,12 +2,12 @@
 use Rattle.std.specs.Prelude.{◌≡◌, ℕ, List, slice_get, Some, option_map}
 use Rattle.vw_design.specs.declared.model.Model.{Model}
 use Rattle.vw_design.specs.declared.design.Design.{Design}
-use Rattle.vw_claims.specs.declared.model_claims.ModelClaims.{ModelClaims}
-use Rattle.vw_claims.specs.Firsts.{First}
-use Rattle.vw_claims.specs.Claimed.{AreClaims}
-use Rattle.vw_sizes.specs.Sizes.{AreBefore}
-use Rattle.vw_names.specs.Names.{firsts_of, AreNames}
-use Rattle.vw_walk.specs.Tables.{ArePlaced}
+use Rattle.vw_drivers.specs.declared.model_claims.ModelClaims.{ModelClaims}
+use Rattle.vw_drivers.specs.Firsts.{First}
+use Rattle.vw_drivers.specs.Claimed.{AreClaims}
+use Rattle.vw_instances.specs.Sizes.{AreBefore}
+use Rattle.vw_drivers.specs.Names.{firsts_of, AreNames}
+use Rattle.vw_instances.specs.Tables.{ArePlaced}
 use Rattle.vw_drivers.specs.declared.tables.Tables.{Tables}
 
 -- the claims of each model

@@ -3,8 +3,10 @@ ghost use Rattle.std.specs.Prelude.{◌≡◌, length, IfOk};
 ghost use Rattle.vw_design.specs.ModelNumbers.{AreTargets};
 ghost use Rattle.vw_drivers.specs.Tables.{AreModelClaims};
 
+use crate::gather_claims::claims_of;
+use crate::model_claims::ModelClaims;
+use crate::model_outputs::outputs_of;
 use std::alloc::{AllocError, Global};
-use vw_claims::{ModelClaims, claims_of, outputs_of};
 use vw_design::Design;
 use vw_net::Sequence;
 

@@ -1,17 +1,16 @@
 //! Where claims lead.
 ghost use Rattle.std.specs.Prelude.{◌≡◌, Some, option_map};
-ghost use Rattle.vw_claims.specs.Firsts.{claim_at};
-ghost use Rattle.vw_names.specs.Names.{firsts_of};
+ghost use Rattle.vw_drivers.specs.Firsts.{claim_at};
+ghost use Rattle.vw_drivers.specs.Names.{firsts_of};
 ghost use Rattle.vw_drivers.specs.Drivers.{at_rows};
-ghost use Rattle.vw_drivers.specs.Steps.{before_of, placed_of, cell_source, child_of, led_by, led_at, led, ways_of};
+ghost use Rattle.vw_drivers.specs.Steps.FoundDrivers.{before_of, placed_of, cell_source, child_of, led_by, led_at, led, ways_of};
 
+use crate::claim::Claim;
+use crate::model_names::{PlacedNames, Way};
 use crate::source::Source;
 use crate::tables::Tables;
-use vw_claims::Claim;
-use vw_names::{PlacedNames, Way};
+use vw_instances::{Before, Placed};
 use vw_net::Sequence;
-use vw_sizes::Before;
-use vw_walk::Placed;
 
 /// The driver in the row of an instance at a number.
 fn row_at(rows: &[Sequence<Option<Source>>], instance: usize, number: u32) -> Option<Source>

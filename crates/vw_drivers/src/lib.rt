@@ -1,14 +1,31 @@
-//! The drivers of the nets of a design, by numbers.
+//! What drives the nets of a design, by numbers: what first claims each name of a model, to which of these names the items
+//! read and bind, and so the driver of each net.
 #![tactic(auto)]
 
+mod claim;
 mod claimed;
 mod drivers;
+mod firsts;
+mod gather_claims;
+mod gather_names;
 mod led;
+mod model_claims;
+mod model_names;
+mod model_outputs;
 mod outputs;
+mod placed;
 mod ports;
+mod reads;
 mod source;
 mod tables;
 
+pub use claim::{Again, Claim};
 pub use drivers::Drivers;
+pub use firsts::Firsts;
+pub use gather_claims::claims_of;
+pub use gather_names::names_of;
+pub use model_claims::ModelClaims;
+pub use model_names::{ModelNames, PlacedNames, Way};
+pub use model_outputs::{Outputs, outputs_of};
 pub use source::Source;
 pub use tables::Tables;

@@ -1,15 +1,15 @@
 //! The drivers of outputs.
 ghost use Rattle.std.specs.Prelude.{◌≡◌, ◌≤◌, ℕ, length, map, IfOk};
 ghost use Rattle.vw_drivers.specs.Drivers.{HasOutputs};
-ghost use Rattle.vw_drivers.specs.Steps.{OfTables, output_led, outputs_made};
+ghost use Rattle.vw_drivers.specs.Steps.FoundDrivers.{OfTables, output_led, outputs_made};
 
 use crate::led::{lead, ways_into};
+use crate::model_names::Way;
 use crate::source::Source;
 use crate::tables::Tables;
 use std::alloc::{AllocError, Global};
-use vw_names::Way;
+use vw_instances::Placed;
 use vw_net::Sequence;
-use vw_walk::Placed;
 
 /// The driver of a formal of an instance that is no port.
 fn output_at(

@@ -1,15 +1,15 @@
 //! The drivers of ports.
 ghost use Rattle.std.specs.Prelude.{◌≡◌, ◌<◌, ℕ, length, IfOk, OnOk, []};
 ghost use Rattle.vw_drivers.specs.Drivers.{HasOutputs, HasPorts};
-ghost use Rattle.vw_drivers.specs.Steps.{OfTables, with_port, with_way, with_ways, ports_made};
+ghost use Rattle.vw_drivers.specs.Steps.FoundDrivers.{OfTables, with_port, with_way, with_ways, ports_made};
 
 use crate::led::{lead, ways_into};
+use crate::model_names::Way;
 use crate::source::Source;
 use crate::tables::Tables;
 use std::alloc::{AllocError, Global};
-use vw_names::Way;
+use vw_instances::Placed;
 use vw_net::Sequence;
-use vw_walk::Placed;
 
 /// Writes a driver at a number of a row, which grows where it is shorter.
 fn put(row: &mut Vec<Option<Source>>, number: u32, source: Option<Source>) -> Result<(), AllocError>

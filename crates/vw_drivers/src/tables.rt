@@ -1,18 +1,18 @@
 //! The tables of a design by numbers.
 ghost use Rattle.std.specs.Prelude.{◌≡◌, IfOk};
 ghost use Rattle.vw_design.specs.ModelNumbers.{AreTargets};
-ghost use Rattle.vw_sizes.specs.Sizes.{AreBefore};
-ghost use Rattle.vw_walk.specs.Tables.{ArePlaced};
+ghost use Rattle.vw_instances.specs.Sizes.{AreBefore};
+ghost use Rattle.vw_instances.specs.Tables.{ArePlaced};
 ghost use Rattle.vw_drivers.specs.Tables.{AreTables};
 
 use crate::claimed::all_claims;
+use crate::gather_names::names_of;
+use crate::model_claims::ModelClaims;
+use crate::model_names::ModelNames;
 use std::alloc::{AllocError, Global};
-use vw_claims::ModelClaims;
 use vw_design::Design;
-use vw_names::{ModelNames, names_of};
+use vw_instances::{Before, Placed};
 use vw_net::Sequence;
-use vw_sizes::Before;
-use vw_walk::Placed;
 
 /// The tables of a design by which its drivers are found: its instances in preorder; and for each model, by its number,
 /// how much stands before each item, the claims on its nets, and the claims on the names of its items.

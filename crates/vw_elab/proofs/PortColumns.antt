@@ -9,7 +9,7 @@ use Rattle.vw_design.specs.Preorder.{cells}
 use Rattle.vw_design.specs.Clocks.{columns}
 use Rattle.vw_design.specs.PathValue.{place_of_name, place_of_site}
 use Rattle.vw_design.proofs.DriverNumbers.{IsFound}
-use Rattle.vw_claims.specs.Firsts.{First, number_named}
+use Rattle.vw_drivers.specs.Firsts.{First, number_named}
 use Rattle.vw_drivers.specs.declared.source.Source.{Source}
 use Rattle.vw_drivers.specs.declared.source.Source.TheVariants as sources
 use Rattle.vw_drivers.specs.Sources.{source_of}

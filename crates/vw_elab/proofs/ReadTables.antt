@@ -12,13 +12,13 @@ use Rattle.vw_design.proofs.FilteredLists.{AllZip-at}
 use Rattle.vw_design.proofs.Sites.{site_item}
 use Rattle.vw_design.proofs.DriverNumbers.{driver_is}
 use Rattle.vw_design.specs.Limits.{instance_count}
-use Rattle.vw_claims.specs.Firsts.{First, number_named}
-use Rattle.vw_names.specs.declared.model_names.ModelNames.{ModelNames}
-use Rattle.vw_names.specs.Names.{reads_of, firsts_of}
-use Rattle.vw_walk.specs.declared.tables.Placed.{Placed}
-use Rattle.vw_walk.specs.declared.tables.CellSite.{CellSite}
-use Rattle.vw_walk.specs.Tables.{ArePlaced, AreCellSites, IsCellSite}
-use Rattle.vw_walk.specs.Tables as walks
+use Rattle.vw_drivers.specs.Firsts.{First, number_named}
+use Rattle.vw_drivers.specs.declared.model_names.ModelNames.{ModelNames}
+use Rattle.vw_drivers.specs.Names.{reads_of, firsts_of}
+use Rattle.vw_instances.specs.declared.tables.Placed.{Placed}
+use Rattle.vw_instances.specs.declared.tables.CellSite.{CellSite}
+use Rattle.vw_instances.specs.Tables.{ArePlaced, AreCellSites, IsCellSite}
+use Rattle.vw_instances.specs.Tables as walks
 use Rattle.vw_drivers.specs.declared.source.Source.{Source}
 use Rattle.vw_drivers.specs.declared.tables.Tables.{Tables}
 use Rattle.vw_drivers.specs.Tables.{root_firsts, instance_firsts}

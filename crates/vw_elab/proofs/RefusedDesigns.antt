@@ -3,7 +3,7 @@ use Rattle.std.proofs.Common.{◌≡◌, true, true≢false, sym}
 use Rattle.vw_design.specs.declared.design.Design.{Design}
 use Rattle.vw_design.specs.Accepted.{IsAccepted, Fault, model_unknown, recursive, formal_unknown, input_unbound, output_both_ways, over_limit, net_undriven, driven_twice, clock_gated, clocks_differ, edges_differ, clock_read, IsFaultOf}
 use Rattle.vw_design.proofs.FaultLaws.{accepted_fine}
-use Rattle.vw_sizes.specs.Quantities.{counted_of}
+use Rattle.vw_instances.specs.Quantities.{counted_of}
 use Rattle.vw_elab.specs.declared.fault.DesignFault.{DesignFault}
 use Rattle.vw_elab.specs.declared.fault.DesignFault.TheVariants.{UnknownModel, RecursiveModel, UnknownFormal, UnboundInput, BothWays, TooBig, Undriven, TwoDrivers, GatedClock, SeveralClocks, SeveralEdges, ClockAsData, NoMemory}
 use Rattle.vw_elab.specs.Refusals.{IsRefusal, is_design_fault}

@@ -1,7 +1,7 @@
 -- The message line of each fault of a design, with the end of the line.
 use Rattle.std.specs.Prelude.{ℕ, List, [], ◌∷◌, ◌++◌, codes}
 use Rattle.std.specs.Fmt.{decimal}
-use Rattle.vw_sizes.specs.Quantities.{quantity_word}
+use Rattle.vw_instances.specs.Quantities.{quantity_word}
 use Rattle.vw_elab.specs.MessageLines.{at_line_of_name, of_net, of_pair, spaced}
 use Rattle.vw_elab.specs.declared.fault.DesignFault.{DesignFault}
 use Rattle.vw_elab.specs.declared.fault.DesignFault.TheVariants.{UnknownModel, RecursiveModel, UnknownFormal, UnboundInput, BothWays, TooBig, Undriven, TwoDrivers, GatedClock, SeveralClocks, SeveralEdges, ClockAsData, NoMemory}

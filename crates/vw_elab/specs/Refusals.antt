@@ -5,7 +5,7 @@ use Rattle.vw_design.specs.Paths.{Word, Net, printed}
 use Rattle.vw_design.specs.NetFaults.{Unlike, Edged}
 use Rattle.vw_design.specs.Limits.{limit_of}
 use Rattle.vw_design.specs.Accepted.{Fault, model_unknown, recursive, formal_unknown, input_unbound, output_both_ways, over_limit, net_undriven, driven_twice, clock_gated, clocks_differ, edges_differ, clock_read, IsFaultOf}
-use Rattle.vw_sizes.specs.Quantities.{counted_of}
+use Rattle.vw_instances.specs.Quantities.{counted_of}
 use Rattle.vw_elab.specs.declared.fault.DesignFault.{DesignFault}
 use Rattle.vw_elab.specs.declared.fault.DesignFault.TheVariants.{UnknownModel, RecursiveModel, UnknownFormal, UnboundInput, BothWays, TooBig, Undriven, TwoDrivers, GatedClock, SeveralClocks, SeveralEdges, ClockAsData, NoMemory}
 

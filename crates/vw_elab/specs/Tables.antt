@@ -1,7 +1,7 @@
 -- The tables of a design.
 use Rattle.vw_design.specs.declared.design.Design.{Design}
 use Rattle.vw_design.specs.Accepted.{IsAccepted}
-use Rattle.vw_walk.specs.Tables.{AreCellSites}
+use Rattle.vw_instances.specs.Tables.{AreCellSites}
 use Rattle.vw_drivers.specs.Tables.{AreTables, root_firsts}
 use Rattle.vw_drivers.specs.Drivers.{AreDrivers}
 use Rattle.vw_nets.specs.declared.columns.Columns.{Columns}

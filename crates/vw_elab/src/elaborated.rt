@@ -7,9 +7,9 @@ ghost use Rattle.vw_design.specs.Limits.{instance_count, cell_count};
 ghost use Rattle.vw_design.specs.Paths.{Word, Path, printed};
 ghost use Rattle.vw_design.specs.Reads.{net_at};
 ghost use Rattle.vw_design.specs.Preorder.{instances, cells, Site};
-ghost use Rattle.vw_names.specs.Names.{reads_of};
-ghost use Rattle.vw_walk.specs.Tables.{IsCellSite};
-ghost use Rattle.vw_claims.specs.Firsts.{number_named};
+ghost use Rattle.vw_drivers.specs.Names.{reads_of};
+ghost use Rattle.vw_instances.specs.Tables.{IsCellSite};
+ghost use Rattle.vw_drivers.specs.Firsts.{number_named};
 ghost use Rattle.vw_drivers.specs.Tables.{instance_firsts};
 ghost use Rattle.vw_elab.specs.Steps.ByColumns.{driver_by, reading_of};
 ghost use Rattle.vw_elab.specs.Numbers.{IsInstance, driver_of};
@@ -21,9 +21,9 @@ use std::alloc::{AllocError, Global};
 use std::marker::Model;
 use vw_design::Design;
 use vw_drivers::{Source, Tables};
+use vw_instances::CellSite;
 use vw_nets::{Columns, print_net};
 use vw_outside::Name;
-use vw_walk::CellSite;
 
 /// An instance by numbers.
 #[derive(Clone, Copy, Debug, PartialEq, Eq)]

@@ -1,7 +1,10 @@
 //! Elaboration.
 ghost use Rattle.std.specs.Prelude.{◌≡◌, IfOk, IfErr};
-ghost use Rattle.vw_design.specs.Accepted.{IsAccepted};
+ghost use Rattle.vw_design.specs.Accepted.{HasNoModelFault, IsAccepted};
+ghost use Rattle.vw_drivers.specs.Tables.{root_firsts};
+ghost use Rattle.vw_nets.specs.Columns.{AreColumns};
 ghost use Rattle.vw_elab.specs.Refusals.{IsRefusal};
+ghost use Rattle.vw_elab.specs.Tables.{AreDesignParts};
 
 use crate::elaborated::Elaborated;
 use crate::fault::DesignFault;
@@ -12,6 +15,32 @@ use std::alloc::Global;
 use vw_design::Design;
 use vw_nets::Columns;
 
+/// The instances, claims and drivers of a design, if its models have no fault.
+fn parts_of(alloc: Global, design: &Design) -> Result<Parts, DesignFault>
+    ensures faultless { IfOk result (λ _. HasNoModelFault design.now) }
+    ensures parts { IfOk result (AreDesignParts design.now) }
+    ensures refused { IfErr result (IsRefusal design.now) }
+{
+    let models = models_of(alloc, design)?;
+    let sizes = check_sizes(alloc, design, &models)?;
+    let parts = Parts::of(alloc, design, &models, sizes)?;
+    Ok(parts)
+}
+
+/// The columns of a design, if its nets have no fault.
+fn columns_of(alloc: Global, design: &Design, parts: &Parts) -> Result<Columns, DesignFault>
+    requires faultless { HasNoModelFault design.now }
+    requires parts { AreDesignParts design.now parts.now }
+    ensures accepted { IfOk result (λ _. IsAccepted design.now) }
+    ensures columns { IfOk result (AreColumns design.now (root_firsts parts.now.tables)) }
+    ensures refused { IfErr result (IsRefusal design.now) }
+{
+    let nets = parts.nets(design);
+    check_nets(alloc, &nets)?;
+    let columns = Columns::of(alloc, &nets)?;
+    Ok(columns)
+}
+
 /// Numbers the instances, cells and drivers of a design, or says what is wrong with it. The faults are tried in the order
 /// of their numbers, each over the whole design before the next, and the first place counts. On a refusal the design is
 /// given up.
@@ -20,11 +49,7 @@ pub fn elaborate(alloc: Global, design: Design) -> Result<Elaborated, DesignFaul
     ensures accepted { IfOk result (λ _. IsAccepted design) }
     ensures refused { IfErr result (IsRefusal design) }
 {
-    let models = models_of(alloc, &design)?;
-    let sizes = check_sizes(alloc, &design, &models)?;
-    let parts = Parts::of(alloc, &design, &models, sizes)?;
-    let nets = parts.nets(&design);
-    check_nets(alloc, &nets)?;
-    let columns = Columns::of(alloc, &nets)?;
+    let parts = parts_of(alloc, &design)?;
+    let columns = columns_of(alloc, &design, &parts)?;
     Ok(Elaborated::of(design, parts, columns))
 }

@@ -1,12 +1,12 @@
 ghost use Rattle.std.specs.Prelude.{◌≡◌, ◌++◌, [], ◌∷◌, codes, IfOk, OnOk};
 ghost use Rattle.std.specs.Fmt.{decimal};
-ghost use Rattle.vw_sizes.specs.Quantities.{quantity_word};
+ghost use Rattle.vw_instances.specs.Quantities.{quantity_word};
 ghost use Rattle.vw_elab.specs.MessageLines.{at_line_of_name, of_net, of_pair, spaced};
 
 use std::alloc::{AllocError, AllocFailed, Global};
+use vw_instances::Quantity;
 use vw_net::Sequence;
 use vw_outside::Name;
-use vw_sizes::Quantity;
 
 /// Why a design is refused. Lines are numbered from 1. Nets are printed with their paths: each place followed by `/`, and
 /// then the name.

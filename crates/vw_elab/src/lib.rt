@@ -13,5 +13,4 @@ pub use driver::Driver;
 pub use elaborated::{Elaborated, Instance};
 pub use elaboration::elaborate;
 pub use fault::{DesignFault, line_of_names};
-pub use vw_sizes::Quantity;
-pub use vw_walk::CellSite as Site;
+pub use vw_instances::{CellSite as Site, Quantity};

@@ -2,16 +2,18 @@
 ghost use Rattle.std.specs.Prelude.{◌≡◌, None};
 ghost use Rattle.vw_design.specs.ModelFaults.{unknown_model};
 ghost use Rattle.vw_design.specs.ModelNumbers.{AreTargets, AreModelMarks, IsModelOrder};
-ghost use Rattle.vw_sizes.specs.Sizes.{AreSizes};
+ghost use Rattle.vw_instances.specs.Sizes.{AreSizes};
 ghost use Rattle.vw_elab.specs.Steps.{Judges, HasKnownModels, HasBindings, AreModels};
 
 use crate::fault::DesignFault;
 use std::alloc::Global;
-use vw_bindings::{both_ways, unbound_input, unknown_formal};
 use vw_design::Design;
-use vw_models::{ModelOrder, marks_of, order_of, ordered_is_no_circle, targets_of, unknown_model};
+use vw_instances::{Measured, Sizes, sizes_of};
+use vw_models::{
+    ModelOrder, both_ways, marks_of, order_of, ordered_is_no_circle, targets_of, unbound_input,
+    unknown_formal, unknown_model,
+};
 use vw_net::Sequence;
-use vw_sizes::{Measured, Sizes, sizes_of};
 
 /// The models of a design by numbers.
 #[derive(Drop)]

@@ -2,7 +2,7 @@
 ghost use Rattle.std.specs.Prelude.{◌≡◌, IfOk};
 ghost use Rattle.vw_design.specs.Accepted.{HasNoModelFault};
 ghost use Rattle.vw_nets.specs.Nets.{AreNets};
-ghost use Rattle.vw_sizes.specs.Sizes.{AreSizes};
+ghost use Rattle.vw_instances.specs.Sizes.{AreSizes};
 ghost use Rattle.vw_elab.specs.Steps.{AreModels};
 ghost use Rattle.vw_elab.specs.Tables.{AreDesignParts};
 
@@ -10,10 +10,9 @@ use crate::models::Models;
 use std::alloc::{AllocError, Global};
 use vw_design::Design;
 use vw_drivers::{Drivers, Tables};
+use vw_instances::{CellSite, Sizes, walk};
 use vw_net::Sequence;
 use vw_nets::Nets;
-use vw_sizes::Sizes;
-use vw_walk::{CellSite, walk};
 
 /// The instances, the cells and the drivers of a design by numbers.
 #[derive(Drop)]

@@ -12,8 +12,8 @@ use Rattle.vw_design.specs.PathValue.{item_at}
 use Rattle.vw_design.specs.Limits.{cell_count}
 use Rattle.vw_design.proofs.Has.{Has-at, from-filter}
 use Rattle.vw_design.proofs.Sites.{site_item}
-use Rattle.vw_walk.specs.declared.tables.CellSite.{CellSite}
-use Rattle.vw_walk.specs.Tables.{IsCellSite}
+use Rattle.vw_instances.specs.declared.tables.CellSite.{CellSite}
+use Rattle.vw_instances.specs.Tables.{IsCellSite}
 use Rattle.vw_elab.specs.declared.elaborated.Instance.{Instance}
 use Rattle.vw_elab.specs.Numbers.{IsInstance}
 use Rattle.vw_flat.specs.Steps.Numbers.{item_with_numbers}

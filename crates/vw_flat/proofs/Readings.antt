@@ -22,7 +22,7 @@ use Rattle.vw_design.proofs.Sites.{site_item}
 use Rattle.vw_design.proofs.Reached.{model_in_file}
 use Rattle.vw_design.proofs.Sizes.{few_columns}
 use Rattle.vw_design.proofs.DriverNumbers.{read_numbered}
-use Rattle.vw_names.specs.Names.{reads_of}
+use Rattle.vw_drivers.specs.Names.{reads_of}
 use Rattle.vw_elab.specs.declared.driver.Driver.{Driver}
 use Rattle.vw_elab.specs.declared.driver.Driver.TheVariants as drivers
 use Rattle.vw_elab.specs.Numbers.{of_port, driver_of}

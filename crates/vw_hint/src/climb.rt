@@ -8,12 +8,8 @@ use std::collections::BinaryHeap;
 /// The gain of a move that changes nothing. So no gain is below 0.
 const EVEN: u32 = 1 << 31;
 
-/// A vertex with the gain of its move to the other chip. The greatest gain comes first.
-#[derive(Clone, Copy, PartialEq, Eq, PartialOrd, Ord)]
-struct Candidate {
-    gain: u32,
-    vertex: u32,
-}
+/// The gain of a vertex's move to the other chip, and the vertex. The greatest gain comes first.
+type Candidate = (u32, u32);
 
 /// A chain of moves under way.
 #[derive(Drop)]
@@ -51,8 +47,7 @@ impl Climb {
 
     /// Makes a vertex a candidate with its gain.
     fn offer(&mut self, cut: &Cut, vertex: u32) -> Result<(), AllocError> {
-        let gain = self.gains.at(vertex);
-        let candidate = Candidate { gain, vertex };
+        let candidate = (self.gains.at(vertex), vertex);
         if cut.chip_of.at(vertex) == 0 {
             self.low.push(candidate)?;
         } else {
@@ -63,8 +58,8 @@ impl Climb {
 
     /// The best candidate of both chips, taken out; it may have changed since it was offered.
     fn pop(&mut self) -> Option<Candidate> {
-        let low = self.low.peek().map_or(0, |candidate| candidate.gain);
-        let high = self.high.peek().map_or(0, |candidate| candidate.gain);
+        let low = self.low.peek().map_or(0, |(gain, _)| *gain);
+        let high = self.high.peek().map_or(0, |(gain, _)| *gain);
         if low > high {
             self.low.pop()
         } else {
@@ -145,17 +140,17 @@ impl Climb {
         let mut evens: u64 = 0;
         let mut best: usize = 0;
         for _step in 0..u64::from(u32::MAX) {
-            let Some(candidate) = self.pop() else {
+            let Some((offered, vertex)) = self.pop() else {
                 break;
             };
-            let gain = self.gains.at(candidate.vertex);
-            if gain < candidate.gain && gain > 0 {
-                self.offer(cut, candidate.vertex)?;
+            let gain = self.gains.at(vertex);
+            if gain < offered && gain > 0 {
+                self.offer(cut, vertex)?;
             }
-            if gain != candidate.gain || !cut.may_cross(level, candidate.vertex) {
+            if gain != offered || !cut.may_cross(level, vertex) {
                 continue;
             }
-            self.shift(level, cut, candidate.vertex)?;
+            self.shift(level, cut, vertex)?;
             gains = gains.saturating_add(u64::from(gain));
             evens = evens.saturating_add(u64::from(EVEN));
             if gains > evens {

@@ -116,10 +116,11 @@ impl MultilevelRun {
     /// at each.
     pub fn of(&self, alloc: Global, top: &Level) -> Result<Cut, AllocError> {
         let mut levels = self.coarser_levels(alloc, top)?;
-        let mut chip_of = match levels.last() {
-            Some(coarsest) => self.start(alloc, &coarsest.level)?,
-            None => self.start(alloc, top)?,
+        let coarsest = match levels.last() {
+            Some(coarser) => &coarser.level,
+            None => top,
         };
+        let mut chip_of = self.start(alloc, coarsest)?;
         while let Some(coarser) = levels.pop() {
             let cut = self.swept(alloc, &coarser.level, &self.wide, chip_of)?;
             chip_of = finer(alloc, &coarser.map, &cut.chip_of)?;

@@ -16,9 +16,9 @@ use Rattle.vw_design.specs.ModelNumbers.{AreTargets, is_reached_model}
 use Rattle.vw_design.proofs.Has.{from-map}
 use Rattle.vw_design.proofs.Names.{Has-has_name}
 use Rattle.vw_models.specs.Steps.Reach.{Targets}
-use Rattle.vw_search.specs.Graphs.{Reads}
-use Rattle.vw_search.specs.Circles.{IsNumberCircle, BeginsWithLeast}
-use Rattle.vw_search.proofs.Among.{among_right, among_at, at_among, once_apart}
+use Rattle.vw_order.specs.Graphs.{Reads}
+use Rattle.vw_order.specs.Circles.{IsNumberCircle, BeginsWithLeast}
+use Rattle.vw_order.proofs.Among.{among_right, among_at, at_among, once_apart}
 use Rattle.vw_models.specs.Steps.ModelGraphs.{graph_of_models}
 use Rattle.vw_models.specs.Steps.ModelNames.{name_of, names_of}
 use Rattle.vw_models.proofs.Among.{Has_among}

@@ -1,3 +1,6 @@
+pub mod Adding
+pub mod Searched
+pub mod AtPlacedModel
 pub mod Among
 pub mod Places
 pub mod Reaches

@@ -17,7 +17,7 @@ use Rattle.vw_design.proofs.ModelNumbers.{place_of_model, model_of_place, named_
 use Rattle.vw_design.proofs.FilteredLists.{AllZip-at, AllZip-length}
 use Rattle.vw_design.proofs.Closed.{reached_at, reached_closed, reached_least}
 use Rattle.vw_models.specs.Steps.Reach.{Targets, PlacesAt, AreWithin, IsClosed}
-use Rattle.vw_search.specs.Graphs.{IsWithin}
+use Rattle.vw_order.specs.Graphs.{IsWithin}
 use Rattle.vw_models.specs.Steps.ModelGraphs.{graph_of_models}
 use Rattle.vw_models.proofs.Places.{at_within, list_at, AllZip-back}
 

@@ -23,8 +23,8 @@ use Rattle.vw_design.proofs.Has.{Has, Has-at, any-Has, from-any, all-Has, Has-fi
 use Rattle.vw_design.proofs.Names.{equal_names}
 use Rattle.vw_models.specs.Steps.Reach.{Targets, IsClosed, PlacesAt}
 use Rattle.vw_models.specs.Steps.Unknown.{unknown_of}
-use Rattle.vw_search.specs.Orders.{IsNumberOrder}
-use Rattle.vw_search.proofs.Among.{among_at, at_among, front_among, front_position, once_apart}
+use Rattle.vw_order.specs.Orders.{IsNumberOrder}
+use Rattle.vw_order.proofs.Among.{among_at, at_among, front_among, front_position, once_apart}
 use Rattle.vw_models.specs.Steps.ModelGraphs.{graph_of_models}
 use Rattle.vw_models.proofs.Among.{among_Has, Has_among}
 use Rattle.vw_models.proofs.FirstUnknown.{unknown_is}

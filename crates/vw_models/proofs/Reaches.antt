@@ -6,7 +6,7 @@ use Rattle.std.proofs.lemmas.List.{get_or_append_left}
 use Rattle.std.proofs.lemmas.Option.{none-some, same_Some}
 use Rattle.vw_net.specs.Order.{is_among}
 use Rattle.vw_models.specs.Steps.Reach.{Targets, PlacesAt, AreWithin, IsClosed, AreReached, with_number, with_targets, AreMarked, AreReachMarks}
-use Rattle.vw_search.proofs.Among.{among_left, among_either, among_one, among_last, among_at, at_among, once_none, once_push, once_short}
+use Rattle.vw_order.proofs.Among.{among_left, among_either, among_one, among_last, among_at, at_among, once_none, once_push, once_short}
 
 -- numbers grow at their end
 pub record Grows (old new : List ℕ) : Type 0 where

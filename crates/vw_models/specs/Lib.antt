@@ -1,2 +1,3 @@
+pub mod PlacedFaults
 pub mod ModelOrders
 pub mod Steps

@@ -1,3 +1,6 @@
+pub mod Placed
+pub mod Formals
+pub mod FoundAtPlaced
 pub mod Names
 pub mod Reach
 pub mod Unknown

@@ -1,18 +1,32 @@
-//! The models of a design by their numbers: which place which, which are reached, and an order of them or a circle.
+//! The models of a design by their numbers: which place which, which are reached, and an order of them or a circle. And
+//! faults of the bindings of placed models.
 #![tactic(auto)]
 
+mod both;
 mod circle;
+mod copy;
+mod formal_at;
+mod formals;
 mod laws;
 mod marks;
 mod model_graph;
+mod no_formal;
 mod numbers;
 mod order;
+mod output_of;
+mod placement;
 mod reach;
 mod targets;
+mod unbound;
 mod unknown;
 
+pub use both::both_ways;
+pub use formal_at::FormalAt;
 pub use laws::ordered_is_no_circle;
 pub use marks::marks_of;
+pub use no_formal::unknown_formal;
 pub use order::{ModelOrder, order_of};
+pub use output_of::OutputOf;
 pub use targets::targets_of;
+pub use unbound::unbound_input;
 pub use unknown::unknown_model;

@@ -2,7 +2,7 @@ ghost use Rattle.vw_models.specs.Steps.ModelGraphs.{graph_of_models};
 
 use vw_design::Design;
 use vw_net::Sequence;
-use vw_search::Digraph;
+use vw_order::Digraph;
 
 /// The models of a design, by their numbers. Each reads those that it places, and the root has to be reached.
 #[derive(Drop)]

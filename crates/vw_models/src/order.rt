@@ -9,8 +9,8 @@ use crate::model_graph::ModelGraph;
 use std::alloc::{AllocError, Global};
 use vw_design::Design;
 use vw_net::Sequence;
+use vw_order::{Found, search};
 use vw_outside::Name;
-use vw_search::{Found, search};
 
 /// What the models that are reached have: an order, or a circle.
 #[derive(Drop)]

@@ -12,8 +12,8 @@ use Rattle.vw_design.specs.Reads.{net_at, nets_at}
 use Rattle.vw_design.proofs.Has.{Has-at, from-filter}
 use Rattle.vw_design.proofs.FilteredLists.{AllZip-at, AllZip-length}
 use Rattle.vw_design.proofs.Sites.{site_item}
-use Rattle.vw_walk.specs.declared.tables.CellSite.{CellSite}
-use Rattle.vw_walk.specs.Tables.{AreCellSites, IsCellSite}
+use Rattle.vw_instances.specs.declared.tables.CellSite.{CellSite}
+use Rattle.vw_instances.specs.Tables.{AreCellSites, IsCellSite}
 use Rattle.vw_nets.proofs.Finds.{find_map}
 use Rattle.vw_nets.proofs.InstancePlaces.{element}
 

@@ -8,14 +8,14 @@ use Rattle.vw_design.specs.declared.model.Model.{Model}
 use Rattle.vw_design.specs.Paths.{Word, Path, items_of}
 use Rattle.vw_design.specs.PathValue.{item_at}
 use Rattle.vw_design.specs.Preorder.{instances}
-use Rattle.vw_claims.specs.declared.model_claims.ModelClaims.{ModelClaims}
-use Rattle.vw_claims.specs.Claimed.{AreClaims}
-use Rattle.vw_claims.specs.Firsts.{First, number_named}
-use Rattle.vw_names.specs.declared.model_names.ModelNames.{ModelNames}
-use Rattle.vw_names.specs.Names.{reads_of, firsts_of}
-use Rattle.vw_walk.specs.declared.tables.CellSite.{CellSite}
-use Rattle.vw_walk.specs.declared.tables.Placed.{Placed}
-use Rattle.vw_walk.specs.Tables.{IsEntryAt}
+use Rattle.vw_drivers.specs.declared.model_claims.ModelClaims.{ModelClaims}
+use Rattle.vw_drivers.specs.Claimed.{AreClaims}
+use Rattle.vw_drivers.specs.Firsts.{First, number_named}
+use Rattle.vw_drivers.specs.declared.model_names.ModelNames.{ModelNames}
+use Rattle.vw_drivers.specs.Names.{reads_of, firsts_of}
+use Rattle.vw_instances.specs.declared.tables.CellSite.{CellSite}
+use Rattle.vw_instances.specs.declared.tables.Placed.{Placed}
+use Rattle.vw_instances.specs.Tables.{IsEntryAt}
 use Rattle.vw_drivers.specs.declared.tables.Tables.{Tables}
 use Rattle.vw_drivers.specs.Tables.{AreTables, instance_firsts}
 use Rattle.vw_nets.specs.Steps.Items.{item_at_site, numbers_by, AreNumbersOf}

@@ -9,12 +9,12 @@ use Rattle.vw_design.specs.Counts.{placed_one, cell_one, items_weight, model_wei
 use Rattle.vw_design.specs.Paths.{Word, Path, model_at, items_of}
 use Rattle.vw_design.specs.PathValue.{item_at, place_of_site}
 use Rattle.vw_design.specs.Preorder.{instances, sites}
-use Rattle.vw_claims.specs.declared.claim.Again.{Again}
-use Rattle.vw_claims.specs.declared.model_claims.ModelClaims.{ModelClaims}
-use Rattle.vw_claims.specs.Claimed.{IsAgain}
-use Rattle.vw_sizes.specs.declared.sizes.Before.{Before}
-use Rattle.vw_walk.specs.declared.tables.Placed.{Placed}
-use Rattle.vw_walk.specs.Tables.{IsEntryAt}
+use Rattle.vw_drivers.specs.declared.claim.Again.{Again}
+use Rattle.vw_drivers.specs.declared.model_claims.ModelClaims.{ModelClaims}
+use Rattle.vw_drivers.specs.Claimed.{IsAgain}
+use Rattle.vw_instances.specs.declared.sizes.Before.{Before}
+use Rattle.vw_instances.specs.declared.tables.Placed.{Placed}
+use Rattle.vw_instances.specs.Tables.{IsEntryAt}
 use Rattle.vw_drivers.specs.declared.tables.Tables.{Tables}
 use Rattle.vw_drivers.specs.Tables.{AreTables}
 use Rattle.vw_nets.specs.Steps.Seconds.{again_by, position_by, IsClaimedAt, AreFrom, AreNone}

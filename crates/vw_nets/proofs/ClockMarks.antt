@@ -16,7 +16,7 @@ use Rattle.vw_design.specs.Paths.{Word, model_at}
 use Rattle.vw_design.specs.Clocks.{inputs_of, clocks_of, control_ports, clock_ports}
 use Rattle.vw_design.proofs.Has.{from-find, some-find, at-place}
 use Rattle.vw_design.proofs.Names.{same_name, Has-has_name}
-use Rattle.vw_claims.specs.Firsts.{First, number_named}
+use Rattle.vw_drivers.specs.Firsts.{First, number_named}
 use Rattle.vw_nets.specs.Steps.Ports.{has_number, root_ports}
 use Rattle.vw_nets.proofs.PortNumbers.{somes, one_name, same_numbers}
 

@@ -4,7 +4,7 @@ use Rattle.std.specs.Prelude.{option_to_list}
 use Rattle.std.specs.List.{cons_option}
 use Rattle.std.specs.Option.{option_or}
 use Rattle.std.proofs.lemmas.Option.{same_Some}
-use Rattle.vw_walk.specs.declared.tables.CellSite.{CellSite}
+use Rattle.vw_instances.specs.declared.tables.CellSite.{CellSite}
 use Rattle.vw_design.specs.declared.design.Design.{Design}
 use Rattle.vw_design.specs.declared.item.Edge.{Edge}
 use Rattle.vw_design.specs.declared.item.Edge.TheVariants.{Rise, Fall, Unsaid}

@@ -19,7 +19,7 @@ use Rattle.vw_design.proofs.Has.{Has, Has-at, at-Has, Has-Contains}
 use Rattle.vw_design.proofs.Once.{site_once}
 use Rattle.vw_design.proofs.Placed.{faultless_listed}
 use Rattle.vw_design.proofs.Sites.{site_is, site_item}
-use Rattle.vw_claims.specs.Claimed.{again_at}
+use Rattle.vw_drivers.specs.Claimed.{again_at}
 use Rattle.vw_nets.specs.declared.two_drivers.Second.{Second}
 use Rattle.vw_nets.specs.Nets.{printed_net}
 use Rattle.vw_nets.specs.Steps.Seconds.{is_earlier, IsClaimedAt, AreFrom, AreNone, IsSecondAt, IsFirstSecond}

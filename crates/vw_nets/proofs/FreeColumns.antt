@@ -14,10 +14,10 @@ use Rattle.vw_design.specs.Claims.{Claim, port, item_claims, first_claim, number
 use Rattle.vw_design.specs.Clocks.{inputs_of, clock_ports, columns}
 use Rattle.vw_design.proofs.Has.{Has}
 use Rattle.vw_design.proofs.Names.{same_name, equal_names, has_name-Has}
-use Rattle.vw_claims.specs.declared.claim.Claim.{Claim as NumberedClaim}
-use Rattle.vw_claims.specs.declared.model_claims.ModelClaims.{ModelClaims}
-use Rattle.vw_claims.specs.Claimed.{AreClaims, meant}
-use Rattle.vw_claims.specs.Firsts.{First, number_named, claim_at}
+use Rattle.vw_drivers.specs.declared.claim.Claim.{Claim as NumberedClaim}
+use Rattle.vw_drivers.specs.declared.model_claims.ModelClaims.{ModelClaims}
+use Rattle.vw_drivers.specs.Claimed.{AreClaims, meant}
+use Rattle.vw_drivers.specs.Firsts.{First, number_named, claim_at}
 use Rattle.vw_drivers.specs.declared.tables.Tables.{Tables}
 use Rattle.vw_drivers.specs.Tables.{AreTables, root_firsts}
 use Rattle.vw_nets.specs.declared.columns.Columns.{Columns}

@@ -18,8 +18,8 @@ use Rattle.vw_design.specs.Reads.{net_at, nets_at, controls_of}
 use Rattle.vw_design.specs.Clocks.{port_of, control_ports}
 use Rattle.vw_design.proofs.Has.{at-place}
 use Rattle.vw_design.proofs.Names.{same_name, equal_names}
-use Rattle.vw_claims.specs.Firsts.{First, number_named}
-use Rattle.vw_names.specs.Names.{reads_of}
+use Rattle.vw_drivers.specs.Firsts.{First, number_named}
+use Rattle.vw_drivers.specs.Names.{reads_of}
 use Rattle.vw_drivers.specs.declared.source.Source.{Source}
 use Rattle.vw_drivers.specs.declared.source.Source.TheVariants.{Port, Cell}
 use Rattle.vw_drivers.specs.Sources.{source_of}

@@ -14,7 +14,7 @@ use Rattle.vw_design.specs.NetFaults.{first_unlike, several_clocks}
 use Rattle.vw_design.proofs.DriverNumbers.{driver_is}
 use Rattle.vw_design.proofs.Has.{Has, Has-at, from-filter_map, from-find}
 use Rattle.vw_design.proofs.Names.{name_same}
-use Rattle.vw_claims.specs.Firsts.{First, number_named}
+use Rattle.vw_drivers.specs.Firsts.{First, number_named}
 use Rattle.vw_nets.specs.Nets.{ports_pair}
 use Rattle.vw_nets.specs.Steps.Ports.{root_ports}
 use Rattle.vw_nets.proofs.PortNumbers.{somes, same_numbers}

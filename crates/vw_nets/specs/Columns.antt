@@ -5,7 +5,7 @@ use Rattle.vw_design.specs.declared.model.Model.{Model}
 use Rattle.vw_design.specs.Paths.{Word, model_at, is_port}
 use Rattle.vw_design.specs.Clocks.{inputs_of, columns}
 use Rattle.vw_design.specs.PathValue.{place_of_name}
-use Rattle.vw_claims.specs.Firsts.{First, number_named}
+use Rattle.vw_drivers.specs.Firsts.{First, number_named}
 use Rattle.vw_nets.specs.declared.columns.Columns.{Columns}
 
 -- the columns, by their places among the inputs of the root; and for each port of the root, by the number of its claim

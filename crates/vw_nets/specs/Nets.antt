@@ -3,7 +3,7 @@ use Rattle.std.specs.Prelude.{Option, option_map}
 use Rattle.vw_design.specs.Paths.{Word, Net, printed}
 use Rattle.vw_design.specs.NetFaults.{Unlike, Edged}
 use Rattle.vw_design.specs.Accepted.{HasNoModelFault}
-use Rattle.vw_walk.specs.Tables.{AreCellSites}
+use Rattle.vw_instances.specs.Tables.{AreCellSites}
 use Rattle.vw_drivers.specs.Tables.{AreTables}
 use Rattle.vw_drivers.specs.Drivers.{AreDrivers}
 use Rattle.vw_nets.specs.declared.nets.Nets.{Nets}

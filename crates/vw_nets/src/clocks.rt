@@ -3,7 +3,7 @@ ghost use Rattle.std.specs.Prelude.{◌≡◌, Some, true, IfOk};
 ghost use Rattle.vw_design.specs.Distinct.{has_name};
 ghost use Rattle.vw_design.specs.Paths.{Word};
 ghost use Rattle.vw_design.specs.NetFaults.{gated_clock, several_clocks, clock_as_data};
-ghost use Rattle.vw_claims.specs.Firsts.{number_named};
+ghost use Rattle.vw_drivers.specs.Firsts.{number_named};
 ghost use Rattle.vw_drivers.specs.Tables.{root_firsts};
 ghost use Rattle.vw_nets.specs.Steps.Ports.{root_ports};
 ghost use Rattle.vw_nets.specs.Nets.{AreNets, printed_net, ports_pair};

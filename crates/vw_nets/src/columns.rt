@@ -1,6 +1,6 @@
 //! Columns of a stimulus.
 ghost use Rattle.std.specs.Prelude.{◌≡◌, ◌++◌, ◌∷◌, [], None, false, length, replicate, slice_get, slice_index_or, IfOk, OnOk};
-ghost use Rattle.vw_claims.specs.Firsts.{number_named};
+ghost use Rattle.vw_drivers.specs.Firsts.{number_named};
 ghost use Rattle.vw_drivers.specs.Tables.{root_firsts};
 ghost use Rattle.vw_nets.specs.Nets.{AreNets};
 ghost use Rattle.vw_nets.specs.Columns.{AreColumns};
@@ -8,7 +8,7 @@ ghost use Rattle.vw_nets.specs.Steps.Free.{unmarked, with_column, AreFree};
 
 use crate::nets::Nets;
 use std::alloc::{AllocError, Global};
-use vw_claims::ModelClaims;
+use vw_drivers::ModelClaims;
 use vw_net::Sequence;
 use vw_outside::Name;
 

@@ -12,8 +12,8 @@ use crate::nets::{Nets, Pair};
 use crate::print::print_net;
 use std::alloc::{AllocError, Global};
 use vw_design::{Edge, Item};
+use vw_instances::CellSite;
 use vw_outside::Name;
-use vw_walk::CellSite;
 
 /// A latch that writes its type.
 #[derive(Clone, Copy)]

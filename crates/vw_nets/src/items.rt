@@ -6,8 +6,8 @@ ghost use Rattle.vw_design.specs.Paths.{lent};
 
 use crate::nets::Nets;
 use vw_design::Item;
+use vw_instances::CellSite;
 use vw_outside::Name;
-use vw_walk::CellSite;
 
 impl<'a> Nets<'a> {
     /// The item of a cell.

@@ -2,14 +2,14 @@
 ghost use Rattle.std.specs.Prelude.{◌≡◌, ◌<◌, ℕ, Some, length, filter_map, slice_get, IfOk};
 ghost use Rattle.vw_net.specs.Order.{is_among};
 ghost use Rattle.vw_design.specs.Clocks.{clock_ports};
-ghost use Rattle.vw_claims.specs.Firsts.{number_named};
+ghost use Rattle.vw_drivers.specs.Firsts.{number_named};
 ghost use Rattle.vw_drivers.specs.Tables.{root_firsts};
 ghost use Rattle.vw_nets.specs.Nets.{AreNets};
 ghost use Rattle.vw_nets.specs.Steps.Wanted.{AreClockMarks};
 
 use crate::nets::Nets;
 use std::alloc::{AllocError, Global};
-use vw_claims::ModelClaims;
+use vw_drivers::ModelClaims;
 use vw_outside::Name;
 
 impl<'a> Nets<'a> {

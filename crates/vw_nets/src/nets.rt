@@ -1,7 +1,7 @@
 use vw_design::Design;
 use vw_drivers::{Drivers, Tables};
+use vw_instances::CellSite;
 use vw_outside::Name;
-use vw_walk::CellSite;
 
 /// The tables by which the nets of a design are looked at.
 #[derive(Clone, Copy)]

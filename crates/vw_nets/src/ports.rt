@@ -5,7 +5,7 @@ ghost use Rattle.vw_design.specs.Clocks.{control_ports};
 ghost use Rattle.vw_design.specs.Paths.{Path, Word, model_at, lent};
 ghost use Rattle.vw_design.specs.PathValue.{item_at};
 ghost use Rattle.vw_design.specs.Preorder.{instances};
-ghost use Rattle.vw_claims.specs.Firsts.{number_named};
+ghost use Rattle.vw_drivers.specs.Firsts.{number_named};
 ghost use Rattle.vw_drivers.specs.Tables.{root_firsts};
 ghost use Rattle.vw_nets.specs.Nets.{AreNets};
 ghost use Rattle.vw_nets.specs.Steps.Ports.{port_number, item_ports, has_number, root_ports};
@@ -13,11 +13,10 @@ ghost use Rattle.vw_nets.specs.Steps.Ports.{port_number, item_ports, has_number,
 use crate::items::{control_of, number_at};
 use crate::nets::Nets;
 use std::alloc::{AllocError, Global};
-use vw_claims::ModelClaims;
 use vw_design::Model;
-use vw_drivers::Source;
+use vw_drivers::{ModelClaims, Source};
+use vw_instances::CellSite;
 use vw_outside::Name;
-use vw_walk::CellSite;
 
 impl<'a> Nets<'a> {
     /// The model of the root.

@@ -2,13 +2,13 @@
 ghost use Rattle.std.specs.Prelude.{◌≡◌, ◌++◌, ℕ, Some, codes, decimal, reverse, flat_map, slice_get, IfOk, OnOk};
 ghost use Rattle.vw_design.specs.Paths.{Path, printed};
 ghost use Rattle.vw_design.specs.Preorder.{instances};
-ghost use Rattle.vw_walk.specs.Tables.{ArePlaced};
+ghost use Rattle.vw_instances.specs.Tables.{ArePlaced};
 
 use itoa::Buffer;
 use std::alloc::{AllocError, Global};
 use vw_design::Design;
+use vw_instances::Placed;
 use vw_outside::Name;
-use vw_walk::Placed;
 
 /// A net of an instance as it is printed: each place followed by `/`, from the root on, and then the name.
 pub fn print_net(

@@ -6,8 +6,8 @@ ghost use Rattle.vw_design.specs.Paths.{Path, Word, model_at, model_outputs, len
 ghost use Rattle.vw_design.specs.PathValue.{item_at};
 ghost use Rattle.vw_design.specs.Preorder.{instances};
 ghost use Rattle.vw_design.specs.Reads.{data_of, controls_of};
-ghost use Rattle.vw_claims.specs.Firsts.{number_named};
-ghost use Rattle.vw_names.specs.Names.{reads_of};
+ghost use Rattle.vw_drivers.specs.Firsts.{number_named};
+ghost use Rattle.vw_drivers.specs.Names.{reads_of};
 ghost use Rattle.vw_drivers.specs.Tables.{root_firsts, instance_firsts};
 ghost use Rattle.vw_nets.specs.Steps.Items.{AreNumbersOf};
 ghost use Rattle.vw_nets.specs.Nets.{AreNets, printed_net};
@@ -18,10 +18,10 @@ use crate::nets::Nets;
 use crate::print::print_net;
 use crate::wanted::Wanted;
 use std::alloc::{AllocError, Global};
-use vw_claims::ModelClaims;
 use vw_design::Item;
+use vw_drivers::ModelClaims;
+use vw_instances::CellSite;
 use vw_outside::Name;
-use vw_walk::CellSite;
 
 impl<'a> Nets<'a> {
     /// Whether the nets of an instance on whose names the first claim has this number are looked for.

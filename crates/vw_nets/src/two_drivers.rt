@@ -9,9 +9,9 @@ ghost use Rattle.vw_nets.specs.Steps.Seconds.{again_by, position_by, is_earlier,
 use crate::nets::Nets;
 use crate::print::print_net;
 use std::alloc::{AllocError, Global};
-use vw_claims::Again;
+use vw_drivers::Again;
+use vw_instances::entries_give_numbers;
 use vw_outside::Name;
-use vw_walk::entries_give_numbers;
 
 /// The first item of an instance that claims a name again.
 #[derive(Clone, Copy)]

@@ -1,4 +1,10 @@
-pub mod Inputs
-pub mod Orders
-pub mod Loops
+pub mod Among
+pub mod Rounds
+pub mod LeastFirst
+pub mod Searches
+pub mod Growth
 pub mod NoCircle
+pub mod Inputs
+pub mod OrderedGates
+pub mod Loops
+pub mod NoGateCircle

@@ -3,8 +3,8 @@ use Rattle.std.proofs.Common.{◌≡◌, ℕ, true, List, [], ◌∷◌}
 use Rattle.std.specs.List.{AllZip}
 use Rattle.vw_net.specs.declared.flat.Flat.{Flat}
 use Rattle.vw_net.specs.Lists.{turned}
-use Rattle.vw_search.specs.Graphs.{Reads}
-use Rattle.vw_search.specs.Circles.{IsNumberCircle, BeginsWithLeast}
+use Rattle.vw_order.specs.Graphs.{Reads}
+use Rattle.vw_order.specs.Circles.{IsNumberCircle, BeginsWithLeast}
 use Rattle.vw_order.specs.Reads.{gate_reads}
 use Rattle.vw_order.specs.Loops.{IsLoop}
 use Rattle.vw_order.specs.Steps.Gates.{gates}

@@ -1,3 +1,7 @@
+pub mod Graphs
+pub mod Orders
+pub mod Circles
+pub mod SearchResults
 pub mod Reads
 pub mod Loops
 pub mod Faults

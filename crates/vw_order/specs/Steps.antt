@@ -1,2 +1,5 @@
+pub mod Marks
+pub mod Rounds
+pub mod Searches
 pub mod GateOrders
 pub mod Gates

@@ -3,10 +3,10 @@ ghost use Rattle.std.specs.Prelude.{◌≡◌, IfOk, IfErr};
 ghost use Rattle.vw_order.specs.Faults.{IsOrderFault};
 ghost use Rattle.vw_order.specs.Steps.GateOrders.{IsAnswered};
 
+use crate::depth_first::{Found, search};
 use crate::gates::Gates;
 use std::alloc::{AllocError, Global};
 use vw_net::{Flat, Ordered, Sequence};
-use vw_search::{Found, search};
 
 /// Why a netlist has no order.
 #[derive(Drop)]

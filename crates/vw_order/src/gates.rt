@@ -1,8 +1,8 @@
 ghost use Rattle.vw_order.specs.Steps.Gates.{gates};
 
+use crate::digraph::Digraph;
 use crate::read::{gate_inputs, gate_of, is_gate};
 use vw_net::Flat;
-use vw_search::Digraph;
 
 /// The gates of a netlist, by their cell numbers. Each reads the gates that drive its inputs, and all have to be
 /// reached.

@@ -4,7 +4,7 @@ ghost use Rattle.vw_net.specs.declared.flat.Flat.{Flat};
 ghost use Rattle.vw_net.specs.Order.{IsOrder};
 ghost use Rattle.vw_order.specs.Loops.{IsGateCircle, IsLoop, IsLoopFree};
 
-use vw_search::order_or_circle;
+use crate::search_laws::order_or_circle;
 
 /// Where there is an order, no gates read each other in a circle: neither as a loop is listed, nor with any first gate
 /// and gates that stand more than once.

@@ -1,6 +1,6 @@
 -- The graph of a table in a test.
 use Rattle.std.specs.Prelude.{◌==◌, ◌&&◌, ℕ, List, map, nat_lt, Option, Some, None, if◌then◌else◌}
-use Rattle.vw_search.specs.Graphs.{Graph}
+use Rattle.vw_order.specs.Graphs.{Graph}
 
 -- what a line says that a number reads
 abbrev pub read_in_line : ℕ → ℕ → ℕ × ℕ → Option ℕ

@@ -1,24 +1,48 @@
+ghost use Rattle.std.specs.Prelude.{◌≡◌};
+
 use crate::boards::{TRIANGLE, distances_of};
 use crate::same::are_bytes;
 use std::alloc::{AllocError, Global};
 use std::process::Abort;
 use std::test::Fail;
-use vw_board::{BoardFault, read};
+use vw_board::{BoardFault, Distances, read};
+use vw_plan::{Board, Link};
+
+/// Three numbers with blanks between them.
+fn three(alloc: Global, first: u32, second: u32, third: u32) -> Result<String, AllocError> {
+    format!(in alloc; "{first} {second} {third}")
+}
+
+/// Adds a link behind a comma: its ends and its width.
+fn add_link(alloc: Global, line: &mut Vec<u8>, link: &Link) -> Result<(), AllocError> {
+    let numbers = three(alloc, link.from(), link.to(), link.width())?;
+    line.extend_from_slice(b", ")?;
+    line.extend_from_slice(numbers.as_bytes())
+}
+
+/// The numbers of a board and its links.
+fn board_line(alloc: Global, board: &Board) -> Result<Vec<u8>, AllocError> {
+    let numbers = three(alloc, board.chips(), board.cells(), board.settle())?;
+    let mut line = numbers.into_bytes();
+    for link in board.links() {
+        add_link(alloc, &mut line, link)?;
+    }
+    Ok(line)
+}
 
 /// What reading a text answers: the message of its fault, or its numbers and links.
 fn shown(alloc: Global, text: &[u8]) -> Result<Vec<u8>, AllocError> {
-    let board = match read(alloc, text) {
-        Ok(board) => board,
-        Err(fault) => return fault.text(alloc),
-    };
-    let (chips, cells, settle) = (board.chips(), board.cells(), board.settle());
-    let mut line = format!(in alloc; "{chips} {cells} {settle}")?.into_bytes();
-    for link in board.links() {
-        let (from, to, width) = (link.from(), link.to(), link.width());
-        let part = format!(in alloc; ", {from} {to} {width}")?;
-        line.extend_from_slice(part.as_bytes())?;
+    match read(alloc, text) {
+        Ok(board) => board_line(alloc, &board),
+        Err(fault) => fault.text(alloc),
     }
-    Ok(line)
+}
+
+/// What is shown of a text that begins with a front.
+fn shown_behind(alloc: Global, front: &[u8], rest: &[u8]) -> Result<Vec<u8>, AllocError> {
+    let mut text = front.to_vec(alloc)?;
+    text.extend_from_slice(rest)?;
+    shown(alloc, &text)
 }
 
 /// Asserts what is shown of each text, which stands behind the same front.
@@ -29,9 +53,7 @@ fn are_shown(
     table: &[(&[u8], &[u8])],
 ) -> Result<(), Fail> {
     for (rest, wanted) in table {
-        let mut text = front.to_vec(alloc)?;
-        text.extend_from_slice(rest)?;
-        let found = shown(alloc, &text)?;
+        let found = shown_behind(alloc, front, rest)?;
         are_bytes(rt, &found, wanted, rest);
     }
     Ok(())
@@ -191,6 +213,23 @@ fn short_memory_is_named(rt: HostRuntime) -> Result<(), Fail> {
     Ok(())
 }
 
+/// Asserts that this number is found of two nodes.
+fn is_number(rt: &impl Abort, a: u32, b: u32, found: u32, wanted: u32) {
+    assert_eq!(rt; found, wanted, "{a} {b}");
+}
+
+/// Asserts how far apart two nodes are, and which node comes first on the way, where they aren't one.
+fn is_apart(rt: &impl Abort, distances: &Distances, chips: u32, row: (u32, u32, u32, u32))
+    requires { distances.now.chips ≡ chips }
+{
+    let (a, b, distance, first) = row;
+    assert!(rt; a <= chips && b <= chips);
+    is_number(rt, a, b, distances.distance(a, b), distance);
+    if a != b {
+        is_number(rt, a, b, distances.first_step(a, b), first);
+    }
+}
+
 /// Asserts how far apart nodes of a board are, and, where they are two, which node comes first on the way.
 fn are_apart(
     rt: &impl Abort,
@@ -200,12 +239,8 @@ fn are_apart(
     table: &[(u32, u32, u32, u32)],
 ) -> Result<(), Fail> {
     let distances = distances_of(alloc, text, chips)?;
-    for (a, b, distance, first) in table {
-        assert!(rt; *a <= chips && *b <= chips);
-        assert_eq!(rt; distances.distance(*a, *b), *distance, "{a} {b}");
-        if *a != *b {
-            assert_eq!(rt; distances.first_step(*a, *b), *first, "{a} {b}");
-        }
+    for row in table {
+        is_apart(rt, &distances, chips, *row);
     }
     Ok(())
 }

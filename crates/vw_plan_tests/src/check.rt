@@ -1,5 +1,6 @@
 use crate::boards::{TRIANGLE, board};
 use crate::netlists::{Netlist, Part, made, of_latches};
+use crate::plans::plan_of;
 use crate::same::are_bytes;
 use std::alloc::{AllocError, Global};
 use std::process::Abort;
@@ -21,12 +22,16 @@ fn message(
     }
 }
 
-/// The plan of a text.
-fn plan_of(alloc: Global, text: &[u8]) -> Result<Plan, Fail> {
-    match vw_plantext::read(alloc, text) {
-        Ok(plan) => Ok(plan),
-        Err(_) => Err("no plan".into()),
-    }
+/// The message for a netlist and the texts of a board and a plan.
+fn message_of(
+    alloc: Global,
+    ordered: Ordered,
+    board_text: &[u8],
+    plan_text: &[u8],
+) -> Result<Vec<u8>, Fail> {
+    let plan = plan_of(alloc, plan_text)?;
+    let board = board(alloc, board_text)?;
+    Ok(message(alloc, ordered, board, plan)?)
 }
 
 /// Asserts the message for a netlist and the texts of a board and a plan.
@@ -38,9 +43,7 @@ fn is_message(
     plan_text: &[u8],
     wanted: &[u8],
 ) -> Result<(), Fail> {
-    let plan = plan_of(alloc, plan_text)?;
-    let board = board(alloc, board_text)?;
-    let found = message(alloc, ordered, board, plan)?;
+    let found = message_of(alloc, ordered, board_text, plan_text)?;
     are_bytes(rt, &found, wanted, plan_text);
     Ok(())
 }

@@ -16,7 +16,9 @@ struct Listed {
 /// What is answered of these cells.
 fn answer(alloc: Global, inputs: u32, cells: Vec<Cell>) -> Result<Listed, Fail> {
     let outputs = Sequence::of(Vec::new(alloc));
-    let flat = Flat::checked(inputs, Sequence::of(cells), outputs).ok_or("no netlist")?;
+    let Some(flat) = Flat::checked(inputs, Sequence::of(cells), outputs) else {
+        return Err("no netlist".into());
+    };
     match order(alloc, flat) {
         Ok(ordered) => Ok(Listed {
             is_order: true,

@@ -1,12 +1,11 @@
 use crate::boards::{TRIANGLE, board, may_be_chips};
 use crate::netlists::{Netlist, Part, gate, latch, made, of_latches, ordered};
-use crate::same::{are_either, is_count};
+use crate::same::{are_either, are_wide_numbers, is_count};
 use std::alloc::Global;
 use std::process::Abort;
 use std::test::Fail;
-use vw_net::Ordered;
+use vw_net::{Ordered, Sequence};
 use vw_part::{PartFault, partition};
-use vw_plan::Board;
 use vw_wires::needed;
 
 /// That with room for two cells on each chip.
@@ -18,10 +17,10 @@ const RING: &[u8] =
     b"board 1\nchips 4\ncells 80\nsettle 0\npins 2\nlink 0 1 1\nlink 1 2 1\nlink 2 3 1\nlink 3 4 1\nlink 4 0 1\n";
 
 /// The chips that a netlist's cells are dealt to.
-fn chips_of(alloc: Global, ordered: &Ordered, text: &[u8]) -> Result<Vec<u32>, Fail> {
+fn chips_of(alloc: Global, ordered: &Ordered, text: &[u8]) -> Result<Sequence<u32>, Fail> {
     let board = board(alloc, text)?;
     match partition(alloc, ordered, &board) {
-        Ok(chips) => Ok(chips.as_slice().to_vec(alloc)?),
+        Ok(chips) => Ok(chips),
         Err(_) => Err("no partition".into()),
     }
 }
@@ -34,16 +33,21 @@ fn pairs(alloc: Global, ordered: &Ordered, chips: &[u32]) -> Result<usize, Fail>
     Ok(needed(alloc, ordered, chips)?.len())
 }
 
+/// How many pairs are needed where a netlist's cells are dealt to a board.
+fn pairs_on(alloc: Global, ordered: &Ordered, text: &[u8]) -> Result<usize, Fail> {
+    let chips = chips_of(alloc, ordered, text)?;
+    pairs(alloc, ordered, chips.as_slice())
+}
+
 /// Asserts how many pairs are needed where a netlist's cells are dealt to a board.
 fn has_pairs(
     rt: &impl Abort,
     alloc: Global,
-    ordered: &Ordered,
+    ordered: Ordered,
     text: &[u8],
     count: usize,
 ) -> Result<(), Fail> {
-    let chips = chips_of(alloc, ordered, text)?;
-    is_count(rt, pairs(alloc, ordered, &chips)?, count);
+    is_count(rt, pairs_on(alloc, &ordered, text)?, count);
     Ok(())
 }
 
@@ -76,60 +80,72 @@ fn is_either(
     count: usize,
 ) -> Result<(), Fail> {
     let chips = chips_of(alloc, ordered, text)?;
-    are_either(rt, &chips, these, those);
-    is_count(rt, pairs(alloc, ordered, &chips)?, count);
+    are_either(rt, chips.as_slice(), these, those);
+    is_count(rt, pairs(alloc, ordered, chips.as_slice())?, count);
     Ok(())
+}
+
+/// Asserts the same of the toggle.
+fn toggle_is_either(
+    rt: &impl Abort,
+    alloc: Global,
+    text: &[u8],
+    these: &[u32],
+    those: &[u32],
+    count: usize,
+) -> Result<(), Fail> {
+    let toggle = made(alloc, &TOGGLE)?;
+    is_either(rt, alloc, &toggle, text, these, those, count)
 }
 
 #[test]
 fn two_cells_of_which_each_fills_a_chip_are_apart(rt: HostRuntime) -> Result<(), Fail> {
-    let toggle = made(rt.alloc(), &TOGGLE)?;
-    is_either(&rt, rt.alloc(), &toggle, TRIANGLE, &[1, 2], &[2, 1], 4)
+    toggle_is_either(&rt, rt.alloc(), TRIANGLE, &[1, 2], &[2, 1], 4)
 }
 
 #[test]
 fn two_cells_that_read_each_other_are_together(rt: HostRuntime) -> Result<(), Fail> {
-    let toggle = made(rt.alloc(), &TOGGLE)?;
-    is_either(&rt, rt.alloc(), &toggle, TWO_EACH, &[1, 1], &[2, 2], 2)
+    toggle_is_either(&rt, rt.alloc(), TWO_EACH, &[1, 1], &[2, 2], 2)
 }
 
-/// How many cells there are, and for how many there is room, where they are too many.
-fn too_many(alloc: Global, ordered: &Ordered, board: &Board) -> Option<(u64, u64)> {
-    match partition(alloc, ordered, board) {
-        Err(PartFault::TooManyCells { cells, room }) => Some((cells, room)),
-        _ => None,
+/// How many cells there are, and for how many a board has room, where they are too many.
+fn too_many(alloc: Global, ordered: &Ordered, text: &[u8]) -> Result<[u64; 2], Fail> {
+    let board = board(alloc, text)?;
+    match partition(alloc, ordered, &board) {
+        Err(PartFault::TooManyCells { cells, room }) => Ok([cells, room]),
+        _ => Err("not too many".into()),
     }
 }
 
 #[test]
 fn five_cells_are_too_many_for_two_chips_of_two(rt: HostRuntime) -> Result<(), Fail> {
     let five = of_latches(rt.alloc(), 5, &[])?;
-    let board = board(rt.alloc(), TWO_EACH)?;
-    let found = too_many(rt.alloc(), &five, &board);
-    assert!(rt; found == Some((5, 4)));
+    let found = too_many(rt.alloc(), &five, TWO_EACH)?;
+    are_wide_numbers(&rt, &found, &[5, 4]);
     Ok(())
 }
 
-/// Asserts how many of a netlist's cells are dealt to two chips of a board.
+/// Asserts how many cells a netlist has that are dealt, and how many of them to two chips of a board.
 fn are_dealt(
     rt: &impl Abort,
     alloc: Global,
-    ordered: &Ordered,
+    ordered: Ordered,
     text: &[u8],
+    count: usize,
     one: (u32, usize),
     other: (u32, usize),
-) -> Result<usize, Fail> {
-    let chips = chips_of(alloc, ordered, text)?;
-    is_count(rt, on_chip(&chips, one.0), one.1);
-    is_count(rt, on_chip(&chips, other.0), other.1);
-    Ok(chips.len())
+) -> Result<(), Fail> {
+    let chips = chips_of(alloc, &ordered, text)?;
+    is_count(rt, chips.len(), count);
+    is_count(rt, on_chip(chips.as_slice(), one.0), one.1);
+    is_count(rt, on_chip(chips.as_slice(), other.0), other.1);
+    Ok(())
 }
 
 #[test]
 fn as_many_cells_as_there_is_room_for_are_dealt(rt: HostRuntime) -> Result<(), Fail> {
     let four = of_latches(rt.alloc(), 4, &[])?;
-    are_dealt(&rt, rt.alloc(), &four, TWO_EACH, (1, 2), (2, 2))?;
-    Ok(())
+    are_dealt(&rt, rt.alloc(), four, TWO_EACH, 4, (1, 2), (2, 2))
 }
 
 /// 300 gates, each of which reads two nets before its own, behind 10 inputs.
@@ -177,16 +193,26 @@ fn no_move_helps(
     Ok(())
 }
 
+/// Asserts that no cell is on the host, and that no move of one cell to another chip of four leaves fewer pairs.
+fn no_moves_help(
+    rt: &impl Abort,
+    alloc: Global,
+    ordered: &Ordered,
+    chips: &[u32],
+) -> Result<(), Fail> {
+    let least = pairs(alloc, ordered, chips)?;
+    is_count(rt, on_chip(chips, 0), 0);
+    for chip in 1..5u32 {
+        no_move_helps(rt, alloc, ordered, chips, chip, least)?;
+    }
+    Ok(())
+}
+
 #[test]
 fn no_move_lowers_the_pairs_of_a_tangle(rt: HostRuntime) -> Result<(), Fail> {
     let tangle = tangle(rt.alloc())?;
     let chips = chips_of(rt.alloc(), &tangle, RING)?;
-    let least = pairs(rt.alloc(), &tangle, &chips)?;
-    is_count(&rt, on_chip(&chips, 0), 0);
-    for chip in 1..5u32 {
-        no_move_helps(&rt, rt.alloc(), &tangle, &chips, chip, least)?;
-    }
-    Ok(())
+    no_moves_help(&rt, rt.alloc(), &tangle, chips.as_slice())
 }
 
 /// Two chips in a ring with the host, with room for 100 cells on each.
@@ -210,7 +236,7 @@ fn chains(alloc: Global) -> Result<Ordered, Fail> {
 #[test]
 fn two_chains_whose_cells_alternate_are_apart(rt: HostRuntime) -> Result<(), Fail> {
     // the input at both chips
-    has_pairs(&rt, rt.alloc(), &chains(rt.alloc())?, TWO_HUNDRED, 2)
+    has_pairs(&rt, rt.alloc(), chains(rt.alloc())?, TWO_HUNDRED, 2)
 }
 
 /// Forty rings of eight latches, whose cells take turns; ten rings just fill a chip.
@@ -224,7 +250,7 @@ fn rings(alloc: Global) -> Result<Ordered, Fail> {
 
 #[test]
 fn rings_whose_cells_are_mixed_stay_whole(rt: HostRuntime) -> Result<(), Fail> {
-    has_pairs(&rt, rt.alloc(), &rings(rt.alloc())?, RING, 0)
+    has_pairs(&rt, rt.alloc(), rings(rt.alloc())?, RING, 0)
 }
 
 /// 65536 gates, each of which reads the net before its own, and one that is half as far.
@@ -243,7 +269,5 @@ const MOST: &[u8] =
 #[test]
 fn the_most_cells_and_chips_are_dealt(rt: HostRuntime) -> Result<(), Fail> {
     let chain = chain(rt.alloc())?;
-    let count = are_dealt(&rt, rt.alloc(), &chain, MOST, (1, 2048), (32, 2048))?;
-    is_count(&rt, count, 65536);
-    Ok(())
+    are_dealt(&rt, rt.alloc(), chain, MOST, 65536, (1, 2048), (32, 2048))
 }

@@ -1,3 +1,7 @@
+ghost use Rattle.std.specs.Prelude.{◌≡◌, length};
+ghost use Rattle.std.specs.List.{All};
+ghost use Rattle.vw_plan.specs.Good.{IsChip};
+
 use crate::boards::{TRIANGLE, are_chips, board, chips_in_turns};
 use crate::netlists::{Netlist, Part, made, of_latches};
 use crate::same::are_numbers;
@@ -7,8 +11,40 @@ use std::test::Fail;
 use vw_board::Distances;
 use vw_net::{Ordered, Sequence};
 use vw_place::place;
+use vw_plan::Board;
 
-/// What is answered of a placement.
+/// The placement that comes of one.
+fn placed(
+    alloc: Global,
+    ordered: &Ordered,
+    board: &Board,
+    chip_of: Sequence<u32>,
+) -> Result<Sequence<u32>, Fail>
+    requires each { length chip_of ≡ length ordered.now.flat.cells }
+    requires chips { All (IsChip board.now) chip_of }
+{
+    let distances = Distances::of(alloc, board)?;
+    match place(alloc, ordered, board, &distances, chip_of) {
+        Ok(placed) => Ok(placed),
+        Err(_) => Err("no memory".into()),
+    }
+}
+
+/// What is answered of a placement on a board.
+fn answer_on(
+    alloc: Global,
+    ordered: &Ordered,
+    board: &Board,
+    chips: &[u32],
+) -> Result<Sequence<u32>, Fail> {
+    if chips.len() != ordered.flat().cells().len() || !are_chips(board, chips) {
+        return Err("no placement".into());
+    }
+    let chip_of = Sequence::of(chips.to_vec(alloc)?);
+    placed(alloc, ordered, board, chip_of)
+}
+
+/// What is answered of a placement on the board of a text.
 fn answer(
     alloc: Global,
     ordered: &Ordered,
@@ -16,27 +52,19 @@ fn answer(
     chips: &[u32],
 ) -> Result<Sequence<u32>, Fail> {
     let board = board(alloc, text)?;
-    if chips.len() != ordered.flat().cells().len() || !are_chips(&board, chips) {
-        return Err("no placement".into());
-    }
-    let distances = Distances::of(alloc, &board)?;
-    let chip_of = Sequence::of(chips.to_vec(alloc)?);
-    match place(alloc, ordered, &board, &distances, chip_of) {
-        Ok(placed) => Ok(placed),
-        Err(_) => Err("no memory".into()),
-    }
+    answer_on(alloc, ordered, &board, chips)
 }
 
 /// Asserts what is answered of a placement.
 fn is_placed(
     rt: &impl Abort,
     alloc: Global,
-    ordered: &Ordered,
+    ordered: Ordered,
     text: &[u8],
     chips: &[u32],
     placed: &[u32],
 ) -> Result<(), Fail> {
-    let found = answer(alloc, ordered, text, chips)?;
+    let found = answer(alloc, &ordered, text, chips)?;
     are_numbers(rt, found.as_slice(), placed);
     Ok(())
 }
@@ -62,7 +90,7 @@ struct Case<'a> {
 fn are_placed(rt: &impl Abort, alloc: Global, cases: &[Case]) -> Result<(), Fail> {
     for case in cases {
         let netlist = made(alloc, &case.netlist)?;
-        is_placed(rt, alloc, &netlist, case.board, case.chips, case.placed)?;
+        is_placed(rt, alloc, netlist, case.board, case.chips, case.placed)?;
     }
     Ok(())
 }
@@ -142,5 +170,5 @@ fn the_greatest_design_is_placed_on_the_greatest_board(rt: HostRuntime) -> Resul
     let chips = chips_in_turns(rt.alloc())?;
     let wide = of_latches(rt.alloc(), 65536, &[])?;
     // each chip needs the input, and no other net is needed, so each order is as good
-    is_placed(&rt, rt.alloc(), &wide, GREATEST, &chips, &chips)
+    is_placed(&rt, rt.alloc(), wide, GREATEST, &chips, &chips)
 }

@@ -1,5 +1,5 @@
-use crate::plans::numbers_of;
-use crate::same::{are_numbers, are_wide_numbers, is_count};
+use crate::plans::is_plan;
+use crate::same::{are_numbers, are_wide_numbers};
 use std::alloc::{AllocError, Global};
 use std::test::Fail;
 use vw_net::Sequence;
@@ -30,26 +30,21 @@ fn one_wire(alloc: Global) -> Result<Plan, AllocError> {
     ))
 }
 
+/// The net and the node of that wire, its one hop, and the period.
+const ONE_WIRE: &[u64] = &[
+    9,
+    1,
+    0,
+    1,
+    0,
+    4_611_686_018_427_387_904,
+    4_611_686_018_427_387_904,
+];
+
 #[test]
 fn a_plan_has_its_wires(rt: HostRuntime) -> Result<(), Fail> {
     let plan = one_wire(rt.alloc())?;
-    are_numbers(&rt, plan.chip_of(), &[1, 2]);
-    is_count(&rt, plan.wires().len(), 1);
-    // the net and the node of the wire, its one hop, and the period
-    let numbers = numbers_of(rt.alloc(), &plan)?;
-    are_wide_numbers(
-        &rt,
-        &numbers,
-        &[
-            9,
-            1,
-            0,
-            1,
-            0,
-            4_611_686_018_427_387_904,
-            4_611_686_018_427_387_904,
-        ],
-    );
+    is_plan(&rt, rt.alloc(), &plan, &[1, 2], 1, ONE_WIRE)?;
     Ok(())
 }
 

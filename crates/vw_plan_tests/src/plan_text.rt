@@ -1,8 +1,9 @@
-use crate::plans::numbers_of;
-use crate::same::{are_bytes, are_numbers, are_wide_numbers, is_count};
+use crate::plans::{is_plan, plan_of};
+use crate::same::{are_bytes, is_count};
 use std::alloc::{AllocError, Global};
 use std::process::Abort;
 use std::test::Fail;
+use vw_plan::Plan;
 use vw_plantext::{PlanTextFault, print, read};
 
 const TPLAN: &[u8] =
@@ -29,19 +30,15 @@ fn is_bad_line(rt: &impl Abort, alloc: Global, text: &[u8], line: usize) -> Resu
     is_again(rt, alloc, text, message.as_bytes())
 }
 
+/// The numbers of the hops of that plan, and its period.
+const TNUMBERS: &[u64] = &[
+    0, 1, 0, 1, 0, 0, 1, 2, 1, 2, 0, 1, 2, 0, 2, 0, 0, 0, 2, 1, 2, 1, 0, 0, 2,
+];
+
 #[test]
 fn a_plan_is_read_as_it_stands(rt: HostRuntime) -> Result<(), Fail> {
-    let plan = read(rt.alloc(), TPLAN)?;
-    are_numbers(&rt, plan.chip_of(), &[1, 2]);
-    is_count(&rt, plan.wires().len(), 4);
-    let numbers = numbers_of(rt.alloc(), &plan)?;
-    are_wide_numbers(
-        &rt,
-        &numbers,
-        &[
-            0, 1, 0, 1, 0, 0, 1, 2, 1, 2, 0, 1, 2, 0, 2, 0, 0, 0, 2, 1, 2, 1, 0, 0, 2,
-        ],
-    );
+    let plan = plan_of(rt.alloc(), TPLAN)?;
+    is_plan(&rt, rt.alloc(), &plan, &[1, 2], 4, TNUMBERS)?;
     Ok(())
 }
 
@@ -213,12 +210,18 @@ fn long_plan(alloc: Global) -> Result<Vec<u8>, AllocError> {
     Ok(text)
 }
 
+/// Whether a plan is printed as this text.
+fn is_printed(alloc: Global, plan: &Plan, text: &[u8]) -> Result<bool, AllocError> {
+    let printed = print(alloc, plan)?;
+    Ok(printed.as_slice() == text)
+}
+
 /// Asserts that a text has so many chips, and that its plan is printed as it stands.
 fn has_chips(rt: &impl Abort, alloc: Global, text: &[u8], chips: usize) -> Result<(), Fail> {
-    let plan = read(alloc, text)?;
+    let plan = plan_of(alloc, text)?;
     is_count(rt, plan.chip_of().len(), chips);
-    let printed = print(alloc, &plan)?;
-    assert!(rt; printed.as_slice() == text);
+    let printed = is_printed(alloc, &plan, text)?;
+    assert!(rt; printed);
     Ok(())
 }
 

@@ -1,9 +1,29 @@
+ghost use Rattle.std.specs.Prelude.{◌≡◌};
+
 use crate::boards::{TRIANGLE, distances_of};
 use crate::same::are_numbers;
-use std::alloc::Global;
+use std::alloc::{AllocError, Global};
 use std::process::Abort;
 use std::test::Fail;
+use vw_board::Distances;
 use vw_route::walk;
+
+/// Asserts which nodes the walk between two nodes has.
+fn is_walk(
+    rt: &impl Abort,
+    alloc: Global,
+    distances: &Distances,
+    chips: u32,
+    row: (u32, u32, &[u32]),
+) -> Result<(), AllocError>
+    requires { distances.now.chips ≡ chips }
+{
+    let (from, to, wanted) = row;
+    assert!(rt; from <= chips && to <= chips && from != to);
+    let nodes = walk(alloc, distances, from, to)?;
+    are_numbers(rt, nodes.as_slice(), wanted);
+    Ok(())
+}
 
 /// Asserts which nodes walks on a board of so many chips have. Each begins and ends at two nodes.
 fn are_walks(
@@ -14,10 +34,8 @@ fn are_walks(
     table: &[(u32, u32, &[u32])],
 ) -> Result<(), Fail> {
     let distances = distances_of(alloc, text, chips)?;
-    for (from, to, wanted) in table {
-        assert!(rt; *from <= chips && *to <= chips && *from != *to);
-        let nodes = walk(alloc, &distances, *from, *to)?;
-        are_numbers(rt, nodes.as_slice(), wanted);
+    for row in table {
+        is_walk(rt, alloc, &distances, chips, *row)?;
     }
     Ok(())
 }

@@ -32,17 +32,16 @@ fn routes(
 }
 
 /// The schedule of a placement by hand, with shortest routes.
-fn scheduled(alloc: Global, ordered: &Ordered, text: &[u8], chips: &[u32]) -> Result<Plan, Fail> {
-    let board = board(alloc, text)?;
+fn scheduled(alloc: Global, ordered: &Ordered, board: &Board, chips: &[u32]) -> Result<Plan, Fail> {
     if chips.len() != ordered.flat().cells().len()
         || chips.len() > board.cells() as usize
-        || !are_chips(&board, chips)
+        || !are_chips(board, chips)
     {
         return Err("no placement".into());
     }
-    let routes = routes(alloc, ordered, &board, chips)?;
+    let routes = routes(alloc, ordered, board, chips)?;
     let chip_of = Sequence::of(chips.to_vec(alloc)?);
-    match schedule(alloc, ordered, &board, chip_of, routes) {
+    match schedule(alloc, ordered, board, chip_of, routes) {
         Ok(plan) => Ok(plan),
         Err(_) => Err("no memory".into()),
     }
@@ -57,11 +56,22 @@ struct Case<'a> {
     numbers: &'a [u64],
 }
 
+/// The numbers of the schedule of a placement.
+fn answer_on(
+    alloc: Global,
+    ordered: &Ordered,
+    board: &Board,
+    chips: &[u32],
+) -> Result<Vec<u64>, Fail> {
+    let plan = scheduled(alloc, ordered, board, chips)?;
+    Ok(numbers_of(alloc, &plan)?)
+}
+
 /// The numbers of the schedule of a case.
 fn answer(alloc: Global, case: &Case) -> Result<Vec<u64>, Fail> {
     let netlist = made(alloc, &case.netlist)?;
-    let plan = scheduled(alloc, &netlist, case.board, case.chips)?;
-    Ok(numbers_of(alloc, &plan)?)
+    let board = board(alloc, case.board)?;
+    answer_on(alloc, &netlist, &board, case.chips)
 }
 
 /// Asserts that each case has its schedule.

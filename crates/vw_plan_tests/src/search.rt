@@ -4,7 +4,7 @@ use crate::same::are_numbers;
 use std::alloc::{AllocError, Global};
 use std::process::Abort;
 use std::test::Fail;
-use vw_search::{Digraph, Found, search};
+use vw_order::{Digraph, Found, search};
 
 /// A graph as a table of lines, each with a number and one that it reads. A line with a number past the last one is
 /// passed over.

@@ -1,9 +1,9 @@
 ghost use Rattle.std.specs.Prelude.{◌≡◌, ◌≤◌, [], length, IfOk};
 
+use crate::boards::board;
 use std::alloc::{AllocError, Global};
 use std::process::Abort;
 use std::test::Fail;
-use vw_board::read;
 use vw_slots::{Slot, SlotTable};
 
 /// Two pins lead from the host to the chip, and one back.
@@ -18,13 +18,18 @@ fn table_of(alloc: Global, room: u64) -> Result<SlotTable, Fail>
     ensures room { IfOk result (λ table. room ≤ table.spare) }
     ensures none { IfOk result (λ table. table.taken ≡ []) }
 {
-    let board = read(alloc, BOARD)?;
+    let board = board(alloc, BOARD)?;
     if board.links().len() != 2 {
         return Err("another board".into());
     }
     let mut table = SlotTable::make(alloc, &board)?;
     table.reserve(room)?;
     Ok(table)
+}
+
+/// Asserts that a slot is taken, where a link and the earliest microcycle are asked for.
+fn is_slot(rt: &impl Abort, found: Slot, wanted: Slot, link: u32, not_before: u64) {
+    assert_eq!(rt; found, wanted, "{link} {not_before}");
 }
 
 /// Takes slots in an empty table, and asserts what each row says.
@@ -37,7 +42,7 @@ fn take(rt: &impl Abort, table: &mut SlotTable, rows: &[SlotCase])
     for (link, not_before, pin, at) in rows {
         assert!(rt; *link < 2 && *not_before <= 1 << 61);
         let slot = table.take_first(*link, *not_before);
-        assert_eq!(rt; slot, Slot::make(*pin, *at), "{link} {not_before}");
+        is_slot(rt, slot, Slot::make(*pin, *at), *link, *not_before);
     }
     assert!(rt; table.taken().len() == rows.len());
 }

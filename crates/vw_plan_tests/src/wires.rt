@@ -1,11 +1,23 @@
 use crate::boards::{chips_in_turns, may_be_chips};
 use crate::netlists::{Netlist, Part, made, of_latches};
 use crate::same::are_numbers;
-use std::alloc::Global;
+use std::alloc::{AllocError, Global};
 use std::process::Abort;
 use std::test::Fail;
 use vw_net::Ordered;
+use vw_plan::Need;
 use vw_wires::{depths, needed};
+
+/// The net and the node of each pair, and then these depths.
+fn listed(alloc: Global, needs: &[Need], depths: &[u32]) -> Result<Vec<u32>, AllocError> {
+    let mut numbers = Vec::new(alloc);
+    for need in needs {
+        numbers.push(need.net())?;
+        numbers.push(need.to())?;
+    }
+    numbers.extend_from_slice(depths)?;
+    Ok(numbers)
+}
 
 /// What is answered of a placement: the net and the node of each needed pair, and then the depth of each.
 fn answer(alloc: Global, ordered: &Ordered, chips: &[u32]) -> Result<Vec<u32>, Fail> {
@@ -14,24 +26,18 @@ fn answer(alloc: Global, ordered: &Ordered, chips: &[u32]) -> Result<Vec<u32>, F
     }
     let needs = needed(alloc, ordered, chips)?;
     let depths = depths(alloc, ordered, chips, needs.as_slice())?;
-    let mut numbers = Vec::new(alloc);
-    for need in needs.as_slice() {
-        numbers.push(need.net())?;
-        numbers.push(need.to())?;
-    }
-    numbers.extend_from_slice(depths.as_slice())?;
-    Ok(numbers)
+    Ok(listed(alloc, needs.as_slice(), depths.as_slice())?)
 }
 
 /// Asserts what is answered of a placement.
 fn is_answered(
     rt: &impl Abort,
     alloc: Global,
-    ordered: &Ordered,
+    ordered: Ordered,
     chips: &[u32],
     numbers: &[u32],
 ) -> Result<(), Fail> {
-    let found = answer(alloc, ordered, chips)?;
+    let found = answer(alloc, &ordered, chips)?;
     are_numbers(rt, &found, numbers);
     Ok(())
 }
@@ -48,7 +54,7 @@ struct Case<'a> {
 fn are_answered(rt: &impl Abort, alloc: Global, cases: &[Case]) -> Result<(), Fail> {
     for case in cases {
         let netlist = made(alloc, &case.netlist)?;
-        is_answered(rt, alloc, &netlist, case.chips, case.numbers)?;
+        is_answered(rt, alloc, netlist, case.chips, case.numbers)?;
     }
     Ok(())
 }
@@ -108,5 +114,5 @@ const ON_EACH: &[u32] = &[
 fn a_net_that_every_cell_reads_has_a_pair_for_each_chip(rt: HostRuntime) -> Result<(), Fail> {
     let chips = chips_in_turns(rt.alloc())?;
     let wide = of_latches(rt.alloc(), 65536, &[])?;
-    is_answered(&rt, rt.alloc(), &wide, &chips, ON_EACH)
+    is_answered(&rt, rt.alloc(), wide, &chips, ON_EACH)
 }

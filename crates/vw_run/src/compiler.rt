@@ -1,6 +1,7 @@
 //! From a design and a board to a plan.
-ghost use Rattle.std.specs.Prelude.{◌≡◌, IfOk, IfErr};
-ghost use Rattle.vw_plan.specs.Good.{IsGood};
+ghost use Rattle.std.specs.Prelude.{◌≡◌, ◌≤◌, ℕ, length, IfOk, IfErr};
+ghost use Rattle.std.specs.List.{All};
+ghost use Rattle.vw_plan.specs.Good.{IsChip, IsGood, NoExchangeHelps, NoMoveHelps, cells_on};
 ghost use Rattle.vw_plan.specs.Setting.{setting_of};
 ghost use Rattle.vw_run.specs.Compiled.{IsCompileFault, IsCompiled, IsCompileRefused};
 
@@ -8,15 +9,25 @@ use crate::fault::{CompileFault, CompileRefused};
 use crate::routes::routes_of;
 use std::alloc::Global;
 use vw_board::Distances;
-use vw_net::Ordered;
+use vw_net::{Ordered, Sequence};
 use vw_part::{PartFault, partition};
 use vw_phase::schedule;
 use vw_place::place;
 use vw_plan::{Board, Checked, Plan};
 
-/// A good plan.
-fn plan_of(alloc: Global, ordered: &Ordered, board: &Board) -> Result<Plan, CompileFault>
-    ensures good { IfOk result (λ plan. IsGood (setting_of ordered.now board.now plan)) }
+/// The chip of each cell, so that neither a move of one cell nor an exchange of two chips helps.
+fn placement_of(
+    alloc: Global,
+    ordered: &Ordered,
+    board: &Board,
+    distances: &Distances,
+) -> Result<Sequence<u32>, CompileFault>
+    requires distances { distances.now ≡ board.now }
+    ensures each { IfOk result (λ chip_of. length chip_of ≡ length ordered.now.flat.cells) }
+    ensures chips { IfOk result (All (IsChip board.now)) }
+    ensures room { IfOk result (λ chip_of. (chip : ℕ) → cells_on chip_of chip ≤ board.now.cells) }
+    ensures moves { IfOk result (NoMoveHelps ordered.now.flat board.now) }
+    ensures exchanges { IfOk result (NoExchangeHelps ordered.now.flat board.now) }
     ensures fault { IfErr result (IsCompileFault ordered.now board.now) }
 {
     let parts = match partition(alloc, ordered, board) {
@@ -26,15 +37,38 @@ fn plan_of(alloc: Global, ordered: &Ordered, board: &Board) -> Result<Plan, Comp
         }
         Err(PartFault::NoMemory) => return Err(CompileFault::NoMemory),
     };
-    let distances = Distances::of(alloc, board)?;
-    let Ok(chip_of) = place(alloc, ordered, board, &distances, parts) else {
-        return Err(CompileFault::NoMemory);
-    };
-    let routes = routes_of(alloc, ordered, board, &distances, chip_of.as_slice())?;
+    match place(alloc, ordered, board, distances, parts) {
+        Ok(chip_of) => Ok(chip_of),
+        Err(_) => Err(CompileFault::NoMemory),
+    }
+}
+
+/// A good plan, given how far the nodes are.
+fn plan_by(
+    alloc: Global,
+    ordered: &Ordered,
+    board: &Board,
+    distances: &Distances,
+) -> Result<Plan, CompileFault>
+    requires distances { distances.now ≡ board.now }
+    ensures good { IfOk result (λ plan. IsGood (setting_of ordered.now board.now plan)) }
+    ensures fault { IfErr result (IsCompileFault ordered.now board.now) }
+{
+    let chip_of = placement_of(alloc, ordered, board, distances)?;
+    let routes = routes_of(alloc, ordered, board, distances, chip_of.as_slice())?;
     match schedule(alloc, ordered, board, chip_of, routes) {
         Ok(plan) => Ok(plan),
         Err(_) => Err(CompileFault::NoMemory),
     }
+}
+
+/// A good plan.
+fn plan_of(alloc: Global, ordered: &Ordered, board: &Board) -> Result<Plan, CompileFault>
+    ensures good { IfOk result (λ plan. IsGood (setting_of ordered.now board.now plan)) }
+    ensures fault { IfErr result (IsCompileFault ordered.now board.now) }
+{
+    let distances = Distances::of(alloc, board)?;
+    plan_by(alloc, ordered, board, &distances)
 }
 
 /// A design on a board, with a good plan: it is sound, its wires stand by net and then by node, no move of a cell lowers the

@@ -1,7 +1,7 @@
 -- From the stages of a command to its course.
-use Rattle.std.proofs.Common.{◌≡◌, ℕ, List, Ok, Err, ap₂, subst, inl, inr}
+use Rattle.std.proofs.Common.{◌≡◌, ℕ, List, Result, Ok, Err, sym, ap₂, subst, inl, inr}
 use Rattle.vw_outside.specs.Reads.{SeenShelf}
-use Rattle.vw_outside.specs.Writes.{SeenSink}
+use Rattle.vw_outside.specs.Writes.{SeenSink, appended}
 use Rattle.vw_top.specs.declared.stop.File.{File}
 use Rattle.vw_top.specs.declared.stop.Stop.{Stop}
 use Rattle.vw_top.specs.declared.stop.Stop.TheVariants.{ReadFault, WriteFault, NoMemory}
@@ -9,7 +9,7 @@ use Rattle.vw_top.specs.declared.reason.Reason.{Reason}
 use Rattle.vw_top.specs.declared.endings.Unfinished.{Unfinished}
 use Rattle.vw_top.specs.declared.endings.Unfinished.TheVariants.{Stopped, Refused}
 use Rattle.vw_top.specs.Course.{Course, reads, judges, Outside, outside, Answer, Follows, EndsWriting}
-use Rattle.vw_top.specs.Steps.Stage.{StageEnds, WritesOut}
+use Rattle.vw_top.specs.Steps.Stage.{StageEnds, WritesOut, answer_of}
 
 pub same_outside : (before after : Outside) → after.shelf ≡ before.shelf → after.out ≡ before.out → after ≡ before
 same_outside before after shelf out = ap₂ (λ (s : SeenShelf) (o : SeenSink). outside s o) shelf out
@@ -41,3 +41,11 @@ pub writing_stops : (text : List ℕ) (before after : Outside) (stop : Stop) →
 writing_stops text before after WriteFault same stopped = (same, stopped)
 writing_stops text before after NoMemory same stopped = (same, stopped)
 writing_stops text before after (ReadFault file) same stopped = absurd stopped
+
+-- and so does the writing, however it ends
+pub writing_ends : (text : List ℕ) (before after : Outside) (written : Result (Unit {0}) Stop) (answer : Answer) → answer ≡ answer_of written → after.shelf ≡ before.shelf → WritesOut text before.out after.out written
+    → EndsWriting text before after answer
+writing_ends text before after written answer is same ends = subst (λ (a : Answer). EndsWriting text before after a) (sym is) (by written ends) where
+  by : (so : Result (Unit {0}) Stop) → WritesOut text before.out after.out so → EndsWriting text before after (answer_of so)
+  by (Ok done) all = same_outside (outside before.shelf (appended before.out text)) after same all
+  by (Err stop) stopped = writing_stops text before after stop same stopped

@@ -1,14 +1,17 @@
 -- The lines of a trace, batch by batch.
-use Rattle.std.proofs.Common.{◌≡◌, ◌<◌, ◌≤◌, ◌+◌, ℕ, Bool, List, [], ◌∷◌, ◌++◌, length, take, drop, ap, sym, ◌∙◌, subst, arith, append_assoc, length-take, length-drop, ⊎_elim, ◌-◌}
+use Rattle.std.proofs.Common.{◌≡◌, ◌<◌, ◌≤◌, ◌+◌, ℕ, Bool, Result, Ok, Err, List, [], ◌∷◌, ◌++◌, length, take, drop, ap, sym, ◌∙◌, subst, arith, append-nil, append_assoc, length-take, length-drop, ⊎_elim, ◌-◌}
 use Rattle.std.proofs.lemmas.List.{take-append-drop, drop-drop, take_all, drop_all}
 use Rattle.std.proofs.lemmas.Bool.{cases_lt}
 use Rattle.vw_net.specs.declared.flat.Flat.{Flat}
-use Rattle.vw_net.specs.Cells.{latch_count, start_values}
+use Rattle.vw_net.specs.Cells.{latch_count}
 use Rattle.vw_net.specs.History.{outputs_of, states_of, state_after, flat_history, joined}
 use Rattle.vw_outside.specs.Writes.{SeenSink}
-use Rattle.vw_outside.proofs.PiecesWritten.{IsLeft, nothing_written}
+use Rattle.vw_outside.proofs.PiecesWritten.{IsLeft, nothing_written, part_of_piece, failed_in_piece, last_piece}
 use Rattle.vw_rows.specs.Trace.{rows_text, clock_text, head_text, end_text}
-use Rattle.vw_top.specs.Steps.FlatTrace.{flat_trace}
+use Rattle.vw_top.specs.declared.stop.Stop.{Stop}
+use Rattle.vw_top.specs.declared.stop.Stop.TheVariants.{ReadFault, WriteFault, NoMemory}
+use Rattle.vw_top.specs.Steps.FlatTrace.{trace_from}
+use Rattle.vw_top.specs.Steps.Stage.{WritesOut}
 use Rattle.vw_net.proofs.Counts.{length-outputs_of, length-states_of}
 
 -- the lines of clocks, and then of others
@@ -89,24 +92,40 @@ batch_is rows next done end within is ends = ⊎_elim few full (cases_lt (length
         left = drop-drop 256 done rows ∙ ap (λ (n : ℕ). drop n rows) (let e : done + 256 ≡ end = omega (arith, ends, long) in e);
       }
 
+-- the lines of such a batch, and what is left behind it
+pub batch_split : (flat : Flat) → HistoriesJoin flat → (state : List Bool) (rows next : List (List Bool)) (done end : ℕ) → IsBatch rows next done end
+    → clock_lines flat done state (drop done rows) ≡ clock_lines flat done state next ++ clock_lines flat end (state_after flat state next) (drop end rows)
+batch_split flat join state rows next done end batch =
+    subst (λ (now : List (List Bool)). clock_lines flat done state (drop done rows) ≡ clock_lines flat done state now ++ clock_lines flat end (state_after flat state now) (drop end rows)) (sym batch.same)
+    (batch_lines flat join state rows done end batch.forward batch.within)
+
 pub lines_written : (flat : Flat) (first : ℕ) (state : List Bool) (rows outputs states : List (List Bool)) (lines : List ℕ) → lines ≡ rows_text first outputs states → outputs ≡ outputs_of flat state rows → states ≡ states_of flat state rows → lines ≡ clock_lines flat first state rows
 lines_written flat first state rows outputs states lines made o s = made ∙ ap (λ os. rows_text first os states) o ∙ ap (λ ss. rows_text first (outputs_of flat state rows) ss) s
 
 -- the parts of a trace
-pub trace_parts : (unknown : Bool) (flat : Flat) (rows : List (List Bool)) → flat_trace unknown flat rows ≡ head_text (length flat.outputs) (latch_count flat.cells) ++ (clock_lines flat 0 (start_values unknown flat.cells) rows ++ end_text (length rows) (state_after flat (start_values unknown flat.cells) rows))
-trace_parts unknown flat rows =
-    append_assoc (head_text (length flat.outputs) (latch_count flat.cells)) (clock_lines flat 0 (start_values unknown flat.cells) rows) (end_text (length (outputs_of flat (start_values unknown flat.cells) rows)) (state_after flat (start_values unknown flat.cells) rows))
-    ∙ ap (λ n. head_text (length flat.outputs) (latch_count flat.cells) ++ (clock_lines flat 0 (start_values unknown flat.cells) rows ++ end_text n (state_after flat (start_values unknown flat.cells) rows))) (length-outputs_of flat (start_values unknown flat.cells) rows)
+pub trace_parts : (state : List Bool) (flat : Flat) (rows : List (List Bool)) → trace_from state flat rows ≡ head_text (length flat.outputs) (latch_count flat.cells) ++ (clock_lines flat 0 state rows ++ end_text (length rows) (state_after flat state rows))
+trace_parts state flat rows =
+    append_assoc (head_text (length flat.outputs) (latch_count flat.cells)) (clock_lines flat 0 state rows) (end_text (length (outputs_of flat state rows)) (state_after flat state rows))
+    ∙ ap (λ n. head_text (length flat.outputs) (latch_count flat.cells) ++ (clock_lines flat 0 state rows ++ end_text n (state_after flat state rows))) (length-outputs_of flat state rows)
 
--- the lines of all clocks of a trace, and its last line
-abbrev pub all_lines : Bool → Flat → List (List Bool) → List ℕ
-all_lines unknown flat rows = clock_lines flat 0 (start_values unknown flat.cells) rows
-
-abbrev pub last_line : Bool → Flat → List (List Bool) → List ℕ
-last_line unknown flat rows = end_text (length rows) (state_after flat (start_values unknown flat.cells) rows)
+-- the last line of a trace
+abbrev pub last_line : List Bool → Flat → List (List Bool) → List ℕ
+last_line state flat rows = end_text (length rows) (state_after flat state rows)
 
 -- at first all of a trace is left
-pub head_left : (unknown : Bool) (flat : Flat) (rows : List (List Bool)) (before : SeenSink) (head : List ℕ) → head ≡ head_text (length flat.outputs) (latch_count flat.cells) → IsLeft before (flat_trace unknown flat rows) before (head ++ (all_lines unknown flat rows ++ last_line unknown flat rows))
-head_left unknown flat rows before head is =
-    let text : flat_trace unknown flat rows ≡ head ++ (all_lines unknown flat rows ++ last_line unknown flat rows) = rw is (trace_parts unknown flat rows) in
-    subst (λ (rest : List ℕ). IsLeft before (flat_trace unknown flat rows) before rest) text (nothing_written before (flat_trace unknown flat rows))
+pub head_left : (state : List Bool) (flat : Flat) (rows : List (List Bool)) (before : SeenSink)
+    → IsLeft before (trace_from state flat rows) before (head_text (length flat.outputs) (latch_count flat.cells) ++ (clock_lines flat 0 state rows ++ last_line state flat rows))
+head_left state flat rows before =
+    subst (λ (rest : List ℕ). IsLeft before (trace_from state flat rows) before rest) (trace_parts state flat rows) (nothing_written before (trace_from state flat rows))
+
+-- a stop within a piece is one within the text
+pub stopped_in_piece : (before mid after : SeenSink) (text piece rest : List ℕ) (stop : Stop) → IsLeft before text mid (piece ++ rest) → WritesOut piece mid after (Err stop) → WritesOut text before after (Err stop)
+stopped_in_piece before mid after text piece rest WriteFault left stopped = failed_in_piece before text mid after piece rest left stopped
+stopped_in_piece before mid after text piece rest NoMemory left stopped = part_of_piece before text mid after piece rest left stopped
+stopped_in_piece before mid after text piece rest (ReadFault file) left stopped = absurd stopped
+
+-- with the last piece the text ends as the piece does
+pub ends_with_piece : (before mid after : SeenSink) (text piece : List ℕ) (written : Result (Unit {0}) Stop) → IsLeft before text mid piece → WritesOut piece mid after written → WritesOut text before after written
+ends_with_piece before mid after text piece (Ok done) left all = last_piece before text mid after piece left all
+ends_with_piece before mid after text piece (Err stop) left stopped =
+    stopped_in_piece before mid after text piece [] stop (subst (λ (rest : List ℕ). IsLeft before text mid rest) (sym (append-nil piece)) left) stopped

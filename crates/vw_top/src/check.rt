@@ -3,7 +3,7 @@ ghost use Rattle.std.specs.Prelude.{◌≡◌, IfOk};
 ghost use Rattle.vw_plan.specs.Setting.{setting_of};
 ghost use Rattle.vw_top.specs.Course.{Follows, outside};
 ghost use Rattle.vw_top.specs.Commands.{RefusesPlan, check_board_course, check_course, check_plan_course, sound_course, sound_text};
-ghost use Rattle.vw_top.specs.Steps.Plans.{IsCheckedPlan};
+ghost use Rattle.vw_top.specs.Steps.Plans.{EndsPlanFault, IsCheckedPlan};
 ghost use Rattle.vw_top.specs.Steps.Stage.{JudgesText, WritesOut};
 
 use crate::endings::Unfinished;
@@ -11,10 +11,11 @@ use crate::files::{read_board, read_design, read_plan};
 use crate::reason::Reason;
 use crate::refusal::Refusal;
 use crate::stop::Stop;
+use crate::writing::{answer_of, put_text};
 use std::alloc::{AllocError, Global};
-use vw_check::{CheckRefused, PlanFault, check as check_plan};
+use vw_check::{PlanFault, check as check_plan};
 use vw_net::Ordered;
-use vw_outside::{Name, Shelf, Sink, put_all};
+use vw_outside::{Name, Shelf, Sink};
 use vw_plan::{Board, Checked, Plan};
 
 /// What is written of a sound plan.
@@ -29,12 +30,22 @@ fn sound_line(alloc: Global, plan: &Plan) -> Result<Vec<u8>, AllocError>
 }
 
 /// Writes that a plan is sound.
-fn write_sound<O: Sink>(alloc: Global, plan: &Plan, out: &mut O) -> Result<(), Stop>
-    ensures { WritesOut (sound_text plan.now) (O.seen out.old) (O.seen out.new) result }
+fn write_sound<O: Sink>(alloc: Global, checked: Checked, out: &mut O) -> Result<(), Stop>
+    ensures { WritesOut (sound_text checked.plan) (O.seen out.old) (O.seen out.new) result }
 {
-    let line = sound_line(alloc, plan)?;
-    put_all(out, &line)?;
-    Ok(())
+    let line = sound_line(alloc, checked.plan());
+    drop(checked);
+    put_text(line, out)
+}
+
+/// The end of a command whose plan has a fault.
+fn unsound(fault: PlanFault) -> Unfinished
+    ensures { EndsPlanFault fault result }
+{
+    if fault == PlanFault::NoMemory {
+        return Unfinished::Stopped(Stop::NoMemory);
+    }
+    Unfinished::Refused(Refusal::new(Reason::Plan(fault)))
 }
 
 /// The plan, if it is sound.
@@ -50,11 +61,9 @@ fn sound_plan(
     match check_plan(alloc, ordered, board, plan) {
         Ok(checked) => Ok(checked),
         Err(refused) => {
-            let CheckRefused { fault, .. } = refused;
-            if fault == PlanFault::NoMemory {
-                return Err(Unfinished::Stopped(Stop::NoMemory));
-            }
-            Err(Unfinished::Refused(Refusal::new(Reason::Plan(fault))))
+            let fault = refused.fault;
+            drop(refused);
+            Err(unsound(fault))
         }
     }
 }
@@ -73,10 +82,7 @@ fn check_soundness<S: Shelf, O: Sink>(
         out.new)) result }
 {
     let checked = sound_plan(alloc, ordered, board, plan)?;
-    match write_sound(alloc, checked.plan(), out) {
-        Ok(()) => Ok(()),
-        Err(stop) => Err(Unfinished::Stopped(stop)),
-    }
+    answer_of(write_sound(alloc, checked, out))
 }
 
 /// Reads the plan, and checks it.

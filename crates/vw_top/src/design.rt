@@ -7,7 +7,7 @@ ghost use Rattle.vw_design.specs.Limits.{cell_count};
 ghost use Rattle.vw_design.specs.Preorder.{cells};
 ghost use Rattle.vw_flat.specs.Printed.{printed_site};
 ghost use Rattle.vw_order.specs.Faults.{IsOrderFault};
-ghost use Rattle.vw_top.specs.Designs.{SpellsDesign, IsNetlistOf, RefusesDesign, RefusesLoop};
+ghost use Rattle.vw_top.specs.Designs.{SpellsDesign, IsNetlistOf, RefusesText, RefusesElaboration, RefusesDesign, RefusesLoop};
 ghost use Rattle.vw_top.specs.Steps.OrderedDesigns.{IsOrderedOf, EndsLoop};
 ghost use Rattle.vw_top.specs.Steps.Stage.{JudgesText};
 
@@ -17,28 +17,43 @@ use crate::refusal::Refusal;
 use crate::stop::Stop;
 use std::alloc::{AllocError, Global};
 use vw_blif::{TextFault, read};
-use vw_design::ordered_is_loop_free;
+use vw_design::{Design, ordered_is_loop_free};
 use vw_elab::{DesignFault, Elaborated, elaborate};
 use vw_flat::{flatten, path_of};
 use vw_net::{Flat, Ordered, Sequence};
 use vw_order::{OrderFault, OrderRefused, order};
 use vw_outside::Name;
 
-/// The elaborated design of a text.
-fn elaborated_of_text(alloc: Global, text: &[u8]) -> Result<Elaborated, Unfinished>
-    ensures { JudgesText (λ elaborated. SpellsDesign text.now elaborated × IsAccepted elaborated)
-        (RefusesDesign text.now) result }
+/// The design that a text spells.
+fn design_of_text(alloc: Global, text: &[u8]) -> Result<Design, Unfinished>
+    ensures { JudgesText (SpellsDesign text.now) (RefusesText text.now) result }
 {
-    let design = match read(alloc, text) {
-        Ok(design) => design,
-        Err(TextFault::NoMemory) => return Err(Unfinished::Stopped(Stop::NoMemory)),
-        Err(fault) => return Err(Unfinished::Refused(Refusal::new(Reason::Design(fault)))),
-    };
+    match read(alloc, text) {
+        Ok(design) => Ok(design),
+        Err(TextFault::NoMemory) => Err(Unfinished::Stopped(Stop::NoMemory)),
+        Err(fault) => Err(Unfinished::Refused(Refusal::new(Reason::Design(fault)))),
+    }
+}
+
+/// A design, elaborated.
+fn elaborated_of(alloc: Global, design: Design) -> Result<Elaborated, Unfinished>
+    ensures { JudgesText (λ elaborated. (elaborated ≡ design) × IsAccepted design)
+        (RefusesElaboration design) result }
+{
     match elaborate(alloc, design) {
         Ok(elaborated) => Ok(elaborated),
         Err(DesignFault::NoMemory) => Err(Unfinished::Stopped(Stop::NoMemory)),
         Err(fault) => Err(Unfinished::Refused(Refusal::new(Reason::Elaboration(fault)))),
     }
+}
+
+/// The elaborated design of a text.
+fn elaborated_of_text(alloc: Global, text: &[u8]) -> Result<Elaborated, Unfinished>
+    ensures { JudgesText (λ elaborated. SpellsDesign text.now elaborated × IsAccepted elaborated)
+        (RefusesDesign text.now) result }
+{
+    let design = design_of_text(alloc, text)?;
+    elaborated_of(alloc, design)
 }
 
 /// The nets that cells drive, as they are printed.
@@ -96,5 +111,7 @@ pub fn netlist_of_text(alloc: Global, text: &[u8]) -> Result<Ordered, Unfinished
     ensures { JudgesText (IsNetlistOf text.now) (RefusesDesign text.now) result }
 {
     let elaborated = elaborated_of_text(alloc, text)?;
-    ordered_of(alloc, &elaborated)
+    let ordered = ordered_of(alloc, &elaborated);
+    drop(elaborated);
+    ordered
 }

@@ -15,6 +15,7 @@ mod sim;
 mod statuses;
 mod stop;
 mod words;
+mod writing;
 
 pub use commands::virtual_wires;
 pub use endings::Unfinished;

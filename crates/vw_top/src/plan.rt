@@ -3,6 +3,7 @@ ghost use Rattle.std.specs.Prelude.{◌≡◌};
 ghost use Rattle.vw_run.specs.Compiled.{IsCompiled};
 ghost use Rattle.vw_top.specs.Course.{Follows, outside};
 ghost use Rattle.vw_top.specs.Commands.{RefusesFit, good_course, plan_board_course, plan_course, text_of_plan};
+ghost use Rattle.vw_top.specs.Steps.Plans.{EndsCompileFault};
 ghost use Rattle.vw_top.specs.Steps.Stage.{JudgesText, WritesOut};
 
 use crate::endings::Unfinished;
@@ -10,20 +11,33 @@ use crate::files::{read_board, read_design};
 use crate::reason::Reason;
 use crate::refusal::Refusal;
 use crate::stop::Stop;
+use crate::writing::{answer_of, put_text};
 use std::alloc::Global;
 use vw_net::Ordered;
-use vw_outside::{Name, Shelf, Sink, put_all};
-use vw_plan::{Board, Checked, Plan};
+use vw_outside::{Name, Shelf, Sink};
+use vw_plan::{Board, Checked};
 use vw_plantext::print;
 use vw_run::{CompileFault, compile};
 
 /// Writes the text of a plan.
-fn write_plan<O: Sink>(alloc: Global, plan: &Plan, out: &mut O) -> Result<(), Stop>
-    ensures { WritesOut (text_of_plan plan.now) (O.seen out.old) (O.seen out.new) result }
+fn write_plan<O: Sink>(alloc: Global, checked: Checked, out: &mut O) -> Result<(), Stop>
+    ensures { WritesOut (text_of_plan checked.plan) (O.seen out.old) (O.seen out.new) result }
 {
-    let text = print(alloc, plan)?;
-    put_all(out, &text)?;
-    Ok(())
+    let text = print(alloc, checked.plan());
+    drop(checked);
+    put_text(text, out)
+}
+
+/// The end of a command for which there is no plan.
+fn no_plan(fault: CompileFault) -> Unfinished
+    ensures { EndsCompileFault fault result }
+{
+    match fault {
+        CompileFault::TooManyCells { cells, room } => {
+            Unfinished::Refused(Refusal::new(Reason::Fit { cells, room }))
+        }
+        CompileFault::NoMemory => Unfinished::Stopped(Stop::NoMemory),
+    }
 }
 
 /// A good plan, if the cells have room.
@@ -32,12 +46,7 @@ fn good_plan(alloc: Global, ordered: Ordered, board: Board) -> Result<Checked, U
 {
     match compile(alloc, ordered, board) {
         Ok(checked) => Ok(checked),
-        Err(refused) => match refused.fault {
-            CompileFault::TooManyCells { cells, room } => {
-                Err(Unfinished::Refused(Refusal::new(Reason::Fit { cells, room })))
-            }
-            CompileFault::NoMemory => Err(Unfinished::Stopped(Stop::NoMemory)),
-        },
+        Err(refused) => Err(no_plan(refused.fault)),
     }
 }
 
@@ -54,10 +63,7 @@ fn plan_on_board<S: Shelf, O: Sink>(
         out.new)) result }
 {
     let checked = good_plan(alloc, ordered, board)?;
-    match write_plan(alloc, checked.plan(), out) {
-        Ok(()) => Ok(()),
-        Err(stop) => Err(Unfinished::Stopped(stop)),
-    }
+    answer_of(write_plan(alloc, checked, out))
 }
 
 /// Reads the board, makes a plan on it, and writes it.

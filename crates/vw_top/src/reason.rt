@@ -1,4 +1,6 @@
 ghost use Rattle.std.specs.Prelude.{◌≡◌, IfOk};
+ghost use Rattle.vw_top.specs.Reasons.{reason_line};
+ghost use Rattle.vw_top.specs.declared.reason.Reason.TheVariants.{Usage, Fit};
 
 use std::alloc::{AllocError, Global};
 use vw_blif::TextFault;
@@ -38,6 +40,22 @@ pub enum Reason {
     },
 }
 
+/// The message line for words that spell no command, the word at this place being the first wrong one.
+fn usage_line(alloc: Global, place: u64) -> Result<Vec<u8>, AllocError>
+    ensures { IfOk result (λ line. line.items ≡ reason_line (Usage place)) }
+{
+    let line = format!(in alloc; "usage: word {place}\n")?;
+    Ok(line.into_bytes())
+}
+
+/// The message line for a design that has more cells than all chips have room for.
+fn fit_line(alloc: Global, cells: u64, room: u64) -> Result<Vec<u8>, AllocError>
+    ensures { IfOk result (λ line. line.items ≡ reason_line (Fit cells room)) }
+{
+    let line = format!(in alloc; "fit: {cells} cells, room for {room}\n")?;
+    Ok(line.into_bytes())
+}
+
 impl Reason {
     ghost use Rattle.vw_top.specs.Reasons.{reason_status, reason_line};
 
@@ -63,18 +81,12 @@ impl Reason {
             Reason::Design(fault) => fault.text(alloc),
             Reason::Elaboration(fault) => fault.text(alloc),
             Reason::Loop(names) => line_of_names(alloc, b"design 25: loop", names.as_slice()),
-            Reason::Usage(place) => {
-                let line = format!(in alloc; "usage: word {place}\n")?;
-                Ok(line.into_bytes())
-            }
+            Reason::Usage(place) => usage_line(alloc, *place),
             Reason::Board(fault) => fault.text(alloc),
             Reason::PlanText(fault) => fault.text(alloc),
             Reason::Plan(fault) => fault.text(alloc),
             Reason::Stimulus(fault) => fault.text(alloc),
-            Reason::Fit { cells, room } => {
-                let line = format!(in alloc; "fit: {cells} cells, room for {room}\n")?;
-                Ok(line.into_bytes())
-            }
+            Reason::Fit { cells, room } => fit_line(alloc, *cells, *room),
         }
     }
 }

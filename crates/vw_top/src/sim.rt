@@ -11,6 +11,7 @@ use crate::reason::Reason;
 use crate::refusal::Refusal;
 use crate::run::write_trace;
 use crate::stop::{File, Stop};
+use crate::writing::answer_of;
 use std::alloc::Global;
 use vw_net::Ordered;
 use vw_outside::{Name, Shelf, Sink};
@@ -51,8 +52,7 @@ pub fn sim<S: Shelf, O: Sink>(
 {
     let ordered = read_design(alloc, shelf, design)?;
     let rows = read_rows(alloc, shelf, stimulus, &ordered)?;
-    match write_trace(alloc, &ordered, unknown, &rows, out) {
-        Ok(()) => Ok(()),
-        Err(stop) => Err(Unfinished::Stopped(stop)),
-    }
+    let written = write_trace(alloc, &ordered, unknown, &rows, out);
+    drop(ordered);
+    answer_of(written)
 }

@@ -2,7 +2,7 @@
 use Rattle.std.specs.Prelude.{◌==◌, [], length, slice_get, slice_index_or}
 use Rattle.vw_design.specs.declared.design.Design.{Design}
 use Rattle.vw_design.specs.ModelNumbers.{is_reached_model}
-use Rattle.vw_search.specs.Graphs.{Graph}
+use Rattle.vw_order.specs.Graphs.{Graph}
 use Rattle.vw_models.specs.Steps.Reach.{Targets}
 
 -- the root has to be reached, and the reached models count

@@ -2,7 +2,7 @@
 use Rattle.std.specs.Prelude.{◌≡◌, ℕ, Bool, true, false, List, map, filter, is_some, slice_get, slice_index_or, slice_set, Option, Some, None, if◌then◌else◌}
 use Rattle.vw_design.specs.Paths.{Word}
 use Rattle.vw_design.specs.PathValue.{place_of_name}
-use Rattle.vw_claims.specs.Firsts.{First, number_named}
+use Rattle.vw_drivers.specs.Firsts.{First, number_named}
 use Rattle.vw_nets.specs.declared.columns.Columns.{Columns}
 
 -- a number without a mark

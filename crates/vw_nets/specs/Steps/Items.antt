@@ -4,8 +4,8 @@ use Rattle.std.specs.Borrow.{Bor}
 use Rattle.vw_design.specs.declared.item.Item.{Item}
 use Rattle.vw_design.specs.declared.design.Design.{Design}
 use Rattle.vw_design.specs.Paths.{Word}
-use Rattle.vw_walk.specs.declared.tables.CellSite.{CellSite}
-use Rattle.vw_claims.specs.Firsts.{First, number_named}
+use Rattle.vw_instances.specs.declared.tables.CellSite.{CellSite}
+use Rattle.vw_drivers.specs.Firsts.{First, number_named}
 use Rattle.vw_drivers.specs.declared.tables.Tables.{Tables}
 
 -- an item, and a name, that lies elsewhere, if there is one

@@ -5,8 +5,8 @@ use Rattle.vw_design.specs.declared.design.Design.{Design}
 use Rattle.vw_design.specs.Paths.{Word, Path, model_at}
 use Rattle.vw_design.specs.PathValue.{item_at, place_of_site}
 use Rattle.vw_design.specs.Preorder.{instances, sites}
-use Rattle.vw_claims.specs.declared.claim.Again.{Again}
-use Rattle.vw_claims.specs.Claimed.{again_at}
+use Rattle.vw_drivers.specs.declared.claim.Again.{Again}
+use Rattle.vw_drivers.specs.Claimed.{again_at}
 use Rattle.vw_drivers.specs.declared.tables.Tables.{Tables}
 use Rattle.vw_nets.specs.declared.two_drivers.Second.{Second}
 

@@ -10,7 +10,7 @@ use Rattle.vw_design.specs.Preorder.{cells}
 use Rattle.vw_design.specs.Reads.{net_at, nets_at, data_of, controls_of}
 use Rattle.vw_design.specs.Clocks.{clock_ports}
 use Rattle.vw_design.specs.NetFaults.{is_cell_source, is_clock_source}
-use Rattle.vw_claims.specs.Firsts.{First, number_named}
+use Rattle.vw_drivers.specs.Firsts.{First, number_named}
 use Rattle.vw_drivers.specs.declared.source.Source.{Source}
 use Rattle.vw_drivers.specs.declared.source.Source.TheVariants.{Port, Cell}
 use Rattle.vw_nets.specs.declared.wanted.Wanted.{Wanted}

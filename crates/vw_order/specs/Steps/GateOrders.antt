@@ -1,8 +1,8 @@
 -- What a search answers of a netlist.
 use Rattle.vw_net.specs.declared.flat.Flat.{Flat}
 use Rattle.vw_net.specs.Order.{IsOrder}
-use Rattle.vw_search.specs.declared.depth_first.Found.{Found}
-use Rattle.vw_search.specs.declared.depth_first.Found.TheVariants.{Order, Circle}
+use Rattle.vw_order.specs.declared.depth_first.Found.{Found}
+use Rattle.vw_order.specs.declared.depth_first.Found.TheVariants.{Order, Circle}
 use Rattle.vw_order.specs.Loops.{IsLoop}
 
 -- an order of the gates, or a loop as it is listed

@@ -3,7 +3,7 @@ use Rattle.std.specs.Prelude.{ℕ, ◌-◌, List, length, map, nat_lt, slice_get
 use Rattle.vw_net.specs.declared.cell.Cell.{Cell}
 use Rattle.vw_net.specs.declared.flat.Flat.{Flat}
 use Rattle.vw_net.specs.Order.{is_gate, gate_inputs}
-use Rattle.vw_search.specs.Graphs.{Graph}
+use Rattle.vw_order.specs.Graphs.{Graph}
 
 -- the number of the gate that drives a net
 abbrev pub gate_of : ℕ → List Cell → ℕ → Option ℕ

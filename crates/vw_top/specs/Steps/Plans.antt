@@ -1,10 +1,32 @@
 -- What is made of a plan that is sound.
-use Rattle.std.specs.Prelude.{◌≡◌}
+use Rattle.std.specs.Prelude.{◌≡◌, ℕ, IsTrue}
 use Rattle.vw_plan.specs.declared.checked.Checked.{Checked}
 use Rattle.vw_plan.specs.Setting.{Setting}
 use Rattle.vw_plan.specs.Sound.{IsSound}
+use Rattle.vw_check.specs.declared.fault.PlanFault.{PlanFault}
+use Rattle.vw_check.specs.Answers.{is_plan_fault}
+use Rattle.vw_run.specs.declared.fault.CompileFault.{CompileFault}
+use Rattle.vw_run.specs.declared.fault.CompileFault.TheVariants.{TooManyCells}
+use Rattle.vw_top.specs.declared.reason.Reason.TheVariants as reasons
+use Rattle.vw_top.specs.declared.endings.Unfinished.{Unfinished}
+use Rattle.vw_top.specs.declared.endings.Unfinished.TheVariants.{Stopped, Refused}
+use Rattle.vw_top.specs.declared.stop.Stop.TheVariants.{ReadFault, WriteFault, NoMemory}
 
 -- the plan of the setting, which is sound
 pub record IsCheckedPlan (setting : Setting) (checked : Checked) : Type 0 where
   pub sound : IsSound setting
   pub plan : checked.plan ≡ setting.plan
+
+-- the command refuses for the fault; for want of memory, and for nothing else, it is stopped
+abbrev pub EndsPlanFault : PlanFault → Unfinished → Type 0
+EndsPlanFault fault (Refused refusal) = (refusal.reason ≡ reasons.Plan fault) × IsTrue (is_plan_fault fault)
+EndsPlanFault fault (Stopped NoMemory) = Unit {0}
+EndsPlanFault fault (Stopped WriteFault) = ⊥
+EndsPlanFault fault (Stopped (ReadFault file)) = ⊥
+
+-- the command refuses for want of room
+abbrev pub EndsCompileFault : CompileFault → Unfinished → Type 0
+EndsCompileFault fault (Refused refusal) = (cells room : ℕ) × (fault ≡ TooManyCells cells room) × (refusal.reason ≡ reasons.Fit cells room)
+EndsCompileFault fault (Stopped NoMemory) = Unit {0}
+EndsCompileFault fault (Stopped WriteFault) = ⊥
+EndsCompileFault fault (Stopped (ReadFault file)) = ⊥

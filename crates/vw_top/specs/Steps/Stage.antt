@@ -35,3 +35,8 @@ JudgesText Good Bad (Err (Refused refusal)) = Bad refusal.reason
 JudgesText Good Bad (Err (Stopped NoMemory)) = Unit {0}
 JudgesText Good Bad (Err (Stopped WriteFault)) = ⊥
 JudgesText Good Bad (Err (Stopped (ReadFault file))) = ⊥
+
+-- the answer of a command that wrote its text, or that a stop ended while it wrote
+abbrev pub answer_of : Result (Unit {0}) Stop → Result (Unit {0}) Unfinished
+answer_of (Ok done) = Ok done
+answer_of (Err stop) = Err (Stopped stop)

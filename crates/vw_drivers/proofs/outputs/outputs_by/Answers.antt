@@ -1,7 +1,7 @@
 use Rattle.std.proofs.Common.{◌≡◌, ◌<◌, ◌-◌, List, length, get_or, length-set, ◌∙◌, ap, ap₂, arith}
 use Rattle.std.proofs.lemmas.Option.{slice_get-get_or}
-use Rattle.vw_walk.specs.declared.tables.Placed.{Placed}
-use Rattle.vw_drivers.specs.Steps.{Rows, outputs_made}
+use Rattle.vw_instances.specs.declared.tables.Placed.{Placed}
+use Rattle.vw_drivers.specs.Steps.FoundDrivers.{Rows, outputs_made}
 use Rattle.vw_drivers.proofs.OutputRows.{outputs_set}
 use Rattle.vw_drivers.proofs.outputs.outputs_by.Goals as goal
 

@@ -1,6 +1,6 @@
 -- the ways so far were followed
 use Rattle.std.proofs.Common.{◌≡◌, ◌++◌, drop, map}
-use Rattle.vw_drivers.specs.Steps.{output_led}
+use Rattle.vw_drivers.specs.Steps.FoundDrivers.{output_led}
 use Rattle.vw_drivers.proofs.outputs.outputs_row.Given as goal
 
 abbrev pub invariant-loop-way : goal.invariant-loop-way

@@ -1,8 +1,8 @@
 use Rattle.std.proofs.Common.{◌≡◌, ◌<◌, ◌∷◌, [], List, length, get_or, length-append, sym, ◌∙◌, ap, ap₂, arith}
 use Rattle.std.proofs.lemmas.Option.{slice_get-get_or, slice_get_within}
 use Rattle.vw_design.specs.Preorder.{instances}
-use Rattle.vw_walk.specs.declared.tables.Placed.{Placed}
-use Rattle.vw_drivers.specs.Steps.{Rows, ports_made}
+use Rattle.vw_instances.specs.declared.tables.Placed.{Placed}
+use Rattle.vw_drivers.specs.Steps.FoundDrivers.{Rows, ports_made}
 use Rattle.vw_drivers.proofs.PortRows.{ports_more}
 use Rattle.vw_drivers.proofs.ports.ports_by.Goals as goal
 

@@ -1,6 +1,6 @@
 -- what the row becomes with the ways that are left
 use Rattle.std.proofs.Common.{◌≡◌, drop}
-use Rattle.vw_drivers.specs.Steps.{with_ways, ports_made}
+use Rattle.vw_drivers.specs.Steps.FoundDrivers.{with_ways, ports_made}
 use Rattle.vw_drivers.proofs.ports.ports_row.Given as goal
 
 abbrev pub invariant-loop-way : goal.invariant-loop-way

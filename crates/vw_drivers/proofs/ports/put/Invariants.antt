@@ -1,6 +1,6 @@
 -- what the row becomes with the driver
 use Rattle.std.proofs.Common.{◌≡◌, length}
-use Rattle.vw_drivers.specs.Steps.{with_port}
+use Rattle.vw_drivers.specs.Steps.FoundDrivers.{with_port}
 use Rattle.vw_drivers.proofs.ports.put.Given as goal
 
 abbrev pub invariant-loop : goal.invariant-loop

@@ -1,6 +1,6 @@
 use Rattle.std.proofs.Common.{◌≡◌, ℕ, List, ◌++◌, ◌∷◌, [], codes, ◌∙◌, ap, ap₂, append_assoc}
 use Rattle.std.specs.Fmt.{decimal}
-use Rattle.vw_sizes.specs.Quantities.{quantity_word}
+use Rattle.vw_instances.specs.Quantities.{quantity_word}
 use Rattle.vw_elab.proofs.fault.of_limit.Goals as goal
 
 -- the pieces in the order in which they are joined

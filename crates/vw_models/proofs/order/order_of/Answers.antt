@@ -2,9 +2,9 @@ use Rattle.std.proofs.Common.{ℕ, List, get_or, sym, subst, ap, ◌∙◌}
 use Rattle.vw_design.specs.Paths.{Word}
 use Rattle.vw_design.specs.ModelFaults.{IsModelCircle}
 use Rattle.vw_design.specs.ModelNumbers.{IsModelOrder}
-use Rattle.vw_search.specs.Circles.{IsNumberCircle, BeginsWithLeast}
-use Rattle.vw_search.specs.Orders.{IsNumberOrder}
-use Rattle.vw_search.proofs.Among.{at_among}
+use Rattle.vw_order.specs.Circles.{IsNumberCircle, BeginsWithLeast}
+use Rattle.vw_order.specs.Orders.{IsNumberOrder}
+use Rattle.vw_order.proofs.Among.{at_among}
 use Rattle.vw_models.specs.Steps.ModelGraphs.{graph_of_models}
 use Rattle.vw_models.specs.Steps.ModelNames.{names_of}
 use Rattle.vw_models.proofs.Models.{search_within}

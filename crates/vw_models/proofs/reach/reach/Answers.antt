@@ -3,7 +3,7 @@ use Rattle.std.proofs.lemmas.List.{get_or_default}
 use Rattle.vw_net.specs.Order.{is_among}
 use Rattle.vw_models.specs.Steps.Reach.{with_number, with_targets}
 use Rattle.vw_models.proofs.Reaches.{IsReaching, start, go_on, short, all_reached}
-use Rattle.vw_search.proofs.Among.{at_among}
+use Rattle.vw_order.proofs.Among.{at_among}
 use Rattle.vw_models.proofs.reach.reach.Goals as goal
 use Rattle.vw_models.proofs.reach.reach.Goals.{else-loop-at-test, then-loop-at-test+then-at-len}
 

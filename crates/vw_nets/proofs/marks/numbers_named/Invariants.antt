@@ -1,6 +1,6 @@
 -- the numbers so far, and those of the names that are left
 use Rattle.std.proofs.Common.{◌≡◌, ◌++◌, drop, filter_map}
-use Rattle.vw_claims.specs.Firsts.{number_named}
+use Rattle.vw_drivers.specs.Firsts.{number_named}
 use Rattle.vw_nets.proofs.marks.numbers_named.Given as goal
 
 abbrev pub invariant-loop-name : goal.invariant-loop-name

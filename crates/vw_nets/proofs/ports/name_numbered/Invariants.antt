@@ -1,6 +1,6 @@
 -- nothing is found yet
 use Rattle.std.proofs.Common.{◌≡◌, drop, find}
-use Rattle.vw_claims.specs.Firsts.{number_named}
+use Rattle.vw_drivers.specs.Firsts.{number_named}
 use Rattle.vw_nets.specs.Steps.Ports.{has_number}
 use Rattle.vw_nets.proofs.ports.name_numbered.Given as goal
 

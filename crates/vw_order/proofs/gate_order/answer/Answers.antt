@@ -1,12 +1,12 @@
 use Rattle.std.proofs.lemmas.Result.{IfOk-weaker}
 use Rattle.vw_net.specs.declared.flat.Flat.{Flat}
-use Rattle.vw_search.specs.declared.depth_first.Found.{Found}
-use Rattle.vw_search.specs.declared.depth_first.Found.TheVariants.{Order, Circle}
-use Rattle.vw_search.specs.SearchResults.{IsFound}
+use Rattle.vw_order.specs.declared.depth_first.Found.{Found}
+use Rattle.vw_order.specs.declared.depth_first.Found.TheVariants.{Order, Circle}
+use Rattle.vw_order.specs.SearchResults.{IsFound}
 use Rattle.vw_order.specs.Steps.Gates.{gates}
 use Rattle.vw_order.specs.Steps.GateOrders.{IsAnswered}
 use Rattle.vw_order.proofs.Inputs.{within}
-use Rattle.vw_order.proofs.Orders.{is_order}
+use Rattle.vw_order.proofs.OrderedGates.{is_order}
 use Rattle.vw_order.proofs.Loops.{is_loop}
 use Rattle.vw_order.proofs.gate_order.answer.Goals as goal
 

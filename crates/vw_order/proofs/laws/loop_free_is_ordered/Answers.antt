@@ -1,7 +1,7 @@
 use Rattle.std.proofs.Common.{⊎_elim}
 use Rattle.vw_order.specs.Steps.Gates.{gates}
 use Rattle.vw_order.proofs.Inputs.{within}
-use Rattle.vw_order.proofs.Orders.{is_order}
+use Rattle.vw_order.proofs.OrderedGates.{is_order}
 use Rattle.vw_order.proofs.Loops.{is_loop}
 use Rattle.vw_order.proofs.laws.loop_free_is_ordered.Goals as goal
 

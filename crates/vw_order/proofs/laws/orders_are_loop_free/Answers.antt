@@ -1,4 +1,4 @@
-use Rattle.vw_order.proofs.NoCircle.{no_circle}
+use Rattle.vw_order.proofs.NoGateCircle.{no_circle}
 use Rattle.vw_order.proofs.laws.orders_are_loop_free.Goals as goal
 
 -- along a circle places in the order would fall

@@ -1,7 +1,7 @@
 use Rattle.std.proofs.Common.{◌≡◌, ◌≤◌, ◌+◌, ◌-◌, ◌*◌, ◌∙◌, ℕ, List, length, get_or, ap, ap₂, refl, arith}
 use Rattle.vw_plan.specs.declared.link.Link.{Link}
 use Rattle.vw_plan.proofs.FewLinks.{few_links_on}
-use Rattle.vw_phase.proofs.LinkNumbers.{all_numbers, ends_low, one_more}
+use Rattle.vw_phase.proofs.LinkNumbers.{all_numbers, ends_low, none_from, one_more}
 use Rattle.vw_phase.proofs.links.link_numbers.Goals as goal
 
 -- a board has few links
@@ -23,3 +23,18 @@ loop-number-preserved c =
 -- at the front all links are in
 pub returns : goal.returns
 returns c = all_numbers c.args.board.now c.loop-number.number c.loop-number.numbers.items (omega arith) c.loop-number.invariant
+
+-- before the first step no link is in
+pub loop-number-init : goal.loop-number-init
+loop-number-init c = none_from c.args.board.now.links (length c.links-links.result.now) c.in_ok-numbers.numbers.items (omega (arith, ap length c.links-links.ensures)) (omega (arith, c.in_ok-numbers.ensures.len, c.in_ok-numbers.numbers.ok.0))
+
+-- the ends of a link are below 33
+pub index_mut-requires : goal.index_mut-requires
+index_mut-requires c =
+    let links = c.args.board.now.links in
+    let none : Link = record { from = 0; to = 0; width = 0 } in
+    let place = c.loop-number.number - 1 in
+    let low = ends_low c.args.board.now place none (omega (arith, c.loop-number-test.true, ap length c.links-links.ensures, c.loop-number.auto.number)) in
+    let from : c.from.result ≡ (get_or links place none).from = c.from.ensures ∙ ap (λ (list : List Link). (get_or list place none).from) c.links-links.ensures in
+    let to : c.to.result ≡ (get_or links place none).to = c.to.ensures ∙ ap (λ (list : List Link). (get_or list place none).to) c.links-links.ensures in
+    omega (arith, from, to, low.0, low.1, c.loop-number.invariant.long)

@@ -1,7 +1,7 @@
 use Rattle.std.proofs.Common.{◌≡◌, ◌==◌, ◌&&◌, ℕ, zero, suc, Bool, true, false, cond, List, [], ◌∷◌, map, slice_get, nat_lt, Some, None, refl, subst}
 use Rattle.std.proofs.lemmas.Bool.{and_parts, ltb-true}
 use Rattle.std.proofs.lemmas.Option.{none-some, same_Some}
-use Rattle.vw_search.specs.Graphs.{IsWithin}
+use Rattle.vw_order.specs.Graphs.{IsWithin}
 use Rattle.vw_plan_tests.specs.GraphTables.{read_in_line, graph_of_table}
 use Rattle.vw_plan_tests.proofs.search.look_at.Goals as goal
 

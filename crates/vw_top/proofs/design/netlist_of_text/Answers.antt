@@ -26,4 +26,4 @@ module _ (text : List ℕ) (design : Design) (spelled : SpellsDesign text design
 pub returns : goal.returns
 returns c =
     let is = c.in_ok-elaborated.ensures in
-    of_design c.args.text.now c.in_ok-elaborated.elaborated is.0 is.1 c.ordered_of.result c.ordered_of.ensures
+    of_design c.args.text.now c.in_ok-elaborated.elaborated is.0 is.1 c.ordered_of-ordered.result c.ordered_of-ordered.ensures

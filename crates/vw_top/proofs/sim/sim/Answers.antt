@@ -1,21 +1,18 @@
-use Rattle.std.proofs.Common.{◌≡◌, ℕ, List, Bool, length, Ok, Err, refl, subst, ap₂}
+use Rattle.std.proofs.Common.{◌≡◌, ℕ, List, Bool, length, Ok, Err, refl, subst}
 use Rattle.std.proofs.lemmas.Result.{err_from_is_err_and}
 use Rattle.vw_net.specs.declared.ordered.Ordered.{Ordered}
 use Rattle.vw_design.specs.declared.design.Design.{Design}
 use Rattle.vw_design.specs.Clocks.{columns}
 use Rattle.vw_design.specs.Flattened.{IsFlatOf}
-use Rattle.vw_outside.specs.Reads.{SeenShelf}
-use Rattle.vw_outside.specs.Writes.{SeenSink}
 use Rattle.vw_top.specs.declared.stop.File.TheVariants as files
 use Rattle.vw_top.specs.declared.endings.Unfinished.{Unfinished}
-use Rattle.vw_top.specs.declared.endings.Unfinished.TheVariants.{Stopped}
 use Rattle.vw_top.specs.Designs.{IsDesignOf, RefusesDesign, design_apart, IsNetlistOf}
 use Rattle.vw_top.specs.Course.{Course, writes, reads, judges, Outside, outside, Answer, Follows, EndsWriting}
 use Rattle.vw_top.specs.Commands.{sim_course, IsRowsOf, RefusesRows, rows_apart, trace_of}
 use Rattle.vw_top.specs.Steps.FlatTrace.{flat_trace}
 use Rattle.vw_top.specs.Steps.Stage.{StageEnds}
 use Rattle.vw_top.proofs.FlatTraces.{trace_same}
-use Rattle.vw_top.proofs.StageLaws.{stage_ends, stage_goes_on, writing_stops}
+use Rattle.vw_top.proofs.StageLaws.{stage_ends, stage_goes_on, writing_ends}
 use Rattle.vw_top.proofs.sim.sim.Goals as goal
 
 module _ (design stimulus : List ℕ) (unknown : Bool) (ordered : Ordered) where
@@ -57,22 +54,12 @@ returns-in_err-rows g c =
     rw (p.1, p.2) (after_design c.args.design.now c.args.stimulus.now c.args.unknown c.in_ok-ordered.ordered (outside (g.S.Shelf.seen c.args.shelf.now) out) mid after (Err c.in_err-rows.field-0.0) refl c.in_ok-ordered.ensures
     (rows_end c.args.design.now c.args.stimulus.now c.args.unknown c.in_ok-ordered.ordered mid after c.in_err-rows.field-0.0 refl c.in_err-rows.ensures.judges))
 
-pub returns-in-Ok : goal.returns-in-Ok
-returns-in-Ok g c =
-    let out = g.O.Sink.seen c.args.out.now in
-    let mid : Outside = outside (g.S.Shelf.seen c.read_design.new.shelf) out in
-    let read : Outside = outside (g.S.Shelf.seen c.read_rows.new.shelf) out in
-    let after : Outside = outside (g.S.Shelf.seen c.read_rows.new.shelf) (g.O.Sink.seen c.write_trace.new.out) in
-    after_design c.args.design.now c.args.stimulus.now c.args.unknown c.in_ok-ordered.ordered (outside (g.S.Shelf.seen c.args.shelf.now) out) mid after (Ok tt) refl c.in_ok-ordered.ensures
-    (after_rows c.args.design.now c.args.stimulus.now c.args.unknown c.in_ok-ordered.ordered mid read after (Ok tt) c.in_ok-rows.rows refl c.in_ok-rows.ensures.judges
-    (ap₂ (λ (s : SeenShelf) (o : SeenSink). outside s o) refl c.in-Ok.ensures))
-
 pub returns : goal.returns
 returns g c =
     let out = g.O.Sink.seen c.args.out.now in
     let mid : Outside = outside (g.S.Shelf.seen c.read_design.new.shelf) out in
     let read : Outside = outside (g.S.Shelf.seen c.read_rows.new.shelf) out in
-    let after : Outside = outside (g.S.Shelf.seen c.read_rows.new.shelf) (g.O.Sink.seen c.write_trace.new.out) in
-    after_design c.args.design.now c.args.stimulus.now c.args.unknown c.in_ok-ordered.ordered (outside (g.S.Shelf.seen c.args.shelf.now) out) mid after (Err (Stopped c.in-Err.stop)) refl c.in_ok-ordered.ensures
-    (after_rows c.args.design.now c.args.stimulus.now c.args.unknown c.in_ok-ordered.ordered mid read after (Err (Stopped c.in-Err.stop)) c.in_ok-rows.rows refl c.in_ok-rows.ensures.judges
-    (writing_stops (flat_trace c.args.unknown c.in_ok-ordered.ordered.flat c.in_ok-rows.rows) read after c.in-Err.stop refl c.in-Err.ensures))
+    let after : Outside = outside (g.S.Shelf.seen c.read_rows.new.shelf) (g.O.Sink.seen c.write_trace-written.new.out) in
+    after_design c.args.design.now c.args.stimulus.now c.args.unknown c.in_ok-ordered.ordered (outside (g.S.Shelf.seen c.args.shelf.now) out) mid after c.answer_of.result refl c.in_ok-ordered.ensures
+    (after_rows c.args.design.now c.args.stimulus.now c.args.unknown c.in_ok-ordered.ordered mid read after c.answer_of.result c.in_ok-rows.rows refl c.in_ok-rows.ensures.judges
+    (writing_ends (flat_trace c.args.unknown c.in_ok-ordered.ordered.flat c.in_ok-rows.rows) read after c.write_trace-written.result c.answer_of.result c.answer_of.ensures refl c.write_trace-written.ensures))

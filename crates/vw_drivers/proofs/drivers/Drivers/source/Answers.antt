@@ -1,6 +1,6 @@
 use Rattle.std.proofs.Common.{sym, ◌∙◌, ap₂, subst}
 use Rattle.vw_drivers.specs.Drivers.{IsSource}
-use Rattle.vw_drivers.specs.Steps.{Rows, led}
+use Rattle.vw_drivers.specs.Steps.FoundDrivers.{Rows, led}
 use Rattle.vw_drivers.proofs.Answered.{source_is}
 use Rattle.vw_drivers.proofs.drivers.Drivers.source.Goals as goal
 

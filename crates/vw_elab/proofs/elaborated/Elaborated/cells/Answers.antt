@@ -2,7 +2,7 @@ use Rattle.std.proofs.Common.{◌≡◌, sym, ◌∙◌, ap, arith}
 use Rattle.vw_design.specs.Limits.{cell_count}
 use Rattle.vw_design.specs.Preorder.{instances, cells}
 use Rattle.vw_design.proofs.FilteredLists.{AllZip-length}
-use Rattle.vw_walk.specs.Tables.{IsCellSite}
+use Rattle.vw_instances.specs.Tables.{IsCellSite}
 use Rattle.vw_elab.proofs.elaborated.Elaborated.cells.Goals as goal
 
 -- there are as many entries as cells, which are within the limit

@@ -1,7 +1,7 @@
 use Rattle.std.proofs.Common.{◌<◌, List, get_or, sym, subst}
 use Rattle.vw_design.specs.declared.design.Design.{Design}
 use Rattle.vw_design.specs.Limits.{instance_count}
-use Rattle.vw_walk.specs.declared.tables.Placed.{Placed}
+use Rattle.vw_instances.specs.declared.tables.Placed.{Placed}
 use Rattle.vw_elab.specs.Numbers.{IsInstance}
 use Rattle.vw_elab.proofs.ReadTables.{instance_of, instance_read}
 use Rattle.vw_elab.proofs.elaborated.Elaborated.instance.Goals as goal

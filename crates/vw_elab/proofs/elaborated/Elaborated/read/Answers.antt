@@ -4,9 +4,9 @@ use Rattle.vw_design.specs.declared.design.Design.{Design}
 use Rattle.vw_design.specs.Drivers.{driver}
 use Rattle.vw_design.specs.Paths.{Word}
 use Rattle.vw_design.specs.Preorder.{Site, cells, instances}
-use Rattle.vw_claims.specs.Firsts.{number_named}
+use Rattle.vw_drivers.specs.Firsts.{number_named}
 use Rattle.vw_drivers.specs.Tables.{instance_firsts}
-use Rattle.vw_names.specs.Names.{reads_of}
+use Rattle.vw_drivers.specs.Names.{reads_of}
 use Rattle.vw_elab.specs.declared.driver.Driver.{Driver}
 use Rattle.vw_elab.specs.declared.elaborated.Reading.{Reading}
 use Rattle.vw_elab.specs.Numbers.{driver_of}

@@ -3,8 +3,8 @@ use Rattle.vw_design.specs.declared.design.Design.{Design}
 use Rattle.vw_design.specs.Limits.{cell_count}
 use Rattle.vw_design.specs.Preorder.{Site, instances, cells}
 use Rattle.vw_design.proofs.FilteredLists.{AllZip-length}
-use Rattle.vw_walk.specs.declared.tables.CellSite.{CellSite}
-use Rattle.vw_walk.specs.Tables.{IsCellSite}
+use Rattle.vw_instances.specs.declared.tables.CellSite.{CellSite}
+use Rattle.vw_instances.specs.Tables.{IsCellSite}
 use Rattle.vw_elab.proofs.ReadTables.{site_read}
 use Rattle.vw_elab.proofs.elaborated.Elaborated.site.Goals as goal
 

@@ -2,7 +2,7 @@
 use Rattle.std.proofs.Common.{◌≡◌, ◌++◌, ℕ, Some, drop, take, map, filter, length, slice_get}
 use Rattle.vw_design.specs.Paths.{Word}
 use Rattle.vw_design.specs.PathValue.{place_of_name}
-use Rattle.vw_claims.specs.Firsts.{number_named}
+use Rattle.vw_drivers.specs.Firsts.{number_named}
 use Rattle.vw_nets.specs.Steps.Free.{is_free}
 use Rattle.vw_nets.proofs.columns.Columns.of_names.Given as goal
 

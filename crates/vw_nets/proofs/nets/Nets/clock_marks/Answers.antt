@@ -1,7 +1,7 @@
 use Rattle.std.proofs.Common.{◌∙◌, ◌<◌, ℕ, List, Bool, Some, length, ap, sym, subst}
 use Rattle.vw_net.specs.Order.{is_among}
 use Rattle.vw_design.specs.Clocks.{clock_ports}
-use Rattle.vw_claims.specs.Firsts.{First}
+use Rattle.vw_drivers.specs.Firsts.{First}
 use Rattle.vw_drivers.specs.Tables.{root_firsts}
 use Rattle.vw_nets.proofs.ClockMarks.{number_within, among_numbers}
 use Rattle.vw_nets.proofs.nets.Nets.clock_marks.Goals as goal

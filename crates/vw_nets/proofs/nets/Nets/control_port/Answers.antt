@@ -2,7 +2,7 @@ use Rattle.std.proofs.Common.{◌≡◌, ◌∷◌, [], ◌∙◌, ℕ, Option, 
 use Rattle.std.specs.Prelude.{option_to_list}
 use Rattle.vw_design.specs.Drivers.{driver}
 use Rattle.vw_design.specs.Reads.{controls_of}
-use Rattle.vw_claims.specs.Firsts.{number_named}
+use Rattle.vw_drivers.specs.Firsts.{number_named}
 use Rattle.vw_drivers.specs.Tables.{root_firsts}
 use Rattle.vw_nets.proofs.CellItems.{item_here, numbers_here}
 use Rattle.vw_nets.proofs.PortNumbers.{somes, control_read, ports_here, source_port}

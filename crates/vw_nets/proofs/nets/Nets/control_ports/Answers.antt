@@ -1,6 +1,6 @@
 use Rattle.std.proofs.Common.{◌∙◌, ◌++◌, ◌+◌, List, Some, None, drop, map, get_or, sym, ap, append-nil}
 use Rattle.vw_design.specs.Preorder.{Site, cells}
-use Rattle.vw_claims.specs.Firsts.{number_named}
+use Rattle.vw_drivers.specs.Firsts.{number_named}
 use Rattle.vw_drivers.specs.Tables.{root_firsts}
 use Rattle.vw_nets.specs.Steps.Ports.{item_ports}
 use Rattle.vw_nets.proofs.Along.{IsHere, no_cell, here, past}

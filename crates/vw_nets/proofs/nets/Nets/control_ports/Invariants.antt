@@ -1,7 +1,7 @@
 -- the ports so far, and those of the cells that are left
 use Rattle.std.proofs.Common.{◌≡◌, ◌++◌, ℕ, Some, drop, map, flat_map}
 use Rattle.vw_design.specs.Preorder.{cells}
-use Rattle.vw_claims.specs.Firsts.{number_named}
+use Rattle.vw_drivers.specs.Firsts.{number_named}
 use Rattle.vw_drivers.specs.Tables.{root_firsts}
 use Rattle.vw_nets.specs.Steps.Ports.{item_ports}
 use Rattle.vw_nets.proofs.nets.Nets.control_ports.Given as goal

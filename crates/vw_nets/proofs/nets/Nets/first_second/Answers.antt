@@ -1,6 +1,6 @@
 use Rattle.std.proofs.Common.{◌≡◌, ◌<◌, ◌∙◌, ◌+◌, ℕ, List, Option, length, sym, ap, subst, arith}
 use Rattle.vw_design.specs.Preorder.{instances}
-use Rattle.vw_walk.specs.declared.tables.Placed.{Placed}
+use Rattle.vw_instances.specs.declared.tables.Placed.{Placed}
 use Rattle.vw_nets.specs.declared.two_drivers.Second.{Second}
 use Rattle.vw_nets.specs.Steps.Seconds.{IsFirstSecond}
 use Rattle.vw_nets.proofs.InstancePlaces.{element}

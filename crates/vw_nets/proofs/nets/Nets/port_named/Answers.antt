@@ -1,7 +1,7 @@
 use Rattle.std.proofs.Common.{◌∙◌, ◌≡◌, List, Option, find, ap, ap₂, sym}
 use Rattle.std.specs.Option.{option_or}
 use Rattle.vw_design.specs.Paths.{Word}
-use Rattle.vw_claims.specs.Firsts.{First, number_named}
+use Rattle.vw_drivers.specs.Firsts.{First, number_named}
 use Rattle.vw_drivers.specs.Tables.{root_firsts}
 use Rattle.vw_nets.specs.Steps.Ports.{has_number}
 use Rattle.vw_nets.proofs.ClockMarks.{inputs_first}

@@ -4,8 +4,8 @@ use Rattle.vw_design.specs.declared.item.Item.{Item}
 use Rattle.vw_design.specs.Paths.{Word, model_at}
 use Rattle.vw_design.specs.PathValue.{item_at, place_of_site}
 use Rattle.vw_design.specs.Preorder.{sites}
-use Rattle.vw_claims.specs.declared.claim.Again.{Again}
-use Rattle.vw_claims.specs.Claimed.{IsAgain}
+use Rattle.vw_drivers.specs.declared.claim.Again.{Again}
+use Rattle.vw_drivers.specs.Claimed.{IsAgain}
 use Rattle.vw_nets.specs.Steps.Seconds.{position_by, IsClaimedAt, AreFrom}
 use Rattle.vw_nets.proofs.ClaimedAgain.{weights, entry, again_is, position_is, first_claimed, first_least}
 use Rattle.vw_nets.proofs.nets.Nets.second_in.Goals as goal

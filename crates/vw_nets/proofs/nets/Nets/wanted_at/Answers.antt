@@ -1,6 +1,6 @@
 use Rattle.std.proofs.Common.{◌≡◌, subst}
 use Rattle.vw_design.specs.declared.item.Item.{Item}
-use Rattle.vw_names.specs.Names.{reads_of}
+use Rattle.vw_drivers.specs.Names.{reads_of}
 use Rattle.vw_drivers.specs.Tables.{instance_firsts}
 use Rattle.vw_nets.specs.Steps.Items.{AreNumbersOf}
 use Rattle.vw_design.specs.Paths.{lent}

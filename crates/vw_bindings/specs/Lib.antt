@@ -1,2 +1,0 @@
-pub mod PlacedFaults
-pub mod Steps

@@ -1,0 +1,10 @@
+use Rattle.std.proofs.Common.{◌≡◌, ℕ, List, ◌++◌, ◌∷◌, [], ◌∙◌, ap, append_assoc}
+use Rattle.std.specs.Fmt.{decimal}
+use Rattle.vw_board.proofs.fault.with_two.Goals as goal
+
+-- the pieces of the format, in the order in which it joins them
+pieces : (before first between second : List ℕ) → before ++ (first ++ (between ++ (second ++ 10 ∷ []))) ≡ before ++ first ++ between ++ second ++ 10 ∷ []
+pieces before first between second = simp append_assoc
+
+pub returns : goal.returns
+returns c = ap (λ text. text.items) c.into_bytes.ensures.value ∙ c.in_ok-line.ensures.ok ∙ pieces c.args.before.now (decimal c.args.first) c.args.between.now (decimal c.args.second)

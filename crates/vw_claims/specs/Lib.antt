@@ -1,4 +1,0 @@
-pub mod Outputs
-pub mod Firsts
-pub mod Claimed
-pub mod Steps

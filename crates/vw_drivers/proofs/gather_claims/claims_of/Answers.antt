@@ -1,0 +1,46 @@
+use Rattle.std.proofs.Common.{◌≡◌, ◌<◌, List, Option, Some, length, slice_get, sym, ◌∙◌, ap, ap₂, subst, arith}
+use Rattle.std.proofs.lemmas.Option.{same_Some}
+use Rattle.vw_design.specs.declared.item.Item.{Item}
+use Rattle.vw_design.specs.declared.model.Model.{Model}
+use Rattle.vw_design.specs.Paths.{placings}
+use Rattle.vw_design.proofs.FilteredLists.{AllZip-length, AllZip-at}
+use Rattle.vw_drivers.specs.declared.model_claims.ModelClaims.{ModelClaims}
+use Rattle.vw_drivers.specs.Claimed.{AreClaims}
+use Rattle.vw_drivers.specs.Steps.GatheredClaims.{AreModelNumbers, with_items, ports_only}
+use Rattle.vw_drivers.proofs.FirstClaims.{gathered_firsts}
+use Rattle.vw_drivers.proofs.ClaimedAgain.{gathered_again}
+use Rattle.vw_drivers.proofs.Targets.{at_place}
+use Rattle.vw_drivers.proofs.gather_claims.claims_of.Goals as goal
+
+pub bounds-targets-model : goal.bounds-targets-model
+bounds-targets-model c = omega (arith, AllZip-length _ c.args.design.now.models c.args.targets.now c.requires.targets)
+
+pub add_items-requires-clause-placed : goal.add_items-requires-clause-placed
+add_items-requires-clause-placed c =
+    let design = c.args.design.now in
+    let number = c.args.model in
+    let model = c.index-models-model.result in
+    let targets = c.args.targets.now in
+    let within : number < length targets = omega (arith, AllZip-length _ design.models targets c.requires.targets) in
+    let at : slice_get design.models number ≡ Some model =
+    ap (λ (models : List Model). slice_get models number) (sym c.models.ensures)
+    ∙ at_place c.models.result.now number model (omega (arith, c.requires.within, ap (λ (models : List Model). length models) c.models.ensures)) c.index-models-model.is in
+    let placed : slice_get targets number ≡ Some c.index-targets-model.result = at_place targets number c.index-targets-model.result within c.index-targets-model.is in
+    let found = AllZip-at _ design.models targets number model c.requires.targets at in
+    let same : found.0 ≡ c.index-targets-model.result = same_Some found.0 c.index-targets-model.result (sym found.1 ∙ placed) in
+    subst (λ (items : List Item). AreModelNumbers design (placings items) c.as_slice-placed.result.now) (sym c.items.ensures)
+    (subst (AreModelNumbers design (placings model.items)) (same ∙ sym c.as_slice-placed.ensures) found.2)
+
+pub returns : goal.returns
+returns c =
+    let design = c.args.design.now in
+    let number = c.args.model in
+    let model = c.index-models-model.result in
+    let at : slice_get design.models number ≡ Some model =
+    ap (λ (models : List Model). slice_get models number) (sym c.models.ensures)
+    ∙ at_place c.models.result.now number model (omega (arith, c.requires.within, ap (λ (models : List Model). length models) c.models.ensures)) c.index-models-model.is in
+    let gathered : c.add_items.new.self ≡ with_items design 0 0 model.items (ports_only model) =
+    c.in_ok-add_items.ensures ∙ ap₂ (λ (items : List Item) (claims : ModelClaims). with_items design 0 0 items claims) c.items.ensures c.in_ok-claims.ensures in
+    subst (λ (found : Option Model). AreClaims design found c.add_items.new.self) (sym at)
+    (subst (λ (claims : ModelClaims). AreClaims design (Some model) claims) (sym gathered)
+    (record { firsts = gathered_firsts design model; again = gathered_again design model }))

@@ -1,0 +1,190 @@
+//! Gathers the claims of a model.
+ghost use Rattle.std.specs.Prelude.{◌≡◌, ◌≤◌, ◌<◌, ◌-◌, ◌^◌, length, slice_get, option_and_then, IfOk, IfSome, OnOk, []};
+ghost use Rattle.vw_design.specs.ModelNumbers.{AreTargets};
+ghost use Rattle.vw_design.specs.Paths.{placings};
+ghost use Rattle.vw_design.specs.Claims.{and_behind};
+ghost use Rattle.vw_drivers.specs.Outputs.{AreOutputs};
+ghost use Rattle.vw_drivers.specs.Steps.GatheredClaims.{model_outputs_at, port_first, with_firsts, binds_made, item_made, with_claim, with_all, with_items, ports_only, AreModelNumbers, IsModelNumber};
+ghost use Rattle.vw_drivers.specs.Claimed.{AreClaims};
+
+use crate::claim::{Again, Claim};
+use crate::firsts::Firsts;
+use crate::model_claims::ModelClaims;
+use crate::model_outputs::Outputs;
+use std::alloc::{AllocError, Global};
+use vw_design::{Bind, Design, Item, Model};
+use vw_net::Sequence;
+use vw_outside::Name;
+
+/// The number as one of 32 bits. A model of 2 ^ 32 items or bindings has no room.
+fn small(number: usize) -> Result<u32, AllocError>
+    ensures { IfOk result (λ small. small ≡ number) }
+{
+    if number >= 1 << 32 {
+        return Err(AllocError);
+    }
+    Ok(number as u32)
+}
+
+/// How many `.subckt` items stand behind an item, given how many stood before it.
+fn behind(item: &Item, before: usize) -> usize
+    requires { before < 2 ^ 64 - 1 }
+    ensures { result ≡ and_behind item.now before }
+{
+    match item {
+        Item::Sub { .. } => before + 1,
+        _ => before,
+    }
+}
+
+/// The number of the model that stands at the place behind so many places.
+fn target_at(placed: &[Option<u32>], before: usize) -> Option<u32>
+    ensures { result ≡ option_and_then (λ target. target) (slice_get placed.now before) }
+{
+    placed.get(before).copied().flatten()
+}
+
+impl ModelClaims {
+    /// The claims of the ports of a model.
+    fn of_ports(alloc: Global, model: &Model) -> Result<Self, AllocError>
+        ensures { IfOk result (λ claims. claims ≡ ports_only model.now) }
+    {
+        let mut firsts = Firsts::new(alloc);
+        firsts.add_ports(alloc, model.inputs())?;
+        firsts.add_ports(alloc, model.clocks())?;
+        Ok(ModelClaims {
+            firsts,
+            again: None,
+        })
+    }
+
+    /// Adds a claim of an item on a name.
+    fn add(&mut self, alloc: Global, item: u32, name: &Name, claim: Claim) -> Result<(), AllocError>
+        ensures { OnOk result (self.new ≡ with_claim item name.now claim self.old) }
+    {
+        let is_new = self.firsts.add(alloc, name.as_slice(), claim)?;
+        if !is_new && self.again.is_none() {
+            let name = Name::of(name.as_slice().to_vec(alloc)?);
+            self.again = Some(Again { item, name });
+        }
+        Ok(())
+    }
+
+    /// Adds what the bindings of an item claim, where the placed model has these outputs.
+    fn add_binds(
+        &mut self,
+        alloc: Global,
+        item: u32,
+        place: u32,
+        binds: &[Bind],
+        outputs: &Outputs,
+    ) -> Result<(), AllocError>
+        ensures { OnOk result (self.new
+            ≡ with_all item (binds_made outputs.now place 0 binds.now) self.old) }
+    {
+        for (number, bind) in binds.iter().enumerate() {
+            if outputs.has(bind.formal().as_slice()) {
+                let bind_number = small(number)?;
+                let claim = Claim::Bound {
+                    place,
+                    bind: bind_number,
+                };
+                self.add(alloc, item, bind.actual(), claim)?;
+            }
+        }
+        Ok(())
+    }
+
+    /// Adds what the bindings of an item claim, where it places the model with this number.
+    fn add_placed(
+        &mut self,
+        alloc: Global,
+        item: u32,
+        place: u32,
+        binds: &[Bind],
+        outputs: &[Outputs],
+        target: Option<u32>,
+    ) -> Result<(), AllocError>
+        requires { IfSome target (λ model. model < length outputs.now) }
+        ensures { OnOk result (self.new
+            ≡ with_all item (binds_made
+            (model_outputs_at outputs.now target) place 0 binds.now) self.old) }
+    {
+        match target {
+            Some(model) => self.add_binds(alloc, item, place, binds, &outputs[model as usize]),
+            None => Ok(()),
+        }
+    }
+
+    /// Adds what an item claims, before which stand so many `.subckt` items.
+    fn add_item(
+        &mut self,
+        alloc: Global,
+        design: &Design,
+        outputs: &[Outputs],
+        target: Option<u32>,
+        number: u32,
+        before: usize,
+        item: &Item,
+    ) -> Result<(), AllocError>
+        requires outputs { AreOutputs design.now outputs.now }
+        requires target { IsModelNumber design.now item.now target }
+        requires within { before ≤ number }
+        ensures { OnOk result (self.new
+            ≡ with_all number (item_made design.now number before item.now) self.old) }
+    {
+        match item {
+            Item::Names { out, .. } => self.add(alloc, number, out, Claim::Driven(number)),
+            Item::Latch { q, .. } => self.add(alloc, number, q, Claim::Driven(number)),
+            Item::Sub { binds, .. } => {
+                let place = small(before + 1)?;
+                self.add_placed(alloc, number, place, binds.as_slice(), outputs, target)
+            }
+        }
+    }
+
+    /// Adds what the items of a model claim, which place the models with these numbers.
+    fn add_items(
+        &mut self,
+        alloc: Global,
+        design: &Design,
+        outputs: &[Outputs],
+        placed: &[Option<u32>],
+        items: &[Item],
+    ) -> Result<(), AllocError>
+        requires outputs { AreOutputs design.now outputs.now }
+        requires placed { AreModelNumbers design.now (placings items.now) placed.now }
+        ensures { OnOk result (self.new ≡ with_items design.now 0 0 items.now self.old) }
+    {
+        let mut before = 0;
+        for (index, item) in items.iter().enumerate() {
+            let number = small(index)?;
+            let target = target_at(placed, before);
+            self.add_item(alloc, design, outputs, target, number, before, item)?;
+            before = behind(item, before);
+        }
+        Ok(())
+    }
+}
+
+/// The first claim on each claimed name of the model with this number, and the first item that claims a name again.
+/// Ports come first, then the items in the order of the text, and the bindings of an item in their order. It takes the
+/// outputs of each model, and the numbers of the models that each model places. It is linear in the text of the model.
+pub fn claims_of(
+    alloc: Global,
+    design: &Design,
+    outputs: &[Outputs],
+    targets: &[Sequence<Option<u32>>],
+    model: u32,
+) -> Result<ModelClaims, AllocError>
+    requires outputs { AreOutputs design.now outputs.now }
+    requires targets { AreTargets design.now targets.now }
+    requires within { model < length design.now.models }
+    ensures { IfOk result (AreClaims design.now (slice_get design.now.models model)) }
+{
+    let placed = targets[model as usize].as_slice();
+    let model = &design.models()[model as usize];
+    let mut claims = ModelClaims::of_ports(alloc, model)?;
+    claims.add_items(alloc, design, outputs, placed, model.items())?;
+    Ok(claims)
+}

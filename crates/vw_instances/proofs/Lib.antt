@@ -1,0 +1,17 @@
+pub mod Sums
+pub mod Alongside
+pub mod Filling
+pub mod Prefixes
+pub mod Bounds
+pub mod Reckoned
+pub mod Exact
+pub mod Chains
+pub mod GrownLists
+pub mod Nexts
+pub mod Counted
+pub mod Levels
+pub mod StepCases
+pub mod Ends
+pub mod EntryNumbers
+pub mod Unique
+pub mod WalkSteps

@@ -1,0 +1,37 @@
+use Rattle.std.proofs.Common.{◌+◌, ℕ, List, drop, sym, ◌∙◌, ap, subst, arith}
+use Rattle.vw_models.proofs.Unknowns.{AreAlong}
+use Rattle.vw_instances.specs.declared.measure.Measure.TheVariants.{Instances, Cells}
+use Rattle.vw_instances.specs.Steps.Counting.{count_at, count_in}
+use Rattle.vw_instances.proofs.Alongside.{next}
+use Rattle.vw_instances.proofs.Prefixes.{one_more}
+use Rattle.vw_instances.proofs.Sums.{amount_more}
+use Rattle.vw_instances.proofs.entries.entries_of.Goals as goal
+
+-- the next item, and its number
+pub loop-item-preserved : goal.loop-item-preserved
+loop-item-preserved c =
+    let design = c.args.design.now in
+    let tables = c.args.tables.now in
+    let cells = tables.cells.items in
+    let instances = tables.instances.items in
+    let items = c.args.items.now in
+    let targets = c.args.targets.now in
+    let i = c.loop-item.item-index in
+    let place = c.loop-item.place in
+    let item = c.item-item.result in
+    let kept = c.loop-item.invariant in
+    let step = next design cells c.requires.cells items targets i place item c.loop-item-test.true c.item-item.is kept.within kept.left in
+    let other = next design instances c.requires.instances items targets i place item c.loop-item-test.true c.item-item.is kept.within kept.left in
+    record {
+      within = omega (arith, step.inside, c.places-place.ensures);
+      left = subst (λ (n : ℕ). AreAlong design (drop (i + 1) items) (drop (place + n) targets)) (sym c.places-place.ensures) step.rest;
+      cells = amount_more Cells (count_in design cells) items i item c.loop-item-test.true c.item-item.is
+          c.loop-item.cells c.count_of-more_cells.result c.of_item.result c.merge-cells.result kept.cells
+          (c.count_of-more_cells.ensures ∙ ap (λ (l : List ℕ). count_at l c.target_of-target.result) c.as_slice.ensures.value ∙ ap (count_at cells) c.target_of-target.ensures ∙ step.below)
+          c.of_item.ensures c.merge-cells.ensures;
+      instances = amount_more Instances (count_in design instances) items i item c.loop-item-test.true c.item-item.is
+          c.loop-item.instances c.count_of-more.result c.of_item-in-loop-item.result c.merge-instances.result kept.instances
+          (c.count_of-more.ensures ∙ ap (λ (l : List ℕ). count_at l c.target_of-target.result) c.as_slice-in-loop-item.ensures.value ∙ ap (count_at instances) c.target_of-target.ensures ∙ other.below)
+          c.of_item-in-loop-item.ensures c.merge-instances.ensures;
+      entries = one_more design tables items c.loop-item.entries.items i (record { cells = c.loop-item.cells; instances = c.loop-item.instances }) c.push.new.self.items kept.entries kept.cells kept.instances c.in_ok-push.ensures.items;
+    }

@@ -1,0 +1,10 @@
+use Rattle.vw_instances.specs.Steps.Frames.{IsUnderWay, steps_left}
+use Rattle.vw_instances.proofs.preorder.walk.Given as goal
+
+-- the tables have what was listed, and the frames have the rest
+abbrev pub invariant-loop-frame : goal.invariant-loop-frame
+invariant-loop-frame l = IsUnderWay l.design l.state.instances.items l.state.cells.items l.state.frames.items
+
+-- each step lists an item or leaves a frame out
+abbrev pub decreases-loop-frame : goal.decreases-loop-frame
+decreases-loop-frame l = steps_left l.design l.state.instances.items l.state.cells.items l.state.frames.items

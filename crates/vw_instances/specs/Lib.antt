@@ -1,0 +1,4 @@
+pub mod Quantities
+pub mod Sizes
+pub mod Tables
+pub mod Steps

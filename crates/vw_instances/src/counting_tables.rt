@@ -1,0 +1,42 @@
+//! The counts of all models.
+ghost use Rattle.std.specs.Prelude.{IfOk};
+ghost use Rattle.vw_design.specs.ModelNumbers.{AreTargets, IsModelOrder};
+ghost use Rattle.vw_instances.specs.Steps.Counting.{AreCountingTables};
+
+use crate::amounts::counts_of;
+use crate::measure::Measure;
+use std::alloc::{AllocError, Global};
+use vw_design::Design;
+use vw_net::Sequence;
+
+/// For each model by its number, how much it has, with all that it places.
+#[derive(Drop)]
+pub struct CountingTables {
+    /// The instances below one of the model.
+    pub instances: Vec<u32>,
+    /// The bindings.
+    pub bindings: Vec<u32>,
+    /// The gates and latches.
+    pub cells: Vec<u32>,
+    /// The levels of instances below one of the model.
+    pub levels: Vec<u32>,
+}
+
+/// The tables of a design.
+pub fn tables_of(
+    alloc: Global,
+    design: &Design,
+    targets: &[Sequence<Option<u32>>],
+    order: &[u32],
+) -> Result<CountingTables, AllocError>
+    requires targets { AreTargets design.now targets.now }
+    requires order { IsModelOrder design.now order.now }
+    ensures { IfOk result (AreCountingTables design.now) }
+{
+    Ok(CountingTables {
+        instances: counts_of(alloc, design, Measure::Instances, targets, order)?,
+        bindings: counts_of(alloc, design, Measure::Bindings, targets, order)?,
+        cells: counts_of(alloc, design, Measure::Cells, targets, order)?,
+        levels: counts_of(alloc, design, Measure::Levels, targets, order)?,
+    })
+}

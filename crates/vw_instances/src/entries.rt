@@ -1,0 +1,71 @@
+//! What stands before the items of models.
+ghost use Rattle.std.specs.Prelude.{◌≡◌, length, IfOk};
+ghost use Rattle.std.specs.List.{AllZip};
+ghost use Rattle.vw_design.specs.ModelNumbers.{AreTargets, IsNumberOfModel};
+ghost use Rattle.vw_design.specs.Paths.{placings};
+ghost use Rattle.vw_instances.specs.Steps.Counting.{AreEntries};
+
+use crate::amounts::{count_of, target_of};
+use crate::counting_tables::CountingTables;
+use crate::measure::{Measure, places};
+use crate::sizes::Before;
+use std::alloc::{AllocError, Global};
+use vw_design::{Design, Item};
+use vw_net::Sequence;
+
+/// What stands before each of a model's items.
+fn entries_of(
+    alloc: Global,
+    design: &Design,
+    items: &[Item],
+    targets: &[Option<u32>],
+    tables: &CountingTables,
+) -> Result<Sequence<Before>, AllocError>
+    requires cells { length tables.now.cells.items ≡ length design.now.models }
+    requires instances { length tables.now.instances.items ≡ length design.now.models }
+    requires targets { AllZip (λ placing number. IsNumberOfModel design.now placing.model number)
+        (placings items.now) targets.now }
+    ensures { IfOk result (AreEntries design.now tables.now items.now) }
+{
+    let mut entries = Vec::with_capacity(alloc, items.len())?;
+    let mut cells = 0;
+    let mut instances = 0;
+    let mut place = 0;
+    for item in items {
+        entries.push(Before { cells, instances })?;
+        let target = target_of(item, targets, place);
+        let more_cells = count_of(tables.cells.as_slice(), target);
+        cells = Measure::Cells.merge(cells, Measure::Cells.of_item(item, more_cells));
+        let more = count_of(tables.instances.as_slice(), target);
+        instances = Measure::Instances.merge(instances, Measure::Instances.of_item(item, more));
+        place += places(item);
+    }
+    Ok(Sequence::of(entries))
+}
+
+/// What stands before each item of each model.
+pub fn all_entries(
+    alloc: Global,
+    design: &Design,
+    targets: &[Sequence<Option<u32>>],
+    tables: &CountingTables,
+) -> Result<Vec<Sequence<Before>>, AllocError>
+    requires cells { length tables.now.cells.items ≡ length design.now.models }
+    requires instances { length tables.now.instances.items ≡ length design.now.models }
+    requires targets { AreTargets design.now targets.now }
+    ensures { IfOk result (λ entries.
+        AllZip (λ model list. AreEntries design.now tables.now model.items list)
+        design.now.models entries.items) }
+{
+    let mut entries = Vec::with_capacity(alloc, targets.len())?;
+    for (number, model) in design.models().iter().enumerate() {
+        entries.push(entries_of(
+            alloc,
+            design,
+            model.items(),
+            targets[number].as_slice(),
+            tables,
+        )?)?;
+    }
+    Ok(entries)
+}

@@ -1,0 +1,76 @@
+//! Outputs of placed models that are inputs or clocks of them, too.
+ghost use Rattle.std.specs.Prelude.{◌≡◌, option_map, IfOk};
+ghost use Rattle.std.specs.List.{AllZip};
+ghost use Rattle.vw_design.specs.ModelFaults.{both_ways};
+ghost use Rattle.vw_design.specs.ModelNumbers.{AreTargets, AreModelMarks};
+ghost use Rattle.vw_models.specs.Steps.Placed.{IsPlacement, placed_models};
+ghost use Rattle.vw_models.specs.Steps.Formals.{IsBothWays};
+ghost use Rattle.vw_models.specs.PlacedFaults.{named_output};
+
+use crate::copy::copy;
+use crate::formals::ports_of;
+use crate::output_of::OutputOf;
+use crate::placement::{Placement, placed_models};
+use std::alloc::{AllocError, Global};
+use vw_design::{Design, Model};
+use vw_net::Sequence;
+use vw_outside::Name;
+
+/// The first output of a placed model that is an input or clock of it, too. Each model is looked at once.
+pub fn both_ways(
+    alloc: Global,
+    design: &Design,
+    targets: &[Sequence<Option<u32>>],
+    marks: &[bool],
+) -> Result<Option<OutputOf>, AllocError>
+    requires targets { AreTargets design.now targets.now }
+    requires marks { AreModelMarks design.now marks.now }
+    ensures { IfOk result (λ found. option_map named_output found ≡ both_ways design.now) }
+{
+    let placed = placed_models(alloc, design, targets, marks)?;
+    let outputs = all_both(alloc, design)?;
+    first_both(alloc, design, placed.as_slice(), outputs.as_slice())
+}
+
+/// The first at the models that are placed.
+fn first_both(
+    alloc: Global,
+    design: &Design,
+    placed: &[Placement],
+    outputs: &[Option<&Name>],
+) -> Result<Option<OutputOf>, AllocError>
+    requires placed { AllZip (IsPlacement design.now) (placed_models design.now) placed.now }
+    requires outputs { AllZip IsBothWays design.now.models outputs.now }
+    ensures { IfOk result (λ found. option_map named_output found ≡ both_ways design.now) }
+{
+    for placement in placed {
+        let found = outputs[placement.number as usize];
+        if let Some(output) = found {
+            let model = &design.models()[placement.number as usize];
+            return Ok(Some(OutputOf {
+                model: copy(alloc, model.name())?,
+                output: copy(alloc, output)?,
+            }));
+        }
+    }
+    Ok(None)
+}
+
+/// The first output of a model that is an input or clock of it, too.
+fn both_of(alloc: Global, model: &Model) -> Result<Option<&Name>, AllocError>
+    ensures { IfOk result (IsBothWays model.now) }
+{
+    let ports = ports_of(alloc, model)?;
+    Ok(ports.first_in(model.outputs()))
+}
+
+/// That of each model.
+fn all_both(alloc: Global, design: &Design) -> Result<Vec<Option<&Name>>, AllocError>
+    ensures { IfOk result (λ outputs. AllZip IsBothWays design.now.models outputs.items) }
+{
+    let mut outputs = Vec::with_capacity(alloc, design.models().len())?;
+    for model in design.models() {
+        outputs.push(both_of(alloc, model)?)?;
+    }
+    Ok(outputs)
+}

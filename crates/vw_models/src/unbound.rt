@@ -1,0 +1,71 @@
+//! Inputs and clocks of placed models that aren't bound.
+ghost use Rattle.std.specs.Prelude.{◌≡◌, option_map, IfOk};
+ghost use Rattle.std.specs.List.{AllZip};
+ghost use Rattle.vw_design.specs.ModelFaults.{unbound_input, unbound_input_in};
+ghost use Rattle.vw_design.specs.ModelNumbers.{AreTargets, AreModelMarks};
+ghost use Rattle.vw_models.specs.Steps.Placed.{IsPlacement, placed_models};
+ghost use Rattle.vw_design.specs.Paths.{lent};
+ghost use Rattle.vw_models.specs.PlacedFaults.{name_at};
+
+use crate::copy::copy;
+use crate::formal_at::FormalAt;
+use crate::placement::{Placement, placed_models};
+use std::alloc::{AllocError, Global};
+use vw_design::{Bind, Design, Model, WordSet};
+use vw_net::Sequence;
+use vw_outside::Name;
+
+/// The first input or clock of a placed model that isn't bound, and the line of the item. Inputs come before clocks. At
+/// each item it looks at no more ports than twice the bindings, and one.
+pub fn unbound_input(
+    alloc: Global,
+    design: &Design,
+    targets: &[Sequence<Option<u32>>],
+    marks: &[bool],
+) -> Result<Option<FormalAt>, AllocError>
+    requires targets { AreTargets design.now targets.now }
+    requires marks { AreModelMarks design.now marks.now }
+    ensures { IfOk result (λ found. option_map name_at found ≡ unbound_input design.now) }
+{
+    let placed = placed_models(alloc, design, targets, marks)?;
+    first_unbound(alloc, design, placed.as_slice())
+}
+
+/// The first at the models that are placed.
+fn first_unbound(
+    alloc: Global,
+    design: &Design,
+    placed: &[Placement],
+) -> Result<Option<FormalAt>, AllocError>
+    requires { AllZip (IsPlacement design.now) (placed_models design.now) placed.now }
+    ensures { IfOk result (λ found. option_map name_at found ≡ unbound_input design.now) }
+{
+    for placement in placed {
+        let model = &design.models()[placement.number as usize];
+        let found = unbound_of(alloc, model, placement.binds)?;
+        if let Some(formal) = found {
+            return Ok(Some(FormalAt {
+                line: placement.line,
+                formal: copy(alloc, formal)?,
+            }));
+        }
+    }
+    Ok(None)
+}
+
+/// The first input or clock of a model that no binding binds.
+fn unbound_of<'a>(
+    alloc: Global,
+    model: &'a Model,
+    binds: &[Bind],
+) -> Result<Option<&'a Name>, AllocError>
+    ensures { IfOk result (λ found. lent found ≡ unbound_input_in model.now binds.now) }
+{
+    let mut bound = WordSet::none(alloc);
+    bound.add_formals(binds)?;
+    let input = bound.first_out(model.inputs());
+    if input.is_some() {
+        return Ok(input);
+    }
+    Ok(bound.first_out(model.clocks()))
+}

@@ -1,2 +1,0 @@
-pub mod PlacedItems
-pub mod AllNames

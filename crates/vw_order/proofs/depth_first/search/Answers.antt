@@ -1,0 +1,24 @@
+use Rattle.std.proofs.Common.{ℕ, List, replicate, sym, ◌∙◌, ap, subst, arith}
+use Rattle.vw_order.specs.declared.mark.Progress.TheVariants.{Fresh}
+use Rattle.vw_order.specs.Circles.{IsNumberCircle, BeginsWithLeast}
+use Rattle.vw_order.proofs.LeastFirst.{from_least}
+use Rattle.vw_order.proofs.Searches.{begun, same_search}
+use Rattle.vw_order.proofs.depth_first.search.Goals as goal
+
+pub loop-number-init : goal.loop-number-init
+loop-number-init g c =
+    let graph = g.D.Digraph.graph c.args.digraph.now in
+    let made = c.in_ok-depth.ensures in (
+      same_search graph _ _ _ _ _ _ _ _ (begun graph) (made.marks ∙ ap (λ (n : ℕ). replicate n Fresh) c.count.ensures) (made.cursors ∙ ap (λ (n : ℕ). replicate {A = ℕ} n 0) c.count.ensures) made.order made.stack,
+      made.stack,
+      λ number before. absurd (omega arith),
+    )
+
+-- the circle from its least number on
+pub returns-in-Some : goal.returns-in-Some
+returns-in-Some g c =
+    let graph = g.D.Digraph.graph c.args.digraph.now in
+    let circle = c.deref.result.now in
+    let is_circle : IsNumberCircle graph circle = subst (λ (l : List ℕ). IsNumberCircle graph l) (sym c.deref.ensures.value) (rw c.in-Some.is at c.in_ok-circle.ensures) in
+    let made = c.in_ok-from_least.ensures in
+    subst (λ (l : List ℕ). IsNumberCircle graph l × BeginsWithLeast l) (sym made.2) (from_least graph circle made.0 made.1 is_circle)

@@ -1,0 +1,58 @@
+-- A search in depth under way: the numbers that are done, and the stack of those that are open. Source: the textbook
+-- form of depth-first search.
+use Rattle.std.specs.Prelude.{◌≡◌, ◌<◌, ◌==◌, ℕ, List, [], ◌∷◌, ◌++◌, length, slice_index, slice_index_or, Option, Some, None, if◌then◌else◌, IsTrue}
+use Rattle.std.specs.Global.{Vec}
+use Rattle.std.specs.List.{IsDistinct}
+use Rattle.vw_net.specs.Order.{is_among}
+use Rattle.vw_order.specs.declared.mark.Progress.{Progress}
+use Rattle.vw_order.specs.declared.mark.Progress.TheVariants.{Fresh, Open, Done}
+use Rattle.vw_order.specs.declared.depth.Depth.{Depth}
+use Rattle.vw_order.specs.Graphs.{Graph, ReadsAt, Reads}
+use Rattle.vw_order.specs.Orders.{IsBehind}
+use Rattle.vw_order.specs.Circles.{IsNumberCircle}
+
+-- the mark of a number
+abbrev pub mark_of : List ℕ → List ℕ → ℕ → Progress
+mark_of order stack number = if is_among order number then Done else (if is_among stack number then Open else Fresh)
+
+-- each number reads the next one
+abbrev pub Leads : Graph → List ℕ → Type 0
+Leads graph [] = Unit {0}
+Leads graph (number ∷ []) = Unit {0}
+Leads graph (number ∷ next ∷ rest) = Reads graph number next × Leads graph (next ∷ rest)
+
+-- how far a search has come
+pub record IsSearch (graph : Graph) (marks : List Progress) (cursors order stack : List ℕ) : Type 0 where
+  pub marks_each : length marks ≡ graph.count
+  pub cursors_each : length cursors ≡ graph.count
+  pub marked : (number : ℕ) → slice_index_or marks number Fresh ≡ mark_of order stack number
+  pub done : (number place other : ℕ) → place < slice_index cursors number → ReadsAt graph number place other → IsTrue (is_among order other)
+  pub behind : IsBehind graph order
+  pub once : IsDistinct ◌==◌ (order ++ stack)
+  pub leads : Leads graph stack
+  pub counted : (number : ℕ) → IsTrue (is_among (order ++ stack) number) → IsTrue (graph.counts number)
+
+abbrev pub IsDepth : Graph → Depth → Type 0
+IsDepth graph depth = IsSearch graph depth.marks.items depth.cursors.items depth.order.items depth.stack.items
+
+-- what was done or open is done or open
+abbrev pub IsKept : Depth → Depth → Type 0
+IsKept old new =
+    (number : ℕ) → IsTrue (is_among (old.order.items ++ old.stack.items) number) → IsTrue (is_among (new.order.items ++ new.stack.items) number)
+
+-- nothing is open, and what was done or open is done
+pub record IsAtRest (graph : Graph) (old new : Depth) : Type 0 where
+  pub depth : IsDepth graph new
+  pub rests : new.stack.items ≡ []
+  pub kept : IsKept old new
+
+-- a search that has gone on rests, or has found a circle
+abbrev pub IsGoneOn : Graph → Depth → Depth → Option (Vec ℕ) → Type 0
+IsGoneOn graph old new None = IsAtRest graph old new
+IsGoneOn graph old new (Some circle) = IsNumberCircle graph circle.items
+
+-- one that has visited a number has done with it, where it has to be reached
+abbrev pub IsVisited : Graph → Depth → Depth → ℕ → Option (Vec ℕ) → Type 0
+IsVisited graph old new number None =
+    IsAtRest graph old new × (IsTrue (graph.starts number) → IsTrue (is_among new.order.items number))
+IsVisited graph old new number (Some circle) = IsNumberCircle graph circle.items

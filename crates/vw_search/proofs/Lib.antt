@@ -1,6 +1,0 @@
-pub mod Among
-pub mod Rounds
-pub mod LeastFirst
-pub mod Searches
-pub mod Growth
-pub mod NoCircle

@@ -1,8 +1,0 @@
--- what stands before the place is done
-use Rattle.std.specs.Prelude.{slice_index}
-use Rattle.vw_search.specs.Steps.Marks.{AreDone}
-use Rattle.vw_search.proofs.depth.Depth.ahead.Given as goal
-
-abbrev pub invariant-loop-place : goal.invariant-loop-place
-invariant-loop-place g l =
-    AreDone l.self.marks.items ((g.D.Digraph.graph l.digraph).reads l.number) (slice_index l.self.cursors.items l.number) l.place

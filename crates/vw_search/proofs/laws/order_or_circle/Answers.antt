@@ -1,6 +1,0 @@
-use Rattle.vw_search.proofs.Growth.{order_or_circle}
-use Rattle.vw_search.proofs.laws.order_or_circle.Goals as goal
-
--- an order grows by one number that reads nothing that is left; where there is none, a walk along what is left meets itself
-pub returns : goal.returns
-returns c = order_or_circle

@@ -1,9 +1,0 @@
-pub mod GrownLists
-pub mod Nexts
-pub mod Counted
-pub mod Levels
-pub mod WalkSteps
-pub mod StepCases
-pub mod Ends
-pub mod Entries
-pub mod Unique

@@ -1,3 +1,0 @@
--- What functions of this crate keep and compute, step by step. No public clause cites it.
-pub mod Nexts
-pub mod Frames
