@@ -56,7 +56,8 @@ impl<T: Drop> From<AllocFailed<T>> for BoardFault {
 
 /// A line with one number in it, with the end of the line.
 fn with_one(alloc: Global, before: &str, number: u64, after: &str) -> Result<Vec<u8>, AllocError>
-    ensures { IfOk result (λ line. line.items ≡ before.now ++ decimal number ++ after.now ++ 10 ∷ []) }
+    ensures { IfOk result (λ line. line.items
+        ≡ before.now ++ decimal number ++ after.now ++ 10 ∷ []) }
 {
     let line = format!(in alloc; "{before}{number}{after}\n")?;
     Ok(line.into_bytes())

@@ -73,7 +73,8 @@ impl Depth {
     /// Whether a number is done.
     fn is_done(&self, number: u32) -> bool
         requires { number < vec_len self.now.marks }
-        ensures { result ≡ is_done_mark (slice_index_or self.now.marks.items number Progress.Fresh) }
+        ensures { result
+            ≡ is_done_mark (slice_index_or self.now.marks.items number Progress.Fresh) }
     {
         matches!(self.marks[number as usize], Progress::Done)
     }
@@ -81,7 +82,8 @@ impl Depth {
     /// Whether a number is open.
     pub fn is_open(&self, number: u32) -> bool
         requires { number < vec_len self.now.marks }
-        ensures { result ≡ is_open_mark (slice_index_or self.now.marks.items number Progress.Fresh) }
+        ensures { result
+            ≡ is_open_mark (slice_index_or self.now.marks.items number Progress.Fresh) }
     {
         matches!(self.marks[number as usize], Progress::Open)
     }
@@ -89,7 +91,8 @@ impl Depth {
     /// Whether a number hasn't been reached.
     pub fn is_fresh(&self, number: u32) -> bool
         requires { number < vec_len self.now.marks }
-        ensures { result ≡ is_fresh_mark (slice_index_or self.now.marks.items number Progress.Fresh) }
+        ensures { result
+            ≡ is_fresh_mark (slice_index_or self.now.marks.items number Progress.Fresh) }
     {
         matches!(self.marks[number as usize], Progress::Fresh)
     }
