@@ -16,7 +16,8 @@ use Rattle.vw_blif.specs.Kinds.{kind, is_model}
 use Rattle.vw_blif.specs.Spelled.{SpelledModel, spelled_model}
 use Rattle.vw_blif.specs.Designs.{spelled_models}
 use Rattle.vw_blif.specs.Faults.{faults_by, first_of, fault_at}
-use Rattle.vw_blif.specs.Read.{or_next, first_fault, unless, design_of_lines, design_of, is_text_fault}
+use Rattle.std.specs.Option.{option_or}
+use Rattle.vw_blif.specs.Read.{first_fault, unless, design_of_lines, design_of, is_text_fault}
 use Rattle.vw_blif.specs.Steps.Names.{opened, names_so_far}
 use Rattle.vw_blif.specs.Steps.Readers.{models_made, ToldOpen, ToldAll, IsAtStart, ReadsLine, RefusesLine, IsRead}
 use Rattle.vw_blif.proofs.FewLines.{few_word_lines}
@@ -47,7 +48,7 @@ pub one_line : (lines rest : List Line) (line : Line) (old new : Reader) → IsR
 one_line lines rest line old new kept reads = record {
   before = line ∷ kept.before;
   told = reads.tells kept.before kept.told;
-  faults = sym (ap (λ (f : Option TextFault). or_next f (first_fault (line ∷ kept.before) rest)) (reads.fine kept.before kept.told)) ∙ kept.faults;
+  faults = sym (ap (λ (f : Option TextFault). option_or f (first_fault (line ∷ kept.before) rest)) (reads.fine kept.before kept.told)) ∙ kept.faults;
   makes = reads.makes rest ∙ kept.makes;
   few = omega (reads.count, kept.few, arith);
 }
@@ -55,7 +56,7 @@ one_line lines rest line old new kept reads = record {
 line_at_fault : (lines rest : List Line) (line : Line) (old : Reader) (fault : TextFault) → IsReadSoFar lines (line ∷ rest) old → RefusesLine old line fault
     → is_text_fault fault ≡ true → first_fault [] lines ≡ Some fault
 line_at_fault lines rest line old fault kept refuses is =
-    sym kept.faults ∙ ap (λ (f : Option TextFault). or_next f (first_fault (line ∷ kept.before) rest)) (refuses kept.before kept.told is)
+    sym kept.faults ∙ ap (λ (f : Option TextFault). option_or f (first_fault (line ∷ kept.before) rest)) (refuses kept.before kept.told is)
 
 -- a text that isn't too large has the fault of its lines, or their models
 pub of_lines : (text : List ℕ) → length text ≤ 16777216 → design_of text ≡ design_of_lines (word_lines text)
@@ -86,7 +87,7 @@ first_begins line End fine = absurd (true≢false (ap is_some fine))
 first_begins line Other fine = absurd (true≢false (ap is_some fine))
 first_begins line Row fine = absurd (true≢false (ap is_some fine))
 
-no_fault : (fault next : Option TextFault) → or_next fault next ≡ None → fault ≡ None
+no_fault : (fault next : Option TextFault) → option_or fault next ≡ None → fault ≡ None
 no_fault None next fine = refl
 no_fault (Some fault) next fine = absurd (true≢false (ap is_some fine))
 

@@ -4,7 +4,8 @@ use Rattle.std.proofs.lemmas.List.{reverse-append}
 use Rattle.vw_text.specs.declared.line.Line.{Line}
 use Rattle.vw_blif.specs.declared.fault.TextFault.{TextFault}
 use Rattle.vw_blif.specs.Faults.{fault_at}
-use Rattle.vw_blif.specs.Read.{or_next, first_fault}
+use Rattle.std.specs.Option.{option_or}
+use Rattle.vw_blif.specs.Read.{first_fault}
 use Rattle.vw_blif.specs.FirstFault.{IsFirst}
 
 -- the same behind other lines
@@ -22,7 +23,7 @@ behind line front before =
 
 -- of a line with others behind it, by the fault of the line
 found_further : (before : List Line) (line : Line) (lines : List Line) (fault : TextFault) (here : Option TextFault) → fault_at before line ≡ here
-    → or_next here (first_fault (line ∷ before) lines) ≡ Some fault → (first_fault (line ∷ before) lines ≡ Some fault → IsFirstBehind (line ∷ before) lines fault)
+    → option_or here (first_fault (line ∷ before) lines) ≡ Some fault → (first_fault (line ∷ before) lines ≡ Some fault → IsFirstBehind (line ∷ before) lines fault)
     → IsFirstBehind before (line ∷ lines) fault
 found_further before line lines fault (Some f) here is next =
     record { front = []; line = line; rest = lines; whole = refl; fine = refl; at = here ∙ is }
@@ -33,7 +34,7 @@ found_further before line lines fault None here is next =
       line = behind_it.line;
       rest = behind_it.rest;
       whole = ap (λ (ls : List Line). line ∷ ls) behind_it.whole;
-      fine = ap (λ (o : Option TextFault). or_next o (first_fault (line ∷ before) behind_it.front)) here ∙ behind_it.fine;
+      fine = ap (λ (o : Option TextFault). option_or o (first_fault (line ∷ before) behind_it.front)) here ∙ behind_it.fine;
       at = ap (λ (ls : List Line). fault_at ls behind_it.line) (behind line behind_it.front before) ∙ behind_it.at;
     }
 
@@ -42,16 +43,16 @@ found before [] fault is = absurd (true≢false (sym (ap is_some is)))
 found before (line ∷ lines) fault is =
     found_further before line lines fault (fault_at before line) refl is (found (line ∷ before) lines fault)
 
-fine_further : (here next : Option TextFault) → or_next here next ≡ None → (here ≡ None) × (next ≡ None)
+fine_further : (here next : Option TextFault) → option_or here next ≡ None → (here ≡ None) × (next ≡ None)
 fine_further None next fine = (refl, fine)
 fine_further (Some f) next fine = absurd (true≢false (ap is_some fine))
 
 counts : (before front : List Line) (line : Line) (rest : List Line) (fault : TextFault) → first_fault before front ≡ None → fault_at (reverse front ++ before) line ≡ Some fault
     → first_fault before (front ++ line ∷ rest) ≡ Some fault
-counts before [] line rest fault fine at = ap (λ (o : Option TextFault). or_next o (first_fault (line ∷ before) rest)) at
+counts before [] line rest fault fine at = ap (λ (o : Option TextFault). option_or o (first_fault (line ∷ before) rest)) at
 counts before (first ∷ front) line rest fault fine at =
     let none = fine_further (fault_at before first) (first_fault (first ∷ before) front) fine in
-    ap (λ (o : Option TextFault). or_next o (first_fault (first ∷ before) (front ++ line ∷ rest))) none.0
+    ap (λ (o : Option TextFault). option_or o (first_fault (first ∷ before) (front ++ line ∷ rest))) none.0
     ∙ counts (first ∷ before) front line rest fault none.1 (ap (λ (ls : List Line). fault_at ls line) (sym (behind first front before)) ∙ at)
 
 pub is_first : (lines : List Line) (fault : TextFault) → first_fault [] lines ≡ Some fault → IsFirst lines fault

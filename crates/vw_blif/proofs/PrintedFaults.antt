@@ -26,7 +26,8 @@ use Rattle.vw_blif.specs.Latches.{is_init}
 use Rattle.vw_blif.specs.Bindings.{formal_of, is_no_bind, repeats, has_bad_bind}
 use Rattle.vw_blif.specs.Before.{OpenTable, is_open, open_behind, or_value, table_behind, open_table, names_behind, model_names, ports_before}
 use Rattle.vw_blif.specs.Faults.{differs_from, faults_by, first_of, fault_at}
-use Rattle.vw_blif.specs.Read.{or_next, first_fault}
+use Rattle.std.specs.Option.{option_or}
+use Rattle.vw_blif.specs.Read.{first_fault}
 use Rattle.vw_blif.specs.Printed.{mark_byte, row_words, init_word, latch_words, bind_word, item_lines, port_lines, model_lines, design_lines}
 use Rattle.vw_blif.specs.PlainDesigns.{is_plain_bind, is_plain_item, are_plain_ports, is_plain_model}
 use Rattle.vw_blif.proofs.Binds.{same_bytes}
@@ -45,7 +46,7 @@ abbrev GoesOn : List Word → List Line → Type 0
 GoesOn names rest = (before : List Line) → Inside names before → first_fault before rest ≡ None
 
 fine_then : (before : List Line) (line : Line) (rest : List Line) → fault_at before line ≡ None → first_fault (line ∷ before) rest ≡ None → first_fault before (line ∷ rest) ≡ None
-fine_then before line rest fine further = ap (λ (o : Option TextFault). or_next o (first_fault (line ∷ before) rest)) fine ∙ further
+fine_then before line rest fine further = ap (λ (o : Option TextFault). option_or o (first_fault (line ∷ before) rest)) fine ∙ further
 
 -- ---- names that are all different
 

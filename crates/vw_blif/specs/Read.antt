@@ -1,6 +1,7 @@
 -- The design of a text, or its fault: the fault of the first line at fault. That a text is too large is decided before
 -- all lines, and a text without words has no model.
 use Rattle.std.specs.Prelude.{ℕ, Bool, true, false, List, [], ◌∷◌, length, Option, Some, None, Result, Ok, Err, if◌then◌else◌, nat_lt}
+use Rattle.std.specs.Option.{option_or}
 use Rattle.vw_text.specs.declared.line.Line.{Line}
 use Rattle.vw_text.specs.WordLines.{word_lines}
 use Rattle.vw_blif.specs.declared.fault.TextFault.{TextFault}
@@ -9,14 +10,10 @@ use Rattle.vw_blif.specs.Spelled.{SpelledModel}
 use Rattle.vw_blif.specs.Designs.{spelled_models}
 use Rattle.vw_blif.specs.Faults.{fault_at}
 
-abbrev pub or_next : Option TextFault → Option TextFault → Option TextFault
-or_next None next = next
-or_next (Some fault) next = Some fault
-
 -- the fault of the first line at fault, behind these lines
 abbrev pub first_fault : List Line → List Line → Option TextFault
 first_fault before [] = None
-first_fault before (line ∷ lines) = or_next (fault_at before line) (first_fault (line ∷ before) lines)
+first_fault before (line ∷ lines) = option_or (fault_at before line) (first_fault (line ∷ before) lines)
 
 -- something, unless there is a fault
 abbrev pub unless : {A : Type 0} → Option TextFault → A → Result A TextFault

@@ -1,5 +1,5 @@
 -- Words of a line.
-use Rattle.std.specs.Prelude.{ℕ, Bool, false, ◌==◌, List, [], ◌∷◌}
+use Rattle.std.specs.Prelude.{Bool, false, ◌==◌, List, [], ◌∷◌}
 use Rattle.vw_design.specs.Paths.{Word}
 
 -- the first word; no byte where there is none

@@ -1,11 +1,19 @@
-//! Words, apart from each other and as copies.
+//! Words: compared, apart from each other, and as copies.
 ghost use Rattle.std.specs.Prelude.{◌≡◌, ◌<◌, length, IfOk};
+ghost use Rattle.std.specs.Str.{bytes_eq};
 ghost use Rattle.vw_blif.specs.Words.{front_words, last_word, first_word};
 ghost use Rattle.vw_blif.specs.Kinds.{further};
 
 use std::alloc::{AllocError, Global};
 use vw_outside::Name;
 use vw_text::Line;
+
+/// Whether a word has these bytes.
+pub fn is(word: &[u8], bytes: &[u8]) -> bool
+    ensures { result ≡ bytes_eq word.now bytes.now }
+{
+    word == bytes
+}
 
 /// A word of its own with the same bytes.
 pub fn copy(alloc: Global, word: &[u8]) -> Result<Name, AllocError>

@@ -1,5 +1,7 @@
 ghost use Rattle.std.specs.Prelude.{◌≡◌, IfOk};
+ghost use Rattle.vw_blif.specs.declared.fault.TextFault.TheVariants.{Unsupported};
 ghost use Rattle.vw_blif.specs.MessageLines.{at_line};
+ghost use Rattle.vw_blif.specs.Messages.{fault_text};
 
 use std::alloc::{AllocError, AllocFailed, Global};
 use vw_outside::Name;
@@ -64,23 +66,24 @@ fn at_line(alloc: Global, fault: u32, line: u64, what: &[u8]) -> Result<Vec<u8>,
     Ok(text)
 }
 
-impl TextFault {
-    ghost use Rattle.vw_blif.specs.Messages.{fault_text};
+/// The message of a line that begins with a word that isn't read.
+fn of_unsupported(alloc: Global, line: u64, word: &Name) -> Result<Vec<u8>, AllocError>
+    ensures { IfOk result (λ text. text.items ≡ fault_text (Unsupported line word.now)) }
+{
+    let mut what = b"unsupported ".to_vec(alloc)?;
+    what.extend_from_slice(word.as_slice())?;
+    at_line(alloc, 3, line, &what)
+}
 
+impl TextFault {
     /// The message line, with the end of the line.
     pub fn text(&self, alloc: Global) -> Result<Vec<u8>, AllocError>
         ensures { IfOk result (λ line. line.items ≡ fault_text self.now) }
     {
         match self {
-            TextFault::TooLarge => {
-                Ok(b"design 1: text longer than 16777216 bytes\n".to_vec(alloc)?)
-            }
+            TextFault::TooLarge => b"design 1: text longer than 16777216 bytes\n".to_vec(alloc),
             TextFault::NoModel(line) => at_line(alloc, 2, *line, b"no model"),
-            TextFault::Unsupported(line, word) => {
-                let mut what = b"unsupported ".to_vec(alloc)?;
-                what.extend_from_slice(word.as_slice())?;
-                at_line(alloc, 3, *line, &what)
-            }
+            TextFault::Unsupported(line, word) => of_unsupported(alloc, *line, word),
             TextFault::BadWords(line) => at_line(alloc, 4, *line, b"wrong number of words"),
             TextFault::BadRow(line) => at_line(alloc, 5, *line, b"bad row"),
             TextFault::MixedRows(line) => at_line(alloc, 6, *line, b"rows of both kinds"),
@@ -90,7 +93,7 @@ impl TextFault {
             TextFault::DuplicateModel(line) => at_line(alloc, 10, *line, b"duplicate model"),
             TextFault::DuplicatePort(line) => at_line(alloc, 11, *line, b"duplicate port"),
             TextFault::BadBind(line) => at_line(alloc, 12, *line, b"bad binding"),
-            TextFault::NoMemory => Ok(b"out of memory\n".to_vec(alloc)?),
+            TextFault::NoMemory => b"out of memory\n".to_vec(alloc),
         }
     }
 }

@@ -1,7 +1,7 @@
 ghost use Rattle.std.specs.Prelude.{◌≡◌};
 ghost use Rattle.vw_blif.specs.Kinds.{kind_of, kind};
 
-use crate::copies::first;
+use crate::copies::{first, is};
 use vw_text::Line;
 
 /// What a line is, by its first word.
@@ -28,21 +28,21 @@ fn kind_of(word: &[u8]) -> Kind
     // most lines are rows
     if word.first() != Some(&b'.') {
         Kind::Row
-    } else if word == b".model".as_slice() {
+    } else if is(word, b".model") {
         Kind::Model
-    } else if word == b".inputs".as_slice() {
+    } else if is(word, b".inputs") {
         Kind::Inputs
-    } else if word == b".outputs".as_slice() {
+    } else if is(word, b".outputs") {
         Kind::Outputs
-    } else if word == b".clock".as_slice() {
+    } else if is(word, b".clock") {
         Kind::Clock
-    } else if word == b".names".as_slice() {
+    } else if is(word, b".names") {
         Kind::Names
-    } else if word == b".latch".as_slice() {
+    } else if is(word, b".latch") {
         Kind::Latch
-    } else if word == b".subckt".as_slice() {
+    } else if is(word, b".subckt") {
         Kind::Subckt
-    } else if word == b".end".as_slice() {
+    } else if is(word, b".end") {
         Kind::End
     } else {
         Kind::Other

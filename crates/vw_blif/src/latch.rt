@@ -5,7 +5,7 @@ ghost use Rattle.vw_blif.specs.Spelled.{latch, spelled_item};
 ghost use Rattle.vw_blif.specs.Steps.Says.{SaysLatch};
 ghost use Rattle.vw_design.specs.Paths.{lent};
 
-use crate::copies::copy;
+use crate::copies::{copy, is};
 use crate::fault::TextFault;
 use std::alloc::{AllocError, Global};
 use vw_design::{Edge, Item};
@@ -18,7 +18,7 @@ fn is_type(word: Option<&Name>) -> bool
 {
     match word {
         None => true,
-        Some(word) => word.as_slice() == b"re".as_slice() || word.as_slice() == b"fe".as_slice(),
+        Some(word) => is(word.as_slice(), b"re") || is(word.as_slice(), b"fe"),
     }
 }
 
@@ -29,10 +29,10 @@ fn is_init(word: Option<&Name>) -> bool
     match word {
         None => true,
         Some(word) => {
-            word.as_slice() == b"0".as_slice()
-                || word.as_slice() == b"1".as_slice()
-                || word.as_slice() == b"2".as_slice()
-                || word.as_slice() == b"3".as_slice()
+            is(word.as_slice(), b"0")
+                || is(word.as_slice(), b"1")
+                || is(word.as_slice(), b"2")
+                || is(word.as_slice(), b"3")
         }
     }
 }
@@ -43,7 +43,7 @@ fn edge_of(word: Option<&Name>) -> Edge
 {
     match word {
         None => Edge::Unsaid,
-        Some(word) if word.as_slice() == b"re".as_slice() => Edge::Rise,
+        Some(word) if is(word.as_slice(), b"re") => Edge::Rise,
         Some(_) => Edge::Fall,
     }
 }
@@ -54,7 +54,7 @@ fn control_of(alloc: Global, word: Option<&Name>) -> Result<Option<Name>, AllocE
 {
     match word {
         None => Ok(None),
-        Some(word) if word.as_slice() == b"NIL".as_slice() => Ok(None),
+        Some(word) if is(word.as_slice(), b"NIL") => Ok(None),
         Some(word) => Ok(Some(copy(alloc, word.as_slice())?)),
     }
 }
@@ -65,8 +65,8 @@ fn init_of(word: Option<&Name>) -> Init
 {
     match word {
         None => Init::Free,
-        Some(word) if word.as_slice() == b"0".as_slice() => Init::Zero,
-        Some(word) if word.as_slice() == b"1".as_slice() => Init::One,
+        Some(word) if is(word.as_slice(), b"0") => Init::Zero,
+        Some(word) if is(word.as_slice(), b"1") => Init::One,
         Some(_) => Init::Free,
     }
 }

@@ -8,7 +8,7 @@ ghost use Rattle.vw_blif.specs.Designs.{table_of};
 ghost use Rattle.vw_blif.specs.Steps.Blocks.{table_told, table_made};
 ghost use Rattle.vw_blif.specs.Steps.Tables.{BeginsTable, SaysNames, AddsRow, SaysRow, is_other_value};
 
-use crate::copies::{copies, copy, front_and_last, further};
+use crate::copies::{copies, copy, front_and_last, further, is};
 use crate::fault::TextFault;
 use crate::row::{is_row_of, row_marks};
 use crate::table::Table;
@@ -70,7 +70,7 @@ pub fn add_row(alloc: Global, table: Table, line: &Line) -> Result<Table, TextFa
         return Err(TextFault::BadRow(line.number()));
     }
     let (_, value) = front_and_last(words);
-    let ends_in_one = value.as_slice() == b"1".as_slice();
+    let ends_in_one = is(value.as_slice(), b"1");
     if is_other(on, ends_in_one) {
         return Err(TextFault::MixedRows(line.number()));
     }

@@ -3,6 +3,7 @@ ghost use Rattle.std.specs.Prelude.{◌≡◌, map, IfOk};
 ghost use Rattle.std.specs.List.{list_all};
 ghost use Rattle.vw_blif.specs.Rows.{is_mark, mark_of_byte, is_value, is_row_of, row_marks};
 
+use crate::copies::is;
 use std::alloc::{AllocError, Global};
 use vw_net::{Mark, Sequence};
 use vw_outside::Name;
@@ -29,7 +30,7 @@ fn is_mark(byte: u8) -> bool
 fn is_value(word: &[u8]) -> bool
     ensures { result ≡ is_value word.now }
 {
-    word == b"0".as_slice() || word == b"1".as_slice()
+    is(word, b"0") || is(word, b"1")
 }
 
 /// Whether each byte of a word is a character of a row.

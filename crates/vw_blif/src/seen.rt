@@ -1,7 +1,8 @@
 //! Sets of words that have been seen.
 ghost use Rattle.std.specs.Prelude.{◌≡◌, ◌||◌, not, ℕ, List, IfOk, OnOk, false};
 ghost use Rattle.std.specs.Str.{bytes_eq};
-ghost use Rattle.vw_blif.specs.Steps.Seen.{has_seen, InsertsAll};
+ghost use Rattle.vw_design.specs.WordSets.{has_word};
+ghost use Rattle.vw_blif.specs.Steps.Seen.{InsertsAll};
 
 use bumpalo::Bump;
 use std::alloc::{AllocError, Global};
@@ -19,7 +20,7 @@ pub struct Seen<'a> {
 impl<'a> Seen<'a> {
     /// No word. It takes no memory.
     pub fn new(alloc: Global) -> Self
-        ensures { (word : List ℕ) → has_seen result.words word ≡ false }
+        ensures { (word : List ℕ) → has_word result.words word ≡ false }
     {
         Seen {
             words: HashMap::with_hasher(alloc, BuildHasherDefault::new()),
@@ -28,10 +29,10 @@ impl<'a> Seen<'a> {
 
     /// Adds a word, and says whether it is new.
     pub fn insert(&mut self, word: &'a [u8]) -> Result<bool, AllocError>
-        ensures is_new { IfOk result (λ is_new. is_new ≡ not (has_seen self.old.words word.now)) }
+        ensures is_new { IfOk result (λ is_new. is_new ≡ not (has_word self.old.words word.now)) }
         ensures words { OnOk result ((other : List ℕ)
-            → has_seen self.new.words other
-            ≡ (bytes_eq word.now other || has_seen self.old.words other)) }
+            → has_word self.new.words other
+            ≡ (bytes_eq word.now other || has_word self.old.words other)) }
     {
         let old = self.words.insert(word, ())?;
         Ok(old.is_none())
@@ -39,10 +40,10 @@ impl<'a> Seen<'a> {
 
     /// Adds a word that lies in an arena from then on, and says whether it is new.
     pub fn keep(&mut self, arena: &'a Bump, word: &[u8]) -> Result<bool, AllocError>
-        ensures is_new { IfOk result (λ is_new. is_new ≡ not (has_seen self.old.words word.now)) }
+        ensures is_new { IfOk result (λ is_new. is_new ≡ not (has_word self.old.words word.now)) }
         ensures words { OnOk result ((other : List ℕ)
-            → has_seen self.new.words other
-            ≡ (bytes_eq word.now other || has_seen self.old.words other)) }
+            → has_word self.new.words other
+            ≡ (bytes_eq word.now other || has_word self.old.words other)) }
     {
         let kept = arena.try_alloc_slice_copy(word)?;
         self.insert(kept)
@@ -50,7 +51,7 @@ impl<'a> Seen<'a> {
 
     /// Takes memory for so many words more.
     fn make_room(&mut self, count: usize) -> Result<(), AllocError>
-        ensures { (word : List ℕ) → has_seen self.new.words word ≡ has_seen self.old.words word }
+        ensures { (word : List ℕ) → has_word self.new.words word ≡ has_word self.old.words word }
     {
         self.words.reserve(count)
     }

@@ -5,6 +5,7 @@ ghost use Rattle.vw_board.specs.Messages.{fault_text};
 
 use std::alloc::{AllocError, AllocFailed, Global};
 use thiserror::Error;
+use vw_text::numbered_line;
 
 /// Why a text is no board. Lines are numbered from 1.
 #[derive(Clone, Copy, Debug, PartialEq, Eq, Error)]
@@ -54,15 +55,6 @@ impl<T: Drop> From<AllocFailed<T>> for BoardFault {
     }
 }
 
-/// A line with one number in it, with the end of the line.
-fn with_one(alloc: Global, before: &str, number: u64, after: &str) -> Result<Vec<u8>, AllocError>
-    ensures { IfOk result (λ line. line.items
-        ≡ before.now ++ decimal number ++ after.now ++ 10 ∷ []) }
-{
-    let line = format!(in alloc; "{before}{number}{after}\n")?;
-    Ok(line.into_bytes())
-}
-
 /// A line with two numbers, the second as its last word, with the end of the line.
 fn with_two(
     alloc: Global,
@@ -93,11 +85,21 @@ impl BoardFault {
     {
         match *self {
             BoardFault::TooLarge => b"board 1: text longer than 1048576 bytes\n".to_vec(alloc),
-            BoardFault::BadLine(number) => with_one(alloc, "board 2: line ", number, ": bad line"),
+            BoardFault::BadLine(number) => numbered_line(
+                alloc,
+                "board 2: line ",
+                number,
+                ": bad line",
+            ),
             BoardFault::BadNumber(number) => {
-                with_one(alloc, "board 3: line ", number, ": bad number")
+                numbered_line(alloc, "board 3: line ", number, ": bad number")
             }
-            BoardFault::SelfLink(a) => with_one(alloc, "board 4: self link ", u64::from(a), ""),
+            BoardFault::SelfLink(a) => numbered_line(
+                alloc,
+                "board 4: self link ",
+                u64::from(a),
+                "",
+            ),
             BoardFault::DuplicateLink(a, b) => {
                 with_two(alloc, "board 5: duplicate link ", a, " ", b)
             }

@@ -1,5 +1,5 @@
 ghost use Rattle.std.specs.Prelude.{◌≡◌, ◌≤◌, ◌<◌, ℕ, List, true, false, length, IfOk, IsErr, IsOk};
-ghost use Rattle.vw_outside.specs.Told.{held};
+ghost use Rattle.vw_outside.specs.Told.{absent, held};
 ghost use Rattle.vw_outside.specs.Faults.{one_more, is_listed};
 ghost use Rattle.vw_outside.specs.Reads.{Fills, ReadEnds};
 ghost use Rattle.vw_outside.specs.Steps.{text_place};
@@ -84,6 +84,12 @@ impl Shelf for MemShelf {
         ensures sure { (bytes : List ℕ) → (seen_shelf self.old).told name.now ≡ held bytes
             → is_listed self.old.failing.items self.new.calls ≡ false → IsOk result }
         ensures pieces { IfOk result (λ count. count ≤ self.old.most) }
+
+        // The names without a text share one count, which rises where one of them is read, and only there.
+        ensures absent { (seen_shelf self.old).told name.now ≡ absent
+            → self.new.others ≡ one_more self.old.others }
+        ensures kept { (bytes : List ℕ) → (seen_shelf self.old).told name.now ≡ held bytes
+            → self.new.others ≡ self.old.others }
         ensures settings { KeepsShelfSettings self.old self.new }
     {
         self.calls = self.calls.saturating_add(1);

@@ -2,6 +2,7 @@ ghost use Rattle.std.specs.Prelude.{◌≡◌, IfOk};
 
 use std::alloc::{AllocError, AllocFailed, Global};
 use thiserror::Error;
+use vw_text::numbered_line;
 
 /// Why a text is no plan. Lines are numbered from 1.
 #[derive(Clone, Copy, Debug, PartialEq, Eq, Error)]
@@ -44,14 +45,9 @@ impl PlanTextFault {
         ensures { IfOk result (λ line. line.items ≡ fault_text self.now) }
     {
         match *self {
-            PlanTextFault::TooLarge => {
-                Ok(b"plan 1: text longer than 67108864 bytes\n".to_vec(alloc)?)
-            }
-            PlanTextFault::BadLine(number) => {
-                let line = format!(in alloc; "plan 2: line {number}\n")?;
-                Ok(line.into_bytes())
-            }
-            PlanTextFault::NoMemory => Ok(b"out of memory\n".to_vec(alloc)?),
+            PlanTextFault::TooLarge => b"plan 1: text longer than 67108864 bytes\n".to_vec(alloc),
+            PlanTextFault::BadLine(number) => numbered_line(alloc, "plan 2: line ", number, ""),
+            PlanTextFault::NoMemory => b"out of memory\n".to_vec(alloc),
         }
     }
 }

@@ -1,14 +1,14 @@
 //! The lines of a stimulus text.
 ghost use Rattle.std.specs.Prelude.{◌≡◌, ◌≢◌, ◌==◌, ℕ, List, Bool, length, map, IfOk, Err};
 ghost use Rattle.std.specs.List.{before_first, after_first};
-ghost use Rattle.vw_text.specs.Bare.{is_blank, without_comment};
+ghost use Rattle.vw_text.specs.Bare.{is_blank};
 ghost use Rattle.vw_rows.specs.Stimulus.{is_bits, bits_of, line_words, row_of_bits, held_times, repeated, rows_added};
 ghost use Rattle.vw_rows.specs.Steps.{Answers, rows_asked, FitsRun, FindsWord};
 
 use crate::stimulus::StimFault;
 use std::alloc::{AllocError, Global};
 use vw_net::Bits;
-use vw_text::number_in;
+use vw_text::{is_blank, number_in, without_comment};
 
 /// What a line asks for.
 #[derive(Drop)]
@@ -23,25 +23,6 @@ pub enum Asked {
 
 /// The most clocks of a run.
 pub const CLOCKS_LIMIT: u64 = 4_294_967_295;
-
-/// Whether a byte separates words: tabs and feeds, the return, and the space.
-fn is_blank(byte: u8) -> bool
-    ensures { result ≡ is_blank byte }
-{
-    matches!(byte, b'\t' | b'\x0b' | b'\x0c' | b'\r' | b' ')
-}
-
-/// The line without its comment.
-fn without_comment(line: &[u8]) -> &[u8]
-    ensures { result.now ≡ without_comment line.now }
-{
-    for (at, byte) in line.iter().enumerate() {
-        if *byte == b'#' {
-            return &line[..at];
-        }
-    }
-    line
-}
 
 /// What stands before the first blank of a line, and what stands behind it.
 fn cut_at_blank(line: &[u8]) -> (&[u8], &[u8])

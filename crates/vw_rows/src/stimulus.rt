@@ -1,7 +1,10 @@
 ghost use Rattle.std.specs.Prelude.{◌≡◌, IfOk};
+ghost use Rattle.vw_rows.specs.declared.stimulus.StimFault.TheVariants.{WrongWidth};
+ghost use Rattle.vw_rows.specs.Messages.{fault_text};
 
 use std::alloc::{AllocError, AllocFailed, Global};
 use thiserror::Error;
+use vw_text::numbered_line;
 
 /// Why a stimulus was not read. Lines are numbered from 1.
 #[derive(Clone, Copy, Debug, PartialEq, Eq, Error)]
@@ -45,34 +48,35 @@ impl<T: Drop> From<AllocFailed<T>> for StimFault {
     }
 }
 
-impl StimFault {
-    ghost use Rattle.vw_rows.specs.Messages.{fault_text};
+/// The message of a line with a wrong number of bits.
+fn of_width(alloc: Global, number: u64, found: u64, wanted: u64) -> Result<Vec<u8>, AllocError>
+    ensures { IfOk result (λ line. line.items ≡ fault_text (WrongWidth number found wanted)) }
+{
+    let line = format!(in alloc;
+        "stimulus 3: line {number}: found {found} bits, wanted {wanted}\n"
+    )?;
+    Ok(line.into_bytes())
+}
 
+impl StimFault {
     /// The message line, with the end of the line.
     pub fn text(&self, alloc: Global) -> Result<Vec<u8>, AllocError>
         ensures { IfOk result (λ line. line.items ≡ fault_text self.now) }
     {
         match *self {
-            StimFault::TooLarge => {
-                let line = format!(in alloc; "stimulus 1: text longer than 16777216 bytes\n")?;
-                Ok(line.into_bytes())
-            }
+            StimFault::TooLarge => b"stimulus 1: text longer than 16777216 bytes\n".to_vec(alloc),
             StimFault::BadLine(number) => {
-                let line = format!(in alloc; "stimulus 2: line {number}: bad line\n")?;
-                Ok(line.into_bytes())
+                numbered_line(alloc, "stimulus 2: line ", number, ": bad line")
             }
-            StimFault::WrongWidth(number, found, wanted) => {
-                let line = format!(in alloc;
-                    "stimulus 3: line {number}: found {found} bits, wanted {wanted}\n"
-                )?;
-                Ok(line.into_bytes())
-            }
-            StimFault::TooManyClocks(count) => {
-                let line = format!(in alloc; "stimulus 4: {count} clocks\n")?;
-                Ok(line.into_bytes())
-            }
-            StimFault::ReadFault => Ok(b"read fault: stimulus\n".to_vec(alloc)?),
-            StimFault::NoMemory => Ok(b"out of memory\n".to_vec(alloc)?),
+            StimFault::WrongWidth(number, found, wanted) => of_width(alloc, number, found, wanted),
+            StimFault::TooManyClocks(count) => numbered_line(
+                alloc,
+                "stimulus 4: ",
+                count,
+                " clocks",
+            ),
+            StimFault::ReadFault => b"read fault: stimulus\n".to_vec(alloc),
+            StimFault::NoMemory => b"out of memory\n".to_vec(alloc),
         }
     }
 }

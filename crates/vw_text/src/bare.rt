@@ -12,8 +12,8 @@ pub fn is_blank(byte: u8) -> bool
     matches!(byte, b'\t' | b'\x0b' | b'\x0c' | b'\r' | b' ')
 }
 
-/// The line without its comment.
-fn without_comment(line: &[u8]) -> &[u8]
+/// The line without its comment: what stands before the first `#`.
+pub fn without_comment(line: &[u8]) -> &[u8]
     ensures { result.now ≡ without_comment line.now }
 {
     match line.find_byte(b'#') {

@@ -4,13 +4,16 @@
 mod bare;
 mod laws;
 mod line;
+mod message;
 mod numbers;
 mod physical;
 mod reader;
 mod words;
 
+pub use bare::{is_blank, without_comment};
 pub use laws::{lines_join, plain_lines_read};
 pub use line::Line;
+pub use message::numbered_line;
 pub use numbers::{number, number_in};
 pub use physical::first_line;
 pub use reader::{LineReader, lines};

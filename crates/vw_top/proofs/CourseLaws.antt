@@ -7,7 +7,7 @@ use Rattle.vw_outside.proofs.PiecesWritten.{appended-nil}
 use Rattle.vw_top.specs.declared.stop.File.{File}
 use Rattle.vw_top.specs.declared.stop.Stop.TheVariants.{ReadFault, WriteFault, NoMemory}
 use Rattle.vw_top.specs.declared.reason.Reason.{Reason}
-use Rattle.vw_top.specs.declared.reason.Reason.TheVariants.{Design, Elaboration, Loop, Usage, Board, PlanText, Plan, Stimulus, Fit}
+use Rattle.vw_top.specs.declared.reason.Reason.TheVariants.{DesignText, Design, Loop, Usage, Board, PlanText, Plan, Stimulus, Fit}
 use Rattle.vw_top.specs.declared.refusal.Refusal.{Refusal}
 use Rattle.vw_top.specs.declared.endings.Unfinished.TheVariants.{Stopped, Refused}
 use Rattle.vw_top.specs.Reasons.{reason_status}
@@ -152,8 +152,8 @@ module _ (outcome : Outcome) (before after : Outside) (answer : Answer) where
 
 -- the statuses of reasons are those from 1 to 6
 pub refusal_status : (reason : Reason) → (0 < reason_status reason) × (reason_status reason < 7)
+refusal_status (DesignText fault) = (lit< tt, lit< tt)
 refusal_status (Design fault) = (lit< tt, lit< tt)
-refusal_status (Elaboration fault) = (lit< tt, lit< tt)
 refusal_status (Loop names) = (lit< tt, lit< tt)
 refusal_status (Usage place) = (lit< tt, lit< tt)
 refusal_status (Board fault) = (lit< tt, lit< tt)

@@ -9,6 +9,7 @@ use Rattle.vw_design.specs.Preorder.{Site, cells}
 use Rattle.vw_design.specs.Accepted.{IsAccepted}
 use Rattle.vw_design.specs.Flattened.{IsFlatOf}
 use Rattle.vw_design.specs.Loops.{gate_at, IsLoop, IsLoopFree}
+use Rattle.vw_order.specs.Circles.{BeginsWithLeast}
 use Rattle.vw_blif.specs.declared.fault.TextFault.{TextFault}
 use Rattle.vw_blif.specs.Spelled.{SpelledModel, spelled_model}
 use Rattle.vw_blif.specs.Read.{design_of}
@@ -44,17 +45,17 @@ pub record IsLoopOf (design : Design) (names : List Word) : Type 0 where
   pub are : AllZip (λ number gate. slice_get (cells design) number ≡ Some gate) numbers gates
   pub loop : IsLoop design (map gate_at gates)
   pub once : IsDistinct ◌==◌ numbers
-  pub least : (i : ℕ) → i < length numbers → slice_index numbers 0 ≤ slice_index numbers i
+  pub least : BeginsWithLeast numbers
   pub named : names ≡ map printed_site gates
 
 -- the text has this fault
 abbrev pub RefusesText : List ℕ → Reason → Type 0
-RefusesText text reason = (fault : TextFault) × (reason ≡ reasons.Design fault) × (design_of text ≡ Err fault)
+RefusesText text reason = (fault : TextFault) × (reason ≡ reasons.DesignText fault) × (design_of text ≡ Err fault)
 
 -- the design has this fault
 abbrev pub RefusesElaboration : Design → Reason → Type 0
 RefusesElaboration design reason =
-    (fault : DesignFault) × (reason ≡ reasons.Elaboration fault) × IsTrue (is_design_fault fault) × IsRefusal design fault
+    (fault : DesignFault) × (reason ≡ reasons.Design fault) × IsTrue (is_design_fault fault) × IsRefusal design fault
 
 -- the design has this loop
 abbrev pub RefusesLoop : Design → Reason → Type 0

@@ -3,7 +3,6 @@ ghost use Rattle.std.specs.Prelude.{◌≡◌, ◌<◌, ◌+◌, false, length, 
 ghost use Rattle.std.specs.List.{All};
 ghost use Rattle.vw_net.specs.Cells.{latch_count};
 ghost use Rattle.vw_net.specs.History.{outputs_at, next_state, outputs_of, states_of, state_after};
-ghost use Rattle.vw_sim.specs.Steps.Values.{bits_at};
 
 use std::alloc::{AllocError, Global};
 use vw_net::{Bits, Rows};
@@ -43,7 +42,7 @@ fn copy_bits(from: &Bits, to: &mut Bits)
 fn pick(values: &Bits, nets: &[u32], to: &mut Bits)
     requires known { All (λ net. net < length values.now) nets.now }
     requires size { length to.old ≡ length nets.now }
-    ensures { to.new ≡ bits_at values.now nets.now }
+    ensures { to.new ≡ map (λ net. slice_index_or values.now net false) nets.now }
 {
     let values = values.as_slice();
     for (i, net) in nets.iter().enumerate() {

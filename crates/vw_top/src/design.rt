@@ -31,7 +31,7 @@ fn design_of_text(alloc: Global, text: &[u8]) -> Result<Design, Unfinished>
     match read(alloc, text) {
         Ok(design) => Ok(design),
         Err(TextFault::NoMemory) => Err(Unfinished::Stopped(Stop::NoMemory)),
-        Err(fault) => Err(Unfinished::Refused(Refusal::new(Reason::Design(fault)))),
+        Err(fault) => Err(Unfinished::Refused(Refusal::new(Reason::DesignText(fault)))),
     }
 }
 
@@ -43,7 +43,7 @@ fn elaborated_of(alloc: Global, design: Design) -> Result<Elaborated, Unfinished
     match elaborate(alloc, design) {
         Ok(elaborated) => Ok(elaborated),
         Err(DesignFault::NoMemory) => Err(Unfinished::Stopped(Stop::NoMemory)),
-        Err(fault) => Err(Unfinished::Refused(Refusal::new(Reason::Elaboration(fault)))),
+        Err(fault) => Err(Unfinished::Refused(Refusal::new(Reason::Design(fault)))),
     }
 }
 

@@ -41,7 +41,7 @@ pub fn read_design<S: Shelf>(
         Ok(text) => netlist_of_text(alloc, &text),
         Err(TextRefused::TooLarge) => {
             let fault = TextFault::TooLarge;
-            Err(Unfinished::Refused(Refusal::new(Reason::Design(fault))))
+            Err(Unfinished::Refused(Refusal::new(Reason::DesignText(fault))))
         }
         Err(TextRefused::ReadFault) => Err(Unfinished::Stopped(Stop::ReadFault(File::Design))),
         Err(TextRefused::NoMemory) => Err(Unfinished::Stopped(Stop::NoMemory)),

@@ -17,9 +17,9 @@ use vw_rows::StimFault;
 #[derive(Drop)]
 pub enum Reason {
     /// The design text has this fault.
-    Design(TextFault),
+    DesignText(TextFault),
     /// The design has this fault.
-    Elaboration(DesignFault),
+    Design(DesignFault),
     /// Gates of the design read each other in a circle: the nets that they drive, as they are printed.
     Loop(Sequence<Name>),
     /// The words spell no command; the number of the first wrong word, from 1.
@@ -64,7 +64,7 @@ impl Reason {
         ensures { result ≡ reason_status self.now }
     {
         match self {
-            Reason::Design(_) | Reason::Elaboration(_) | Reason::Loop(_) => 1,
+            Reason::DesignText(_) | Reason::Design(_) | Reason::Loop(_) => 1,
             Reason::Usage(_) => 2,
             Reason::Board(_) => 3,
             Reason::PlanText(_) | Reason::Plan(_) => 4,
@@ -78,8 +78,8 @@ impl Reason {
         ensures { IfOk result (λ line. line.items ≡ reason_line self.now) }
     {
         match self {
+            Reason::DesignText(fault) => fault.text(alloc),
             Reason::Design(fault) => fault.text(alloc),
-            Reason::Elaboration(fault) => fault.text(alloc),
             Reason::Loop(names) => line_of_names(alloc, b"design 25: loop", names.as_slice()),
             Reason::Usage(place) => usage_line(alloc, *place),
             Reason::Board(fault) => fault.text(alloc),

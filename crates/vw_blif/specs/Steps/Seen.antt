@@ -1,18 +1,15 @@
 -- Which words a set has seen.
-use Rattle.std.specs.Prelude.{◌≡◌, ℕ, Bool, true, not, List, ◌++◌, is_some}
-use Rattle.std.specs.Str.{bytes_eq}
+use Rattle.std.specs.Prelude.{◌≡◌, ℕ, Bool, true, not, List, ◌++◌}
 use Rattle.std.specs.HashMap as hash
 use Rattle.std.specs.Borrow.{Bor}
 use Rattle.vw_design.specs.Distinct.{has_name}
 use Rattle.vw_design.specs.Paths.{Word}
+use Rattle.vw_design.specs.WordSets.{has_word}
 use Rattle.vw_blif.specs.Bindings.{repeats}
-
-abbrev pub has_seen : {X S : Type 0} → hash.HashMap (Bor (List ℕ)) X S → Word → Bool
-has_seen words word = is_some (hash.get_by (λ key. bytes_eq word key.now) words)
 
 -- the words that were seen are these
 abbrev pub Knows : {X S : Type 0} → List Word → hash.HashMap (Bor (List ℕ)) X S → Type 0
-Knows names words = (word : Word) → has_seen words word ≡ has_name names word
+Knows names words = (word : Word) → has_word words word ≡ has_name names word
 
 -- words were added, and the answer says whether each was new
 abbrev pub InsertsAll : {X S : Type 0} → hash.HashMap (Bor (List ℕ)) X S → List Word → hash.HashMap (Bor (List ℕ)) X S → Bool → Type 0

@@ -20,7 +20,7 @@ invariant_of-result c =
 pub returns-clause-row : goal.returns-clause-row
 returns-clause-row c =
     let row_is : is_row_of (length c.args.table.ins) c.args.line.now.words ≡ true = search rules in
-    let same : is_other_value c.args.table.on c.eq-ends_in_one.result ≡ false = search rules in
-    let one : c.eq-ends_in_one.result ≡ bytes_eq (last_word c.args.line.now.words) (codes "1") = search rules in
+    let same : is_other_value c.args.table.on c.is-ends_in_one.result ≡ false = search rules in
+    let one : c.is-ends_in_one.result ≡ bytes_eq (last_word c.args.line.now.words) (codes "1") = search rules in
     let marks : c.make.result.marks ≡ row_marks c.args.line.now.words = search rules in
-    adds_row c.args.line.now c.args.table _ _ c.eq-ends_in_one.result refl refl refl refl c.in_ok-push.ensures.items marks one row_is same
+    adds_row c.args.line.now c.args.table _ _ c.is-ends_in_one.result refl refl refl refl c.in_ok-push.ensures.items marks one row_is same

@@ -7,7 +7,7 @@ use Rattle.vw_design.specs.Paths.{Word}
 use Rattle.vw_blif.specs.Kinds.{further}
 use Rattle.vw_blif.specs.Steps.Names.{opened, names_so_far}
 use Rattle.vw_blif.specs.Steps.Blocks.{IsNew}
-use Rattle.vw_blif.specs.Steps.Seen.{has_seen}
+use Rattle.vw_design.specs.WordSets.{has_word}
 use Rattle.vw_blif.proofs.Binds.{are_distinct-push}
 use Rattle.vw_blif.proofs.ReaderLines.{wrong_count, one_word, names_begun, seen_before, knows_more, model_again, model_begun}
 use Rattle.vw_blif.proofs.reader.Reader.begin_model.Goals.{in_default-via-then-further-lt1, in_default-via-else-further-lt1+else-this-lt2}
@@ -24,12 +24,12 @@ pub returns-then-not-branch-clause-refuses : goal.returns-then-not-branch-clause
 returns-then-not-branch-clause-refuses c =
     let mid = c.in_ok-models.field-0 in
     let name = c.name-item.result in
-    let old = λ (w : Word). has_seen mid.names.value.words w in
+    let old = λ (w : Word). has_word mid.names.value.words w in
     let one : further c.args.line.now ≡ name ∷ [] =
     sym c.further.ensures ∙ one_word c.further.result.now name c.in-len1.len_at_least c.in-len1.len_below c.name-item.is in
     let again : has_name (names_so_far mid.models.items (opened mid.block)) name ≡ true =
     seen_before (names_so_far mid.models.items (opened mid.block)) name (old name) c.in_ok-keep.field-0 (mid.knows name)
-    (c.in_ok-keep.ensures.is_new ∙ ap₂ (λ (s : Seen) (w : Word). not (has_seen s.words w)) c.deref_mut.ensures.value c.as_slice.ensures) ∙ ap not c.if-not-branch.true in
+    (c.in_ok-keep.ensures.is_new ∙ ap₂ (λ (s : Seen) (w : Word). not (has_word s.words w)) c.deref_mut.ensures.value c.as_slice.ensures) ∙ ap not c.if-not-branch.true in
     λ before told is.
     model_again c.args.self mid c.args.line.now name c.requires one c.in_ok-models.ensures again before told
     ∙ ap (λ (n : ℕ). Some (DuplicateModel n)) (sym c.number-then-not-branch.ensures)
@@ -38,16 +38,16 @@ pub invariant_of-result : goal.invariant_of-result
 invariant_of-result c =
     let mid = c.in_ok-models.field-0 in
     let name = c.name-item.result in
-    let old = λ (w : Word). has_seen mid.names.value.words w in
-    let new = λ (w : Word). has_seen c.keep.new.self.words w in
+    let old = λ (w : Word). has_word mid.names.value.words w in
+    let new = λ (w : Word). has_word c.keep.new.self.words w in
     let names = names_so_far mid.models.items (opened mid.block) in
     let more : names_so_far mid.models.items (Some c.in_ok-new.field-0.value) ≡ names ++ name ∷ [] =
     names_begun mid.models.items (opened mid.block) c.in_ok-new.field-0.value name c.in_ok-models.ensures.block (c.in_ok-new.ensures.named ∙ c.in_ok-copy.ensures ∙ c.as_slice-2.ensures) in
     let unseen : has_name names name ≡ false =
     seen_before names name (old name) c.in_ok-keep.field-0 (mid.knows name)
-    (c.in_ok-keep.ensures.is_new ∙ ap₂ (λ (s : Seen) (w : Word). not (has_seen s.words w)) c.deref_mut.ensures.value c.as_slice.ensures) ∙ ap not c.if-not-branch.false in
+    (c.in_ok-keep.ensures.is_new ∙ ap₂ (λ (s : Seen) (w : Word). not (has_word s.words w)) c.deref_mut.ensures.value c.as_slice.ensures) ∙ ap not c.if-not-branch.false in
     let adds : (other : Word) → new other ≡ (bytes_eq name other || old other) =
-    λ other. c.in_ok-keep.ensures.words other ∙ ap₂ (λ (s : Seen) (w : Word). bytes_eq w other || has_seen s.words other) c.deref_mut.ensures.value c.as_slice.ensures in
+    λ other. c.in_ok-keep.ensures.words other ∙ ap₂ (λ (s : Seen) (w : Word). bytes_eq w other || has_word s.words other) c.deref_mut.ensures.value c.as_slice.ensures in
     record {
       knows = λ word. knows_more names name old new mid.knows adds word ∙ ap (λ (ns : List Word). has_name ns word) (sym more);
       distinct = ap are_distinct more ∙ are_distinct-push names name mid.distinct unseen;
@@ -58,12 +58,12 @@ pub returns-clause-reads : goal.returns-clause-reads
 returns-clause-reads c =
     let mid = c.in_ok-models.field-0 in
     let name = c.name-item.result in
-    let old = λ (w : Word). has_seen mid.names.value.words w in
+    let old = λ (w : Word). has_word mid.names.value.words w in
     let one : further c.args.line.now ≡ name ∷ [] =
     sym c.further.ensures ∙ one_word c.further.result.now name c.in-len1.len_at_least c.in-len1.len_below c.name-item.is in
     let unseen : has_name (names_so_far mid.models.items (opened mid.block)) name ≡ false =
     seen_before (names_so_far mid.models.items (opened mid.block)) name (old name) c.in_ok-keep.field-0 (mid.knows name)
-    (c.in_ok-keep.ensures.is_new ∙ ap₂ (λ (s : Seen) (w : Word). not (has_seen s.words w)) c.deref_mut.ensures.value c.as_slice.ensures) ∙ ap not c.if-not-branch.false in
+    (c.in_ok-keep.ensures.is_new ∙ ap₂ (λ (s : Seen) (w : Word). not (has_word s.words w)) c.deref_mut.ensures.value c.as_slice.ensures) ∙ ap not c.if-not-branch.false in
     let same : c.in_ok-copy.field-0 ≡ name = c.in_ok-copy.ensures ∙ c.as_slice-2.ensures in
     let fresh : IsNew name c.in_ok-new.field-0.value = record {
       named = c.in_ok-new.ensures.named ∙ same;

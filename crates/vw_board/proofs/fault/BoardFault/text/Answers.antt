@@ -14,7 +14,7 @@ duplicate_pieces a b = simp append_assoc
 
 pub returns-in-SelfLink : goal.returns-in-SelfLink
 returns-in-SelfLink c =
-    subst (λ text. IfOk c.with_one-in-SelfLink.result (λ line. line.items ≡ text)) (self_pieces _ ∙ ap (λ (a : ℕ). fault_text (SelfLink a)) c.from.ensures ∙ ap fault_text (sym c.in-SelfLink.is)) c.with_one-in-SelfLink.ensures
+    subst (λ text. IfOk c.numbered_line-in-SelfLink.result (λ line. line.items ≡ text)) (self_pieces _ ∙ ap (λ (a : ℕ). fault_text (SelfLink a)) c.from.ensures ∙ ap fault_text (sym c.in-SelfLink.is)) c.numbered_line-in-SelfLink.ensures
 
 pub returns-in-DuplicateLink : goal.returns-in-DuplicateLink
 returns-in-DuplicateLink c =

@@ -55,3 +55,13 @@ returns-in-Some-2-clause-reads c = record {
   done = refl;
   failed = tt;
 }
+
+-- a name that is held isn't absent, and one without a text isn't held
+pub returns-in-Some-clause-absent : goal.returns-in-Some-clause-absent
+returns-in-Some-clause-absent c = λ told. absurd (not_absent c.args.self.now.files.items c.args.name.now c.in-Some.place c.index_mut-file.result.now (found ((goal.at.returns-in-Some-clause-absent c).In-Some)) told)
+
+pub returns-in-Some-2-clause-absent : goal.returns-in-Some-2-clause-absent
+returns-in-Some-2-clause-absent c = λ told. absurd (not_absent c.args.self.now.files.items c.args.name.now c.in-Some.place c.index-file.result.now (found ((goal.at.returns-in-Some-2-clause-absent c).In-Some)) told)
+
+pub returns-in-None-clause-kept : goal.returns-in-None-clause-kept
+returns-in-None-clause-kept c = λ bytes told. absurd (not_held c.args.self.now.files.items c.args.name.now bytes (missing ((goal.at.returns-in-None-clause-kept c).In-None)) told)

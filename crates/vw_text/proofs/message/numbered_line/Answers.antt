@@ -1,6 +1,6 @@
 use Rattle.std.proofs.Common.{◌≡◌, ℕ, List, ◌++◌, ◌∷◌, [], ◌∙◌, ap, append_assoc}
 use Rattle.std.specs.Fmt.{decimal}
-use Rattle.vw_board.proofs.fault.with_one.Goals as goal
+use Rattle.vw_text.proofs.message.numbered_line.Goals as goal
 
 -- the pieces of the format, in the order in which it joins them
 pieces : (before number after : List ℕ) → before ++ (number ++ (after ++ 10 ∷ [])) ≡ before ++ number ++ after ++ 10 ∷ []
