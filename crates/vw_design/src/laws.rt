@@ -14,6 +14,6 @@ pub use faults::{faults_are_exact, sizes_are_small};
 pub use models::{ranked_models, reached_models};
 pub use sites::{instances_are_listed, items_are_once, items_are_sites, sites_are_items};
 pub use values::{
-    deeper_is_the_same, gates_have_their_values, histories_agree, ordered_is_loop_free,
-    reads_agree, values_agree,
+    deeper_is_the_same, gates_have_their_values, histories_agree, netlists_are_one,
+    ordered_is_loop_free, reads_agree, values_agree,
 };

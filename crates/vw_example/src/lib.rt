@@ -2,7 +2,7 @@
 #![tactic(auto)]
 
 ghost use Rattle.std.specs.Prelude.{◌≡◌, IfOk};
-ghost use Rattle.vw_example.specs.Simulated.{IsSimulated};
+ghost use Rattle.vw_example.specs.Outcome.{IsOutcome};
 
 use std::alloc::{AllocError, Global};
 use vw_outside::{Held, MemShelf, MemSink, Name};
@@ -23,10 +23,11 @@ fn name_of(alloc: Global, bytes: &[u8]) -> Result<Name, AllocError>
     Ok(Name::of(bytes.to_vec(alloc)?))
 }
 
-/// Runs `sim` over two texts in memory. Where the status is 0, out is the trace of the design over the stimulus.
+/// Runs `sim` over two texts in memory. After status 0, out is the trace of the design over the stimulus. After 1, the
+/// design text has no design that runs, and after 5, the stimulus has a fault.
 pub fn simulate(alloc: Global, design: Vec<u8>, stimulus: Vec<u8>) -> Result<Simulated, AllocError>
-    ensures { IfOk result (λ simulated. simulated.status ≡ 0
-        → IsSimulated design.items stimulus.items simulated.out.items) }
+    ensures { IfOk result (λ simulated.
+        IsOutcome design.items stimulus.items simulated.out.items simulated.status) }
 {
     let files = vec![in alloc;
         Held::make(name_of(alloc, b"design")?, design),

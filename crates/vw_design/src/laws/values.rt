@@ -76,3 +76,9 @@ pub fn ordered_is_loop_free()
     ensures { (design : Design) → IsAccepted design → (ordered : Ordered)
         → IsFlatOf design ordered.flat → IsLoopFree design }
 {}
+
+/// A design has one netlist at most: everything in it is fixed by the design.
+pub fn netlists_are_one()
+    ensures { (design : Design) (one other : Flat) → IsFlatOf design one → IsFlatOf design other
+        → one ≡ other }
+{}

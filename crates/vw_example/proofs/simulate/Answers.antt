@@ -10,7 +10,7 @@ use Rattle.vw_top.specs.Course.{Outside, outside}
 use Rattle.vw_top.specs.Commands.{sim_course, course_of, trace_of}
 use Rattle.vw_top.specs.Statuses.{Statuses}
 use Rattle.vw_top.specs.CommandStatuses.{SimStatuses}
-use Rattle.vw_example.specs.Simulated.{IsSimulated}
+use Rattle.vw_example.specs.Outcome.{IsOutcome}
 use Rattle.vw_example.proofs.simulate.Goals as goal
 
 -- what two files of these names hold
@@ -28,23 +28,31 @@ whole_text : (before after : SeenSink) (text out : List ℕ) → before.told ≡
 whole_text before after text out none some same =
     let told : Some out ≡ Some text = sym some ∙ ap (λ (sink : SeenSink). sink.told) same ∙ ap (option_map (λ so_far. so_far ++ text)) none in cc
 
-simulated : (words : List (List ℕ)) (before after : Outside) (status : ℕ) (design stimulus out : List ℕ) → words ≡ codes "sim" ∷ codes "design" ∷ codes "stimulus" ∷ []
+outcome : (words : List (List ℕ)) (before after : Outside) (status : ℕ) (design stimulus out : List ℕ) → words ≡ codes "sim" ∷ codes "design" ∷ codes "stimulus" ∷ []
     → ((d s : List ℕ) (unknown : Bool) (b a : Outside) (n : ℕ) → Statuses (sim_course d s unknown) b a n → SimStatuses d s unknown b a n)
     → Statuses (course_of (spelled_by words)) before after status → before.shelf.told (codes "design") ≡ held design → before.shelf.told (codes "stimulus") ≡ held stimulus
-    → before.out.told ≡ Some [] → after.out.told ≡ Some out → status ≡ 0 → IsSimulated design stimulus out
-simulated words before after status design stimulus out are law statuses design_held stimulus_held none some is =
+    → before.out.told ≡ Some [] → after.out.told ≡ Some out → IsOutcome design stimulus out status
+outcome words before after status design stimulus out are law statuses design_held stimulus_held none some =
     let table = law (codes "design") (codes "stimulus") false before after status (subst (λ (ws : List (List ℕ)). Statuses (course_of (spelled_by ws)) before after status) are statuses) in
-    let done = table.done design stimulus design_held stimulus_held is in
     record {
-      spelled = done.0;
-      rows = done.1;
-      is = done.2;
-      read = done.3;
-      trace = whole_text before.out after.out (trace_of false done.0 done.1) out none some (ap (λ (o : Outside). o.out) done.4);
+      done = λ is.
+          let done = table.done design stimulus design_held stimulus_held is in
+          record {
+            spelled = done.0;
+            rows = done.1;
+            is = done.2;
+            read = done.3;
+            trace = whole_text before.out after.out (trace_of false done.0 done.1) out none some (ap (λ (o : Outside). o.out) done.4);
+          };
+      no_design = table.no_design design design_held;
+      no_rows = λ is.
+          let bad = table.no_rows design stimulus design_held stimulus_held is in
+          record { spelled = bad.0; fault = bad.1; is = bad.2; read = bad.3 };
+      others = table.others;
     }
 
 pub returns : goal.returns
-returns c = λ is.
+returns c =
     let before : Outside = outside (seen_shelf c.new-shelf.result) (seen_sink c.new-out.result) in
     let after : Outside = outside (seen_shelf c.virtual_wires-status.new.shelf) (seen_sink c.virtual_wires-status.new.out) in
     let words_are : c.deref.result.now ≡ codes "sim" ∷ codes "design" ∷ codes "stimulus" ∷ [] = cc (c.in_ok-name_of-3.ensures, c.in_ok-name_of-4.ensures, c.in_ok-name_of-5.ensures, c.in_ok-words.ensures.items) in
@@ -52,5 +60,5 @@ returns c = λ is.
     let both = hold_both c.new-shelf.result.files.items c.make.result c.make-2.result c.args.design.items c.args.stimulus.items files_are (c.make.ensures.name ∙ c.in_ok-name_of.ensures) (c.make-2.ensures.name ∙ c.in_ok-name_of-2.ensures) c.make.ensures.bytes c.make-2.ensures.bytes in
     let copied : c.in_ok-to_vec.field-0.items ≡ c.bytes.result.now = search rules in
     let out : c.virtual_wires-status.new.out.written.items ≡ c.in_ok-to_vec.field-0.items = sym (copied ∙ c.bytes.ensures) in
-    simulated c.deref.result.now before after c.virtual_wires-status.result c.args.design.items c.args.stimulus.items c.in_ok-to_vec.field-0.items words_are c.sim_statuses.ensures c.virtual_wires-status.ensures.statuses
-    both.design_held both.stimulus_held (ap Some c.new-out.ensures.written) (ap Some out) is
+    outcome c.deref.result.now before after c.virtual_wires-status.result c.args.design.items c.args.stimulus.items c.in_ok-to_vec.field-0.items words_are c.sim_statuses.ensures c.virtual_wires-status.ensures.statuses
+    both.design_held both.stimulus_held (ap Some c.new-out.ensures.written) (ap Some out)
