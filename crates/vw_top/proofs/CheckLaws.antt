@@ -1,9 +1,6 @@
 -- What the table of statuses says of the files of `check`.
 use Rattle.std.proofs.Common.{◌≡◌, ◌<◌, ◌⊎◌, ℕ, List, refl, sym, ◌∙◌, ap, ap₂, subst, inl, inr, ⊎_elim, lit<, arith}
 use Rattle.vw_net.specs.declared.ordered.Ordered.{Ordered}
-use Rattle.vw_design.specs.declared.design.Design.{Design as Spelled}
-use Rattle.vw_design.specs.Flattened.{IsFlatOf}
-use Rattle.vw_design.proofs.FlatOnce.{flat_once}
 use Rattle.vw_plan.specs.declared.board.Board.{Board}
 use Rattle.vw_plan.specs.declared.plan.Plan.{Plan}
 use Rattle.vw_plan.specs.Setting.{Setting, setting_of}
@@ -19,24 +16,22 @@ use Rattle.vw_outside.specs.Told.{Told, absent, held, IsTextOf}
 use Rattle.vw_outside.specs.Reads.{CountsFault}
 use Rattle.vw_outside.specs.Writes.{appended}
 use Rattle.vw_top.specs.declared.stop.File.{File}
+use Rattle.vw_top.specs.declared.stop.File.TheVariants as files
 use Rattle.vw_top.specs.declared.reason.Reason.{Reason}
 use Rattle.vw_top.specs.declared.reason.Reason.TheVariants as reasons
 use Rattle.vw_top.specs.Reasons.{reason_status}
-use Rattle.vw_top.specs.Designs.{IsNetlistOf, RefusesDesign, IsNoDesign, netlist_apart, spells_once}
+use Rattle.vw_top.specs.Designs.{IsNetlistOf, RefusesDesign}
 use Rattle.vw_top.specs.Course.{Course, Outside, outside, MayWrite, MayRefuse, MayRead, writing, refusing, missing, ComesTo}
 use Rattle.vw_top.specs.Statuses.{Statuses}
-use Rattle.vw_top.specs.Commands.{RefusesBoard, RefusesPlanText, RefusesPlan, board_apart, plan_text_apart, check_course, sound_text}
-use Rattle.vw_top.specs.CommandStatuses.{Yields}
-use Rattle.vw_top.specs.CheckStatuses.{AreSpelled, IsNoBoard, IsNoPlanText, HasPlanFault, IsNoPlan, IsSoundPlan, HoldTexts, YieldsTwo, YieldsThree, CheckStatuses}
-use Rattle.vw_top.proofs.CourseEnds.{refused_with, refused_or_stopped, yields_one, yields_two, fault_of_three, yields_three, absent_leaves, part_of, carried_out}
-use Rattle.vw_top.proofs.SimLaws.{its_text, no_text, at_held, at_absent, status_one}
+use Rattle.vw_top.specs.Commands.{RefusesBoard, RefusesPlanText, RefusesPlan, plan_text_apart, check_course, check_board_course, check_plan_course, sound_text}
+use Rattle.vw_top.specs.CommandStatuses.{YieldsThree}
+use Rattle.vw_top.specs.CheckStatuses.{AreSpelled, IsNoPlanText, HasPlanFault, IsNoPlan, IsSoundPlan, HoldTexts, CheckStatuses}
+use Rattle.vw_top.proofs.CourseEnds.{refused_with, refused_or_stopped, fault_of_three, yields_three, absent_leaves, part_of, carried_out}
+use Rattle.vw_top.proofs.FirstFile.{its_text, no_text, at_held, at_absent, first_refused, first_comes, first_absent}
+use Rattle.vw_top.proofs.SecondFile.{second_refused, second_comes, second_absent}
+use Rattle.vw_top.proofs.JudgedTexts.{judged_netlist, judged_board, status_one, board_status, netlist_same, no_refused_design, no_refused_board}
 
 -- ---- netlists, boards and plans of one text
-
-pub netlist_same : (d : List ℕ) (one other : Ordered) → IsNetlistOf d one → IsNetlistOf d other → one.flat ≡ other.flat
-netlist_same d one other is its =
-    let same = spells_once d is.design its.design is.is.spelled its.is.spelled in
-    flat_once its.design one.flat other.flat (subst (λ (design : Spelled). IsFlatOf design one.flat) same is.flat) its.flat
 
 setting_same : (d b p : List ℕ) (ordered other : Ordered) (board its_board : Board) (plan its_plan : Plan) → AreSpelled d b p ordered board plan → AreSpelled d b p other its_board its_plan
     → plan_fault (setting_of ordered board plan) ≡ plan_fault (setting_of other its_board its_plan)
@@ -44,32 +39,14 @@ setting_same d b p ordered other board its_board plan its_plan are its =
     fault_same board plan ordered other (netlist_same d ordered other are.netlist its.netlist)
     ∙ ap₂ (λ (one : Board) (two : Plan). plan_fault (setting_of other one two)) (accepted_once b board its_board are.board_is its.board_is) (spelled_once p plan its_plan are.plan_is its.plan_is)
 
-pub no_design_left : (d : List ℕ) (ordered : Ordered) → IsNetlistOf d ordered → IsNoDesign d → ⊥
-no_design_left d ordered is none = netlist_apart d ordered none.0 is none.1
-
-pub no_board_left : (b : List ℕ) (board : Board) → SpellsBoard b board → IsNoBoard b → ⊥
-no_board_left b board is none = board_apart b board none.0 is none.1
-
 no_text_left : (p : List ℕ) (plan : Plan) → SpellsPlan p plan → IsNoPlanText p → ⊥
 no_text_left p plan is none = plan_text_apart p plan none.0 is none.1
-
-pub board_status : (b : List ℕ) (reason : Reason) → RefusesBoard b reason → reason_status reason ≡ 3
-board_status b reason refused = ap reason_status refused.1
 
 text_status : (p : List ℕ) (reason : Reason) → RefusesPlanText p reason → reason_status reason ≡ 4
 text_status p reason refused = ap reason_status refused.1
 
 plan_status : (setting : Setting) (reason : Reason) → RefusesPlan setting reason → reason_status reason ≡ 4
 plan_status setting reason refused = ap reason_status refused.1
-
--- a text with a netlist isn't refused, nor one with a board
-pub no_refused_design : (told : Told) (d text : List ℕ) (ordered : Ordered) (reason : Reason) → told ≡ held d → IsNetlistOf d ordered → IsTextOf told text → RefusesDesign text reason → ⊥
-no_refused_design told d text ordered reason held_d netlist text_is refused =
-    netlist_apart d ordered reason netlist (subst (λ (t : List ℕ). RefusesDesign t reason) (its_text told text d held_d text_is) refused)
-
-pub no_refused_board : (told : Told) (b text : List ℕ) (its : Board) (reason : Reason) → told ≡ held b → SpellsBoard b its → IsTextOf told text → RefusesBoard text reason → ⊥
-no_refused_board told b text its reason held_b board_is text_is refused =
-    board_apart b its reason board_is (subst (λ (t : List ℕ). RefusesBoard t reason) (its_text told text b held_b text_is) refused)
 
 module _ (design board plan : List ℕ) (told : List ℕ → Told) where
   abbrev course : Course
@@ -126,12 +103,18 @@ module _ (design board plan : List ℕ) (told : List ℕ → Told) where
 
   -- ---- what it comes to
 
-  comes_to_no_design : (d : List ℕ) → told design ≡ held d → IsNoDesign d → ComesTo refusing course told
-  comes_to_no_design d is none = at_held (told design) d _ _ is (inl (refl, none.0, none.1))
+  -- a refusal behind the board has status 4
+  behind_board : (ordered : Ordered) (its : Board) (reason : Reason) → MayRefuse (check_plan_course ordered its plan) told reason → reason_status reason ≡ 4
+  behind_board ordered its reason (p, p_is, inl refused) = text_status p reason refused
+  behind_board ordered its reason (p, p_is, inr (content, content_is, inl refused)) = plan_status (setting_of ordered its content) reason refused
+  behind_board ordered its reason (p, p_is, inr (content, content_is, inr (done, sound_is, more))) = absurd more
 
-  comes_to_no_board : (d b : List ℕ) (ordered : Ordered) → told design ≡ held d → told board ≡ held b → IsNetlistOf d ordered → IsNoBoard b → ComesTo refusing course told
-  comes_to_no_board d b ordered d_is b_is netlist none =
-      at_held (told design) d _ _ d_is (inr ((ordered, netlist), λ other its. at_held (told board) b _ _ b_is (inl (refl, none.0, none.1))))
+  after_board : (ordered : Ordered) (its : Board) (reason : Reason) → MayRefuse (check_plan_course ordered its plan) told reason → reason_status reason ≡ 3 → ⊥
+  after_board ordered its reason may is = omega (arith, is, behind_board ordered its reason may)
+
+  after_design : (ordered : Ordered) (reason : Reason) → MayRefuse (check_board_course ordered board plan) told reason → reason_status reason ≡ 1 → ⊥
+  after_design ordered reason (b, b_is, inl refused) is = omega (arith, is, board_status b reason refused)
+  after_design ordered reason (b, b_is, inr (its, its_is, may)) is = omega (arith, is, behind_board ordered its reason may)
 
   comes_to_no_text : (d b p : List ℕ) (ordered : Ordered) (its : Board) → told design ≡ held d → told board ≡ held b → told plan ≡ held p → IsNetlistOf d ordered → SpellsBoard b its → IsNoPlanText p → ComesTo refusing course told
   comes_to_no_text d b p ordered its d_is b_is p_is netlist board_is none =
@@ -176,12 +159,6 @@ module _ (design board plan : List ℕ) (told : List ℕ → Told) where
             )),
       ))
 
-  comes_to_no_file : told design ≡ absent → ComesTo missing course told
-  comes_to_no_file is = at_absent (told design) _ _ is refl
-
-  comes_to_no_board_file : (d : List ℕ) (ordered : Ordered) → told design ≡ held d → IsNetlistOf d ordered → told board ≡ absent → ComesTo missing course told
-  comes_to_no_board_file d ordered d_is netlist is = at_held (told design) d _ _ d_is (inr ((ordered, netlist), λ other other_is. at_absent (told board) _ _ is refl))
-
   comes_to_no_plan_file : (d b : List ℕ) (ordered : Ordered) (its : Board) → told design ≡ held d → told board ≡ held b → IsNetlistOf d ordered → SpellsBoard b its → told plan ≡ absent → ComesTo missing course told
   comes_to_no_plan_file d b ordered its d_is b_is netlist board_is is =
       at_held (told design) d _ _ d_is (inr (
@@ -206,19 +183,6 @@ module _ (design board plan : List ℕ) (before after : Outside) (status : ℕ) 
   yields : (status ≡ 7) ⊎ (status ≡ 9) → YieldsThree design board plan before after status
   yields = yields_three table design board plan (which design board plan told)
 
-  -- a text without a design stops the call in its own reading
-  at_design : (d : List ℕ) (file : File) (name : List ℕ) → told design ≡ held d → IsNoDesign d → MayRead (check_course design board plan) told file name → name ≡ design
-  at_design d file name held_d none (inl (is, same)) = same
-  at_design d file name held_d none (inr (text, text_is, (ordered, netlist, more))) =
-      absurd (no_design_left d ordered (subst (λ (t : List ℕ). IsNetlistOf t ordered) (its_text (told design) text d held_d text_is) netlist) none)
-
-  -- a text without a board stops it before the plan is read
-  at_board : (b : List ℕ) (file : File) (name : List ℕ) → told board ≡ held b → IsNoBoard b → MayRead (check_course design board plan) told file name → (name ≡ design) ⊎ (name ≡ board)
-  at_board b file name held_b none (inl (is, same)) = inl same
-  at_board b file name held_b none (inr (d, d_is, (ordered, netlist, inl (is, same)))) = inr same
-  at_board b file name held_b none (inr (d, d_is, (ordered, netlist, inr (text, text_is, (its, its_is, more))))) =
-      absurd (no_board_left b its (subst (λ (t : List ℕ). SpellsBoard t its) (its_text (told board) text b held_b text_is) its_is) none)
-
   -- ---- refusals
 
   one_three_four : (reason : Reason) → WhyRefused design board plan told reason → status ≡ reason_status reason → (status ≡ 1) ⊎ ((status ≡ 3) ⊎ (status ≡ 4))
@@ -229,18 +193,6 @@ module _ (design board plan : List ℕ) (before after : Outside) (status : ℕ) 
 
   no_other : (0 < status) → (status < 7) → (status ≡ 1) ⊎ ((status ≡ 3) ⊎ (status ≡ 4))
   no_other some few = let refusal = table.refused some few in one_three_four refusal.reason (its_why refusal.reason refusal.may) refusal.its_status
-
-  why_one : (d : List ℕ) (reason : Reason) → told design ≡ held d → WhyRefused design board plan told reason → reason_status reason ≡ 1 → IsNoDesign d
-  why_one d reason held_d (bad_design text text_is refused) its = (reason, subst (λ (t : List ℕ). RefusesDesign t reason) (its_text (told design) text d held_d text_is) refused)
-  why_one d reason held_d (bad_board text b ordered d_is netlist b_is refused) its = absurd (let wrong : 1 ≡ 3 = sym its ∙ board_status b reason refused in omega arith)
-  why_one d reason held_d (bad_text text b p ordered content d_is netlist b_is board_is p_is refused) its = absurd (let wrong : 1 ≡ 4 = sym its ∙ text_status p reason refused in omega arith)
-  why_one d reason held_d (unsound text b p ordered spelled content d_is b_is p_is are refused) its = absurd (let wrong : 1 ≡ 4 = sym its ∙ plan_status (setting_of ordered spelled content) reason refused in omega arith)
-
-  why_three : (b : List ℕ) (reason : Reason) → told board ≡ held b → WhyRefused design board plan told reason → reason_status reason ≡ 3 → IsNoBoard b
-  why_three b reason held_b (bad_design d d_is refused) its = absurd (let wrong : 3 ≡ 1 = sym its ∙ status_one d reason refused in omega arith)
-  why_three b reason held_b (bad_board d text ordered d_is netlist b_is refused) its = (reason, subst (λ (t : List ℕ). RefusesBoard t reason) (its_text (told board) text b held_b b_is) refused)
-  why_three b reason held_b (bad_text d text p ordered content d_is netlist b_is board_is p_is refused) its = absurd (let wrong : 3 ≡ 4 = sym its ∙ text_status p reason refused in omega arith)
-  why_three b reason held_b (unsound d text p ordered spelled content d_is b_is p_is are refused) its = absurd (let wrong : 3 ≡ 4 = sym its ∙ plan_status (setting_of ordered spelled content) reason refused in omega arith)
 
   spelled_here : (d b p text_d text_b text_p : List ℕ) (ordered : Ordered) (its : Board) (content : Plan) → told design ≡ held d → told board ≡ held b → told plan ≡ held p
       → IsTextOf (told design) text_d → IsTextOf (told board) text_b → IsTextOf (told plan) text_p → AreSpelled text_d text_b text_p ordered its content → AreSpelled d b p ordered its content
@@ -266,24 +218,6 @@ module _ (design board plan : List ℕ) (before after : Outside) (status : ℕ) 
           is = refused.2;
         },
       )
-
-  -- where there is no design, the refusal is for it; and so on
-  one_comes : (d : List ℕ) (reason : Reason) → told design ≡ held d → IsNoDesign d → WhyRefused design board plan told reason → reason_status reason ≡ 1
-  one_comes d reason held_d none (bad_design text text_is refused) = status_one text reason refused
-  one_comes d reason held_d none (bad_board text b ordered d_is netlist b_is refused) =
-      absurd (no_design_left d ordered (subst (λ (t : List ℕ). IsNetlistOf t ordered) (its_text (told design) text d held_d d_is) netlist) none)
-  one_comes d reason held_d none (bad_text text b p ordered content d_is netlist b_is board_is p_is refused) =
-      absurd (no_design_left d ordered (subst (λ (t : List ℕ). IsNetlistOf t ordered) (its_text (told design) text d held_d d_is) netlist) none)
-  one_comes d reason held_d none (unsound text b p ordered spelled content d_is b_is p_is are refused) =
-      absurd (no_design_left d ordered (subst (λ (t : List ℕ). IsNetlistOf t ordered) (its_text (told design) text d held_d d_is) are.netlist) none)
-
-  three_comes : (d b : List ℕ) (ordered : Ordered) (reason : Reason) → told design ≡ held d → told board ≡ held b → IsNetlistOf d ordered → IsNoBoard b → WhyRefused design board plan told reason → reason_status reason ≡ 3
-  three_comes d b ordered reason held_d held_b netlist none (bad_design text text_is refused) = absurd (no_refused_design (told design) d text ordered reason held_d netlist text_is refused)
-  three_comes d b ordered reason held_d held_b netlist none (bad_board text_d text other d_is its b_is refused) = board_status text reason refused
-  three_comes d b ordered reason held_d held_b netlist none (bad_text text_d text p other content d_is its b_is board_is p_is refused) =
-      absurd (no_board_left b content (subst (λ (t : List ℕ). SpellsBoard t content) (its_text (told board) text b held_b b_is) board_is) none)
-  three_comes d b ordered reason held_d held_b netlist none (unsound text_d text p other spelled content d_is b_is p_is are refused) =
-      absurd (no_board_left b spelled (subst (λ (t : List ℕ). SpellsBoard t spelled) (its_text (told board) text b held_b b_is) are.board_is) none)
 
   four_comes : (d b : List ℕ) (ordered : Ordered) (its : Board) (reason : Reason) → told design ≡ held d → told board ≡ held b → IsNetlistOf d ordered → SpellsBoard b its → WhyRefused design board plan told reason → reason_status reason ≡ 4
   four_comes d b ordered its reason held_d held_b netlist board_is (bad_design text text_is refused) = absurd (no_refused_design (told design) d text ordered reason held_d netlist text_is refused)
@@ -313,16 +247,10 @@ module _ (design board plan : List ℕ) (before after : Outside) (status : ℕ) 
         let done = table.done is in
         let w = what design board plan told done.text done.may in
         (w.content, here d b p done.text held_all w, done.leaves ∙ ap (λ (t : List ℕ). outside before.shelf (appended before.out t)) w.text_is);
-    no_design = λ d held_d.
-        refused_with table 1 (IsNoDesign d) (lit< tt) (lit< tt) (λ reason may. why_one d reason held_d (its_why reason may));
-    no_design_comes = λ d held_d none.
-        refused_or_stopped table 1 (Yields design before after status) (λ reason may. one_comes d reason held_d none (its_why reason may))
-        (yields_one table design (λ file name. at_design d file name held_d none)) (comes_to_no_design design board plan told d held_d none);
-    no_board = λ b held_b.
-        refused_with table 3 (IsNoBoard b) (lit< tt) (lit< tt) (λ reason may. why_three b reason held_b (its_why reason may));
-    no_board_comes = λ d b ordered held_d held_b netlist none.
-        refused_or_stopped table 3 (YieldsTwo design board before after status) (λ reason may. three_comes d b ordered reason held_d held_b netlist none (its_why reason may))
-        (yields_two table design board (λ file name. at_board b file name held_b none)) (comes_to_no_board design board plan told d b ordered held_d held_b netlist none);
+    no_design = first_refused judged_netlist files.Design design (λ ordered. check_board_course ordered board plan) table (after_design design board plan told);
+    no_design_comes = first_comes judged_netlist files.Design design (λ ordered. check_board_course ordered board plan) table;
+    no_board = second_refused judged_netlist judged_board (λ (is : 1 ≡ 3). omega arith) files.Design files.Board design board (λ ordered its. check_plan_course ordered its plan) table (after_board design board plan told);
+    no_board_comes = λ d b ordered held_d held_b netlist. second_comes judged_netlist judged_board (λ (is : 1 ≡ 3). omega arith) files.Design files.Board design board (λ ordered its. check_plan_course ordered its plan) table d ordered held_d netlist b held_b;
     no_plan = λ d b p held_all.
         refused_with table 4 (IsNoPlan d b p) (lit< tt) (lit< tt) (λ reason may. why_four d b p reason held_all (its_why reason may));
     no_plan_text_comes = λ d b p ordered its held_all netlist board_is none.
@@ -342,12 +270,8 @@ module _ (design board plan : List ℕ) (before after : Outside) (status : ℕ) 
     part = λ d b p its held_all is.
         part_of table (sound_text its) (λ text may. text_here d b p text its held_all is (what design board plan told text may))
         (comes_to_sound design board plan told d b p its held_all.design_held held_all.board_held held_all.plan_held is);
-    absent_design = λ gone.
-        absent_leaves table (λ text may. let w = what design board plan told text may in no_text (told design) w.d gone w.d_is)
-        (comes_to_no_file design board plan told gone);
-    absent_board = λ d ordered held_d netlist gone.
-        absent_leaves table (λ text may. let w = what design board plan told text may in no_text (told board) w.b gone w.b_is)
-        (comes_to_no_board_file design board plan told d ordered held_d netlist gone);
+    absent_design = first_absent judged_netlist files.Design design (λ ordered. check_board_course ordered board plan) table;
+    absent_board = second_absent judged_netlist judged_board (λ (is : 1 ≡ 3). omega arith) files.Design files.Board design board (λ ordered its. check_plan_course ordered its plan) table;
     absent_plan = λ d b ordered its held_d held_b netlist board_is gone.
         absent_leaves table (λ text may. let w = what design board plan told text may in no_text (told plan) w.p gone w.p_is)
         (comes_to_no_plan_file design board plan told d b ordered its held_d held_b netlist board_is gone);

@@ -7,8 +7,7 @@ use Rattle.vw_top.specs.declared.reason.Reason.{Reason}
 use Rattle.vw_top.specs.Reasons.{reason_status}
 use Rattle.vw_top.specs.Course.{Course, Outside, MayWrite, MayRefuse, MayRead, writing, refusing, missing, ComesTo}
 use Rattle.vw_top.specs.Statuses.{Statuses, IsWantOfMemory, LeavesPart}
-use Rattle.vw_top.specs.CommandStatuses.{IsOneMore, Yields}
-use Rattle.vw_top.specs.CheckStatuses.{YieldsTwo, YieldsThree}
+use Rattle.vw_top.specs.CommandStatuses.{IsOneMore, Yields, YieldsTwo, YieldsThree}
 use Rattle.vw_top.proofs.CourseLaws.{none_written}
 
 -- ---- a fault was counted at one of some files

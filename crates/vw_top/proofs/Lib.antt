@@ -2,6 +2,9 @@ pub mod Clocks
 pub mod TraceLines
 pub mod CourseLaws
 pub mod CourseEnds
+pub mod FirstFile
+pub mod SecondFile
+pub mod JudgedTexts
 pub mod StageLaws
 pub mod SimLaws
 pub mod Gates

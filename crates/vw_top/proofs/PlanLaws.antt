@@ -6,23 +6,24 @@ use Rattle.vw_plan.specs.declared.board.Board.{Board}
 use Rattle.vw_plan.specs.declared.plan.Plan.{Plan}
 use Rattle.vw_board.specs.BoardText.{Accepts as SpellsBoard}
 use Rattle.vw_board.proofs.Accepted.{accepted_once}
-use Rattle.vw_outside.specs.Told.{Told, absent, held, IsTextOf}
+use Rattle.vw_outside.specs.Told.{Told, held, IsTextOf}
 use Rattle.vw_outside.specs.Reads.{CountsFault}
 use Rattle.vw_outside.specs.Writes.{appended}
 use Rattle.vw_top.specs.declared.stop.File.{File}
+use Rattle.vw_top.specs.declared.stop.File.TheVariants as files
 use Rattle.vw_top.specs.declared.reason.Reason.{Reason}
 use Rattle.vw_top.specs.declared.reason.Reason.TheVariants.{Fit}
 use Rattle.vw_top.specs.Reasons.{reason_status}
-use Rattle.vw_top.specs.Designs.{IsNetlistOf, RefusesDesign, IsNoDesign}
-use Rattle.vw_top.specs.Course.{Course, Outside, outside, MayWrite, MayRefuse, MayRead, writing, refusing, missing, ComesTo}
+use Rattle.vw_top.specs.Designs.{IsNetlistOf, RefusesDesign}
+use Rattle.vw_top.specs.Course.{Course, Outside, outside, MayWrite, MayRefuse, MayRead, writing, refusing, ComesTo}
 use Rattle.vw_top.specs.Statuses.{Statuses, LeavesPart}
-use Rattle.vw_top.specs.Commands.{RefusesBoard, RefusesFit, HasRoom, plan_course, text_of_plan}
-use Rattle.vw_top.specs.CommandStatuses.{Yields}
-use Rattle.vw_top.specs.CheckStatuses.{IsNoBoard, YieldsTwo}
+use Rattle.vw_top.specs.Commands.{RefusesBoard, RefusesFit, HasRoom, plan_course, plan_board_course, good_course, text_of_plan}
+use Rattle.vw_top.specs.CommandStatuses.{YieldsTwo}
 use Rattle.vw_top.specs.PlanStatuses.{AreSpelledOn, IsGoodPlan, HaveRoom, HaveNoRoom, HoldTwo, PlanStatuses}
-use Rattle.vw_top.proofs.SimLaws.{its_text, no_text, at_held, at_absent, status_one}
-use Rattle.vw_top.proofs.CourseEnds.{refused_with, refused_or_stopped, yields_one, fault_of_two, yields_two, absent_leaves, carried_out}
-use Rattle.vw_top.proofs.CheckLaws.{netlist_same, no_design_left, no_board_left, board_status, no_refused_design, no_refused_board}
+use Rattle.vw_top.proofs.FirstFile.{its_text, at_held, first_refused, first_comes, first_absent}
+use Rattle.vw_top.proofs.SecondFile.{second_refused, second_comes, second_absent}
+use Rattle.vw_top.proofs.JudgedTexts.{judged_netlist, judged_board, status_one, board_status, netlist_same, no_refused_design, no_refused_board}
+use Rattle.vw_top.proofs.CourseEnds.{refused_with, refused_or_stopped, fault_of_two, yields_two, carried_out}
 
 fit_status : (ordered : Ordered) (board : Board) (reason : Reason) → RefusesFit ordered board reason → reason_status reason ≡ 6
 fit_status ordered board reason refused = ap reason_status refused.0
@@ -92,12 +93,17 @@ module _ (design board : List ℕ) (told : List ℕ → Told) where
 
   -- ---- what it comes to
 
-  comes_to_no_design : (d : List ℕ) → told design ≡ held d → IsNoDesign d → ComesTo refusing course told
-  comes_to_no_design d is none = at_held (told design) d _ _ is (inl (refl, none.0, none.1))
+  -- a refusal behind the board has status 6
+  behind_board : (ordered : Ordered) (its : Board) (reason : Reason) → MayRefuse (good_course ordered its) told reason → reason_status reason ≡ 6
+  behind_board ordered its reason (inl refused) = fit_status ordered its reason refused
+  behind_board ordered its reason (inr (plan, good, more)) = absurd more
 
-  comes_to_no_board : (d b : List ℕ) (ordered : Ordered) → told design ≡ held d → told board ≡ held b → IsNetlistOf d ordered → IsNoBoard b → ComesTo refusing course told
-  comes_to_no_board d b ordered d_is b_is netlist none =
-      at_held (told design) d _ _ d_is (inr ((ordered, netlist), λ other its. at_held (told board) b _ _ b_is (inl (refl, none.0, none.1))))
+  after_board : (ordered : Ordered) (its : Board) (reason : Reason) → MayRefuse (good_course ordered its) told reason → reason_status reason ≡ 3 → ⊥
+  after_board ordered its reason may is = omega (arith, is, behind_board ordered its reason may)
+
+  after_design : (ordered : Ordered) (reason : Reason) → MayRefuse (plan_board_course ordered board) told reason → reason_status reason ≡ 1 → ⊥
+  after_design ordered reason (b, b_is, inl refused) is = omega (arith, is, board_status b reason refused)
+  after_design ordered reason (b, b_is, inr (its, its_is, may)) is = omega (arith, is, behind_board ordered its reason may)
 
   comes_to_no_room : (d b : List ℕ) → told design ≡ held d → told board ≡ held b → HaveNoRoom d b → ComesTo refusing course told
   comes_to_no_room d b d_is b_is has =
@@ -125,12 +131,6 @@ module _ (design board : List ℕ) (told : List ℕ → Told) where
             )),
       ))
 
-  comes_to_no_file : told design ≡ absent → ComesTo missing course told
-  comes_to_no_file is = at_absent (told design) _ _ is refl
-
-  comes_to_no_board_file : (d : List ℕ) (ordered : Ordered) → told design ≡ held d → IsNetlistOf d ordered → told board ≡ absent → ComesTo missing course told
-  comes_to_no_board_file d ordered d_is netlist is = at_held (told design) d _ _ d_is (inr ((ordered, netlist), λ other other_is. at_absent (told board) _ _ is refl))
-
 module _ (design board : List ℕ) (before after : Outside) (status : ℕ) (table : Statuses (plan_course design board) before after status) where
   abbrev told : List ℕ → Told
   told = before.shelf.told
@@ -147,12 +147,6 @@ module _ (design board : List ℕ) (before after : Outside) (status : ℕ) (tabl
   yields : (status ≡ 7) ⊎ (status ≡ 9) → YieldsTwo design board before after status
   yields = yields_two table design board (which design board told)
 
-  -- a text without a design stops the call in its own reading
-  at_design : (d : List ℕ) (file : File) (name : List ℕ) → told design ≡ held d → IsNoDesign d → MayRead (plan_course design board) told file name → name ≡ design
-  at_design d file name held_d none (inl (is, same)) = same
-  at_design d file name held_d none (inr (text, text_is, (ordered, netlist, more))) =
-      absurd (no_design_left d ordered (subst (λ (t : List ℕ). IsNetlistOf t ordered) (its_text (told design) text d held_d text_is) netlist) none)
-
   -- ---- refusals
 
   one_three_six : (reason : Reason) → WhyRefused design board told reason → status ≡ reason_status reason → (status ≡ 1) ⊎ ((status ≡ 3) ⊎ (status ≡ 6))
@@ -162,16 +156,6 @@ module _ (design board : List ℕ) (before after : Outside) (status : ℕ) (tabl
 
   no_other : (0 < status) → (status < 7) → (status ≡ 1) ⊎ ((status ≡ 3) ⊎ (status ≡ 6))
   no_other some few = let refusal = table.refused some few in one_three_six refusal.reason (its_why refusal.reason refusal.may) refusal.its_status
-
-  why_one : (d : List ℕ) (reason : Reason) → told design ≡ held d → WhyRefused design board told reason → reason_status reason ≡ 1 → IsNoDesign d
-  why_one d reason held_d (bad_design text text_is refused) its = (reason, subst (λ (t : List ℕ). RefusesDesign t reason) (its_text (told design) text d held_d text_is) refused)
-  why_one d reason held_d (bad_board text b ordered d_is netlist b_is refused) its = absurd (let wrong : 1 ≡ 3 = sym its ∙ board_status b reason refused in omega arith)
-  why_one d reason held_d (bad_fit text b ordered its_board d_is b_is are refused) its = absurd (let wrong : 1 ≡ 6 = sym its ∙ fit_status ordered its_board reason refused in omega arith)
-
-  why_three : (b : List ℕ) (reason : Reason) → told board ≡ held b → WhyRefused design board told reason → reason_status reason ≡ 3 → IsNoBoard b
-  why_three b reason held_b (bad_design d d_is refused) its = absurd (let wrong : 3 ≡ 1 = sym its ∙ status_one d reason refused in omega arith)
-  why_three b reason held_b (bad_board d text ordered d_is netlist b_is refused) its = (reason, subst (λ (t : List ℕ). RefusesBoard t reason) (its_text (told board) text b held_b b_is) refused)
-  why_three b reason held_b (bad_fit d text ordered its_board d_is b_is are refused) its = absurd (let wrong : 3 ≡ 6 = sym its ∙ fit_status ordered its_board reason refused in omega arith)
 
   spelled_here : (d b text_d text_b : List ℕ) (ordered : Ordered) (its : Board) → told design ≡ held d → told board ≡ held b
       → IsTextOf (told design) text_d → IsTextOf (told board) text_b → AreSpelledOn text_d text_b ordered its → AreSpelledOn d b ordered its
@@ -185,20 +169,6 @@ module _ (design board : List ℕ) (before after : Outside) (status : ℕ) (tabl
   why_six d b reason held_d held_b (bad_board text_d text ordered d_is netlist b_is refused) its = absurd (let wrong : 6 ≡ 3 = sym its ∙ board_status text reason refused in omega arith)
   why_six d b reason held_d held_b (bad_fit text_d text_b ordered its_board d_is b_is are refused) its =
       record { ordered = ordered; board = its_board; are = spelled_here d b text_d text_b ordered its_board held_d held_b d_is b_is are; none = refused.1 }
-
-  -- where there is no design, the refusal is for it; and so on
-  one_comes : (d : List ℕ) (reason : Reason) → told design ≡ held d → IsNoDesign d → WhyRefused design board told reason → reason_status reason ≡ 1
-  one_comes d reason held_d none (bad_design text text_is refused) = status_one text reason refused
-  one_comes d reason held_d none (bad_board text b ordered d_is netlist b_is refused) =
-      absurd (no_design_left d ordered (subst (λ (t : List ℕ). IsNetlistOf t ordered) (its_text (told design) text d held_d d_is) netlist) none)
-  one_comes d reason held_d none (bad_fit text b ordered its_board d_is b_is are refused) =
-      absurd (no_design_left d ordered (subst (λ (t : List ℕ). IsNetlistOf t ordered) (its_text (told design) text d held_d d_is) are.netlist) none)
-
-  three_comes : (d b : List ℕ) (ordered : Ordered) (reason : Reason) → told design ≡ held d → told board ≡ held b → IsNetlistOf d ordered → IsNoBoard b → WhyRefused design board told reason → reason_status reason ≡ 3
-  three_comes d b ordered reason held_d held_b netlist none (bad_design text text_is refused) = absurd (no_refused_design (told design) d text ordered reason held_d netlist text_is refused)
-  three_comes d b ordered reason held_d held_b netlist none (bad_board text_d text other d_is its b_is refused) = board_status text reason refused
-  three_comes d b ordered reason held_d held_b netlist none (bad_fit text_d text other its_board d_is b_is are refused) =
-      absurd (no_board_left b its_board (subst (λ (t : List ℕ). SpellsBoard t its_board) (its_text (told board) text b held_b b_is) are.board_is) none)
 
   six_comes : (d b : List ℕ) (ordered : Ordered) (its : Board) (reason : Reason) → told design ≡ held d → told board ≡ held b → AreSpelledOn d b ordered its → WhyRefused design board told reason → reason_status reason ≡ 6
   six_comes d b ordered its reason held_d held_b are (bad_design text text_is refused) = absurd (no_refused_design (told design) d text ordered reason held_d are.netlist text_is refused)
@@ -221,17 +191,10 @@ module _ (design board : List ℕ) (before after : Outside) (status : ℕ) (tabl
         let done = table.done is in
         let w = what design board told done.text done.may in
         (w.plan, here d b done.text held_two w, done.leaves ∙ ap (λ (t : List ℕ). outside before.shelf (appended before.out t)) w.text_is);
-    no_design = λ d held_d.
-        refused_with table 1 (IsNoDesign d) (lit< tt) (lit< tt) (λ reason may. why_one d reason held_d (its_why reason may));
-    no_design_comes = λ d held_d none.
-        refused_or_stopped table 1 (Yields design before after status) (λ reason may. one_comes d reason held_d none (its_why reason may))
-        (yields_one table design (λ file name. at_design d file name held_d none)) (comes_to_no_design design board told d held_d none);
-    no_board = λ b held_b.
-        refused_with table 3 (IsNoBoard b) (lit< tt) (lit< tt) (λ reason may. why_three b reason held_b (its_why reason may));
-    no_board_comes = λ d b ordered held_two netlist none.
-        refused_or_stopped table 3 (YieldsTwo design board before after status)
-        (λ reason may. three_comes d b ordered reason held_two.design_held held_two.board_held netlist none (its_why reason may))
-        yields (comes_to_no_board design board told d b ordered held_two.design_held held_two.board_held netlist none);
+    no_design = first_refused judged_netlist files.Design design (λ ordered. plan_board_course ordered board) table (after_design design board told);
+    no_design_comes = first_comes judged_netlist files.Design design (λ ordered. plan_board_course ordered board) table;
+    no_board = second_refused judged_netlist judged_board (λ (is : 1 ≡ 3). omega arith) files.Design files.Board design board good_course table (after_board design board told);
+    no_board_comes = λ d b ordered held_two netlist. second_comes judged_netlist judged_board (λ (is : 1 ≡ 3). omega arith) files.Design files.Board design board good_course table d ordered held_two.design_held netlist b held_two.board_held;
     no_room = λ d b held_two.
         refused_with table 6 (HaveNoRoom d b) (lit< tt) (lit< tt) (λ reason may. why_six d b reason held_two.design_held held_two.board_held (its_why reason may));
     no_room_comes = λ d b held_two has.
@@ -251,12 +214,8 @@ module _ (design board : List ℕ) (before after : Outside) (status : ℕ) (tabl
         let w = what design board told some.0 some.1 in
         inr (w.plan, here d b some.0 held_two w, subst (λ (t : List ℕ). LeavesPart t before.out after.out) w.text_is some.2))
         (table.part (comes_to_room design board told d b held_two.design_held held_two.board_held has));
-    absent_design = λ gone.
-        absent_leaves table (λ text may. let w = what design board told text may in no_text (told design) w.d gone w.d_is)
-        (comes_to_no_file design board told gone);
-    absent_board = λ d ordered held_d netlist gone.
-        absent_leaves table (λ text may. let w = what design board told text may in no_text (told board) w.b gone w.b_is)
-        (comes_to_no_board_file design board told d ordered held_d netlist gone);
+    absent_design = first_absent judged_netlist files.Design design (λ ordered. plan_board_course ordered board) table;
+    absent_board = second_absent judged_netlist judged_board (λ (is : 1 ≡ 3). omega arith) files.Design files.Board design board good_course table;
     complete = λ d b held_two has no_design no_board no_write.
         carried_out table (λ seven. ⊎_elim (λ (c : Counts design). no_design c.here) (λ (c : Counts board). no_board c.here) (read_fault seven)) no_write
         (comes_to_room design board told d b held_two.design_held held_two.board_held has);

@@ -8,38 +8,20 @@ use Rattle.vw_outside.specs.Writes.{appended}
 use Rattle.vw_rows.specs.declared.stimulus.StimFault.{StimFault}
 use Rattle.vw_rows.specs.Stimulus.{stimulus_rows}
 use Rattle.vw_top.specs.declared.stop.File.{File}
+use Rattle.vw_top.specs.declared.stop.File.TheVariants as files
 use Rattle.vw_top.specs.declared.reason.Reason.{Reason}
 use Rattle.vw_top.specs.declared.reason.Reason.TheVariants.{Usage, Stimulus}
 use Rattle.vw_top.specs.Reasons.{reason_status}
-use Rattle.vw_top.specs.Designs.{IsDesignOf, RefusesDesign, IsNoDesign, spells_once, design_apart}
-use Rattle.vw_top.specs.Course.{Course, refuses, Outside, outside, MayWrite, MayRefuse, MayRead, AtFile, writing, refusing, missing, ComesTo}
+use Rattle.vw_top.specs.Designs.{IsDesignOf, IsNoDesign, spells_once, design_apart}
+use Rattle.vw_top.specs.Course.{Course, refuses, Outside, outside, MayWrite, MayRefuse, MayRead, writing, refusing, missing, ComesTo}
 use Rattle.vw_top.specs.Statuses.{Statuses, IsRefused, IsWantOfMemory}
-use Rattle.vw_top.specs.Commands.{sim_course, trace_of}
-use Rattle.vw_top.specs.CommandStatuses.{AreAccepted, SimStatuses, UsageStatuses, Yields}
-use Rattle.vw_top.specs.CheckStatuses.{YieldsTwo}
+use Rattle.vw_top.specs.Commands.{sim_course, sim_rows_course, trace_of}
+use Rattle.vw_top.specs.CommandStatuses.{UsageStatuses, YieldsTwo}
+use Rattle.vw_top.specs.SimStatuses.{AreAccepted, SimStatuses}
+use Rattle.vw_top.proofs.FirstFile.{its_text, no_text, at_held, at_absent, first_refused, first_comes, first_absent}
+use Rattle.vw_top.proofs.JudgedTexts.{judged_design, status_one}
 use Rattle.vw_top.proofs.StageLaws.{same_outside}
-use Rattle.vw_top.proofs.CourseEnds.{refused_with, refused_or_stopped, yields_one, fault_of_two, yields_two, want_untouched, absent_leaves, part_of, carried_out}
-
--- ---- what is told of a file
-
--- the text of a name that is held
-pub its_text : (told : Told) (text bytes : List ℕ) → told ≡ held bytes → IsTextOf told text → text ≡ bytes
-its_text told text bytes is may = subst (λ (t : Told). IsTextOf t text) is may
-
-pub no_text : (told : Told) (text : List ℕ) → told ≡ absent → IsTextOf told text → ⊥
-no_text told text is may = subst (λ (t : Told). IsTextOf t text) is may
-
-pub at_held : (told : Told) (bytes : List ℕ) (Absent : Type 0) (Held : List ℕ → Type 0) → told ≡ held bytes → Held bytes → AtFile told Absent Held
-at_held told bytes Absent Held is here = subst (λ (t : Told). AtFile t Absent Held) (sym is) here
-
-pub at_absent : (told : Told) (Absent : Type 0) (Held : List ℕ → Type 0) → told ≡ absent → Absent → AtFile told Absent Held
-at_absent told Absent Held is here = subst (λ (t : Told). AtFile t Absent Held) (sym is) here
-
--- a text without a design is refused, with status 1
-pub status_one : (d : List ℕ) (reason : Reason) → RefusesDesign d reason → reason_status reason ≡ 1
-status_one d reason (inl refused) = ap reason_status refused.1
-status_one d reason (inr (design, spelled, inl refused)) = ap reason_status refused.1
-status_one d reason (inr (design, spelled, inr (accepted, refused))) = ap reason_status refused.1
+use Rattle.vw_top.proofs.CourseEnds.{refused_with, refused_or_stopped, fault_of_two, yields_two, want_untouched, absent_leaves, part_of, carried_out}
 
 no_both : (d : List ℕ) (spelled : Spelled) → IsDesignOf d spelled → IsNoDesign d → ⊥
 no_both d spelled is none = design_apart d spelled none.0 is none.1
@@ -85,8 +67,10 @@ module _ (design stimulus : List ℕ) (unknown : Bool) (told : List ℕ → Told
   which file name (inr (d, d_is, (spelled, its_design, inl (is, same)))) = inr same
   which file name (inr (d, d_is, (spelled, its_design, inr (s, s_is, (rows, are, more))))) = absurd more
 
-  comes_to_no_design : (d : List ℕ) → told design ≡ held d → IsNoDesign d → ComesTo refusing course told
-  comes_to_no_design d is none = at_held (told design) d _ _ is (inl (refl, none.0, none.1))
+  -- a refusal behind the design has status 5
+  after_design : (spelled : Spelled) (reason : Reason) → MayRefuse (sim_rows_course spelled stimulus unknown) told reason → reason_status reason ≡ 1 → ⊥
+  after_design spelled reason (s, s_is, inl (fault, said, refused)) is = let five : reason_status reason ≡ 5 = ap reason_status said in omega (arith, five, is)
+  after_design spelled reason (s, s_is, inr (rows, are, more)) is = absurd more
 
   comes_to_no_rows : (d s : List ℕ) (spelled : Spelled) (fault : StimFault) → told design ≡ held d → told stimulus ≡ held s → IsDesignOf d spelled
       → stimulus_rows (length (columns spelled)) s ≡ Err fault → ComesTo refusing course told
@@ -104,9 +88,6 @@ module _ (design stimulus : List ℕ) (unknown : Bool) (told : List ℕ → Told
         at_held (told stimulus) s _ _ s_is (inr ((rows, ap (λ (one : Spelled). stimulus_rows (length (columns one)) s) (same_design d spelled other its_design its) ∙ said), λ these are. refl)),
   ))
 
-  comes_to_no_file : told design ≡ absent → ComesTo missing course told
-  comes_to_no_file is = at_absent (told design) _ _ is refl
-
   comes_to_no_stimulus : (d : List ℕ) (spelled : Spelled) → told design ≡ held d → IsDesignOf d spelled → told stimulus ≡ absent → ComesTo missing course told
   comes_to_no_stimulus d spelled d_is its_design is = at_held (told design) d _ _ d_is (inr ((spelled, its_design), λ other its. at_absent (told stimulus) _ _ is refl))
 
@@ -120,13 +101,6 @@ module _ (design stimulus : List ℕ) (unknown : Bool) (before after : Outside) 
   read_fault : status ≡ 7 → CountsFault design before.shelf after.shelf ⊎ CountsFault stimulus before.shelf after.shelf
   read_fault = fault_of_two table design stimulus (which design stimulus unknown told)
 
-  -- a text without a design stops the call in its own reading
-  at_design : (d : List ℕ) (file : File) (name : List ℕ) → told design ≡ held d → IsNoDesign d → MayRead (sim_course design stimulus unknown) told file name → name ≡ design
-  at_design d file name held_d none (inl (is, same)) = same
-  at_design d file name held_d none (inr (text, text_is, (spelled, its_design, more))) =
-      let design_is : IsDesignOf d spelled = subst (λ (t : List ℕ). IsDesignOf t spelled) (its_text (told design) text d held_d text_is) its_design in
-      absurd (no_both d spelled design_is none)
-
   -- a refusal is status 1 or 5
   one_or_five : (reason : Reason) → WhyRefused design stimulus unknown told reason → status ≡ reason_status reason → (status ≡ 1) ⊎ (status ≡ 5)
   one_or_five reason (bad_design d d_is is none) its = inl (its ∙ is)
@@ -134,17 +108,6 @@ module _ (design stimulus : List ℕ) (unknown : Bool) (before after : Outside) 
 
   no_other : (0 < status) → (status < 7) → (status ≡ 1) ⊎ (status ≡ 5)
   no_other some few = let refusal = table.refused some few in one_or_five refusal.reason (its_why refusal.reason refusal.may) refusal.its_status
-
-  why_one : (d : List ℕ) (reason : Reason) → told design ≡ held d → WhyRefused design stimulus unknown told reason → reason_status reason ≡ 1 → IsNoDesign d
-  why_one d reason held_d (bad_design text text_is is none) its = subst IsNoDesign (its_text (told design) text d held_d text_is) none
-  why_one d reason held_d (bad_rows text s spelled fault text_is its_design s_is is said) its = absurd (let wrong : 1 ≡ 5 = sym its ∙ ap reason_status is in omega arith)
-
-  -- a text without a design gives status 1
-  one_comes : (d : List ℕ) (reason : Reason) → told design ≡ held d → IsNoDesign d → WhyRefused design stimulus unknown told reason → reason_status reason ≡ 1
-  one_comes d reason held_d none (bad_design text text_is is gone) = is
-  one_comes d reason held_d none (bad_rows text s spelled fault text_is its_design s_is is said) =
-      let design_is : IsDesignOf d spelled = subst (λ (t : List ℕ). IsDesignOf t spelled) (its_text (told design) text d held_d text_is) its_design in
-      absurd (no_both d spelled design_is none)
 
   record HasFault (d s : List ℕ) : Type 0 where
     spelled : Spelled
@@ -190,12 +153,8 @@ module _ (design stimulus : List ℕ) (unknown : Bool) (before after : Outside) 
           subst (λ (t : List ℕ). stimulus_rows (length (columns w.spelled)) t ≡ Ok w.rows) (its_text (told stimulus) w.s s held_s w.s_is) w.are,
           done.leaves ∙ ap (λ (t : List ℕ). outside before.shelf (appended before.out t)) w.text_is,
         );
-    no_design = λ d held_d.
-        refused_with table 1 (IsNoDesign d) (lit< tt) (lit< tt) (λ reason may. why_one d reason held_d (its_why reason may));
-    no_design_comes = λ d held_d none.
-        refused_or_stopped table 1 (Yields design before after status) (λ reason may. one_comes d reason held_d none (its_why reason may))
-        (yields_one table design (λ file name. at_design d file name held_d none))
-        (comes_to_no_design design stimulus unknown told d held_d none);
+    no_design = first_refused judged_design files.Design design (λ spelled. sim_rows_course spelled stimulus unknown) table (after_design design stimulus unknown told);
+    no_design_comes = first_comes judged_design files.Design design (λ spelled. sim_rows_course spelled stimulus unknown) table;
     no_rows = λ d s held_d held_s is.
         let fault = refused_with table 5 (HasFault d s) (lit< tt) (lit< tt) (λ reason may. why_five d s reason held_d held_s (its_why reason may)) is in
         (fault.spelled, fault.fault, fault.its_design, fault.said);
@@ -213,9 +172,7 @@ module _ (design stimulus : List ℕ) (unknown : Bool) (before after : Outside) 
     part = λ spelled rows accepted.
         part_of table (trace_of unknown spelled rows) (λ text. text_of spelled rows text accepted)
         (comes_to_trace design stimulus unknown told accepted.design_text accepted.stimulus_text spelled rows accepted.design_held accepted.stimulus_held accepted.is accepted.read);
-    absent_design = λ gone.
-        absent_leaves table (λ text may. let w = what design stimulus unknown told text may in no_text (told design) w.d gone w.d_is)
-        (comes_to_no_file design stimulus unknown told gone);
+    absent_design = first_absent judged_design files.Design design (λ spelled. sim_rows_course spelled stimulus unknown) table;
     absent_stimulus = λ d spelled held_d its_design gone.
         absent_leaves table (λ text may. let w = what design stimulus unknown told text may in no_text (told stimulus) w.s gone w.s_is)
         (comes_to_no_stimulus design stimulus unknown told d spelled held_d its_design gone);

@@ -16,8 +16,8 @@ use Rattle.vw_top.specs.declared.reason.Reason.{Reason}
 use Rattle.vw_top.specs.Designs.{IsNetlistOf, IsNoDesign}
 use Rattle.vw_top.specs.Course.{Outside, outside}
 use Rattle.vw_top.specs.Statuses.{LeavesPart}
-use Rattle.vw_top.specs.Commands.{RefusesBoard, RefusesPlanText, sound_text}
-use Rattle.vw_top.specs.CommandStatuses.{Holds, IsOneMore, Yields}
+use Rattle.vw_top.specs.Commands.{RefusesPlanText, sound_text}
+use Rattle.vw_top.specs.CommandStatuses.{Holds, IsOneMore, Yields, IsNoBoard, YieldsTwo, YieldsThree}
 
 -- a netlist of the design of a text, and the board and the plan of two others
 pub record AreSpelled (d b p : List ℕ) (ordered : Ordered) (board : Board) (plan : Plan) : Type 0 where
@@ -25,11 +25,7 @@ pub record AreSpelled (d b p : List ℕ) (ordered : Ordered) (board : Board) (pl
   pub board_is : SpellsBoard b board
   pub plan_is : SpellsPlan p plan
 
--- a board text has a fault
-abbrev pub IsNoBoard : List ℕ → Type 0
-IsNoBoard b = (reason : Reason) × RefusesBoard b reason
-
--- so has a plan text
+-- a plan text has a fault
 abbrev pub IsNoPlanText : List ℕ → Type 0
 IsNoPlanText p = (reason : Reason) × RefusesPlanText p reason
 
@@ -57,13 +53,6 @@ pub record HoldTexts (design board plan : List ℕ) (before : Outside) (d b p : 
   pub design_held : Holds before design d
   pub board_held : Holds before board b
   pub plan_held : Holds before plan p
-
--- the call ended with want of memory, or with a fault in the reading of one of two files, or of three
-abbrev pub YieldsTwo : List ℕ → List ℕ → Outside → Outside → ℕ → Type 0
-YieldsTwo design board before after status = Yields design before after status ⊎ Yields board before after status
-
-abbrev pub YieldsThree : List ℕ → List ℕ → List ℕ → Outside → Outside → ℕ → Type 0
-YieldsThree design board plan before after status = Yields design before after status ⊎ (Yields board before after status ⊎ Yields plan before after status)
 
 pub record CheckStatuses (design board plan : List ℕ) (before after : Outside) (status : ℕ) : Type 0 where
   -- 0: the plan is sound, its size is written, and nothing else changed

@@ -105,12 +105,16 @@ room_apart ordered board reason room refused = omega (arith, room, refused.1)
 abbrev pub trace_of : Bool → Design → List (List Bool) → List ℕ
 trace_of unknown design rows = trace_text (length (root_outputs design)) (length (latches design)) (path_history design unknown rows)
 
--- the design first, and then the stimulus for its columns
+-- the rows of the stimulus for the columns of a design
+abbrev pub sim_rows_course : Design → List ℕ → Bool → Course
+sim_rows_course spelled stimulus unknown =
+    reads files.Stimulus stimulus (λ s. judges (List (List Bool)) (IsRowsOf (length (columns spelled)) s) (RefusesRows (length (columns spelled)) s) (rows_apart (length (columns spelled)) s)
+    (λ rows are. writes (trace_of unknown spelled rows)))
+
+-- the design first
 abbrev pub sim_course : List ℕ → List ℕ → Bool → Course
 sim_course design stimulus unknown =
-    reads files.Design design (λ d. judges Design (IsDesignOf d) (RefusesDesign d) (design_apart d)
-    (λ spelled is. reads files.Stimulus stimulus (λ s. judges (List (List Bool)) (IsRowsOf (length (columns spelled)) s) (RefusesRows (length (columns spelled)) s) (rows_apart (length (columns spelled)) s)
-    (λ rows are. writes (trace_of unknown spelled rows)))))
+    reads files.Design design (λ d. judges Design (IsDesignOf d) (RefusesDesign d) (design_apart d) (λ spelled is. sim_rows_course spelled stimulus unknown))
 
 -- what is written of a sound plan: its wires, its hops, and its period
 abbrev pub sound_text : Plan → List ℕ

@@ -1,5 +1,5 @@
 -- The design of a text, and why a text has none that runs.
-use Rattle.std.specs.Prelude.{◌≡◌, ◌<◌, ◌≤◌, ◌==◌, ◌⊎◌, ℕ, List, map, length, slice_get, slice_index, Some, IsTrue, Result, Ok, Err}
+use Rattle.std.specs.Prelude.{◌≡◌, ◌==◌, ◌⊎◌, ℕ, List, map, slice_get, Some, IsTrue, Result, Ok, Err}
 use Rattle.std.proofs.Common.{refl, sym, subst, inl, inr}
 use Rattle.std.specs.List.{AllZip, IsDistinct}
 use Rattle.vw_net.specs.declared.ordered.Ordered.{Ordered}

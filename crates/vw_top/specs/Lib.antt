@@ -8,6 +8,7 @@ pub mod Statuses
 pub mod Designs
 pub mod Commands
 pub mod CommandStatuses
+pub mod SimStatuses
 pub mod CheckStatuses
 pub mod PlanStatuses
 pub mod Steps

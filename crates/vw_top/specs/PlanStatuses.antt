@@ -13,8 +13,7 @@ use Rattle.vw_top.specs.Designs.{IsNetlistOf, IsNoDesign}
 use Rattle.vw_top.specs.Course.{Outside, outside}
 use Rattle.vw_top.specs.Statuses.{LeavesPart}
 use Rattle.vw_top.specs.Commands.{HasRoom, text_of_plan}
-use Rattle.vw_top.specs.CommandStatuses.{Holds, IsOneMore, Yields}
-use Rattle.vw_top.specs.CheckStatuses.{IsNoBoard, YieldsTwo}
+use Rattle.vw_top.specs.CommandStatuses.{Holds, IsOneMore, Yields, IsNoBoard, YieldsTwo}
 
 -- a netlist of the design of a text, and the board of another
 pub record AreSpelledOn (d b : List ℕ) (ordered : Ordered) (board : Board) : Type 0 where

@@ -9,7 +9,7 @@ use Rattle.vw_top.specs.Words.{spelled_by}
 use Rattle.vw_top.specs.Course.{Outside, outside}
 use Rattle.vw_top.specs.Commands.{sim_course, course_of, trace_of}
 use Rattle.vw_top.specs.Statuses.{Statuses}
-use Rattle.vw_top.specs.CommandStatuses.{SimStatuses}
+use Rattle.vw_top.specs.SimStatuses.{SimStatuses}
 use Rattle.vw_example.specs.Outcome.{IsOutcome}
 use Rattle.vw_example.proofs.simulate.Goals as goal
 
