@@ -180,8 +180,8 @@ impl Elaborated {
         self.parts.cells.as_slice()[cell as usize]
     }
 
-    /// The driver of a net: of a name of an instance. Nothing where the net has none, or there is no such instance. It
-    /// takes no memory.
+    /// The driver of a net: of a name of an instance. Nothing where the net has none. Nothing is said of an instance that
+    /// isn't there. It takes no memory.
     pub fn driver(&self, instance: u32, name: &Name) -> Option<Driver>
         ensures { (path : Path) → slice_get (instances self.now) instance ≡ Some path
             → result ≡ driver_of self.now (driver self.now path name.now) }
