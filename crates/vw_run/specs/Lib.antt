@@ -1,2 +1,3 @@
 pub mod Shortest
 pub mod Compiled
+pub mod Messages

@@ -160,7 +160,7 @@ refusal_status (Board fault) = (lit< tt, lit< tt)
 refusal_status (PlanText fault) = (lit< tt, lit< tt)
 refusal_status (Plan fault) = (lit< tt, lit< tt)
 refusal_status (Stimulus fault) = (lit< tt, lit< tt)
-refusal_status (Fit cells room) = (lit< tt, lit< tt)
+refusal_status (Fit fault) = (lit< tt, lit< tt)
 
 -- a text that was written whole
 whole_part : (text : List ℕ) (before after : SeenSink) → after ≡ appended before text → LeavesPart text before after

@@ -6,6 +6,7 @@ use Rattle.vw_plan.specs.declared.board.Board.{Board}
 use Rattle.vw_plan.specs.declared.plan.Plan.{Plan}
 use Rattle.vw_board.specs.BoardText.{Accepts as SpellsBoard}
 use Rattle.vw_board.proofs.Accepted.{accepted_once}
+use Rattle.vw_run.specs.declared.fault.CompileFault.TheVariants.{TooManyCells}
 use Rattle.vw_outside.specs.Told.{Told, held, IsTextOf}
 use Rattle.vw_outside.specs.Reads.{CountsFault}
 use Rattle.vw_outside.specs.Writes.{appended}
@@ -114,7 +115,7 @@ module _ (design board : List ℕ) (told : List ℕ → Told) where
               (has.board, has.are.board_is),
               λ another another_is.
                   let its : AreSpelledOn d b other another = record { netlist = other_is; board_is = another_is } in
-                  inl (refl, Fit (length other.flat.cells) (another.chips * another.cells), (refl, no_room_same d b has.ordered other has.board another has.are its has.none)),
+                  inl (refl, Fit (TooManyCells (length other.flat.cells) (another.chips * another.cells)), (refl, no_room_same d b has.ordered other has.board another has.are its has.none)),
             )),
       ))
 

@@ -27,6 +27,7 @@ use Rattle.vw_check.specs.Faults.{plan_fault}
 use Rattle.vw_check.proofs.LawAll.{faultless}
 use Rattle.vw_run.proofs.Fits.{fits}
 use Rattle.vw_rows.specs.declared.stimulus.StimFault.{StimFault}
+use Rattle.vw_run.specs.declared.fault.CompileFault.TheVariants.{TooManyCells}
 use Rattle.vw_rows.specs.Stimulus.{stimulus_rows}
 use Rattle.vw_rows.specs.Trace.{trace_text}
 use Rattle.vw_top.specs.declared.stop.File.TheVariants as files
@@ -87,7 +88,7 @@ plan_apart setting reason is refused = none-some refused.0 (sym (faultless setti
 
 -- why there is no plan: all chips have room for fewer cells
 abbrev pub RefusesFit : Ordered → Board → Reason → Type 0
-RefusesFit ordered board reason = (reason ≡ Fit (length ordered.flat.cells) (board.chips * board.cells)) × (board.chips * board.cells < length ordered.flat.cells)
+RefusesFit ordered board reason = (reason ≡ Fit (TooManyCells (length ordered.flat.cells) (board.chips * board.cells))) × (board.chips * board.cells < length ordered.flat.cells)
 
 -- all chips have room for the cells
 abbrev pub HasRoom : Ordered → Board → Type 0

@@ -11,6 +11,7 @@ use Rattle.vw_plantext.specs.Messages.{fault_text as plan_text_fault_text}
 use Rattle.vw_plantext.specs.PlanText.{is_text_fault as is_plan_text_fault}
 use Rattle.vw_check.specs.Messages.{fault_text as plan_fault_text}
 use Rattle.vw_check.specs.Answers.{is_plan_fault}
+use Rattle.vw_run.specs.Messages.{fault_text as compile_fault_text, is_fit_fault}
 use Rattle.vw_rows.specs.Messages.{fault_text as stimulus_fault_text}
 use Rattle.vw_rows.specs.Stimulus.{is_text_fault as is_stimulus_fault}
 use Rattle.vw_top.specs.LoopLine.{loop_line}
@@ -26,7 +27,7 @@ reason_status (Board fault) = 3
 reason_status (PlanText fault) = 4
 reason_status (Plan fault) = 4
 reason_status (Stimulus fault) = 5
-reason_status (Fit cells room) = 6
+reason_status (Fit fault) = 6
 
 -- with the byte that ends the line
 abbrev pub reason_line : Reason → List ℕ
@@ -38,7 +39,7 @@ reason_line (Board fault) = board_fault_text fault
 reason_line (PlanText fault) = plan_text_fault_text fault
 reason_line (Plan fault) = plan_fault_text fault
 reason_line (Stimulus fault) = stimulus_fault_text fault
-reason_line (Fit cells room) = codes "fit: " ++ (decimal cells ++ (codes " cells, room for " ++ (decimal room ++ 10 ∷ [])))
+reason_line (Fit fault) = compile_fault_text fault
 
 -- whether it lies in words or texts; a read that failed and want of memory don't
 abbrev pub is_of_content : Reason → Bool
@@ -50,4 +51,4 @@ is_of_content (Board fault) = is_board_fault fault
 is_of_content (PlanText fault) = is_plan_text_fault fault
 is_of_content (Plan fault) = is_plan_fault fault
 is_of_content (Stimulus fault) = is_stimulus_fault fault
-is_of_content (Fit cells room) = true
+is_of_content (Fit fault) = is_fit_fault fault

@@ -33,8 +33,8 @@ fn no_plan(fault: CompileFault) -> Unfinished
     ensures { EndsCompileFault fault result }
 {
     match fault {
-        CompileFault::TooManyCells { cells, room } => {
-            Unfinished::Refused(Refusal::new(Reason::Fit { cells, room }))
+        CompileFault::TooManyCells { .. } => {
+            Unfinished::Refused(Refusal::new(Reason::Fit(fault)))
         }
         CompileFault::NoMemory => Unfinished::Stopped(Stop::NoMemory),
     }

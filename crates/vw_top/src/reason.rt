@@ -1,6 +1,6 @@
 ghost use Rattle.std.specs.Prelude.{◌≡◌, IfOk};
 ghost use Rattle.vw_top.specs.Reasons.{reason_line};
-ghost use Rattle.vw_top.specs.declared.reason.Reason.TheVariants.{Usage, Fit};
+ghost use Rattle.vw_top.specs.declared.reason.Reason.TheVariants.{Usage};
 
 use std::alloc::{AllocError, Global};
 use vw_blif::TextFault;
@@ -11,6 +11,7 @@ use vw_net::Sequence;
 use vw_outside::Name;
 use vw_plantext::PlanTextFault;
 use vw_rows::StimFault;
+use vw_run::CompileFault;
 
 /// What is wrong with the words or the files of a command: a variant for each kind of fault, with the fault of the
 /// crate that finds it.
@@ -32,12 +33,8 @@ pub enum Reason {
     Plan(PlanFault),
     /// The stimulus text has this fault.
     Stimulus(StimFault),
-    /// All chips have room for fewer cells than there are.
-    Fit {
-        cells: u64,
-        /// The number of cells that all chips have room for.
-        room: u64,
-    },
+    /// The design has no plan on the board, since its cells have no room.
+    Fit(CompileFault),
 }
 
 /// The message line for words that spell no command, the word at this place being the first wrong one.
@@ -45,14 +42,6 @@ fn usage_line(alloc: Global, place: u64) -> Result<Vec<u8>, AllocError>
     ensures { IfOk result (λ line. line.items ≡ reason_line (Usage place)) }
 {
     let line = format!(in alloc; "usage: word {place}\n")?;
-    Ok(line.into_bytes())
-}
-
-/// The message line for a design that has more cells than all chips have room for.
-fn fit_line(alloc: Global, cells: u64, room: u64) -> Result<Vec<u8>, AllocError>
-    ensures { IfOk result (λ line. line.items ≡ reason_line (Fit cells room)) }
-{
-    let line = format!(in alloc; "fit: {cells} cells, room for {room}\n")?;
     Ok(line.into_bytes())
 }
 
@@ -69,7 +58,7 @@ impl Reason {
             Reason::Board(_) => 3,
             Reason::PlanText(_) | Reason::Plan(_) => 4,
             Reason::Stimulus(_) => 5,
-            Reason::Fit { .. } => 6,
+            Reason::Fit(_) => 6,
         }
     }
 
@@ -86,7 +75,7 @@ impl Reason {
             Reason::PlanText(fault) => fault.text(alloc),
             Reason::Plan(fault) => fault.text(alloc),
             Reason::Stimulus(fault) => fault.text(alloc),
-            Reason::Fit { cells, room } => fit_line(alloc, *cells, *room),
+            Reason::Fit(fault) => fault.text(alloc),
         }
     }
 }

@@ -26,7 +26,7 @@ EndsPlanFault fault (Stopped (ReadFault file)) = ⊥
 
 -- the command refuses for want of room
 abbrev pub EndsCompileFault : CompileFault → Unfinished → Type 0
-EndsCompileFault fault (Refused refusal) = (cells room : ℕ) × (fault ≡ TooManyCells cells room) × (refusal.reason ≡ reasons.Fit cells room)
+EndsCompileFault fault (Refused refusal) = (cells room : ℕ) × (fault ≡ TooManyCells cells room) × (refusal.reason ≡ reasons.Fit (TooManyCells cells room))
 EndsCompileFault fault (Stopped NoMemory) = Unit {0}
 EndsCompileFault fault (Stopped WriteFault) = ⊥
 EndsCompileFault fault (Stopped (ReadFault file)) = ⊥
