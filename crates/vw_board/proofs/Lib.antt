@@ -6,3 +6,4 @@ mod LineNumbers
 mod Joins
 mod Spelled
 pub mod Accepted
+pub mod OneFault
