@@ -1,5 +1,7 @@
 pub mod FewLinks
+pub mod ChipNumbers
 pub mod Along
+pub mod SettledLevels
 pub mod Leads
 pub mod Depths
 pub mod NeededPairs
