@@ -10,10 +10,9 @@ use Rattle.vw_net.specs.declared.cell.Cell.{Cell}
 use Rattle.vw_net.specs.declared.cell.Cell.TheVariants.{Gate, Latch}
 use Rattle.vw_net.specs.Order.{is_latch, is_ready, read_nets_at}
 use Rattle.vw_net.proofs.Ready.{order_within, ready_before, all_ready}
-use Rattle.vw_plan.proofs.Along.{All-gate_reads}
-use Rattle.vw_plan.proofs.Leads.{Settles, driven_lead_agree}
+use Rattle.vw_plan.proofs.AlongOrder.{All-gate_reads}
+use Rattle.vw_plan.proofs.LeadLevels.{Settles, driven_lead_agree}
 use Rattle.vw_plan.specs.Lead.{brought_at, driven_lead, lead}
-use Rattle.vw_net.specs.Lists.{greatest}
 use Rattle.vw_plan.specs.Nets.{driving_cell}
 use Rattle.vw_plan.specs.Setting.{Setting, home}
 use Rattle.vw_check.specs.Steps.Moments.{AreLeads, lead_by}

@@ -13,7 +13,7 @@ use Rattle.vw_plan.specs.declared.wire.Wire.{Wire}
 use Rattle.vw_plan.specs.Lead.{after_last, brings, brought_at, driven_lead, lead, usable}
 use Rattle.vw_plan.specs.Nets.{driving_cell}
 use Rattle.vw_plan.specs.Setting.{Setting, home, setting_of}
-use Rattle.vw_plan.proofs.Leads.{Settles}
+use Rattle.vw_plan.proofs.LeadLevels.{Settles}
 use Rattle.vw_phase.specs.Steps.Leads.{hops_to, lead_by, usable_by, wires_of}
 
 pub brought_wires : (board : Board) (node net : ℕ) (routes : List Route) (hops : List (List Hop)) → option_map_or (λ (wire : Wire). after_last board wire.hops) (find (brings net node) (wires_of routes hops)) 0 ≡ after_last board (hops_to routes hops node net)

@@ -15,11 +15,11 @@ use Rattle.vw_plan.specs.declared.wire.Wire.{Wire}
 use Rattle.vw_plan.specs.Lead.{after_last, brings, brought_at, driven_lead, lead}
 use Rattle.vw_plan.specs.Nets.{driving_cell}
 use Rattle.vw_plan.specs.Setting.{Setting, home, setting_of}
-use Rattle.vw_plan.proofs.Along.{every_net}
-use Rattle.vw_plan.proofs.Leads.{lead-by_driver}
+use Rattle.vw_plan.proofs.AlongOrder.{every_net}
+use Rattle.vw_plan.proofs.LeadLevels.{lead-by_driver}
 use Rattle.vw_phase.specs.Steps.Leads.{hops_to, lead_by, wires_of}
 use Rattle.vw_phase.specs.Steps.Underway.{lead_at_place}
-use Rattle.vw_plan.proofs.Leads.{driven_lead_agree}
+use Rattle.vw_plan.proofs.LeadLevels.{driven_lead_agree}
 use Rattle.vw_phase.proofs.SettledReads.{among_at, gate_number}
 
 -- the arrival of a net, by routes and hops

@@ -34,7 +34,7 @@ use Rattle.vw_phase.specs.Schedules.{IsSchedule}
 use Rattle.vw_phase.specs.Steps.Done.{Has, IsAlong, IsTasksDone, IsSentWell, all_hops, latch_moment, latest}
 use Rattle.vw_phase.specs.Steps.Leads.{wires_of}
 use Rattle.vw_phase.proofs.WiresOfRoutes.{as_many, before_last, follows, leads_along, once_apart}
-use Rattle.vw_plan.proofs.Leads.{Settles}
+use Rattle.vw_plan.proofs.LeadLevels.{Settles}
 use Rattle.vw_phase.proofs.BroughtLeads.{usable_is}
 use Rattle.vw_phase.proofs.WellSent.{hops_same}
 use Rattle.std.proofs.lemmas.Option.{same_Some}

@@ -1,20 +1,17 @@
 -- What stays when leads and hops are added that nothing done rests on.
-use Rattle.std.proofs.Common.{◌≡◌, ◌<◌, ◌+◌, ◌∙◌, ◌∷◌, ◌&&◌, ℕ, suc, Bool, true, false, List, [], length, max, eqb, nat_lt, if◌then◌else◌, slice_get, slice_index, slice_index_or, Option, Some, None, ap, ap₂, refl, sym, ⊎_elim, true≢false, arith, eqb-true, eq-eqb}
+use Rattle.std.proofs.Common.{◌≡◌, ◌<◌, ◌+◌, ◌∙◌, ◌∷◌, ◌&&◌, ℕ, suc, Bool, true, false, List, [], length, max, eqb, nat_lt, if◌then◌else◌, slice_get, slice_index, slice_index_or, Some, ap, ap₂, refl, sym, ⊎_elim, true≢false, arith, eqb-true, eq-eqb}
 use Rattle.std.specs.List.{All}
 use Rattle.std.proofs.lemmas.Bool.{cases_Bool, cases_lt, le-ltb}
-use Rattle.vw_net.specs.declared.cell.Cell.{Cell}
-use Rattle.vw_net.specs.declared.cell.Cell.TheVariants.{Gate, Latch}
 use Rattle.vw_net.specs.declared.flat.Flat.{Flat}
 use Rattle.vw_net.specs.declared.ordered.Ordered.{Ordered}
 use Rattle.vw_net.specs.Order.{is_gate, gate_inputs}
 use Rattle.vw_plan.specs.declared.board.Board.{Board}
 use Rattle.vw_plan.specs.declared.need.Route.{Route}
 use Rattle.vw_plan.specs.declared.wire.Hop.{Hop}
-use Rattle.vw_plan.specs.Lead.{after_last, driven_lead}
-use Rattle.vw_net.specs.Lists.{greatest}
+use Rattle.vw_plan.specs.Lead.{after_last}
 use Rattle.vw_plan.specs.Needs.{depth}
 use Rattle.vw_plan.specs.Nets.{driving_cell, node_of}
-use Rattle.vw_plan.proofs.Leads.{driven_lead_agree}
+use Rattle.vw_plan.proofs.LeadLevels.{driven_lead_agree}
 use Rattle.vw_phase.specs.declared.task.Task.{Task}
 use Rattle.vw_phase.specs.Steps.Leads.{hops_to, lead_by, usable_by}
 use Rattle.vw_phase.specs.Steps.Underway.{is_done, lead_at_place, ready_by, start_by}

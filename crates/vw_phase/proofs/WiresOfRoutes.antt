@@ -1,11 +1,9 @@
 -- Wires that follow routes: one for each need, and each leads to its node.
-use Rattle.std.proofs.Common.{◌≡◌, ◌<◌, ◌≤◌, ◌+◌, ◌&&◌, ◌++◌, ℕ, Bool, true, false, not, List, [], ◌∷◌, length, map, eqb, nat_lt, if◌then◌else◌, ap, refl, sym, ◌∙◌, arith, ⊎_elim, eq-eqb}
-use Rattle.std.specs.List.{All, AllZip, AllPairs, flat_map, count_by}
+use Rattle.std.proofs.Common.{◌≡◌, ◌<◌, ◌≤◌, ◌+◌, ◌&&◌, ℕ, true, false, not, List, [], ◌∷◌, length, map, eqb, nat_lt, ap, refl, sym, ◌∙◌, arith, ⊎_elim, eq-eqb}
+use Rattle.std.specs.List.{All, AllZip, AllPairs, count_by}
 use Rattle.std.proofs.lemmas.Bool.{cases_Bool, and_from, and_parts}
-use Rattle.std.proofs.lemmas.List.Concat.{flat_map-cons}
 use Rattle.std.proofs.lemmas.List.Elements.{All-cons, All-nil, All-head}
 use Rattle.std.proofs.lemmas.List.Kept.{AllPairs-cons}
-use Rattle.std.proofs.lemmas.List.Sums.{sum_by-cons}
 use Rattle.vw_net.specs.Steps.{one_if}
 use Rattle.vw_plan.specs.declared.board.Board.{Board}
 use Rattle.vw_plan.specs.declared.link.Link.{Link}
@@ -18,7 +16,7 @@ use Rattle.vw_plan.specs.Routes.{FollowsRoute, need_of_route, steps_of}
 use Rattle.vw_plan.specs.Sound.{leads_to, rises, share_pin}
 use Rattle.vw_plan.specs.Walks.{IsWalk}
 use Rattle.vw_plan.proofs.NeededPairs.{count_cons}
-use Rattle.vw_phase.specs.Steps.Done.{IsAlong, all_hops, uses}
+use Rattle.vw_phase.specs.Steps.Done.{IsAlong, uses}
 use Rattle.vw_phase.specs.Steps.Leads.{wires_of}
 
 pub follows : (board : Board) (routes : List Route) (hops : List (List Hop)) → AllZip (IsAlong board) routes hops → AllZip FollowsRoute routes (wires_of routes hops)

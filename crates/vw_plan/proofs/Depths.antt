@@ -13,9 +13,9 @@ use Rattle.vw_net.specs.Lists.{greatest}
 use Rattle.vw_plan.specs.Needs.{crossing, depth, driven_depth, level_depth}
 use Rattle.vw_plan.specs.Nets.{driving_cell, node_of}
 use Rattle.vw_plan.specs.Ways.{IsDeepest, IsInlet, IsWayBack, is_read_by}
-use Rattle.vw_plan.proofs.Along.{every_net}
+use Rattle.vw_plan.proofs.AlongOrder.{every_net}
 use Rattle.vw_plan.proofs.SettledLevels.{IsSettledFrom, settled_later}
-use Rattle.vw_plan.proofs.Leads.{map_agree}
+use Rattle.vw_plan.proofs.LeadLevels.{map_agree}
 
 -- ---- what a cell gives its net
 

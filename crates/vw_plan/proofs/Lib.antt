@@ -1,11 +1,11 @@
 pub mod FewLinks
 pub mod ChipNumbers
-pub mod Along
+pub mod AlongOrder
 pub mod SettledLevels
-pub mod Leads
+pub mod LeadLevels
 pub mod Depths
 pub mod NeededPairs
 pub mod Walking
 pub mod Shortest
-pub mod Pairs
+pub mod TestedPairs
 mod Toggle

@@ -20,7 +20,7 @@ use Rattle.vw_plan.proofs.NeededPairs.{need_cmp, need_of}
 use Rattle.vw_plan.specs.Needs.{is_pair}
 use Rattle.vw_plan.specs.Nets.{is_needed, node_of}
 use Rattle.vw_wires.specs.Steps.Crossings.{cell_crossings, crossing_nets, crossings}
-use Rattle.vw_wires.proofs.Unique.{HaveSame, need_cmp_total, unique}
+use Rattle.vw_wires.proofs.RisingPairs.{HaveSame, need_cmp_total, unique}
 
 -- ---- tests
 

@@ -1,4 +1,4 @@
-use Rattle.vw_board.proofs.Accepted.{accepted_unrefused}
+use Rattle.vw_board.proofs.OneBoard.{accepted_unrefused}
 use Rattle.vw_board.proofs.OneFault.{fault_once}
 use Rattle.vw_board.proofs.laws.board_faults_are_single.Goals as goal
 

@@ -1,4 +1,4 @@
-use Rattle.vw_board.proofs.Accepted.{accepted_once}
+use Rattle.vw_board.proofs.OneBoard.{accepted_once}
 use Rattle.vw_board.proofs.laws.boards_spell_once.Goals as goal
 
 -- field by field

@@ -1,9 +1,7 @@
-use Rattle.std.proofs.Common.{◌≡◌, ◌≤◌, ◌+◌, ℕ, List, map, ap, sym, subst, ◌∙◌, All}
-use Rattle.std.proofs.lemmas.List.Elements.{All-weaker}
+use Rattle.std.proofs.Common.{◌≡◌, ◌+◌, ℕ, List, map, ap, sym, subst, ◌∙◌}
 use Rattle.std.proofs.lemmas.Result.{IfOk-weaker}
 use Rattle.vw_net.specs.declared.flat.Flat.{Flat}
-use Rattle.vw_plan.specs.declared.board.Board.{Board}
-use Rattle.vw_plan.specs.Good.{IsChip, NoExchangeHelps, NoMoveHelps}
+use Rattle.vw_plan.specs.Good.{NoExchangeHelps, NoMoveHelps}
 use Rattle.vw_plan.proofs.ChipNumbers.{low_chips}
 use Rattle.vw_place.specs.Numbering.{IsRenumbered}
 use Rattle.vw_place.specs.Steps.NodeLists.{IsNodeList, moved}

@@ -1,4 +1,4 @@
-use Rattle.vw_plantext.proofs.Accepted.{spelled_once}
+use Rattle.vw_plantext.proofs.OnePlan.{spelled_once}
 use Rattle.vw_plantext.proofs.laws.plans_spell_once.Goals as goal
 
 -- two plans have two spellings

@@ -10,7 +10,7 @@ use Rattle.vw_plan.specs.Setting.{Setting, home}
 use Rattle.vw_plan.specs.Lead.{driven_lead, level_lead, lead, brought_at}
 use Rattle.vw_net.specs.Lists.{greatest}
 use Rattle.vw_net.specs.Order.{gate_inputs}
-use Rattle.vw_plan.proofs.Along.{every_net}
+use Rattle.vw_plan.proofs.AlongOrder.{every_net}
 use Rattle.vw_plan.proofs.SettledLevels.{IsSettledFrom, settled_later}
 
 -- two ways to give nets leads that agree on each of these nets give one list
