@@ -1,5 +1,5 @@
 -- Links of which it is known how few of them walks need.
-use Rattle.std.proofs.Common.{◌≡◌, ◌<◌, ◌≤◌, ◌+◌, ◌*◌, ℕ, true, false, List, [], ◌∷◌, length, slice_index_or, Option, Some, None, ap, sym, subst, ◌∙◌, ⊎_elim, true≢false, All, arith}
+use Rattle.std.proofs.Common.{◌≡◌, ◌<◌, ◌≤◌, ◌+◌, ℕ, List, [], length, slice_index_or, Option, Some, None, ap, sym, subst, ◌∙◌, ⊎_elim, true≢false, All, arith}
 use Rattle.std.specs.Prelude.{IsSome}
 use Rattle.std.proofs.lemmas.Bool.{both_ways}
 use Rattle.std.proofs.lemmas.List.{get_or_default}

@@ -1,8 +1,9 @@
 mod LinkReads
-mod Counted
+mod CountedWalks
 mod Noted
 mod Near
 mod LineNumbers
 mod Joins
 mod Spelled
-pub mod Accepted
+pub mod OneBoard
+pub mod OneFault

@@ -2,7 +2,7 @@
 use Rattle.std.proofs.Common.{◌≡◌, ◌<◌, ◌≤◌, ◌-◌, ◌&&◌, ℕ, suc, Bool, true, false, List, length, drop, get_or, eqb, cond, Option, Some, ap, ap₂, refl, sym, ◌∙◌, drop-cons, eqb-true, eq-eqb, arith}
 use Rattle.std.specs.Option.{option_or}
 use Rattle.vw_check.specs.Firsts.{found_if}
-use Rattle.vw_check.specs.Steps.Tables.{first_pair, is_number_pair}
+use Rattle.vw_check.specs.Pairs.{first_pair, is_number_pair}
 
 -- what is put in hides what was there, as the one at the front hides the rest
 put_by : (same : Bool) (place : ℕ) (rest : Option ℕ) → cond same (Some place) rest ≡ option_or (found_if same place) rest

@@ -10,18 +10,12 @@ use Rattle.vw_net.specs.declared.cell.Cell.{Cell}
 use Rattle.vw_net.specs.declared.cell.Cell.TheVariants.{Gate, Latch}
 use Rattle.vw_net.specs.Order.{is_latch, is_ready, read_nets_at}
 use Rattle.vw_net.proofs.Ready.{order_within, ready_before, all_ready}
-use Rattle.vw_plan.proofs.Leads.{map_agree}
+use Rattle.vw_plan.proofs.AlongOrder.{All-gate_reads}
+use Rattle.vw_plan.proofs.LeadLevels.{Settles, driven_lead_agree}
 use Rattle.vw_plan.specs.Lead.{brought_at, driven_lead, lead}
-use Rattle.vw_net.specs.Lists.{greatest}
 use Rattle.vw_plan.specs.Nets.{driving_cell}
 use Rattle.vw_plan.specs.Setting.{Setting, home}
 use Rattle.vw_check.specs.Steps.Moments.{AreLeads, lead_by}
-
--- two ways to give nets leads that agree on what a cell reads give its net one lead
-driven_agree : (one other : ℕ → ℕ) (cell : Option Cell) → All (λ net. one net ≡ other net) (read_nets_at cell) → driven_lead one cell ≡ driven_lead other cell
-driven_agree one other None agree = refl
-driven_agree one other (Some (Gate ins cover)) agree = ap greatest (map_agree one other ins agree)
-driven_agree one other (Some (Latch d init)) agree = refl
 
 -- a latch has lead 0
 driven_latch : (lead_at : ℕ → ℕ) (cell : Option Cell) → is_latch cell ≡ true → driven_lead lead_at cell ≡ 0
@@ -32,10 +26,6 @@ driven_latch lead_at (Some (Latch d init)) latch = refl
 -- a list of zeros has 0 everywhere, and past its end
 zero_at : (count net : ℕ) → slice_index (replicate count 0) net ≡ 0
 zero_at count net = ⊎_elim (λ within. get_or-replicate count net 0 0 within) (λ past. get_or_past (replicate count 0) net 0 (let long : length (replicate {A = ℕ} count 0) ≡ count = length-replicate {A = ℕ} count 0 in omega arith)) (cases_lt net count)
-
--- the law of leads
-abbrev pub Settles : Setting → Type 0
-Settles setting = (node net : ℕ) → lead setting node net ≡ (if eqb (home setting net) node then driven_lead (lead setting node) (driving_cell setting.ordered.flat net) else brought_at setting node net)
 
 -- the lead of a cell, by a list of leads
 pub same_lead : (setting : Setting) (items leads : List ℕ) (other number : ℕ) → items ≡ leads → other ≡ number → driven_lead (lead_by setting items (slice_index setting.plan.chip_of other)) (slice_get setting.ordered.flat.cells other) ≡ driven_lead (lead_by setting leads (slice_index setting.plan.chip_of number)) (slice_get setting.ordered.flat.cells number)
@@ -105,7 +95,7 @@ module _ (setting : Setting) where
         let its_number : net - inputs ≡ number = omega arith in
         let its_driver : driving_cell setting.ordered.flat net ≡ cell = ap (λ (input : Bool). if input then None else slice_get cells (net - inputs)) no_input ∙ ap (λ (at : ℕ). slice_get cells at) its_number in
         let its_home : home setting net ≡ node = ap (λ (input : Bool). if input then 0 else slice_index setting.plan.chip_of (net - inputs)) no_input ∙ ap (λ (at : ℕ). slice_index setting.plan.chip_of at) its_number in
-        driven_agree (lead_by setting leads node) (lead setting node) cell agree
+        driven_lead_agree (lead_by setting leads node) (lead setting node) cell (All-gate_reads (λ read. lead_by setting leads node read ≡ lead setting node read) cell agree)
         ∙ ap₂ (λ (at : ℕ) (drives : Option Cell). driven_lead (lead setting at) drives) (sym its_home) (sym its_driver)
         ∙ sym (own_lead net)
 

@@ -13,14 +13,11 @@ use Rattle.vw_check.specs.declared.fault.PlanFault.{PlanFault}
 use Rattle.vw_check.specs.declared.fault.PlanFault.TheVariants.{WrongCells, ZeroPeriod, BadChip, Overfull}
 use Rattle.vw_check.specs.Firsts.{found_unless}
 use Rattle.vw_check.specs.CellFaults.{wrong_cells, zero_period, is_chip, bad_chip, overfull}
-use Rattle.vw_plan.specs.Good.{cells_on}
+use Rattle.vw_plan.specs.Good.{IsChip, cells_on}
 use Rattle.vw_check.specs.Answers.{Breaks}
 use Rattle.vw_check.proofs.LawFirsts.{EachAt, each_none, none_each, each_to, each_all, all_each, unless_none, none_unless, if_none, none_if, first_is, unless_is, if_is}
 
 -- ---- chips
-
-abbrev pub IsChip : Board → ℕ → Type 0
-IsChip board chip = (1 ≤ chip) × (chip ≤ board.chips)
 
 positive : (n : ℕ) → (n ≡ 0 → ⊥) → 1 ≤ n
 positive zero some = absurd (some refl)

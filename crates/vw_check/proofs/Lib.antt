@@ -13,9 +13,9 @@ pub mod LastHops
 pub mod Clashes
 pub mod WiresBrought
 pub mod ChipRange
-pub mod Pushed
+pub mod PushedElements
 pub mod HomeLeads
-pub mod Searches
+pub mod ListSearches
 pub mod WireTables
 pub mod NeededNets
 pub mod FaultOrder

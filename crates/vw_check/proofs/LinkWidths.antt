@@ -13,7 +13,8 @@ use Rattle.vw_plan.specs.Links.{HaveSameEnds}
 use Rattle.vw_plan.specs.Sound.{has_pin}
 use Rattle.vw_plan.specs.Walks.{has_link}
 use Rattle.vw_check.specs.Steps.Rules.{width_between}
-use Rattle.vw_check.specs.Steps.Tables.{HasPairs, is_number_pair, link_pairs, pair_in}
+use Rattle.vw_check.specs.Pairs.{HasPairs, is_number_pair, pair_in}
+use Rattle.vw_check.specs.Steps.Tables.{link_pairs}
 use Rattle.vw_check.proofs.FirstPairs.{turned_eqb}
 use Rattle.vw_check.proofs.FirstPlaces.{LeadsTo, leads}
 

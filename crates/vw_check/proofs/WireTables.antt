@@ -17,7 +17,8 @@ use Rattle.vw_check.specs.declared.fault.PlanFault.{PlanFault}
 use Rattle.vw_check.specs.declared.fault.PlanFault.TheVariants.{ExtraWire, MissingWire}
 use Rattle.vw_check.specs.Firsts.{first_at, found_if, found_unless}
 use Rattle.vw_check.specs.WireFaults.{extra_wire, is_brought, missing_wire}
-use Rattle.vw_check.specs.Steps.Tables.{HasPairs, first_pair, is_number_pair, need_pairs, pair_in, wire_pairs}
+use Rattle.vw_check.specs.Pairs.{HasPairs, first_pair, is_number_pair, pair_in}
+use Rattle.vw_check.specs.Steps.Tables.{need_pairs, wire_pairs}
 use Rattle.vw_check.specs.Steps.Wires.{first_extra, first_missing, is_extra, is_given_number}
 use Rattle.vw_check.proofs.FirstPairs.{turned_eqb}
 use Rattle.vw_check.proofs.FirstPlaces.{LeadsTo, leads}

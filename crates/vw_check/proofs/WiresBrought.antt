@@ -5,7 +5,8 @@ use Rattle.std.specs.HashMap.{HashMap}
 use Rattle.vw_plan.specs.declared.wire.Wire.{Wire}
 use Rattle.vw_plan.specs.Lead.{after_last, brings, brought_at}
 use Rattle.vw_plan.specs.Setting.{Setting}
-use Rattle.vw_check.specs.Steps.Tables.{HasPairs, is_number_pair, pair_in, wire_pairs}
+use Rattle.vw_check.specs.Pairs.{HasPairs, is_number_pair, pair_in}
+use Rattle.vw_check.specs.Steps.Tables.{wire_pairs}
 use Rattle.vw_check.proofs.FirstPairs.{turned_eqb}
 use Rattle.vw_check.proofs.FirstPlaces.{LeadsTo, leads}
 

@@ -1,5 +1,6 @@
 pub mod Steps
 pub mod Firsts
+pub mod Pairs
 pub mod CellFaults
 pub mod WireFaults
 pub mod HopFaults

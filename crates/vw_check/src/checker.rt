@@ -4,7 +4,8 @@ ghost use Rattle.std.specs.List.{All};
 ghost use Rattle.vw_plan.specs.Setting.{setting_of};
 ghost use Rattle.vw_check.specs.Faults.{cell_fault, hop_fault, moment_fault, plan_fault};
 ghost use Rattle.vw_check.specs.Answers.{IsAcceptedPlan, IsRefusedPlan};
-ghost use Rattle.vw_check.specs.Steps.Tables.{HasPairs, wire_pairs};
+ghost use Rattle.vw_check.specs.Pairs.{HasPairs};
+ghost use Rattle.vw_check.specs.Steps.Tables.{wire_pairs};
 
 use crate::cells::{bad_chip, overfull, wrong_cells, zero_period};
 use crate::clash::pin_clash;

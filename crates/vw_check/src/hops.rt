@@ -3,7 +3,8 @@ ghost use Rattle.std.specs.Prelude.{◌≡◌, ◌<◌, ◌+◌, ◌^◌, length
 ghost use Rattle.std.specs.List.{All};
 ghost use Rattle.vw_plan.specs.Setting.{setting_of};
 ghost use Rattle.vw_check.specs.HopFaults.{begins_at, broken_wire, broken_route, goes_on, is_later};
-ghost use Rattle.vw_check.specs.Steps.Tables.{HasPairs, link_pairs};
+ghost use Rattle.vw_check.specs.Pairs.{HasPairs};
+ghost use Rattle.vw_check.specs.Steps.Tables.{link_pairs};
 ghost use Rattle.vw_check.specs.Steps.Rules.{first_breaking, first_in_wire, keeps, rule_fault};
 
 use crate::fault::PlanFault;

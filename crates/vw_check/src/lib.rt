@@ -15,6 +15,9 @@ mod wires;
 
 pub use checker::check;
 pub use fault::PlanFault;
-pub use laws::{faultless_plans_are_sound, faults_break_points, sound_plans_are_faultless};
+pub use laws::{
+    faultless_plans_are_sound, faults_break_points, orders_change_no_fault,
+    sound_plans_are_faultless,
+};
 pub use pairs::PairTable;
 pub use refused::CheckRefused;

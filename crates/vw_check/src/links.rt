@@ -1,6 +1,7 @@
 //! The links of a board, by the nodes that they join.
 ghost use Rattle.std.specs.Prelude.{◌≡◌, IfOk};
-ghost use Rattle.vw_check.specs.Steps.Tables.{HasPairs, link_pairs};
+ghost use Rattle.vw_check.specs.Pairs.{HasPairs};
+ghost use Rattle.vw_check.specs.Steps.Tables.{link_pairs};
 ghost use Rattle.vw_check.specs.Steps.Rules.{width_between};
 
 use crate::pairs::PairTable;

@@ -5,7 +5,8 @@ ghost use Rattle.vw_plan.specs.Lead.{after_last, brought_at, driven_lead, is_gat
 ghost use Rattle.vw_net.specs.Lists.{greatest};
 ghost use Rattle.vw_plan.specs.Setting.{setting_of};
 ghost use Rattle.vw_check.specs.MomentFaults.{late_latch, too_early};
-ghost use Rattle.vw_check.specs.Steps.Tables.{HasPairs, wire_pairs};
+ghost use Rattle.vw_check.specs.Pairs.{HasPairs};
+ghost use Rattle.vw_check.specs.Steps.Tables.{wire_pairs};
 ghost use Rattle.vw_check.specs.Steps.Moments.{AreLeads, lead_by};
 
 use crate::fault::PlanFault;

@@ -1,6 +1,6 @@
 //! Tables of pairs of numbers.
 ghost use Rattle.std.specs.Prelude.{◌≡◌, IfOk};
-ghost use Rattle.vw_check.specs.Steps.Tables.{HasPairs, pair_in};
+ghost use Rattle.vw_check.specs.Pairs.{HasPairs, pair_in};
 
 use std::alloc::{AllocError, Global};
 use std::collections::HashMap;

@@ -1,7 +1,8 @@
 //! Wires that are missing, and wires that aren't needed.
 ghost use Rattle.std.specs.Prelude.{◌≡◌, ◌≤◌, length, IfOk};
 ghost use Rattle.std.specs.List.{All};
-ghost use Rattle.vw_check.specs.Steps.Tables.{HasPairs, need_pairs, wire_pairs};
+ghost use Rattle.vw_check.specs.Pairs.{HasPairs};
+ghost use Rattle.vw_check.specs.Steps.Tables.{need_pairs, wire_pairs};
 ghost use Rattle.vw_check.specs.Steps.Wires.{first_missing, first_extra, is_extra};
 ghost use Rattle.vw_check.specs.Faults.{wire_fault};
 

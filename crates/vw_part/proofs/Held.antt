@@ -63,6 +63,15 @@ pub all_full : (amount : ℕ → ℕ) (room from many : ℕ) → ((x : ℕ) → 
 all_full amount room from zero full = omega arith
 all_full amount room from (suc many) full = omega (arith, full from (omega arith) (omega arith), all_full amount room (from + 1) many (λ x above below. full x (omega arith) (omega arith)))
 
+-- no more than a room for each of a range
+few_in : (amount : ℕ → ℕ) (room from many : ℕ) → ((x : ℕ) → amount x ≤ room) → total amount (range_with_len from many) ≤ many * room
+few_in amount room from zero few = omega arith
+few_in amount room from (suc many) few = omega (arith, few from, few_in amount room (from + 1) many few)
+
+-- chips with room for all cells on them have room for all cells
+pub all_fit : (chips : List ℕ) (most room : ℕ) → All (λ chip. (1 ≤ chip) × (chip ≤ most)) chips → ((chip : ℕ) → cells_on chips chip ≤ room) → length chips ≤ most * room
+all_fit chips most room real few = omega (arith, on_all chips most real, few_in (cells_on chips) room 1 most few)
+
 -- ---- nets
 
 pub held_push : (chips : List ℕ) (pins : List (List ℕ)) (new chip net : ℕ) → length chips < length pins → held (chips ++ new ∷ []) pins chip net ≡ held chips pins chip net + at new (times_among (get_or pins (length chips) []) net) chip

@@ -13,7 +13,7 @@ use Rattle.vw_part.specs.Steps.Pins.{ArePins, total}
 use Rattle.vw_net.specs.Steps.{one_if}
 use Rattle.vw_part.proofs.Gains.{spread_moved}
 use Rattle.vw_part.proofs.CellNets.{pins_long}
-use Rattle.vw_part.proofs.Pairs.{at_host, count_is}
+use Rattle.vw_part.proofs.PairsAndSpread.{at_host, count_is}
 
 module _ (flat : Flat) (board : Board) (pins : Pins) (nets : pins.nets ≡ flat.inputs + length flat.cells) (are : ArePins flat.inputs flat.cells pins.of_cells.items) where
   abbrev hosted : ℕ

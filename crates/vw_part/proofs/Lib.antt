@@ -1,7 +1,7 @@
 pub mod Totals
 pub mod Held
 pub mod Gains
-pub mod Pairs
+pub mod PairsAndSpread
 pub mod CellNets
 pub mod Dealing
 pub mod Least

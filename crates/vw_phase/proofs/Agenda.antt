@@ -1,5 +1,5 @@
 -- All tasks, in their order, are one for each gate and one for each route.
-use Rattle.std.proofs.Common.{◌≡◌, ◌<◌, ◌≤◌, ◌+◌, ◌∙◌, ◌∷◌, ℕ, zero, suc, Bool, true, false, List, [], length, take, get_or, if◌then◌else◌, slice_get, Some, ap, refl, sym, subst, ⊎_elim, true≢false, arith}
+use Rattle.std.proofs.Common.{◌≡◌, ◌<◌, ◌≤◌, ◌+◌, ◌∙◌, ◌∷◌, ℕ, zero, suc, Bool, true, false, List, [], length, take, get_or, slice_get, Some, ap, refl, sym, subst, ⊎_elim, true≢false, arith}
 use Rattle.std.specs.List.{All, list_any}
 use Rattle.std.specs.Prelude.{sum_by}
 use Rattle.std.specs.List.Sorted.{IsPermutation}
@@ -16,7 +16,7 @@ use Rattle.vw_plan.specs.declared.need.Route.{Route}
 use Rattle.vw_plan.specs.Needs.{depth}
 use Rattle.vw_phase.specs.declared.task.Task.{Task}
 use Rattle.vw_phase.specs.Steps.Tasks.{AreRising, all_tasks, tasks_from}
-use Rattle.vw_phase.proofs.TaskWords.{some_same}
+use Rattle.std.proofs.lemmas.Option.{same_Some}
 use Rattle.vw_phase.proofs.DoneTasks.{is_task-own, is_task-true}
 use Rattle.vw_phase.specs.Steps.Underway.{AreTasks, IsOfKind, is_done, is_task, no_task, task_at}
 
@@ -151,7 +151,7 @@ module _ (ordered : Ordered) (chip_of : List ℕ) (routes : List Route) where
       (all_made (λ (route : Route). depth ordered.flat chip_of route.net) (λ (task : Task). IsOfKind ordered chip_of routes task.sends task) true 0 routes (λ at one is.
       let same : 0 + at ≡ at = omega arith in
       let inside : 0 + at < length routes = omega (arith, slice_get_within routes at one is) in
-      (inside, λ route found. let both_are : Some one ≡ Some route = sym is ∙ ap (slice_get routes) (sym same) ∙ found in ap (λ (r : Route). depth ordered.flat chip_of r.net) (some_same one route both_are))))
+      (inside, λ route found. let both_are : Some one ≡ Some route = sym is ∙ ap (slice_get routes) (sym same) ∙ found in ap (λ (r : Route). depth ordered.flat chip_of r.net) (same_Some one route both_are))))
 
   module _ (tasks : List Task) (same : IsPermutation all tasks) where
     as_many : (sends : Bool) (place : ℕ) → times sends place tasks ≡ times sends place all

@@ -13,10 +13,8 @@ use Rattle.vw_plan.specs.declared.wire.Wire.{Wire}
 use Rattle.vw_plan.specs.Lead.{after_last, brings, brought_at, driven_lead, lead, usable}
 use Rattle.vw_plan.specs.Nets.{driving_cell}
 use Rattle.vw_plan.specs.Setting.{Setting, home, setting_of}
+use Rattle.vw_plan.proofs.LeadLevels.{Settles}
 use Rattle.vw_phase.specs.Steps.Leads.{hops_to, lead_by, usable_by, wires_of}
-
-abbrev pub Settles : Setting → Type 0
-Settles setting = (node net : ℕ) → lead setting node net ≡ (if eqb (home setting net) node then driven_lead (lead setting node) (driving_cell setting.ordered.flat net) else brought_at setting node net)
 
 pub brought_wires : (board : Board) (node net : ℕ) (routes : List Route) (hops : List (List Hop)) → option_map_or (λ (wire : Wire). after_last board wire.hops) (find (brings net node) (wires_of routes hops)) 0 ≡ after_last board (hops_to routes hops node net)
 brought_wires board node net [] hops = refl

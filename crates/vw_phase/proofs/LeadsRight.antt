@@ -15,11 +15,11 @@ use Rattle.vw_plan.specs.declared.wire.Wire.{Wire}
 use Rattle.vw_plan.specs.Lead.{after_last, brings, brought_at, driven_lead, lead}
 use Rattle.vw_plan.specs.Nets.{driving_cell}
 use Rattle.vw_plan.specs.Setting.{Setting, home, setting_of}
-use Rattle.vw_plan.proofs.Along.{every_net}
-use Rattle.vw_plan.proofs.Leads.{lead-by_driver}
+use Rattle.vw_plan.proofs.AlongOrder.{every_net}
+use Rattle.vw_plan.proofs.LeadLevels.{lead-by_driver}
 use Rattle.vw_phase.specs.Steps.Leads.{hops_to, lead_by, wires_of}
 use Rattle.vw_phase.specs.Steps.Underway.{lead_at_place}
-use Rattle.vw_phase.proofs.UntouchedMoments.{driven_same}
+use Rattle.vw_plan.proofs.LeadLevels.{driven_lead_agree}
 use Rattle.vw_phase.proofs.SettledReads.{among_at, gate_number}
 
 -- the arrival of a net, by routes and hops
@@ -79,7 +79,7 @@ module _ (ordered : Ordered) (board : Board) (plan : Plan) (routes : List Route)
       let its_driver : driving_cell ordered.flat net ≡ slice_get ordered.flat.cells (slice_index ordered.order found.0) = ap (λ (bit : Bool). if bit then None else slice_get ordered.flat.cells (net - ordered.flat.inputs)) no_input ∙ ap (slice_get ordered.flat.cells) (sym number) in
       let its_node : home setting net ≡ slice_index plan.chip_of (slice_index ordered.order found.0) = ap (λ (bit : Bool). if bit then 0 else slice_index plan.chip_of (net - ordered.flat.inputs)) no_input ∙ ap (slice_index plan.chip_of) (sym number) in
       own_lead net
-      ∙ driven_same (lead setting (home setting net)) (lead_by ordered.flat board plan.chip_of routes hops leads (home setting net)) (driving_cell ordered.flat net) (λ place default within. right_at (home setting net) _ (reads place default within))
+      ∙ driven_lead_agree (lead setting (home setting net)) (lead_by ordered.flat board plan.chip_of routes hops leads (home setting net)) (driving_cell ordered.flat net) (λ place default within. right_at (home setting net) _ (reads place default within))
       ∙ ap₂ (λ (at : ℕ) (cell : Option Cell). driven_lead (lead_by ordered.flat board plan.chip_of routes hops leads at) cell) its_node its_driver
       ∙ sym (worked found.0 found.1) ∙ ap (slice_index leads) same in
       let if_not = λ (no : is_gate (driving_cell ordered.flat net) ≡ false). own_lead net ∙ no_gate_zero (lead setting (home setting net)) (driving_cell ordered.flat net) no ∙ sym (zero_at net no) in

@@ -23,7 +23,7 @@ pub mod LatestLatch
 pub mod SentFacts
 pub mod Tally
 pub mod DoneTasks
-pub mod Bounds
+pub mod ScheduleBounds
 pub mod Scheduled
 pub mod WiresOfRoutes
 pub mod BroughtLeads

@@ -30,7 +30,7 @@ use Rattle.vw_phase.proofs.DoneTasks.{is_done-more, is_task-own, is_task-true, k
 use Rattle.vw_phase.proofs.UntouchedMoments.{AreKept, place_kept, ready_kept, start_same}
 use Rattle.vw_phase.proofs.LeadLimits.{last_low, lead_low}
 use Rattle.vw_phase.proofs.TaskReady.{its_route, room, route_linked, sent_long}
-use Rattle.vw_phase.proofs.TaskWords.{some_same}
+use Rattle.std.proofs.lemmas.Option.{same_Some}
 use Rattle.vw_phase.proofs.SettledReads.{home_before, shallow_before}
 use Rattle.vw_phase.proofs.Tally.{tally_sent, uses_set}
 use Rattle.vw_phase.proofs.LeadWorked.{done_other, home_done, lesser_done, reads_done, shallow_more}
@@ -153,7 +153,7 @@ module _ (ordered : Ordered) (board : Board) (chip_of : List ℕ) (routes : List
       sent_at other its_own is done =
           let here = λ (own : is_task true other (task_at tasks count) ≡ true).
           let same : number ≡ other = (is_task-true true other (task_at tasks count) own).1 in
-          let one : route ≡ its_own = some_same route its_own (sym there ∙ ap (slice_get routes) same ∙ is) in
+          let one : route ≡ its_own = same_Some route its_own (sym there ∙ ap (slice_get routes) same ∙ is) in
           subst (λ (r : Route). IsSentOff ordered board chip_of routes new r (hops_at new other)) one (subst (λ (n : ℕ). IsSentOff ordered board chip_of routes new route (hops_at new n)) same own_off) in
           ⊎_elim (λ before. off other its_own is before (way.sent other its_own is before)) here (or_cases (is_done tasks count true other) (is_task true other (task_at tasks count)) (sym (is_done-more tasks count true other within) ∙ done))
 

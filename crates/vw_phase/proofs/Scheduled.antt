@@ -33,8 +33,11 @@ use Rattle.vw_phase.specs.declared.draft.Draft.{Draft}
 use Rattle.vw_phase.specs.Schedules.{IsSchedule}
 use Rattle.vw_phase.specs.Steps.Done.{Has, IsAlong, IsTasksDone, IsSentWell, all_hops, latch_moment, latest}
 use Rattle.vw_phase.specs.Steps.Leads.{wires_of}
-use Rattle.vw_phase.proofs.WiresOfRoutes.{as_many, before_last, follows, leads_along, once_apart, same_hops}
-use Rattle.vw_phase.proofs.BroughtLeads.{Settles, usable_is}
+use Rattle.vw_phase.proofs.WiresOfRoutes.{as_many, before_last, follows, leads_along, once_apart}
+use Rattle.vw_plan.proofs.LeadLevels.{Settles}
+use Rattle.vw_phase.proofs.BroughtLeads.{usable_is}
+use Rattle.vw_phase.proofs.WellSent.{hops_same}
+use Rattle.std.proofs.lemmas.Option.{same_Some}
 use Rattle.vw_phase.proofs.StepsOf.{steps_long}
 
 -- ---- the greatest of some moments
@@ -68,9 +71,6 @@ all_listed (route ∷ routes) =
     let own : is_pair route.net route.to (need_of_route route) ≡ true = and_from _ _ (eq-eqb route.net route.net refl) (eq-eqb route.to route.to refl) in
     All-cons (λ one. list_any (is_pair one.net one.to) (map need_of_route (route ∷ routes)) ≡ true) route routes (or_left _ _ own)
     (All-weaker (λ one. list_any (is_pair one.net one.to) (map need_of_route routes) ≡ true) (λ one. list_any (is_pair one.net one.to) (map need_of_route (route ∷ routes)) ≡ true) (λ one is. or_right (is_pair one.net one.to (need_of_route route)) _ is) routes (all_listed routes))
-
-cell_same : (one other : Cell) → Some one ≡ Some other → one ≡ other
-cell_same one other same = cc
 
 abbrev pub Listed : Type 0
 Listed = (flat : Flat) (chip_of : List ℕ) (net node : ℕ) → list_any (is_pair net node) (needed_pairs flat chip_of) ≡ is_needed flat chip_of net node
@@ -131,7 +131,7 @@ module _ (ordered : Ordered) (board : Board) (plan : Plan) where
       let nets = flat.inputs + length flat.cells in
       let within : number < length flat.cells = ⊎_elim (λ inside. inside) (λ past. let none : slice_get flat.cells number ≡ None = slice_get_past flat.cells number past in cc) (cases_lt number (length flat.cells)) in
       let there : Some (get_or flat.cells number (Latch d init)) ≡ Some (Latch d init) = sym (slice_get-get_or flat.cells number (Latch d init) within) ∙ is in
-      let same : get_or flat.cells number (Latch d init) ≡ Latch d init = cell_same (get_or flat.cells number (Latch d init)) (Latch d init) there in
+      let same : get_or flat.cells number (Latch d init) ≡ Latch d init = same_Some (get_or flat.cells number (Latch d init)) (Latch d init) there in
       let fits : IsWellFormed nets (Latch d init) = subst (IsWellFormed nets) same (flat.cells_fit number (Latch d init) within) in
       All-head (λ net. net < nets) d [] fits.1
 
@@ -197,7 +197,7 @@ module _ (ordered : Ordered) (board : Board) (plan : Plan) (routes : List Route)
     one_wire_for_each_need = λ net node. ap (count_by (brings net node)) wires ∙ as_many net node routes hops done.fit.long ∙ ap (count_by (is_pair net node)) are.pairs ∙ once ordered.flat plan.chip_of net node;
     routes = subst (All (IsRouted its)) (sym wires) (routed_all ordered board plan routes hops done.along are.each needed_all);
     rising_microcycles = subst (All (IsRising its)) (sym wires) (rising_all ordered board plan routes hops done.along (omega (arith, done.last, long_enough)));
-    one_hop_a_pin = subst (AllPairs (λ hop other. not (share_pin hop other) ≡ true)) (sym (ap (flat_map (λ (wire : Wire). wire.hops)) wires ∙ same_hops routes hops done.fit.long)) (once_apart (all_hops hops) done.once);
+    one_hop_a_pin = subst (AllPairs (λ hop other. not (share_pin hop other) ≡ true)) (sym (ap (flat_map (λ (wire : Wire). wire.hops)) wires ∙ hops_same routes hops done.fit.long)) (once_apart (all_hops hops) done.once);
     sent_when_usable = All-weaker (IsSentWell its) (IsSentWhenUsable its) (λ wire well. well.usable) plan.wires (done.sent_well plan has);
     latches_in_time = latches ordered board plan plan.chip_of routes draft done law has long_enough;
     a_period = omega (arith, long_enough);

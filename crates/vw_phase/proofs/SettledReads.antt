@@ -17,7 +17,7 @@ use Rattle.vw_net.specs.Lists.{greatest}
 use Rattle.vw_plan.specs.Needs.{crossing, depth, driven_depth, is_pair}
 use Rattle.vw_plan.specs.Nets.{driving_cell, is_needed, is_read_at, node_of}
 use Rattle.vw_plan.specs.Routes.{AreRoutes, need_of_route}
-use Rattle.vw_plan.proofs.Along.{All-gate_reads}
+use Rattle.vw_plan.proofs.AlongOrder.{All-gate_reads}
 use Rattle.vw_plan.proofs.Depths.{depth-by_driver}
 use Rattle.vw_plan.proofs.NeededPairs.{any-needed_pairs}
 use Rattle.vw_phase.specs.declared.task.Task.{Task}

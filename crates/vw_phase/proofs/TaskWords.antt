@@ -1,5 +1,5 @@
 -- The same task, in other words.
-use Rattle.std.proofs.Common.{◌≡◌, ◌∙◌, ℕ, List, Some, Result, Ok, Err, ap, ap₂, subst}
+use Rattle.std.proofs.Common.{◌≡◌, ◌∙◌, ℕ, List, Result, Ok, Err, ap, ap₂, subst}
 use Rattle.std.specs.Prelude.{OnOk}
 use Rattle.vw_net.specs.declared.flat.Flat.{Flat}
 use Rattle.vw_plan.specs.declared.board.Board.{Board}
@@ -13,9 +13,6 @@ use Rattle.vw_phase.specs.Steps.Leads.{usable_by}
 pub on_ok : {A E : Type 0} (result : Result A E) {P Q : Type 0} → (P → Q) → OnOk result P → OnOk result Q
 on_ok (Ok x) leads is = leads is
 on_ok (Err e) leads is = tt
-
-pub some_same : (one other : Route) → Some one ≡ Some other → one ≡ other
-some_same one other same = cc
 
 pub same_usable : (flat : Flat) (board : Board) (chip_of : List ℕ) (routes : List Route) (hops other_hops : List (List Hop)) (leads other_leads : List ℕ) (node one_net other_net net : ℕ) → other_hops ≡ hops → other_leads ≡ leads → node ≡ node_of flat chip_of one_net → one_net ≡ net → other_net ≡ net
     → usable_by flat board chip_of routes other_hops other_leads node other_net ≡ usable_by flat board chip_of routes hops leads (node_of flat chip_of net) net

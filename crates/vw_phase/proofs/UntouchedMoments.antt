@@ -1,20 +1,17 @@
 -- What stays when leads and hops are added that nothing done rests on.
-use Rattle.std.proofs.Common.{◌≡◌, ◌<◌, ◌+◌, ◌∙◌, ◌∷◌, ◌&&◌, ℕ, suc, Bool, true, false, List, [], length, max, eqb, nat_lt, if◌then◌else◌, slice_get, slice_index, slice_index_or, Option, Some, None, ap, ap₂, refl, sym, ⊎_elim, true≢false, arith, eqb-true, eq-eqb}
+use Rattle.std.proofs.Common.{◌≡◌, ◌<◌, ◌+◌, ◌∙◌, ◌∷◌, ◌&&◌, ℕ, suc, Bool, true, false, List, [], length, max, eqb, nat_lt, if◌then◌else◌, slice_get, slice_index, slice_index_or, Some, ap, ap₂, refl, sym, ⊎_elim, true≢false, arith, eqb-true, eq-eqb}
 use Rattle.std.specs.List.{All}
 use Rattle.std.proofs.lemmas.Bool.{cases_Bool, cases_lt, le-ltb}
-use Rattle.vw_net.specs.declared.cell.Cell.{Cell}
-use Rattle.vw_net.specs.declared.cell.Cell.TheVariants.{Gate, Latch}
 use Rattle.vw_net.specs.declared.flat.Flat.{Flat}
 use Rattle.vw_net.specs.declared.ordered.Ordered.{Ordered}
 use Rattle.vw_net.specs.Order.{is_gate, gate_inputs}
 use Rattle.vw_plan.specs.declared.board.Board.{Board}
 use Rattle.vw_plan.specs.declared.need.Route.{Route}
 use Rattle.vw_plan.specs.declared.wire.Hop.{Hop}
-use Rattle.vw_plan.specs.Lead.{after_last, driven_lead}
-use Rattle.vw_net.specs.Lists.{greatest}
+use Rattle.vw_plan.specs.Lead.{after_last}
 use Rattle.vw_plan.specs.Needs.{depth}
 use Rattle.vw_plan.specs.Nets.{driving_cell, node_of}
-use Rattle.vw_plan.proofs.Leads.{map_agree}
+use Rattle.vw_plan.proofs.LeadLevels.{driven_lead_agree}
 use Rattle.vw_phase.specs.declared.task.Task.{Task}
 use Rattle.vw_phase.specs.Steps.Leads.{hops_to, lead_by, usable_by}
 use Rattle.vw_phase.specs.Steps.Underway.{is_done, lead_at_place, ready_by, start_by}
@@ -35,12 +32,6 @@ hops_to-place (route ∷ routes) (sent ∷ hops) node net long =
       | true ↦ refl
       | false ↦ rest
     ]
-
--- two ways to give nets leads that agree on what a gate reads
-pub driven_same : (one other : ℕ → ℕ) (cell : Option Cell) → All (λ net. one net ≡ other net) (gate_inputs cell) → driven_lead one cell ≡ driven_lead other cell
-driven_same one other None agree = refl
-driven_same one other (Some (Gate ins cover)) agree = ap greatest (map_agree one other ins agree)
-driven_same one other (Some (Latch d init)) agree = refl
 
 -- a phase begins at the same moment where the hops of lesser depth are the same
 pub start_same : (flat : Flat) (board : Board) (chip_of : List ℕ) (limit : ℕ) (routes : List Route) (hops more : List (List Hop)) → length hops ≡ length routes → length more ≡ length routes
@@ -94,7 +85,7 @@ module _ (ordered : Ordered) (board : Board) (chip_of : List ℕ) (routes : List
         → lead_at_place ordered board chip_of routes more later place ≡ lead_at_place ordered board chip_of routes hops leads place
     place_kept place settled =
         let node = slice_index chip_of (slice_index ordered.order place) in
-        driven_same (lead_by ordered.flat board chip_of routes more later node) (lead_by ordered.flat board chip_of routes hops leads node) (slice_get ordered.flat.cells (slice_index ordered.order place)) (λ at default within. lead_kept node _ (settled at default within))
+        driven_lead_agree (lead_by ordered.flat board chip_of routes more later node) (lead_by ordered.flat board chip_of routes hops leads node) (slice_get ordered.flat.cells (slice_index ordered.order place)) (λ at default within. lead_kept node _ (settled at default within))
 
     -- when a net is usable at home
     pub usable_kept : (net : ℕ) → IsHomeDone net → usable_by ordered.flat board chip_of routes more later (node_of ordered.flat chip_of net) net ≡ usable_by ordered.flat board chip_of routes hops leads (node_of ordered.flat chip_of net) net

@@ -1,11 +1,9 @@
 -- Wires that follow routes: one for each need, and each leads to its node.
-use Rattle.std.proofs.Common.{◌≡◌, ◌<◌, ◌≤◌, ◌+◌, ◌&&◌, ◌++◌, ℕ, Bool, true, false, not, List, [], ◌∷◌, length, map, eqb, nat_lt, if◌then◌else◌, ap, refl, sym, ◌∙◌, arith, ⊎_elim, eq-eqb}
-use Rattle.std.specs.List.{All, AllZip, AllPairs, flat_map, count_by}
+use Rattle.std.proofs.Common.{◌≡◌, ◌<◌, ◌≤◌, ◌+◌, ◌&&◌, ℕ, true, false, not, List, [], ◌∷◌, length, map, eqb, nat_lt, ap, refl, sym, ◌∙◌, arith, ⊎_elim, eq-eqb}
+use Rattle.std.specs.List.{All, AllZip, AllPairs, count_by}
 use Rattle.std.proofs.lemmas.Bool.{cases_Bool, and_from, and_parts}
-use Rattle.std.proofs.lemmas.List.Concat.{flat_map-cons}
 use Rattle.std.proofs.lemmas.List.Elements.{All-cons, All-nil, All-head}
 use Rattle.std.proofs.lemmas.List.Kept.{AllPairs-cons}
-use Rattle.std.proofs.lemmas.List.Sums.{sum_by-cons}
 use Rattle.vw_net.specs.Steps.{one_if}
 use Rattle.vw_plan.specs.declared.board.Board.{Board}
 use Rattle.vw_plan.specs.declared.link.Link.{Link}
@@ -17,7 +15,8 @@ use Rattle.vw_plan.specs.Needs.{is_pair}
 use Rattle.vw_plan.specs.Routes.{FollowsRoute, need_of_route, steps_of}
 use Rattle.vw_plan.specs.Sound.{leads_to, rises, share_pin}
 use Rattle.vw_plan.specs.Walks.{IsWalk}
-use Rattle.vw_phase.specs.Steps.Done.{IsAlong, all_hops, uses}
+use Rattle.vw_plan.proofs.NeededPairs.{count_cons}
+use Rattle.vw_phase.specs.Steps.Done.{IsAlong, uses}
 use Rattle.vw_phase.specs.Steps.Leads.{wires_of}
 
 pub follows : (board : Board) (routes : List Route) (hops : List (List Hop)) → AllZip (IsAlong board) routes hops → AllZip FollowsRoute routes (wires_of routes hops)
@@ -28,17 +27,14 @@ follows board (route ∷ routes) (sent ∷ hops) along = (record { net = refl; t
 
 -- ---- one wire for each need
 
-count-cons : {X : Type 0} (test : X → Bool) (x : X) (xs : List X) → count_by test (x ∷ xs) ≡ one_if (test x) + count_by test xs
-count-cons test x xs = sum_by-cons (λ y. one_if (test y)) x xs
-
 pub as_many : (net node : ℕ) (routes : List Route) (hops : List (List Hop)) → length hops ≡ length routes → count_by (brings net node) (wires_of routes hops) ≡ count_by (is_pair net node) (map need_of_route routes)
 as_many net node [] hops long = refl
 as_many net node (route ∷ routes) [] long = absurd (omega (arith, long))
 as_many net node (route ∷ routes) (sent ∷ hops) long =
     let wire : Wire = record { net = route.net; to = route.to; hops = sent } in
-    count-cons (brings net node) wire (wires_of routes hops)
+    count_cons (brings net node) wire (wires_of routes hops)
     ∙ ap (λ (rest : ℕ). one_if (eqb route.net net && eqb route.to node) + rest) (as_many net node routes hops (omega (arith, long)))
-    ∙ sym (count-cons (is_pair net node) (need_of_route route) (map need_of_route routes))
+    ∙ sym (count_cons (is_pair net node) (need_of_route route) (map need_of_route routes))
 
 -- ---- ways
 
@@ -84,11 +80,3 @@ once_apart [] once = λ i j d before within. absurd (omega (arith, within))
 once_apart (hop ∷ hops) once =
     let one : one_if (share_pin hop hop) ≡ 1 = rw (share_own hop) refl in
     AllPairs-cons (λ a b. not (share_pin a b) ≡ true) hop hops (unused hop hops (omega (arith, one, once hop))) (once_apart hops (λ other. omega (arith, once other)))
-
-pub same_hops : (routes : List Route) (hops : List (List Hop)) → length hops ≡ length routes → flat_map (λ wire. wire.hops) (wires_of routes hops) ≡ all_hops hops
-same_hops [] [] long = refl
-same_hops [] (sent ∷ hops) long = absurd (omega (arith, long))
-same_hops (route ∷ routes) [] long = absurd (omega (arith, long))
-same_hops (route ∷ routes) (sent ∷ hops) long =
-    let wire : Wire = record { net = route.net; to = route.to; hops = sent } in
-    flat_map-cons (λ (one : Wire). one.hops) wire (wires_of routes hops) ∙ ap (λ (rest : List Hop). sent ++ rest) (same_hops routes hops (omega (arith, long))) ∙ sym (flat_map-cons (λ (one : List Hop). one) sent hops)

@@ -1,6 +1,6 @@
 //! What a schedule is made from.
 ghost use Rattle.std.specs.Prelude.{◌≡◌, length};
-ghost use Rattle.vw_check.specs.Steps.Tables.{HasPairs};
+ghost use Rattle.vw_check.specs.Pairs.{HasPairs};
 ghost use Rattle.vw_phase.specs.Steps.Along.{HasNumbers};
 ghost use Rattle.vw_phase.specs.Steps.Leads.{route_pairs};
 

@@ -4,7 +4,7 @@ ghost use Rattle.std.specs.List.{All};
 ghost use Rattle.vw_plan.specs.declared.plan.Plan.{Plan};
 ghost use Rattle.vw_plan.specs.Good.{IsChip, cells_on};
 ghost use Rattle.vw_plan.specs.Routes.{AreRoutes};
-ghost use Rattle.vw_check.specs.Steps.Tables.{HasPairs};
+ghost use Rattle.vw_check.specs.Pairs.{HasPairs};
 ghost use Rattle.vw_phase.specs.Schedules.{IsSchedule};
 ghost use Rattle.vw_phase.specs.Steps.Done.{latest};
 ghost use Rattle.vw_phase.specs.Steps.Given.{IsFitFor, latch_moment_for, net_count};

@@ -1,5 +1,5 @@
-pub mod Sums
+pub mod SumsOverLists
 pub mod Renumbered
 pub mod Exchanges
-pub mod Tables
+pub mod PairTables
 pub mod Travels

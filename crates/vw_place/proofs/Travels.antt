@@ -17,8 +17,8 @@ use Rattle.vw_place.specs.Steps.Traffic.{IsTraffic, goes, way, way_between, way_
 use Rattle.vw_place.specs.Steps.Tries.{NoneIsUseful}
 use Rattle.vw_place.proofs.Exchanges.{exchanged_itself, exchanged_turned, moved_exchanged, nodes_exchanged}
 use Rattle.vw_place.proofs.Renumbered.{old_chip, travel_moved}
-use Rattle.vw_place.proofs.Sums.{by_numbers, range_agree}
-use Rattle.vw_place.proofs.Tables.{IsWithin, home_low, pairs_within}
+use Rattle.vw_place.proofs.SumsOverLists.{by_numbers, range_agree}
+use Rattle.vw_place.proofs.PairTables.{IsWithin, home_low, pairs_within}
 
 -- ---- distances are small
 

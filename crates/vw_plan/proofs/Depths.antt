@@ -13,8 +13,9 @@ use Rattle.vw_net.specs.Lists.{greatest}
 use Rattle.vw_plan.specs.Needs.{crossing, depth, driven_depth, level_depth}
 use Rattle.vw_plan.specs.Nets.{driving_cell, node_of}
 use Rattle.vw_plan.specs.Ways.{IsDeepest, IsInlet, IsWayBack, is_read_by}
-use Rattle.vw_plan.proofs.Along.{every_net}
-use Rattle.vw_plan.proofs.Leads.{map_agree}
+use Rattle.vw_plan.proofs.AlongOrder.{every_net}
+use Rattle.vw_plan.proofs.SettledLevels.{IsSettledFrom, settled_later}
+use Rattle.vw_plan.proofs.LeadLevels.{map_agree}
 
 -- ---- what a cell gives its net
 
@@ -92,11 +93,8 @@ module _ (ordered : Ordered) (chip_of : List ℕ) where
   -- ---- levels
 
   -- from a level on, a net has one depth
-  record IsSettled (from net : ℕ) : Type 0 where
-    same : (one other : ℕ) → from ≤ one → from ≤ other → level_depth one ordered.flat chip_of net ≡ level_depth other ordered.flat chip_of net
-
-  settled_later : (from to net : ℕ) → from ≤ to → IsSettled from net → IsSettled to net
-  settled_later from to net after settled = record { same = λ one other one_late other_late. settled.same one other (omega arith) (omega arith) }
+  abbrev IsSettled : ℕ → ℕ → Type 0
+  IsSettled from net = IsSettledFrom (λ level. level_depth level ordered.flat chip_of net) from
 
   -- a net is settled one level up if the nets that its gate reads are settled
   reads_settled : (from net : ℕ) → All (IsSettled from) (gate_inputs (driving_cell ordered.flat net)) → IsSettled (suc from) net
@@ -114,7 +112,7 @@ module _ (ordered : Ordered) (chip_of : List ℕ) where
   unfolding depth
   level_depth-past_cells level net past =
       let few_gates : length ordered.order ≤ length ordered.flat.cells = length-order ordered.flat.inputs ordered.flat.cells ordered.order ordered.is_order in
-      (every_net ordered IsSettled settled_later reads_settled net).same level (length ordered.flat.cells + 1) (omega arith) (omega arith)
+      (every_net ordered IsSettled (λ from to net. settled_later (λ level. level_depth level ordered.flat chip_of net) from to) reads_settled net).same level (length ordered.flat.cells + 1) (omega arith) (omega arith)
 
   -- the depth of a net that another one's driver reads, as it counts there
   abbrev depth_at : ℕ → ℕ → ℕ

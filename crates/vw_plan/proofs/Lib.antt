@@ -1,9 +1,11 @@
 pub mod FewLinks
-pub mod Along
-pub mod Leads
+pub mod ChipNumbers
+pub mod AlongOrder
+pub mod SettledLevels
+pub mod LeadLevels
 pub mod Depths
 pub mod NeededPairs
 pub mod Walking
 pub mod Shortest
-pub mod Pairs
+pub mod TestedPairs
 mod Toggle

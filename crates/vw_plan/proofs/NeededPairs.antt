@@ -20,13 +20,14 @@ use Rattle.vw_net.specs.Steps.{one_if}
 use Rattle.vw_plan.specs.Needs.{comes_before, is_pair, needed_nodes, needed_pairs}
 use Rattle.vw_plan.specs.Nets.{is_needed, node_of}
 
-abbrev need_of : ℕ → ℕ → Need
+-- the pair of a net and a node
+abbrev pub need_of : ℕ → ℕ → Need
 need_of net node = record { net = net; to = node }
 
 -- ---- how often a pair stands
 
 -- one more in front, which passes the test or doesn't
-count_cons : {X : Type 0} (test : X → Bool) (x : X) (xs : List X) → count_by test (x ∷ xs) ≡ one_if (test x) + count_by test xs
+pub count_cons : {X : Type 0} (test : X → Bool) (x : X) (xs : List X) → count_by test (x ∷ xs) ≡ one_if (test x) + count_by test xs
 count_cons test x xs = sum_by-cons (λ other. one_if (test other)) x xs
 
 count_yes : {X : Type 0} (test : X → Bool) (x : X) (xs : List X) (number : ℕ) → test x ≡ true → count_by test xs ≡ number → count_by test (x ∷ xs) ≡ number + 1

@@ -29,7 +29,7 @@ use Rattle.vw_plan.specs.Needs.{depth, needed_pairs}
 use Rattle.vw_plan.specs.Nets.{is_needed}
 use Rattle.vw_plan.specs.Lead.{lead, usable, brings}
 use Rattle.vw_plan.specs.Sound.{IsPlaced, IsRouted, IsRising, IsSound, IsSentWhenUsable, AreLatchesInTime, has_pin, share_pin, hops_of}
-use Rattle.vw_plan.proofs.Pairs.{AllPairs-from_all_pairs}
+use Rattle.vw_plan.proofs.TestedPairs.{AllPairs-from_all_pairs}
 
 -- a fact of one element, and of two
 one : {A : Type 0} (P : A → Type 0) (x : A) → P x → All P (x ∷ [])

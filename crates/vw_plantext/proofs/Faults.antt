@@ -8,7 +8,7 @@ use Rattle.vw_plantext.specs.Content.{Content, IsInRange}
 use Rattle.vw_plantext.specs.Grammar.{plan_lines, spelling}
 use Rattle.vw_plantext.specs.CanStand.{CanStand, IsFirstBadLine}
 use Rattle.vw_plantext.specs.Steps.Cuts.{IsOneLine, IsLineCut}
-use Rattle.vw_plantext.proofs.Ends.{AreLines, IsMore, lines_within, SameCut, cut_once}
+use Rattle.vw_plantext.proofs.LineEnds.{AreLines, IsMore, lines_within, SameCut, cut_once}
 use Rattle.vw_plantext.proofs.Lines.{plan_lines_are}
 
 -- lines and more lines

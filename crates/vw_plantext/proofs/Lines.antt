@@ -15,7 +15,7 @@ use Rattle.vw_plantext.specs.Grammar.{numbers_text, number_line, hop_line, wire_
 use Rattle.vw_plantext.proofs.Decimals.{decimal_above}
 use Rattle.vw_plantext.proofs.NumberLines.{AreSmall}
 use Rattle.vw_plantext.specs.Steps.Cuts.{IsOneLine}
-use Rattle.vw_plantext.proofs.Ends.{AreLines}
+use Rattle.vw_plantext.proofs.LineEnds.{AreLines}
 
 -- at most 64 bits
 abbrev pub IsSmall : ℕ → Type 0

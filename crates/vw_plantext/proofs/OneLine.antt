@@ -4,7 +4,7 @@ use Rattle.std.proofs.lemmas.List.{append_assoc}
 use Rattle.vw_text.specs.Physical.{lines_text}
 use Rattle.vw_plantext.specs.CanStand.{CanStand, IsFirstBadLine}
 use Rattle.vw_plantext.specs.Steps.Cuts.{IsOneLine}
-use Rattle.vw_plantext.proofs.Ends.{AreLines, SameCut, cut_once}
+use Rattle.vw_plantext.proofs.LineEnds.{AreLines, SameCut, cut_once}
 use Rattle.vw_plantext.proofs.Faults.{can_stand_lines, can_stand_front}
 
 -- lines that begin with these, and go on

@@ -12,7 +12,7 @@ use Rattle.vw_plan.specs.declared.wire.Wire.{Wire}
 use Rattle.vw_plantext.specs.Content.{Content, hop_count, IsHopInRange, IsWireInRange, IsInRange}
 use Rattle.vw_plantext.specs.Grammar.{number_line, hop_line, wire_line, wire_lines, body_lines, plan_lines, spelling}
 use Rattle.vw_plantext.proofs.NumberLines.{HasNoSpace, number_line_injective}
-use Rattle.vw_plantext.proofs.Ends.{IsMore, lines_within}
+use Rattle.vw_plantext.proofs.LineEnds.{IsMore, lines_within}
 use Rattle.vw_plantext.proofs.Lines.{small_hop, small_wire, small_head, small_chips, hop_count-cons, plan_lines_are}
 
 -- the words with which lines begin have no space

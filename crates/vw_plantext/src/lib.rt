@@ -10,6 +10,6 @@ mod start;
 mod writer;
 
 pub use fault::PlanTextFault;
-pub use laws::{one_line_is_first, spellings_differ};
+pub use laws::{one_line_is_first, plans_spell_once, spellings_differ};
 pub use plan_text::read;
 pub use writer::print;

@@ -1,3 +1,3 @@
-pub mod Routed
-pub mod Goods
+pub mod ShortRoutes
+pub mod GoodPlans
 pub mod Fits

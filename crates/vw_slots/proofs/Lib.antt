@@ -1,5 +1,5 @@
-pub mod Changed
+pub mod WrittenMoments
 pub mod Chained
-pub mod Counted
+pub mod TakenSlots
 pub mod Taking
 pub mod Full

@@ -7,9 +7,9 @@ use Rattle.vw_slots.specs.declared.slot.Taken.{Taken}
 use Rattle.vw_slots.specs.Slots.{Slots, is_taken, IsFirstFree}
 use Rattle.vw_slots.specs.Steps.Moments.{Moments, is_same, used_of, next_moment, used_at, next_at, AreBusy, IsChained}
 use Rattle.vw_slots.specs.Steps.Tables.{IsMomentTable}
-use Rattle.vw_slots.proofs.Changed.{same_key}
+use Rattle.vw_slots.proofs.WrittenMoments.{same_key}
 use Rattle.vw_slots.proofs.Chained.{filled_chained}
-use Rattle.vw_slots.proofs.Counted.{as_many_taken, taken_more}
+use Rattle.vw_slots.proofs.TakenSlots.{as_many_taken, taken_more}
 
 -- the order of the entries doesn't count
 pub reordered_table : (widths : List ℕ) (taken : List Taken) (capacity more_capacity : ℕ) (before after : Moments) (spare more : ℕ) → IsMomentTable widths taken capacity before spare → ((key : ℕ × ℕ) → hash.get is_same after key ≡ hash.get is_same before key) → more ≤ hash.spare after → length taken + more ≤ more_capacity → IsMomentTable widths taken more_capacity after more

@@ -5,9 +5,9 @@ use Rattle.vw_plan.specs.declared.board.Board.{Board}
 use Rattle.vw_plan.specs.declared.plan.Plan.{Plan}
 use Rattle.vw_plan.specs.Setting.{Setting, setting_of}
 use Rattle.vw_board.specs.BoardText.{Accepts as SpellsBoard}
-use Rattle.vw_board.proofs.Accepted.{accepted_once}
+use Rattle.vw_board.proofs.OneBoard.{accepted_once}
 use Rattle.vw_plantext.specs.PlanText.{Spells as SpellsPlan}
-use Rattle.vw_plantext.proofs.Accepted.{spelled_once}
+use Rattle.vw_plantext.proofs.OnePlan.{spelled_once}
 use Rattle.vw_check.specs.declared.fault.PlanFault.{PlanFault}
 use Rattle.vw_check.specs.Faults.{plan_fault}
 use Rattle.vw_check.proofs.LawAll.{sound, faultless}

@@ -16,12 +16,12 @@ use Rattle.vw_plan.specs.Setting.{Setting, setting_of}
 use Rattle.vw_plan.specs.Sound.{IsSound}
 use Rattle.vw_board.specs.declared.fault.BoardFault.{BoardFault}
 use Rattle.vw_board.specs.BoardText.{Accepts as SpellsBoard, Refuses as RefusesBoardText, is_text_fault as is_board_fault}
-use Rattle.vw_board.proofs.Accepted.{accepted_unrefused as board_unrefused}
+use Rattle.vw_board.proofs.OneBoard.{accepted_unrefused as board_unrefused}
 use Rattle.vw_plantext.specs.declared.fault.PlanTextFault.{PlanTextFault}
 use Rattle.vw_plantext.specs.Content.{content_of, hop_count}
 use Rattle.vw_plantext.specs.Grammar.{spelling}
 use Rattle.vw_plantext.specs.PlanText.{Spells as SpellsPlan, Refuses as RefusesPlanLines, is_text_fault as is_plan_text_fault}
-use Rattle.vw_plantext.proofs.Accepted.{spelled_unrefused as plan_unrefused}
+use Rattle.vw_plantext.proofs.OnePlan.{spelled_unrefused as plan_unrefused}
 use Rattle.vw_check.specs.declared.fault.PlanFault.{PlanFault}
 use Rattle.vw_check.specs.Faults.{plan_fault}
 use Rattle.vw_check.proofs.LawAll.{faultless}

@@ -1,3 +1,3 @@
-pub mod Unique
+pub mod RisingPairs
 pub mod Listed
-pub mod Tables
+pub mod DepthTable

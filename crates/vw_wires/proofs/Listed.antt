@@ -16,10 +16,11 @@ use Rattle.vw_net.specs.declared.flat.Flat.{Flat}
 use Rattle.vw_net.specs.Cells.{read_nets}
 use Rattle.vw_net.specs.Order.{is_among}
 use Rattle.vw_plan.specs.declared.need.Need.{Need}
+use Rattle.vw_plan.proofs.NeededPairs.{need_cmp, need_of}
 use Rattle.vw_plan.specs.Needs.{is_pair}
 use Rattle.vw_plan.specs.Nets.{is_needed, node_of}
 use Rattle.vw_wires.specs.Steps.Crossings.{cell_crossings, crossing_nets, crossings}
-use Rattle.vw_wires.proofs.Unique.{HaveSame, need_cmp, need_cmp_total, unique}
+use Rattle.vw_wires.proofs.RisingPairs.{HaveSame, need_cmp_total, unique}
 
 -- ---- tests
 
@@ -29,18 +30,15 @@ and_over_or false first second = refl
 
 -- ---- which pairs cross
 
-abbrev need_of : ℕ → ℕ → Need
-need_of node net = record { net = net; to = node }
-
 -- a node has the pairs of the nets that it is listed with
-any_here : (net node : ℕ) (nets : List ℕ) → list_any (is_pair net node) (map (need_of node) nets) ≡ is_among nets net
+any_here : (net node : ℕ) (nets : List ℕ) → list_any (is_pair net node) (map (λ own. need_of own node) nets) ≡ is_among nets net
 any_here net node [] = refl
 any_here net node (other ∷ nets) =
-    let own : is_pair net node (need_of node other) ≡ eqb other net = both_ways (is_pair net node (need_of node other)) (eqb other net) (λ is. (and_parts (eqb other net) (eqb node node) is).0) (λ is. and_from (eqb other net) (eqb node node) is (eq-eqb node node refl)) in
+    let own : is_pair net node (need_of other node) ≡ eqb other net = both_ways (is_pair net node (need_of other node)) (eqb other net) (λ is. (and_parts (eqb other net) (eqb node node) is).0) (λ is. and_from (eqb other net) (eqb node node) is (eq-eqb node node refl)) in
     ap₂ (λ (first rest : Bool). first || rest) own (any_here net node nets)
 
 -- and none of another node
-any_elsewhere : (net node at : ℕ) (nets : List ℕ) → eqb at node ≡ false → list_any (is_pair net node) (map (need_of at) nets) ≡ false
+any_elsewhere : (net node at : ℕ) (nets : List ℕ) → eqb at node ≡ false → list_any (is_pair net node) (map (λ own. need_of own at) nets) ≡ false
 any_elsewhere net node at [] apart = refl
 any_elsewhere net node at (other ∷ nets) apart = ap₂ (λ (first rest : Bool). first || rest) (and_right (eqb other net) (eqb at node) apart) (any_elsewhere net node at nets apart)
 
@@ -119,7 +117,7 @@ same_equiv = and_equiv (on_equiv (λ (need : Need). need.net) nat_eq_equiv) (on_
 same_is : (need other : Need) → same need other ≡ true → need ≡ other
 same_is need other is =
     let parts = and_parts (eqb need.net other.net) (eqb need.to other.to) is in
-    ap₂ (λ (net node : ℕ). need_of node net) (eqb-true need.net other.net parts.0) (eqb-true need.to other.to parts.1)
+    ap₂ (λ (net node : ℕ). need_of net node) (eqb-true need.net other.net parts.0) (eqb-true need.to other.to parts.1)
 
 tied_number : (one other : ℕ) → is_eq (nat_cmp one other) ≡ eqb one other
 tied_number one other = grind arith

@@ -1,5 +1,5 @@
 use Rattle.std.proofs.Common.{length, ap, sym, ◌∙◌}
-use Rattle.vw_board.proofs.Counted.{walks_more, least_more, written_back}
+use Rattle.vw_board.proofs.CountedWalks.{walks_more, least_more, written_back}
 use Rattle.vw_board.proofs.walks.least_links_to.Goals as goal
 
 pub loop-links_so_far-preserved : goal.loop-links_so_far-preserved

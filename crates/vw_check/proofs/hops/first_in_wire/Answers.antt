@@ -3,7 +3,7 @@ use Rattle.vw_plan.specs.declared.wire.Hop.{Hop}
 use Rattle.vw_check.specs.Firsts.{found_unless}
 use Rattle.vw_check.specs.Steps.Rules.{keeps, rule_fault}
 use Rattle.vw_check.proofs.Clashes.{no_hop}
-use Rattle.vw_check.proofs.Searches.{search_on}
+use Rattle.vw_check.proofs.ListSearches.{search_on}
 use Rattle.vw_check.proofs.hops.first_in_wire.Goals as goal
 
 -- a hop that keeps the rule leaves the rest

@@ -1,7 +1,7 @@
 use Rattle.std.proofs.Common.{◌∙◌, ℕ, List, subst, IfOk, arith, ap, length}
 use Rattle.vw_plan.specs.declared.link.Link.{Link}
-use Rattle.vw_check.specs.Steps.Tables.{HasPairs}
-use Rattle.vw_check.proofs.Pushed.{all_pushed}
+use Rattle.vw_check.specs.Pairs.{HasPairs}
+use Rattle.vw_check.proofs.PushedElements.{all_pushed}
 use Rattle.vw_check.proofs.links.link_table.Goals as goal
 
 -- the pairs are those of all of them

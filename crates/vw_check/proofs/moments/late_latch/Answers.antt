@@ -7,7 +7,7 @@ use Rattle.vw_plan.specs.Setting.{home, setting_of}
 use Rattle.vw_check.specs.Firsts.{found_unless}
 use Rattle.vw_check.specs.MomentFaults.{late_cell, latch_moment}
 use Rattle.vw_check.specs.declared.fault.PlanFault.TheVariants.{LateLatch}
-use Rattle.vw_check.proofs.Searches.{search_on}
+use Rattle.vw_check.proofs.ListSearches.{search_on}
 use Rattle.vw_check.proofs.moments.late_latch.Goals as goal
 use Rattle.vw_check.proofs.moments.late_latch.Goals.{in-Latch+else-period-usable, in_default}
 

@@ -4,7 +4,8 @@ use Rattle.std.proofs.lemmas.Option.{slice_get_read}
 use Rattle.vw_net.specs.declared.flat.Flat.{Flat}
 use Rattle.vw_plan.specs.declared.need.Route.{Route}
 use Rattle.vw_plan.specs.Nets.{node_of}
-use Rattle.vw_phase.proofs.TaskWords.{on_ok, same_sent, same_usable, some_same}
+use Rattle.std.proofs.lemmas.Option.{same_Some}
+use Rattle.vw_phase.proofs.TaskWords.{on_ok, same_sent, same_usable}
 use Rattle.vw_phase.proofs.drafting.send_route.Goals as goal
 
 -- the route at a number
@@ -38,7 +39,7 @@ pub returns : goal.returns
 returns c = on_ok c.send.result (λ sent route at.
     let given = c.args.given.now in
     let here = get_or given.routes.now c.args.number c.index-given-number.result in
-    let same : here ≡ route = some_same here route (sym (there given.routes.now c.args.number c.index-given-number.result c.requires.its.0 c.index-given-number.is) ∙ at) in
+    let same : here ≡ route = same_Some here route (sym (there given.routes.now c.args.number c.index-given-number.result c.requires.its.0 c.index-given-number.is) ∙ at) in
     let node = c.node_of-node.ensures ∙ ap (λ (flat : Flat). node_of flat given.chip_of.now c.net.result) c.flat.ensures in
     let usable = c.usable_at-usable.ensures ∙ same_usable given.ordered.now.flat given.board.now given.chip_of.now given.routes.now c.args.draft.now.hops.items c.as_slice.result.now c.args.draft.now.leads.items c.as_slice-2.result.now c.node_of-node.result c.net.result c.net-2.result route.net c.as_slice.ensures.value c.as_slice-2.ensures.value node (c.net.ensures ∙ ap (λ (one : Route). one.net) same) (c.net-2.ensures ∙ ap (λ (one : Route). one.net) same) in
     let ready = c.max.ensures ∙ ap (λ (moment : ℕ). max moment c.args.start) usable in

@@ -2,7 +2,7 @@ use Rattle.std.proofs.Common.{◌≤◌, ◌∙◌, ◌^◌, length, ap, sym, su
 use Rattle.std.specs.List.{All, sum_by}
 use Rattle.vw_plan.specs.declared.wire.Wire.{Wire}
 use Rattle.vw_phase.specs.Steps.Drafts.{limit}
-use Rattle.vw_phase.proofs.Bounds.{as_many_hops, as_many_wires, latest_early, wires_early}
+use Rattle.vw_phase.proofs.ScheduleBounds.{as_many_hops, as_many_wires, latest_early, wires_early}
 use Rattle.vw_phase.proofs.Scheduled.{scheduled_for}
 use Rattle.vw_phase.proofs.planning.plan_parts.Goals as goal
 

@@ -1,9 +1,8 @@
-use Rattle.std.proofs.Common.{◌≡◌, ◌≤◌, ◌+◌, ℕ, List, map, ap, sym, subst, ◌∙◌, All}
-use Rattle.std.proofs.lemmas.List.Elements.{All-weaker}
+use Rattle.std.proofs.Common.{◌≡◌, ◌+◌, ℕ, List, map, ap, sym, subst, ◌∙◌}
 use Rattle.std.proofs.lemmas.Result.{IfOk-weaker}
 use Rattle.vw_net.specs.declared.flat.Flat.{Flat}
-use Rattle.vw_plan.specs.declared.board.Board.{Board}
-use Rattle.vw_plan.specs.Good.{IsChip, NoExchangeHelps, NoMoveHelps}
+use Rattle.vw_plan.specs.Good.{NoExchangeHelps, NoMoveHelps}
+use Rattle.vw_plan.proofs.ChipNumbers.{low_chips}
 use Rattle.vw_place.specs.Numbering.{IsRenumbered}
 use Rattle.vw_place.specs.Steps.NodeLists.{IsNodeList, moved}
 use Rattle.vw_place.specs.Steps.Traffic.{IsTraffic, way}
@@ -11,10 +10,6 @@ use Rattle.vw_place.specs.Steps.Tries.{NoneIsUseful}
 use Rattle.vw_place.proofs.Renumbered.{moves_moved}
 use Rattle.vw_place.proofs.Travels.{none_helps}
 use Rattle.vw_place.proofs.placement.placed.Goals as goal
-
--- no chip is past the last
-low : (board : Board) (chip_of : List ℕ) → All (IsChip board) chip_of → All (λ chip. chip ≤ board.chips) chip_of
-low board chip_of are = All-weaker (IsChip board) (λ chip. chip ≤ board.chips) (λ chip is. is.1) chip_of are
 
 pub returns-clause-renumbered : goal.returns-clause-renumbered
 returns-clause-renumbered c =
@@ -36,7 +31,7 @@ returns-clause-exchanges c =
     let same : c.deref-2.result.now ≡ at = c.deref-2.ensures.value in
     let traffic : IsTraffic flat chip_of c.in_ok-table.table.items = subst (λ (own : Flat). IsTraffic own chip_of c.in_ok-table.table.items) c.flat.ensures c.in_ok-table.ensures in
     let none : NoneIsUseful (way c.in_ok-table.table.items board) (board.chips + 1) at = subst (λ (table : List ℕ). NoneIsUseful (way table board) (board.chips + 1) at) c.deref.ensures.value c.in_ok-at.ensures.none in
-    let helps = none_helps flat board chip_of (low board chip_of c.requires.chips) c.in_ok-table.table.items traffic at c.in_ok-at.ensures.list none in
+    let helps = none_helps flat board chip_of (low_chips board chip_of c.requires.chips) c.in_ok-table.table.items traffic at c.in_ok-at.ensures.list none in
     IfOk-weaker c.numbered.result (λ new. new ≡ map (moved c.deref-2.result.now) chip_of) (NoExchangeHelps flat board) (λ new is. subst (λ (list : List ℕ). NoExchangeHelps flat board list) (sym (is ∙ ap (λ (list : List ℕ). map (moved list) chip_of) same)) helps) c.numbered.ensures
 
 pub returns-clause-moves : goal.returns-clause-moves
@@ -46,5 +41,5 @@ returns-clause-moves c moves =
     let chip_of = c.args.chip_of.now in
     let at = c.in_ok-at.at.items in
     let same : c.deref-2.result.now ≡ at = c.deref-2.ensures.value in
-    let kept = moves_moved flat board at c.in_ok-at.ensures.list chip_of (low board chip_of c.requires.chips) moves in
+    let kept = moves_moved flat board at c.in_ok-at.ensures.list chip_of (low_chips board chip_of c.requires.chips) moves in
     IfOk-weaker c.numbered.result (λ new. new ≡ map (moved c.deref-2.result.now) chip_of) (NoMoveHelps flat board) (λ new is. subst (λ (list : List ℕ). NoMoveHelps flat board list) (sym (is ∙ ap (λ (list : List ℕ). map (moved list) chip_of) same)) kept) c.numbered.ensures

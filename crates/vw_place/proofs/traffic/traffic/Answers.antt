@@ -2,7 +2,7 @@ use Rattle.std.proofs.Common.{◌≡◌, ◌<◌, ◌+◌, ◌*◌, ℕ, List, l
 use Rattle.std.proofs.lemmas.List.{get_or_default}
 use Rattle.vw_plan.specs.Nets.{node_of}
 use Rattle.vw_plan.specs.declared.need.Need.{Need}
-use Rattle.vw_place.proofs.Tables.{all_counted, few_pairs, home_low, need_within, none_counted, one_counted}
+use Rattle.vw_place.proofs.PairTables.{all_counted, few_pairs, home_low, need_within, none_counted, one_counted}
 use Rattle.vw_place.proofs.traffic.traffic.Goals as goal
 
 -- no pair is counted yet

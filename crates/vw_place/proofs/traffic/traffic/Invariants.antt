@@ -1,5 +1,5 @@
 -- the pairs so far are counted
-use Rattle.vw_place.proofs.Tables.{IsCounted}
+use Rattle.vw_place.proofs.PairTables.{IsCounted}
 use Rattle.vw_place.proofs.traffic.traffic.Given as goal
 
 abbrev pub invariant-loop-need : goal.invariant-loop-need

@@ -1,6 +1,6 @@
 use Rattle.std.proofs.Common.{◌+◌, arith}
 use Rattle.vw_place.specs.Steps.Traffic.{way_from}
-use Rattle.vw_place.proofs.Sums.{range_next}
+use Rattle.vw_place.proofs.SumsOverLists.{range_next}
 use Rattle.vw_place.proofs.way.whole_way.Goals as goal
 
 pub loop-from-preserved : goal.loop-from-preserved

@@ -1,4 +1,4 @@
-use Rattle.vw_plan.proofs.Leads.{lead-by_driver}
+use Rattle.vw_plan.proofs.LeadLevels.{lead-by_driver}
 use Rattle.vw_plan.proofs.laws.leads_settle.Goals as goal
 
 -- a level up, a net has the lead of what drives it, and there no lead changes

@@ -1,7 +1,7 @@
 use Rattle.std.proofs.Common.{◌≡◌, ◌∷◌, ◌++◌, length, true, ap, length-append, rules, arith}
 use Rattle.vw_plantext.specs.Steps.Bodies.{state_of, is_complete}
-use Rattle.vw_plantext.proofs.Reached.{fault_line, fault_no_further, read_further}
-use Rattle.vw_plantext.proofs.Ended.{spelled_at_end, fault_at_end}
+use Rattle.vw_plantext.proofs.ReadSoFar.{fault_line, fault_no_further, read_further}
+use Rattle.vw_plantext.proofs.LastLine.{spelled_at_end, fault_at_end}
 use Rattle.vw_plantext.proofs.plan_text.read_lines.Goals as goal
 
 pub returns-then-is_complete-clause-spelled : goal.returns-then-is_complete-clause-spelled

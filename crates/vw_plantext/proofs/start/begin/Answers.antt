@@ -1,5 +1,5 @@
 use Rattle.std.proofs.Common.{refl}
-use Rattle.vw_plantext.proofs.Reached.{fault_no_line, fault_head, fault_no_second, fault_chips, begun_to}
+use Rattle.vw_plantext.proofs.ReadSoFar.{fault_no_line, fault_head, fault_no_second, fault_chips, begun_to}
 use Rattle.vw_plantext.proofs.start.begin.Goals as goal
 
 pub returns-in_default-clause-fault : goal.returns-in_default-clause-fault

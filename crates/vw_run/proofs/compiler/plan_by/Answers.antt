@@ -3,7 +3,7 @@ use Rattle.std.specs.List.{All}
 use Rattle.vw_plan.specs.declared.need.Route.{Route}
 use Rattle.vw_plan.specs.Routes.{AreRoutes}
 use Rattle.vw_run.specs.Shortest.{IsShortRoute}
-use Rattle.vw_run.proofs.Goods.{good_plan}
+use Rattle.vw_run.proofs.GoodPlans.{good_plan}
 use Rattle.vw_run.proofs.compiler.plan_by.Goals as goal
 
 pub returns-in-Ok-clause-good : goal.returns-in-Ok-clause-good

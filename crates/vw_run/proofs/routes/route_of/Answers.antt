@@ -1,6 +1,6 @@
 use Rattle.std.proofs.Common.{sym, ◌∙◌, ap}
 use Rattle.vw_plan.specs.Nets.{node_of}
-use Rattle.vw_run.proofs.Routed.{short_route, walked_route}
+use Rattle.vw_run.proofs.ShortRoutes.{short_route, walked_route}
 use Rattle.vw_run.proofs.routes.route_of.Goals as goal
 
 pub returns-clause-short : goal.returns-clause-short

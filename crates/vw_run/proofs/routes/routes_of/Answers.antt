@@ -6,7 +6,7 @@ use Rattle.vw_plan.specs.declared.need.Need.{Need}
 use Rattle.vw_plan.specs.declared.need.Route.{Route}
 use Rattle.vw_plan.specs.Routes.{AreRoutes, need_of_route}
 use Rattle.vw_run.specs.Shortest.{IsShortRoute}
-use Rattle.vw_run.proofs.Routed.{all_routes, more_pairs, more_short, reachable}
+use Rattle.vw_run.proofs.ShortRoutes.{all_routes, more_pairs, more_short, reachable}
 use Rattle.vw_run.proofs.routes.routes_of.Goals as goal
 
 pub loop-need-init : goal.loop-need-init

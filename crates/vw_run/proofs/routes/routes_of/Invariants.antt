@@ -3,7 +3,7 @@ use Rattle.std.proofs.Common.{◌≡◌, ◌++◌, drop, map}
 use Rattle.std.specs.List.{All}
 use Rattle.vw_plan.specs.Routes.{need_of_route}
 use Rattle.vw_run.specs.Shortest.{IsShortRoute}
-use Rattle.vw_run.proofs.Routed.{IsReachable}
+use Rattle.vw_run.proofs.ShortRoutes.{IsReachable}
 use Rattle.vw_run.proofs.routes.routes_of.Given as goal
 
 abbrev pub invariant-loop-need : goal.invariant-loop-need

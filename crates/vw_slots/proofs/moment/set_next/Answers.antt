@@ -2,7 +2,7 @@ use Rattle.std.proofs.Common.{◌≡◌, Some, ap, sym, ◌∙◌}
 use Rattle.std.specs.Option.{option_copied_mut}
 use Rattle.vw_slots.specs.declared.moment.Moment.{Moment}
 use Rattle.vw_slots.specs.Steps.Moments.{moment_at, used_of}
-use Rattle.vw_slots.proofs.Changed.{used_kept, next_put}
+use Rattle.vw_slots.proofs.WrittenMoments.{used_kept, next_put}
 use Rattle.vw_slots.proofs.moment.set_next.Goals as goal
 
 -- what was lent is what is kept there

@@ -1,5 +1,5 @@
 use Rattle.std.proofs.Common.{sym}
-use Rattle.vw_slots.proofs.Changed.{used_put, next_kept}
+use Rattle.vw_slots.proofs.WrittenMoments.{used_put, next_kept}
 use Rattle.vw_slots.proofs.moment.take_pin.Goals as goal
 
 pub returns-clause-used : goal.returns-clause-used

@@ -1,5 +1,5 @@
 use Rattle.std.proofs.Common.{◌≡◌, ◌<◌, ◌≤◌, ◌+◌, ℕ, length, get_or, ap, ap₂, ◌∙◌, arith}
-use Rattle.vw_wires.proofs.Tables.{IsKept, all_right, more_kept, same_depth}
+use Rattle.vw_wires.proofs.DepthTable.{IsKept, all_right, more_kept, same_depth}
 use Rattle.vw_net.proofs.Ready.{order_within}
 use Rattle.vw_wires.proofs.table.depth_table.Goals as goal
 

@@ -1,5 +1,5 @@
 use Rattle.std.proofs.Common.{◌≡◌, ◌∙◌, ap, ℕ, drop, arith}
-use Rattle.vw_check.specs.Steps.Tables.{first_pair, pair_in}
+use Rattle.vw_check.specs.Pairs.{first_pair, pair_in}
 use Rattle.vw_check.proofs.FirstPairs.{pair_put}
 use Rattle.vw_check.proofs.pairs.PairTable.of.Goals as goal
 

@@ -1,6 +1,6 @@
 -- the first of the pairs that are in
 use Rattle.std.proofs.Common.{◌≡◌, ℕ, drop}
-use Rattle.vw_check.specs.Steps.Tables.{first_pair, pair_in}
+use Rattle.vw_check.specs.Pairs.{first_pair, pair_in}
 use Rattle.vw_check.proofs.pairs.PairTable.of.Given as goal
 
 abbrev pub invariant-loop-place : goal.invariant-loop-place

@@ -2,7 +2,7 @@ use Rattle.std.proofs.Common.{◌≡◌, ◌++◌, ◌∷◌, [], Some, ap, ◌�
 use Rattle.std.specs.Prelude.{option_map}
 use Rattle.vw_plan.specs.declared.wire.Wire.{Wire}
 use Rattle.vw_plantext.specs.Steps.Bodies.{part_of, state_of}
-use Rattle.vw_plantext.proofs.Taken.{closes_full, wire_of_parts}
+use Rattle.vw_plantext.proofs.HopAndWireLines.{closes_full, wire_of_parts}
 use Rattle.vw_plantext.proofs.body.Body.closed.Goals as goal
 
 pub returns-in_ok-push-in-Some : goal.returns-in_ok-push-in-Some

@@ -3,7 +3,7 @@ use Rattle.std.specs.Prelude.{option_map}
 use Rattle.std.proofs.lemmas.Bool.{eqb-false}
 use Rattle.vw_plan.specs.declared.wire.Hop.{Hop}
 use Rattle.vw_plantext.specs.Steps.Bodies.{UnfinishedWire, part_of, state_of, is_complete_but, HasSomeLeft, TakesPlanLine}
-use Rattle.vw_plantext.proofs.Taken.{refuses_hop, takes_hop, refuses_wire, takes_wire}
+use Rattle.vw_plantext.proofs.HopAndWireLines.{refuses_hop, takes_hop, refuses_wire, takes_wire}
 use Rattle.vw_plantext.proofs.body.Body.take.Goals as goal
 
 -- where wires are left between two wires, there is one

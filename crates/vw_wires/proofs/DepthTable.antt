@@ -13,7 +13,7 @@ use Rattle.vw_net.specs.Order.{is_ready, read_nets_at}
 use Rattle.vw_net.proofs.Ready.{order_within, ready_before, all_ready}
 use Rattle.vw_plan.specs.Needs.{crossing, depth, driven_depth}
 use Rattle.vw_plan.specs.Nets.{driving_cell}
-use Rattle.vw_plan.proofs.Along.{All-gate_reads}
+use Rattle.vw_plan.proofs.AlongOrder.{All-gate_reads}
 use Rattle.vw_plan.proofs.Depths.{driven_depth_agree}
 
 -- the depth of a cell's net, by a table

@@ -1,6 +1,7 @@
 -- The number of needed pairs, and the spread: they differ by what no partition changes.
 use Rattle.std.proofs.Common.{◌≡◌, ◌<◌, ◌≤◌, ◌+◌, ◌-◌, ◌&&◌, ◌||◌, ℕ, zero, suc, Bool, true, false, not, List, [], ◌∷◌, length, map, get_or, nat_lt, cond, eqb, ap, ap₂, refl, sym, subst, ◌∙◌, ⊎_elim, eq-eqb, ne_eqb, lt-ltb, le-ltb, if◌then◌else◌, All, arith}
 use Rattle.std.specs.List.{list_any, range_with_len, zip}
+use Rattle.std.proofs.Math.Bool.{or-false}
 use Rattle.std.proofs.lemmas.Bool.{cases_eq, cases_lt, and_left, and_right, or_from}
 use Rattle.std.proofs.lemmas.List.{length-map}
 use Rattle.std.proofs.lemmas.List.Elements.{All-head, All-tail, All-get_or}
@@ -8,12 +9,12 @@ use Rattle.vw_net.specs.declared.cell.Cell.{Cell}
 use Rattle.vw_net.specs.declared.flat.Flat.{Flat}
 use Rattle.vw_net.specs.Cells.{read_nets}
 use Rattle.vw_net.specs.Order.{is_among}
-use Rattle.vw_plan.specs.declared.need.Need.{Need}
 use Rattle.vw_plan.specs.Good.{pair_count}
 use Rattle.vw_net.specs.Lists.{greatest}
 use Rattle.vw_net.specs.Steps.{one_if}
 use Rattle.vw_plan.specs.Needs.{needed_nodes, needed_pairs}
 use Rattle.vw_plan.specs.Nets.{is_needed, node_of}
+use Rattle.vw_plan.proofs.NeededPairs.{need_of}
 use Rattle.vw_part.specs.Steps.Deals.{held, holders}
 use Rattle.vw_part.specs.Steps.Pins.{ArePins, times_among, total}
 use Rattle.vw_part.proofs.Totals.{among, at, length-filter, length-flat_map, range_at, range_longer, range_plus, range_same, total_ones, total_plus, total_same}
@@ -87,7 +88,7 @@ driven_is own (first ∷ chips) net chip some =
     let if_own = λ (is : own ≡ net).
     let here : chip_at own (first ∷ chips) net ≡ first = subst (λ (x : ℕ). chip_at own (first ∷ chips) x ≡ first) is (at_own own first chips) in
     let left : whole ≡ (eqb first chip || driven (own + 1) chips net chip) = ap (λ (bit : Bool). (bit && eqb first chip) || driven (own + 1) chips net chip) (eq-eqb own net is) in
-    left ∙ ap (λ (bit : Bool). eqb first chip || bit) (driven_later (own + 1) chips net chip (omega arith)) ∙ or_none (eqb first chip) ∙ ap (λ (x : ℕ). eqb x chip) (sym here) in
+    left ∙ ap (λ (bit : Bool). eqb first chip || bit) (driven_later (own + 1) chips net chip (omega arith)) ∙ or-false (eqb first chip) ∙ ap (λ (x : ℕ). eqb x chip) (sym here) in
     let if_later = λ (apart : own ≡ net → ⊥).
     let shifted : chip_at own (first ∷ chips) net ≡ chip_at (own + 1) chips net = later own first chips net (omega arith) in
     let left : whole ≡ driven (own + 1) chips net chip = ap (λ (bit : Bool). (bit && eqb first chip) || driven (own + 1) chips net chip) (ne_eqb own net apart) in
@@ -95,10 +96,6 @@ driven_is own (first ∷ chips) net chip some =
     ⊎_elim if_own if_later (cases_eq own net) in
     ⊎_elim if_before if_from (cases_lt net own)
   where
-    or_none : (bit : Bool) → (bit || false) ≡ bit
-    or_none true = refl
-    or_none false = refl
-
     at_own : (own first : ℕ) (chips : List ℕ) → chip_at own (first ∷ chips) own ≡ first
     at_own own first chips =
         let step : own - own ≡ 0 = omega arith in
@@ -203,12 +200,8 @@ module _ (flat : Flat) (pins : List (List ℕ)) (most : ℕ) (are : ArePins flat
   chip_touched net chip some =
       let away : (eqb chip 0 && is_among flat.outputs net) ≡ false = and_left (eqb chip 0) _ (ne_eqb chip 0 (λ is. omega arith)) in
       ap₂ (λ (home rest : Bool). home || (list_any (reads_at net chip) (zip chip_of flat.cells) || rest)) (sym (driven_is flat.inputs chip_of net chip some)) away
-      ∙ ap (λ (rest : Bool). driven flat.inputs chip_of net chip || rest) (or_none (list_any (reads_at net chip) (zip chip_of flat.cells)))
+      ∙ ap (λ (rest : Bool). driven flat.inputs chip_of net chip || rest) (or-false (list_any (reads_at net chip) (zip chip_of flat.cells)))
       ∙ sym (held_where flat.inputs chip_of flat.cells pins chip net are each)
-    where
-      or_none : (bit : Bool) → (bit || false) ≡ bit
-      or_none true = refl
-      or_none false = refl
 
   -- net by net
   of_net : (net : ℕ) → net < nets → length (needed_nodes flat chip_of net) + 1 ≡ one_if (at_host flat net) + holders most chip_of pins net
@@ -216,9 +209,6 @@ module _ (flat : Flat) (pins : List (List ℕ)) (most : ℕ) (are : ArePins flat
       let host_is : one_if (touched net 0) ≡ one_if (at_host flat net) = ap (λ (bit : Bool). one_if bit) (host net below) in
       let chips_are : total (λ node. one_if (touched net node)) (range_with_len 1 most) ≡ holders most chip_of pins net = range_same (λ node. one_if (touched net node)) (λ chip. one_if (nat_lt 0 (held chip_of pins chip net))) 1 most (λ chip above below. ap (λ (bit : Bool). one_if bit) (chip_touched net chip above)) in
       omega (arith, one_fewer net, host_is, chips_are)
-
-  abbrev need_of : ℕ → ℕ → Need
-  need_of net node = record { net = net; to = node }
 
   -- and all nets together
   pub count_is : pair_count flat chip_of + nets ≡ total (λ net. one_if (at_host flat net)) (range_with_len 0 nets) + total (holders most chip_of pins) (range_with_len 0 nets)

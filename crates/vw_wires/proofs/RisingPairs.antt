@@ -3,24 +3,17 @@ use Rattle.std.proofs.Common.{◌≡◌, ◌<◌, ◌+◌, ◌&&◌, ◌||◌, �
 use Rattle.std.specs.Cmp.{IsTotalOrder}
 use Rattle.std.specs.List.{AllByRecursion, AllPairs, list_any}
 use Rattle.std.specs.List.Sorted.{IsStrictlySortedBy}
-use Rattle.std.specs.Ordering.{nat_cmp, ordering_then}
-use Rattle.std.specs.declared.cmp.Ordering.{Ordering}
+use Rattle.std.specs.Ordering.{ordering_then}
 use Rattle.std.specs.declared.cmp.Ordering.TheVariants.{Less, Equal, Greater}
 use Rattle.std.proofs.lemmas.Bool.{cases_Bool, and_from, and_parts, or_cases, or_left}
 use Rattle.std.proofs.lemmas.Cmp.{nat_cmp_total, on_total, then_total, tied_itself}
 use Rattle.std.proofs.lemmas.Map.Keys.{sorted_from_all_adjacent}
 use Rattle.vw_plan.specs.declared.need.Need.{Need}
 use Rattle.vw_plan.specs.Needs.{comes_before, is_pair}
-
--- by net, and then by node
-abbrev pub need_cmp : Need → Need → Ordering
-need_cmp need other = ordering_then (nat_cmp need.net other.net) (nat_cmp need.to other.to)
+use Rattle.vw_plan.proofs.NeededPairs.{need_cmp, need_of}
 
 pub need_cmp_total : IsTotalOrder need_cmp
 need_cmp_total = then_total (on_total (λ (need : Need). need.net) nat_cmp_total) (on_total (λ (need : Need). need.to) nat_cmp_total)
-
-abbrev need_of : ℕ → ℕ → Need
-need_of net node = record { net = net; to = node }
 
 -- a pair is that of its net and its node
 is_pair-true : (net node : ℕ) (need : Need) → is_pair net node need ≡ true → need ≡ need_of net node

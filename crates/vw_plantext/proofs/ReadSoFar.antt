@@ -18,7 +18,7 @@ use Rattle.vw_plantext.specs.declared.start.Head.{Head}
 use Rattle.vw_plantext.proofs.NumberLines.{number_line_injective}
 use Rattle.vw_plantext.proofs.Lines.{small_head, small_chips, hop_count-cons}
 use Rattle.vw_plantext.proofs.Spellings.{plain_plan, plain_chips}
-use Rattle.vw_plantext.proofs.Taken.{hop_count-append, moved}
+use Rattle.vw_plantext.proofs.HopAndWireLines.{hop_count-append, moved}
 use Rattle.vw_plantext.proofs.Faults.{can_stand_front, no_further_line, bad_line}
 
 -- a wire without hops, and a hop

@@ -13,9 +13,9 @@ use Rattle.vw_plantext.specs.Steps.Cuts.{IsOneLine, IsLineCut}
 use Rattle.vw_plantext.specs.Steps.Bodies.{UnfinishedWire, State, FollowsWires, IsLeft, part_hops, part_count, is_complete, is_complete_but, RefusesLine}
 use Rattle.vw_plantext.specs.Steps.Starts.{IsReadTo, IsFaultOfText}
 use Rattle.vw_plantext.specs.Steps.Finished.{content_read, EndsPlan, EndsBadly, IsSpelled}
-use Rattle.vw_plantext.proofs.Taken.{moved}
+use Rattle.vw_plantext.proofs.HopAndWireLines.{moved}
 use Rattle.vw_plantext.proofs.Faults.{first_bad}
-use Rattle.vw_plantext.proofs.Reached.{whole_more, fault_line}
+use Rattle.vw_plantext.proofs.ReadSoFar.{whole_more, fault_line}
 
 -- no wire is being read, and none is left
 record IsComplete (part : Option UnfinishedWire) (left : ℕ) : Type 0 where

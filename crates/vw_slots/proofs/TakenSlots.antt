@@ -1,6 +1,7 @@
 -- Taken slots and their numbers.
 use Rattle.std.proofs.Common.{◌≡◌, ◌<◌, ◌≤◌, ◌+◌, ◌==◌, ◌&&◌, ◌||◌, ℕ, zero, suc, Bool, true, false, not, cond, nat_lt, List, [], ◌∷◌, ◌++◌, length, if◌then◌else◌, refl, ◌∙◌, ap, sym, ⊎_elim, arith}
 use Rattle.std.specs.List.{list_any}
+use Rattle.std.proofs.Math.Bool.{or-false}
 use Rattle.std.proofs.lemmas.Bool.{and_parts, or_cases, false≢true}
 use Rattle.std.proofs.lemmas.List.Folds.{list_any-append}
 use Rattle.std.proofs.lemmas.Bool.Decides.{nat_tests}
@@ -50,13 +51,9 @@ as_many_taken taken link from count all = omega (arith, as_many count all, numbe
       let both : number (λ slot. is_within from count slot.at) taken + number (λ slot. slot.at == from + count) taken ≤ number (λ slot. is_within from (suc count) slot.at) taken = number-add (λ slot. is_within from count slot.at) (λ slot. slot.at == from + count) (λ slot. is_within from (suc count) slot.at) (λ slot. within_more from count slot.at) taken in
       omega arith
 
-or_none : (b : Bool) → (b || false) ≡ b
-or_none true = refl
-or_none false = refl
-
 -- the next pin is taken, and those below it are
 one_pin_more : (b : Bool) (mine others pin : ℕ) (was : Bool) → was ≡ nat_lt pin others → (b ≡ true → mine ≡ others) → (was || (b && mine == pin)) ≡ nat_lt pin (cond b (mine + 1) others)
-one_pin_more false mine others pin was is same = or_none was ∙ is
+one_pin_more false mine others pin was is same = or-false was ∙ is
 one_pin_more true mine others pin was is same = let equal : mine ≡ others = same refl in rw is (rw (sym equal) (pin_more mine pin)) where
   pin_more : (mine pin : ℕ) → (nat_lt pin mine || mine == pin) ≡ nat_lt pin (mine + 1)
   pin_more mine pin = grind (arith, nat_tests)
@@ -65,5 +62,5 @@ one_pin_more true mine others pin was is same = let equal : mine ≡ others = sa
 pub taken_more : (taken : List Taken) (slot : Taken) (link pin at others : ℕ) → is_taken taken link pin at ≡ nat_lt pin others → (slot.link == link && slot.at == at ≡ true → slot.pin ≡ others) → is_taken (taken ++ slot ∷ []) link pin at ≡ nat_lt pin (if slot.link == link && slot.at == at then slot.pin + 1 else others)
 taken_more taken slot link pin at others is same =
     list_any-append (λ s. (s.link == link && s.at == at) && s.pin == pin) taken (slot ∷ [])
-    ∙ ap (λ (b : Bool). is_taken taken link pin at || b) (or_none ((slot.link == link && slot.at == at) && slot.pin == pin))
+    ∙ ap (λ (b : Bool). is_taken taken link pin at || b) (or-false ((slot.link == link && slot.at == at) && slot.pin == pin))
     ∙ one_pin_more (slot.link == link && slot.at == at) slot.pin others pin (is_taken taken link pin at) is same

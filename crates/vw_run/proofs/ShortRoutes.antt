@@ -14,9 +14,11 @@ use Rattle.vw_plan.specs.Good.{IsChip}
 use Rattle.vw_plan.specs.Needs.{is_pair, needed_pairs}
 use Rattle.vw_plan.specs.Nets.{is_needed, is_read_at, node_of}
 use Rattle.vw_plan.specs.Routes.{AreRoutes, IsRoute, need_of_route, steps_of}
+use Rattle.vw_plan.proofs.ChipNumbers.{low_chips}
 use Rattle.vw_plan.proofs.NeededPairs.{any-needed_pairs}
 use Rattle.vw_plan.proofs.Shortest.{distance-le}
-use Rattle.vw_place.proofs.Tables.{few_pairs, pairs_within}
+use Rattle.vw_place.proofs.PairTables.{few_pairs, pairs_within}
+use Rattle.vw_phase.proofs.StepsOf.{steps_long}
 use Rattle.vw_route.specs.Routes.{IsRouteBySteps}
 use Rattle.vw_run.specs.Shortest.{IsShortRoute}
 
@@ -36,9 +38,6 @@ needed_apart flat chip_of net node is =
     let parts = and_parts (not (node_of flat chip_of net == node)) (is_read_at flat chip_of net node || (node == 0 && is_among flat.outputs net)) is in
     eqb-false (node_of flat chip_of net) node (not-true (node_of flat chip_of net == node) parts.0)
 
-low_chips : (board : Board) (chip_of : List ℕ) → All (IsChip board) chip_of → All (λ chip. chip ≤ board.chips) chip_of
-low_chips board chip_of are = All-weaker (IsChip board) (λ chip. chip ≤ board.chips) (λ chip its. its.1) chip_of are
-
 -- what is known of each needed pair
 pub record IsReachable (flat : Flat) (board : Board) (chip_of : List ℕ) (need : Need) : Type 0 where
   pub net : need.net < flat.inputs + length flat.cells
@@ -54,15 +53,11 @@ reachable flat board chip_of needs are same i default within =
 
 -- ---- a route
 
-steps_count : (node : ℕ) (nodes : List ℕ) → length (steps_of (node ∷ nodes)) ≡ length nodes
-steps_count node [] = refl
-steps_count node (next ∷ nodes) = ap suc (steps_count next nodes)
-
 pub short_route : (flat : Flat) (board : Board) (chip_of : List ℕ) (route : Route) → IsRouteBySteps board (node_of flat chip_of route.net) route.to route.nodes → IsShortRoute flat board chip_of route
 short_route flat board chip_of route walked =
     let from = node_of flat chip_of route.net in record {
       route_is = record { further = walked.rest; nodes = walked.begins; walk = walked.walk };
-      short = ap (λ (nodes : List ℕ). length (steps_of nodes)) walked.begins ∙ steps_count from walked.rest ∙ walked.count;
+      short = ap (λ (nodes : List ℕ). length (steps_of nodes)) walked.begins ∙ steps_long from walked.rest ∙ walked.count;
     }
 
 -- a walk that was found from a node to another

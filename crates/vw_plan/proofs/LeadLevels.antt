@@ -10,7 +10,8 @@ use Rattle.vw_plan.specs.Setting.{Setting, home}
 use Rattle.vw_plan.specs.Lead.{driven_lead, level_lead, lead, brought_at}
 use Rattle.vw_net.specs.Lists.{greatest}
 use Rattle.vw_net.specs.Order.{gate_inputs}
-use Rattle.vw_plan.proofs.Along.{every_net}
+use Rattle.vw_plan.proofs.AlongOrder.{every_net}
+use Rattle.vw_plan.proofs.SettledLevels.{IsSettledFrom, settled_later}
 
 -- two ways to give nets leads that agree on each of these nets give one list
 pub map_agree : (one other : ℕ → ℕ) (nets : List ℕ) → All (λ net. one net ≡ other net) nets → map one nets ≡ map other nets
@@ -21,22 +22,22 @@ map_agree one other (net ∷ nets) agree =
     ap₂ (λ (first : ℕ) (more : List ℕ). first ∷ more) here (map_agree one other nets rest)
 
 -- what a cell gives its net depends on the nets that a gate reads, and on no other
-driven_lead_agree : (one other : ℕ → ℕ) (cell : Option Cell) → All (λ net. one net ≡ other net) (gate_inputs cell) → driven_lead one cell ≡ driven_lead other cell
+pub driven_lead_agree : (one other : ℕ → ℕ) (cell : Option Cell) → All (λ net. one net ≡ other net) (gate_inputs cell) → driven_lead one cell ≡ driven_lead other cell
 driven_lead_agree one other None agree = refl
 driven_lead_agree one other (Some (Gate ins cover)) agree = ap greatest (map_agree one other ins agree)
 driven_lead_agree one other (Some (Latch d init)) agree = refl
+
+-- the law of leads: at its own node a net has the lead of its driver, and elsewhere one past its arrival
+abbrev pub Settles : Setting → Type 0
+Settles setting = (node net : ℕ) → lead setting node net ≡ (if eqb (home setting net) node then driven_lead (lead setting node) (driving_cell setting.ordered.flat net) else brought_at setting node net)
 
 module _ (setting : Setting) (node : ℕ) where
   abbrev cells : List Cell
   cells = setting.ordered.flat.cells
 
   -- from a level on, a net has one lead
-  record IsSettled (from net : ℕ) : Type 0 where
-    same : (one other : ℕ) → from ≤ one → from ≤ other → level_lead one setting node net ≡ level_lead other setting node net
-
-  -- a net that is settled stays so
-  settled_later : (from to net : ℕ) → from ≤ to → IsSettled from net → IsSettled to net
-  settled_later from to net after settled = record { same = λ one other one_late other_late. settled.same one other (omega arith) (omega arith) }
+  abbrev IsSettled : ℕ → ℕ → Type 0
+  IsSettled from net = IsSettledFrom (λ level. level_lead level setting node net) from
 
   -- a net is settled one level up if the nets that its gate reads are settled
   reads_settled : (from net : ℕ) → All (IsSettled from) (gate_inputs (driving_cell setting.ordered.flat net)) → IsSettled (suc from) net
@@ -54,7 +55,7 @@ module _ (setting : Setting) (node : ℕ) where
   level_lead-past_cells level net past =
       let ordered = setting.ordered in
       let few_gates : length ordered.order ≤ length cells = length-order ordered.flat.inputs cells ordered.order ordered.is_order in
-      (every_net ordered IsSettled settled_later reads_settled net).same level (length cells + 1) (omega arith) (omega arith)
+      (every_net ordered IsSettled (λ from to net. settled_later (λ level. level_lead level setting node net) from to) reads_settled net).same level (length cells + 1) (omega arith) (omega arith)
 
   -- the lead of a net is that of what drives it at its own node, and elsewhere one past its arrival
   pub lead-by_driver : (net : ℕ) → lead setting node net ≡ (if eqb (home setting net) node then driven_lead (lead setting node) (driving_cell setting.ordered.flat net) else brought_at setting node net)
