@@ -13,12 +13,12 @@ use Rattle.vw_plan.specs.Links.{AreLinks}
 use Rattle.vw_plan.specs.Walks.{IsJoined}
 use Rattle.vw_board.specs.declared.fault.BoardFault.{BoardFault}
 use Rattle.vw_board.specs.declared.fault.BoardFault.TheVariants.{TooLarge, BadLine, BadNumber, SelfLink, DuplicateLink, PinsExceeded, Unreachable, NoMemory}
-use Rattle.vw_board.specs.BoardText.{line_fault, RefusesLines, SpellsBoard, Accepts, Refuses, is_text_fault}
+use Rattle.vw_board.specs.BoardText.{line_fault, RefusesLines, IsBoardOfLines, Spells, Refuses, is_text_fault}
 
 no_fault : (lines : List Line) (fault : BoardFault) → line_fault lines ≡ None → line_fault lines ≡ Some fault → ⊥
 no_fault lines fault none some = none-some fault (sym none ∙ some)
 
-fine_lines : (lines : List Line) (board : Board) → SpellsBoard lines board → (fault : BoardFault) → is_text_fault fault ≡ true → RefusesLines lines fault → ⊥
+fine_lines : (lines : List Line) (board : Board) → IsBoardOfLines lines board → (fault : BoardFault) → is_text_fault fault ≡ true → RefusesLines lines fault → ⊥
 fine_lines lines board is TooLarge content refused = refused
 fine_lines lines board is (BadLine line) content refused = no_fault lines (BadLine line) is.fine refused
 fine_lines lines board is (BadNumber line) content refused = no_fault lines (BadNumber line) is.fine refused
@@ -36,7 +36,7 @@ fine_lines lines board is (Unreachable a b) content refused =
     ∥∥₁_elim joined (hlevel) (λ walk. apart.apart walk.0 walk.1)
 fine_lines lines board is NoMemory content refused = absurd (true≢false (sym content))
 
-pub accepted_unrefused : (text : List ℕ) (board : Board) (fault : BoardFault) → Accepts text board → IsTrue (is_text_fault fault) → Refuses text fault → ⊥
+pub accepted_unrefused : (text : List ℕ) (board : Board) (fault : BoardFault) → Spells text board → IsTrue (is_text_fault fault) → Refuses text fault → ⊥
 accepted_unrefused text board fault is content (inl (same, large)) = omega (arith, is.small, large)
 accepted_unrefused text board fault is content (inr (small, lines)) = fine_lines (word_lines text) board is.spells fault content lines
 
@@ -56,6 +56,6 @@ board_same one other chips cells settle links = λ i. record {
   linked = is_prop→PathP (λ j. AreLinks (chips j) (links j)) (λ j. hlevel (le_prop, ℕ_set)) one.linked other.linked i;
 }
 
-pub accepted_once : (text : List ℕ) (one other : Board) → Accepts text one → Accepts text other → one ≡ other
+pub accepted_once : (text : List ℕ) (one other : Board) → Spells text one → Spells text other → one ≡ other
 accepted_once text one other is its =
     board_same one other (is.spells.chips ∙ sym its.spells.chips) (is.spells.cells ∙ sym its.spells.cells) (is.spells.settle ∙ sym its.spells.settle) (is.spells.links ∙ sym its.spells.links)

@@ -12,7 +12,7 @@ use Rattle.vw_board.specs.declared.head.Head.{Head}
 use Rattle.vw_board.specs.LinkLines.{first_link_fault, links_of}
 use Rattle.vw_board.specs.Headers.{chips_of, pins_of}
 use Rattle.vw_board.specs.Pins.{AreEnoughPins}
-use Rattle.vw_board.specs.BoardText.{line_fault, RefusesLinks, RefusesLines, SpellsBoard}
+use Rattle.vw_board.specs.BoardText.{line_fault, RefusesLinks, RefusesLines, IsBoardOfLines}
 use Rattle.vw_board.specs.Steps.Heads.{IsBoardHead}
 use Rattle.vw_board.specs.Steps.Links.{ReadsLinks}
 
@@ -28,7 +28,7 @@ module _ (lines : List Line) (head : Head) (links : List Link) (is : IsBoardHead
   moved : (P : ℕ → ℕ → List Link → Type 0) → P head.chips head.pins links → P (chips_of lines) (pins_of lines) (links_of lines)
   moved P holds = subst (λ (chips : ℕ). P chips (pins_of lines) (links_of lines)) is.chips (subst (λ (pins : ℕ). P head.chips pins (links_of lines)) is.pins (subst (λ (all : List Link). P head.chips head.pins all) rest.are holds))
 
-  pub spelled : (result : Result Board BoardFault) → IfOk result (λ board. AreEnoughPins head.chips head.pins links) → IfOk result (λ board. board.chips ≡ head.chips) → IfOk result (λ board. board.cells ≡ head.cells) → IfOk result (λ board. board.settle ≡ head.settle) → IfOk result (λ board. board.links ≡ links) → IfOk result (SpellsBoard lines)
+  pub spelled : (result : Result Board BoardFault) → IfOk result (λ board. AreEnoughPins head.chips head.pins links) → IfOk result (λ board. board.chips ≡ head.chips) → IfOk result (λ board. board.cells ≡ head.cells) → IfOk result (λ board. board.settle ≡ head.settle) → IfOk result (λ board. board.links ≡ links) → IfOk result (IsBoardOfLines lines)
   spelled (Err fault) enough chips cells settle are = tt
   spelled (Ok board) enough chips cells settle are = record { fine = fine; enough = moved AreEnoughPins enough; chips = chips ∙ is.chips; cells = cells ∙ is.cells; settle = settle ∙ is.settle; links = are ∙ rest.are }
 

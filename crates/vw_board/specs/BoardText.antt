@@ -52,7 +52,7 @@ RefusesLines lines (Unreachable a b) =
 RefusesLines lines NoMemory = ⊤
 
 -- lines spell a board: no line is at fault, and the chips have enough pins
-pub record SpellsBoard (lines : List Line) (board : Board) : Type 0 where
+pub record IsBoardOfLines (lines : List Line) (board : Board) : Type 0 where
   pub fine : line_fault lines ≡ None
   pub enough : AreEnoughPins (chips_of lines) (pins_of lines) (links_of lines)
   pub chips : board.chips ≡ chips_of lines
@@ -60,10 +60,10 @@ pub record SpellsBoard (lines : List Line) (board : Board) : Type 0 where
   pub settle : board.settle ≡ settle_of lines
   pub links : board.links ≡ links_of lines
 
--- a text is accepted as this board
-pub record Accepts (text : List ℕ) (board : Board) : Type 0 where
+-- a text spells this board
+pub record Spells (text : List ℕ) (board : Board) : Type 0 where
   pub small : length text ≤ 1048576
-  pub spells : SpellsBoard (word_lines text) board
+  pub spells : IsBoardOfLines (word_lines text) board
 
 -- a text is refused for this reason: it is too large, or its lines are
 abbrev pub Refuses : List ℕ → BoardFault → Type 0

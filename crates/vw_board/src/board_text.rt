@@ -2,7 +2,7 @@
 ghost use Rattle.std.specs.Prelude.{◌≡◌, ◌≤◌, ◌<◌, ◌^◌, IfOk, IfErr};
 ghost use Rattle.std.specs.List.{All};
 ghost use Rattle.vw_board.specs.Pins.{AreEnoughPins};
-ghost use Rattle.vw_board.specs.BoardText.{Accepts, Refuses, RefusesLines, RefusesLinks, SpellsBoard};
+ghost use Rattle.vw_board.specs.BoardText.{Spells, Refuses, RefusesLines, RefusesLinks, IsBoardOfLines};
 ghost use Rattle.vw_board.specs.Steps.Heads.{IsHeadInRange};
 ghost use Rattle.vw_board.specs.Steps.Separate.{AreSeparate};
 
@@ -42,7 +42,7 @@ fn make_board(alloc: Global, head: Head, links: Vec<Link>) -> Result<Board, Boar
 /// The board that lines spell.
 fn board_of(alloc: Global, lines: &[Line]) -> Result<Board, BoardFault>
     requires { All (λ line. line.number < 2 ^ 63) lines.now }
-    ensures spells { IfOk result (SpellsBoard lines.now) }
+    ensures spells { IfOk result (IsBoardOfLines lines.now) }
     ensures refuses { IfErr result (RefusesLines lines.now) }
 {
     let head = read_head(lines)?;
@@ -54,7 +54,7 @@ fn board_of(alloc: Global, lines: &[Line]) -> Result<Board, BoardFault>
 /// the first counts, and on a line the fault that stands first in `BoardFault`; pins are counted and walks are looked for
 /// only where no line is at fault.
 pub fn read(alloc: Global, bytes: &[u8]) -> Result<Board, BoardFault>
-    ensures accepts { IfOk result (Accepts bytes.now) }
+    ensures accepts { IfOk result (Spells bytes.now) }
     ensures refuses { IfErr result (Refuses bytes.now) }
 {
     if bytes.len() > 1_048_576 {

@@ -2,11 +2,11 @@
 ghost use Rattle.std.specs.Prelude.{◌≡◌, ℕ, List, IsTrue};
 ghost use Rattle.vw_plan.specs.declared.board.Board.{Board};
 ghost use Rattle.vw_board.specs.declared.fault.BoardFault.{BoardFault};
-ghost use Rattle.vw_board.specs.BoardText.{Accepts, Refuses, is_text_fault};
+ghost use Rattle.vw_board.specs.BoardText.{Spells, Refuses, is_text_fault};
 
 /// A text spells one board at most.
 pub fn boards_spell_once()
-    ensures { (text : List ℕ) (one other : Board) → Accepts text one → Accepts text other
+    ensures { (text : List ℕ) (one other : Board) → Spells text one → Spells text other
         → one ≡ other }
 {}
 
@@ -15,6 +15,6 @@ pub fn board_faults_are_single()
     ensures single { (text : List ℕ) (one other : BoardFault)
         → IsTrue (is_text_fault one) → IsTrue (is_text_fault other)
         → Refuses text one → Refuses text other → one ≡ other }
-    ensures faultless { (text : List ℕ) (board : Board) (fault : BoardFault) → Accepts text board
+    ensures faultless { (text : List ℕ) (board : Board) (fault : BoardFault) → Spells text board
         → IsTrue (is_text_fault fault) → ¬ (Refuses text fault) }
 {}

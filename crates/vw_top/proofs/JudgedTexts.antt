@@ -5,7 +5,7 @@ use Rattle.vw_design.specs.declared.design.Design.{Design as Spelled}
 use Rattle.vw_design.specs.Flattened.{IsFlatOf}
 use Rattle.vw_design.proofs.FlatOnce.{flat_once}
 use Rattle.vw_plan.specs.declared.board.Board.{Board}
-use Rattle.vw_board.specs.BoardText.{Accepts as SpellsBoard}
+use Rattle.vw_board.specs.BoardText.{Spells as SpellsBoard}
 use Rattle.vw_outside.specs.Told.{Told, held, IsTextOf}
 use Rattle.vw_top.specs.declared.reason.Reason.{Reason}
 use Rattle.vw_top.specs.Reasons.{reason_status}

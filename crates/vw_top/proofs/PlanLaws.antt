@@ -4,7 +4,7 @@ use Rattle.vw_net.specs.declared.flat.Flat.{Flat}
 use Rattle.vw_net.specs.declared.ordered.Ordered.{Ordered}
 use Rattle.vw_plan.specs.declared.board.Board.{Board}
 use Rattle.vw_plan.specs.declared.plan.Plan.{Plan}
-use Rattle.vw_board.specs.BoardText.{Accepts as SpellsBoard}
+use Rattle.vw_board.specs.BoardText.{Spells as SpellsBoard}
 use Rattle.vw_board.proofs.OneBoard.{accepted_once}
 use Rattle.vw_run.specs.declared.fault.CompileFault.TheVariants.{TooManyCells}
 use Rattle.vw_outside.specs.Told.{Told, held, IsTextOf}

@@ -5,7 +5,7 @@ use Rattle.vw_plan.specs.declared.board.Board.{Board}
 use Rattle.vw_plan.specs.declared.plan.Plan.{Plan}
 use Rattle.vw_plan.specs.Setting.{setting_of}
 use Rattle.vw_plan.specs.Sound.{IsSound}
-use Rattle.vw_board.specs.BoardText.{Accepts as SpellsBoard}
+use Rattle.vw_board.specs.BoardText.{Spells as SpellsBoard}
 use Rattle.vw_plantext.specs.PlanText.{Spells as SpellsPlan}
 use Rattle.vw_check.specs.declared.fault.PlanFault.{PlanFault}
 use Rattle.vw_check.specs.Faults.{plan_fault}

@@ -15,7 +15,7 @@ use Rattle.vw_plan.specs.Good.{IsGood}
 use Rattle.vw_plan.specs.Setting.{Setting, setting_of}
 use Rattle.vw_plan.specs.Sound.{IsSound}
 use Rattle.vw_board.specs.declared.fault.BoardFault.{BoardFault}
-use Rattle.vw_board.specs.BoardText.{Accepts as SpellsBoard, Refuses as RefusesBoardText, is_text_fault as is_board_fault}
+use Rattle.vw_board.specs.BoardText.{Spells as SpellsBoard, Refuses as RefusesBoardText, is_text_fault as is_board_fault}
 use Rattle.vw_board.proofs.OneBoard.{accepted_unrefused as board_unrefused}
 use Rattle.vw_plantext.specs.declared.fault.PlanTextFault.{PlanTextFault}
 use Rattle.vw_plantext.specs.Content.{content_of, hop_count}

@@ -5,7 +5,7 @@ use Rattle.vw_plan.specs.declared.board.Board.{Board}
 use Rattle.vw_plan.specs.declared.plan.Plan.{Plan}
 use Rattle.vw_plan.specs.Good.{IsGood}
 use Rattle.vw_plan.specs.Setting.{setting_of}
-use Rattle.vw_board.specs.BoardText.{Accepts as SpellsBoard}
+use Rattle.vw_board.specs.BoardText.{Spells as SpellsBoard}
 use Rattle.vw_outside.specs.Told.{absent}
 use Rattle.vw_outside.specs.Reads.{CountsFault}
 use Rattle.vw_outside.specs.Writes.{appended}

@@ -1,5 +1,5 @@
 //! The files of commands, each read and judged at its own stage.
-ghost use Rattle.vw_board.specs.BoardText.{Accepts as SpellsBoard};
+ghost use Rattle.vw_board.specs.BoardText.{Spells as SpellsBoard};
 ghost use Rattle.vw_plantext.specs.PlanText.{Spells as SpellsPlan};
 ghost use Rattle.vw_top.specs.Designs.{IsNetlistOf, RefusesDesign};
 ghost use Rattle.vw_top.specs.Commands.{RefusesBoard, RefusesPlanText};
