@@ -10,8 +10,8 @@ use std::collections::HashMap;
 use std::hash::{BuildHasherDefault, DefaultHasher};
 use vw_outside::Name;
 
-/// A set of words that lie elsewhere. Its hasher has a key: whoever writes a text chooses its words, and without a key
-/// any number of words can be chosen that collide.
+/// A set of words that lie elsewhere. Its hasher is SipHash: whoever writes a text chooses its words, and under the map's
+/// own hasher any number of words are easily found that collide.
 #[derive(Drop)]
 pub struct Seen<'a> {
     pub words: HashMap<&'a [u8], (), BuildHasherDefault<DefaultHasher>>,

@@ -6,8 +6,8 @@ use std::alloc::{AllocError, Global};
 use std::collections::HashMap;
 use std::hash::{BuildHasherDefault, DefaultHasher};
 
-/// The first place of each pair of numbers in a list. The hasher has a key: whoever writes a plan chooses its pairs, and
-/// without a key any number of them can be chosen that collide.
+/// The first place of each pair of numbers in a list. The hasher is SipHash: whoever writes a plan chooses its pairs, and
+/// under the map's own hasher any number of them are easily found that collide.
 #[derive(Drop)]
 pub struct PairTable {
     pub places: HashMap<(u32, u32), usize, BuildHasherDefault<DefaultHasher>>,

@@ -10,8 +10,8 @@ use std::marker::Model;
 use vw_design::Design;
 use vw_outside::Name;
 
-/// A set of names that lie elsewhere. Its hasher has a key: whoever writes a text chooses its names, and without a key
-/// any number of names can be chosen that collide. Contracts see it as a list of its names, in some order.
+/// A set of names that lie elsewhere. Its hasher is SipHash: whoever writes a text chooses its names, and under the map's
+/// own hasher any number of names are easily found that collide. Contracts see it as a list of its names, in some order.
 #[derive(Drop)]
 pub struct Outputs<'a> {
     names: HashMap<&'a [u8], (), BuildHasherDefault<DefaultHasher>>,

@@ -9,8 +9,8 @@ use std::hash::{BuildHasherDefault, DefaultHasher};
 use vw_design::{Design, Item};
 use vw_net::Sequence;
 
-/// The number of each model. The hasher has a key: whoever writes a text chooses its names, and without a key any
-/// number of names can be chosen that collide.
+/// The number of each model. The hasher is SipHash: whoever writes a text chooses its names, and under the map's own
+/// hasher any number of names are easily found that collide.
 #[derive(Drop)]
 pub struct Numbers<'a> {
     pub names: HashMap<&'a [u8], u32, BuildHasherDefault<DefaultHasher>>,

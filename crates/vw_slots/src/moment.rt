@@ -24,7 +24,7 @@ impl Moment {
     }
 }
 
-/// What is kept, by link and microcycle. A microcycle that isn't listed has no taken pin. The hasher has a key, since
+/// What is kept, by link and microcycle. A microcycle that isn't listed has no taken pin. The hasher is SipHash, since
 /// whoever writes a design has a say in which microcycles fill.
 pub type Moments = HashMap<(u32, u64), Moment, BuildHasherDefault<DefaultHasher>>;
 
