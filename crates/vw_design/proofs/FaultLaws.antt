@@ -8,8 +8,8 @@ use Rattle.vw_design.specs.ModelFaults.{NameAt, NameOf, unknown_model, IsModelCi
 use Rattle.vw_design.specs.Limits.{Counted, too_big}
 use Rattle.vw_design.specs.NetFaults.{Unlike, Edged, undriven, two_drivers, gated_clock, several_clocks, several_edges, clock_as_data}
 use Rattle.vw_design.specs.Accepted.{IsAccepted, Fault, model_unknown, recursive, formal_unknown, input_unbound, output_both_ways, over_limit, net_undriven, driven_twice, clock_gated, clocks_differ, edges_differ, clock_read, further_fault, IsFurtherFault, IsFaultOf}
-use Rattle.vw_design.proofs.Has.{or_none}
 use Rattle.vw_design.proofs.Sizes.{small_of, small_fits}
+use Rattle.vw_design.proofs.FirstOptions.{or_none}
 
 nothing_made : {A B : Type 0} (make : A → B) (found : Option A) → option_map make found ≡ None → found ≡ None
 nothing_made make None none = refl

@@ -23,7 +23,8 @@ use Rattle.vw_design.specs.Flattened.{number_of_source, number_of, IsTableOf, Is
 use Rattle.vw_design.proofs.Has.{Has-at, at-place, from-filter}
 use Rattle.vw_design.proofs.Names.{same_name}
 use Rattle.vw_design.proofs.Sites.{site_item}
-use Rattle.vw_design.proofs.FilteredLists.{filter-filter, place_in_filter, AllZip-at, map_numbered}
+use Rattle.vw_design.proofs.FilteredLists.{filter-filter, place_in_filter, map_numbered}
+use Rattle.vw_design.proofs.PairedLists.{AllZip-at}
 
 -- the first place of a name is one of the names
 pub place_within : (names : List Word) (name : Word) (place : ℕ) → place_of_name names name ≡ Some place → place < length names

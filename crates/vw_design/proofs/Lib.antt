@@ -2,6 +2,7 @@ pub mod WorkedParts
 pub mod Worked
 pub mod WorkedRows
 pub mod WorkedFaults
+pub mod FirstOptions
 pub mod Has
 pub mod Names
 pub mod ModelNumbers
@@ -13,6 +14,7 @@ pub mod Reached
 pub mod Placed
 pub mod Sites
 pub mod FilteredLists
+pub mod PairedLists
 pub mod ListPlaces
 pub mod FlatValues
 pub mod FlatHistories

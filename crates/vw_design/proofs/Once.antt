@@ -92,6 +92,10 @@ is_behind design depth base number before items site has =
     by entry late (Latch line d q edge control init) found = absurd found
     by entry late (Sub line name binds) found = let ends = ends_in design depth (suc entry.before ∷ base) site found in inr (ends.0, entry.before, late, ends.1)
 
+-- places that begin alike
+pub head_same : {a b : ℕ} {xs ys : Path} → suc a ∷ xs ≡ suc b ∷ ys → a ≡ b
+head_same e = cc
+
 -- a site below a place is none of the instance, and none below a later place
 below_behind : (base : Path) (number before : ℕ) (front : Path) (one other : Site) → one.path ≡ front ++ (suc before ∷ base) → IsBehind base number (suc before) other → Differ one other
 below_behind base number before front one other path behind same_path same_number =
@@ -99,9 +103,6 @@ below_behind base number before front one other path behind same_path same_numbe
     (λ own. omega (arith, ap (λ (p : Path). length p) (sym path ∙ same_path ∙ own.0), length-append front (suc before ∷ base)))
     (λ under. omega (arith, head_same (same_ends front under.0 (suc before ∷ base) (suc under.1 ∷ base) (sym path ∙ same_path ∙ under.3) refl), under.2))
     behind
-  where
-    head_same : {a b : ℕ} {xs ys : Path} → suc a ∷ xs ≡ suc b ∷ ys → a ≡ b
-    head_same e = cc
 
 -- an own site is none of the later ones
 own_behind : (base : Path) (number before : ℕ) (one other : Site) → one.path ≡ base → one.number ≡ number → IsBehind base (suc number) before other → Differ one other

@@ -1,7 +1,7 @@
 -- The way from a net to its driver: it goes up and then down, and so it ends.
 use Rattle.std.proofs.Common.{◌≡◌, ◌≤◌, ◌+◌, ℕ, zero, suc, true, false, [], ◌∷◌, length, Option, Some, None, option_and_then, ⊎_elim, refl, sym, ◌∙◌, ap, true≢false, arith}
 use Rattle.std.proofs.lemmas.Bool.{cases_lt}
-use Rattle.std.proofs.lemmas.Option.{none-some}
+use Rattle.std.proofs.lemmas.Option.{none-some, same_Some}
 use Rattle.vw_design.specs.declared.model.Model.{Model}
 use Rattle.vw_design.specs.declared.design.Design.{Design}
 use Rattle.vw_design.specs.Distinct.{has_name}
@@ -36,12 +36,9 @@ no_port design one place path name formal is port_too =
     let here = claim_at design name (bound place formal) (model_at design path) is in
     let stands : model_at design (place ∷ path) ≡ Some here.2.0 = ap (option_and_then (model_placed design place)) here.1 ∙ here.2.1 in
     let there = claim_at design formal port (model_at design (place ∷ path)) port_too in
-    let no = one.one_way place path there.0 formal there.1 (subst_outputs here.2.0 there.0 (some_same (sym stands ∙ there.1)) formal here.2.2) in
+    let no = one.one_way place path there.0 formal there.1 (subst_outputs here.2.0 there.0 (same_Some here.2.0 there.0 (sym stands ∙ there.1)) formal here.2.2) in
     true≢false (sym there.2 ∙ no)
   where
-    some_same : {A : Type 0} {x y : A} → Some x ≡ Some y → x ≡ y
-    some_same e = cc
-
     subst_outputs : (one other : Model) → one ≡ other → (name : Word) → has_name one.outputs name ≡ true → has_name other.outputs name ≡ true
     subst_outputs one other same name has = ap (λ (m : Model). has_name m.outputs name) (sym same) ∙ has
 

@@ -14,6 +14,7 @@ use Rattle.vw_design.specs.Distinct.{has_name}
 use Rattle.vw_design.specs.Paths.{Word, model_named, model_outputs}
 use Rattle.vw_design.specs.Claims.{and_behind}
 use Rattle.vw_design.specs.NetFaults.{bound_actual, claimed_by, first_again}
+use Rattle.vw_design.proofs.FirstOptions.{or_assoc, or_nothing}
 use Rattle.vw_drivers.specs.declared.claim.Again.{Again}
 use Rattle.vw_drivers.specs.declared.claim.Claim.TheVariants.{Bound}
 use Rattle.vw_drivers.specs.declared.model_claims.ModelClaims.{ModelClaims}
@@ -21,7 +22,7 @@ use Rattle.vw_drivers.specs.Firsts.{First}
 use Rattle.vw_drivers.specs.Steps.GatheredClaims.{has_claim, port_first, binds_made, item_made, with_claim, with_all, with_items, ports_only}
 use Rattle.vw_drivers.specs.Claimed.{IsAgain}
 use Rattle.vw_drivers.proofs.FirstClaims.{all_firsts}
-use Rattle.vw_drivers.proofs.Looks.{names_of, or_or, or_nothing, has_first_more, has_firsts_more}
+use Rattle.vw_drivers.proofs.Looks.{names_of, has_first_more, has_firsts_more}
 
 abbrev pub again_of : ℕ → Word → Again
 again_of item name = record { item = item; name = name }
@@ -59,7 +60,7 @@ all_again item (further ∷ more) claims before knows =
     by : (had was : Bool) → was ≡ had
         → option_or (if had then option_or claims.again (Some (again_of item further.name)) else claims.again) (option_map (again_of item) (first_again (further.name ∷ before) (names_of more)))
         ≡ option_or claims.again (option_map (again_of item) (if was then Some further.name else first_again (further.name ∷ before) (names_of more)))
-    by true true same = or_or claims.again (Some (again_of item further.name)) (option_map (again_of item) (first_again (further.name ∷ before) (names_of more)))
+    by true true same = or_assoc claims.again (Some (again_of item further.name)) (option_map (again_of item) (first_again (further.name ∷ before) (names_of more)))
     by true false same = cc
     by false true same = cc
     by false false same = refl
@@ -89,7 +90,7 @@ items_again design number places (item ∷ items) claims before knows =
     items_again design (suc number) (and_behind item places) items (with_all number made claims) (before ++ claimed_by design item) known
     ∙ ap (λ (again : Option Again). option_or again (again_from design (suc number) (before ++ claimed_by design item) items))
     (all_again number made claims before knows ∙ ap (λ (list : List Word). option_or claims.again (option_map (again_of number) (first_again before list))) names)
-    ∙ or_or claims.again (option_map (again_of number) (first_again before (claimed_by design item))) (again_from design (suc number) (before ++ claimed_by design item) items)
+    ∙ or_assoc claims.again (option_map (again_of number) (first_again before (claimed_by design item))) (again_from design (suc number) (before ++ claimed_by design item) items)
 
 -- what an item behind others claims again
 abbrev again_behind : Design → List Word → List Item → ℕ → Item → Option Word

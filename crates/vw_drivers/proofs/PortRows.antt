@@ -1,6 +1,5 @@
 -- The row of an instance has the drivers of its ports, where the rows of outputs and earlier rows of ports have theirs.
 use Rattle.std.proofs.Common.{◌≡◌, ◌<◌, ◌+◌, ℕ, true, List, [], ◌∷◌, map, Option, Some, None, option_map, option_and_then, slice_get, refl, sym, ◌∙◌, ap, ap₂, subst, length, ◌++◌, ⊎_elim, arith}
-use Rattle.std.specs.Str.{bytes_eq}
 use Rattle.std.proofs.lemmas.Bool.{cases_lt}
 use Rattle.std.proofs.lemmas.Option.{same_Some, none-some}
 use Rattle.vw_design.specs.declared.item.Bind.{Bind}
@@ -12,13 +11,12 @@ use Rattle.vw_design.specs.Claims.{Claim as NamedClaim, port, bound, first_claim
 use Rattle.vw_design.specs.Drivers.{actual_of, actual_among, turn_up, follow_turn, driver}
 use Rattle.vw_design.specs.Paths.{Word, Path, Placing, model_at, placing_at, is_port}
 use Rattle.vw_design.specs.Preorder.{instances}
-use Rattle.vw_design.proofs.Has.{Has, Has-map, from-map, at-place}
-use Rattle.vw_design.proofs.Names.{same_name}
+use Rattle.vw_design.proofs.Has.{Has, Has-map, from-map}
 use Rattle.vw_design.proofs.Ways.{claim_at as claim_of}
 use Rattle.vw_drivers.specs.declared.claim.Claim.{Claim}
 use Rattle.vw_drivers.specs.declared.claim.Claim.TheVariants as claims
 use Rattle.vw_drivers.specs.Claimed.{bind_at, meant}
-use Rattle.vw_drivers.specs.Firsts.{First, number_named, claim_named}
+use Rattle.vw_drivers.specs.Firsts.{number_named, claim_named}
 use Rattle.vw_instances.specs.declared.tables.Placed.{Placed}
 use Rattle.vw_drivers.specs.declared.model_names.Way.{Way}
 use Rattle.vw_drivers.specs.declared.model_names.Way.TheVariants as ways
@@ -33,6 +31,7 @@ use Rattle.vw_drivers.proofs.Rows.{found, row_before, row_last}
 use Rattle.vw_drivers.proofs.Instances.{instance_of}
 use Rattle.vw_drivers.proofs.Leads.{PortIs, turned, named_first, led_is}
 use Rattle.vw_drivers.proofs.Formals.{IsPlacing, placing_of, bound_port, actual_is}
+use Rattle.vw_drivers.proofs.Looks.{one_name}
 
 -- a way to a port, by its number
 port_way : (number : Option ℕ) (kind : Option Claim) (actual : Option ℕ) (to : ℕ) (other : Option ℕ) → way_by number kind actual ≡ ways.Port to other → (number ≡ Some to) × (actual ≡ other)
@@ -41,13 +40,6 @@ port_way (Some at) None actual to other is = cc
 port_way (Some at) (Some (claims.Driven item)) actual to other is = cc
 port_way (Some at) (Some (claims.Bound place bind)) actual to other is = cc
 port_way (Some at) (Some claims.Port) actual to other is = (cc, cc)
-
--- names with the same number are the same
-one_name : (firsts : List First) (one other : Word) (number : ℕ) → number_named firsts one ≡ Some number → number_named firsts other ≡ Some number → one ≡ other
-one_name firsts one other number one_is other_is =
-    let here = at-place (λ (f : First). bytes_eq f.name one) firsts number one_is in
-    let there = at-place (λ (f : First). bytes_eq f.name other) firsts number other_is in
-    sym (same_name here.0.name one here.2) ∙ ap (λ (f : First). f.name) (same_Some here.0 there.0 (sym here.1 ∙ there.1)) ∙ same_name there.0.name other there.2
 
 -- a claim by numbers that means a port is one
 pub meant_port : (items : List Item) (claim : Option Claim) → option_map (meant items) claim ≡ Some (Some port) → claim ≡ Some claims.Port

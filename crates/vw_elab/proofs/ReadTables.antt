@@ -8,9 +8,9 @@ use Rattle.vw_design.specs.Paths.{Word, Path, items_of}
 use Rattle.vw_design.specs.Drivers.{driver}
 use Rattle.vw_design.specs.Preorder.{Site, is_cell, sites, instances, cells}
 use Rattle.vw_design.proofs.Has.{Has-at, from-filter}
-use Rattle.vw_design.proofs.FilteredLists.{AllZip-at}
 use Rattle.vw_design.proofs.Sites.{site_item}
 use Rattle.vw_design.proofs.DriverNumbers.{driver_is}
+use Rattle.vw_design.proofs.PairedLists.{AllZip-at}
 use Rattle.vw_design.specs.Limits.{instance_count}
 use Rattle.vw_drivers.specs.Firsts.{First, number_named}
 use Rattle.vw_drivers.specs.declared.model_names.ModelNames.{ModelNames}

@@ -1,5 +1,5 @@
 -- The item of a cell, looked up by numbers.
-use Rattle.std.proofs.Common.{◌≡◌, ◌<◌, ℕ, zero, suc, true, true≢false, List, [], ◌∷◌, length, Option, Some, None, slice_get, get_or, refl, sym, ◌∙◌, ap, arith}
+use Rattle.std.proofs.Common.{◌≡◌, ◌<◌, ℕ, true, true≢false, List, length, Option, Some, None, slice_get, get_or, refl, sym, ◌∙◌, ap}
 use Rattle.std.proofs.lemmas.Option.{none-some, same_Some, slice_get_within, slice_get_read}
 use Rattle.vw_design.specs.declared.item.Bind.{Bind}
 use Rattle.vw_design.specs.declared.item.Item.{Item}
@@ -12,16 +12,12 @@ use Rattle.vw_design.specs.PathValue.{item_at}
 use Rattle.vw_design.specs.Limits.{cell_count}
 use Rattle.vw_design.proofs.Has.{Has-at, from-filter}
 use Rattle.vw_design.proofs.Sites.{site_item}
+use Rattle.vw_design.proofs.ListPlaces.{at_within}
 use Rattle.vw_instances.specs.declared.tables.CellSite.{CellSite}
 use Rattle.vw_instances.specs.Tables.{IsCellSite}
 use Rattle.vw_elab.specs.declared.elaborated.Instance.{Instance}
 use Rattle.vw_elab.specs.Numbers.{IsInstance}
 use Rattle.vw_flat.specs.Steps.Numbers.{item_with_numbers}
-
-pub some_at : {A : Type 0} → (xs : List A) (k : ℕ) → k < length xs → (x : A) × (slice_get xs k ≡ Some x)
-some_at [] k within = absurd (omega arith)
-some_at (x ∷ xs) zero within = (x, refl)
-some_at (x ∷ xs) (suc k) within = some_at xs k (omega arith)
 
 -- what stands in a list at a number is what is read there
 pub record StandsAt (A : Type 0) (xs : List A) (k : ℕ) (x : A) : Type 0 where
@@ -46,7 +42,7 @@ module _ (design : Design) where
 
   pub cell_is : (cell : ℕ) → cell < cell_count design → IsCell cell
   cell_is cell within =
-      let found = some_at (cells design) cell within in
+      let found = at_within (cells design) cell within in
       let listed = from-filter (λ (s : Site). is_cell s.item) found.0 (sites design) (Has-at found.0 (cells design) cell found.1) in
       record { site = found.0; at = found.1; item = site_item design found.0 listed.0; is = listed.1 }
 

@@ -1,8 +1,8 @@
 -- Placements that are added item by item.
-use Rattle.std.proofs.Common.{◌≡◌, ◌<◌, ◌+◌, ℕ, List, [], ◌∷◌, ◌++◌, drop, take, length, get_or, Option, Some, None, slice_get, filter_map, option_map, ⊎_elim, refl, sym, ◌∙◌, ap, subst, append_assoc, append-nil}
+use Rattle.std.proofs.Common.{◌≡◌, ◌<◌, ◌+◌, ℕ, List, [], ◌∷◌, ◌++◌, drop, length, get_or, Option, Some, None, slice_get, filter_map, option_map, ⊎_elim, refl, sym, ◌∙◌, ap, subst, append_assoc, append-nil}
 use Rattle.std.specs.List.{AllZip, cons_option}
 use Rattle.std.proofs.lemmas.Bool.{cases_lt}
-use Rattle.std.proofs.lemmas.List.{drop_more, drop_all, take_more}
+use Rattle.std.proofs.lemmas.List.{drop_more, drop_all}
 use Rattle.vw_design.specs.declared.item.Bind.{Bind}
 use Rattle.vw_design.specs.declared.item.Item.{Item}
 use Rattle.vw_design.specs.declared.item.Item.TheVariants.{Names, Latch, Sub}
@@ -10,9 +10,9 @@ use Rattle.vw_design.specs.declared.model.Model.{Model}
 use Rattle.vw_design.specs.declared.design.Design.{Design}
 use Rattle.vw_design.specs.Paths.{Word, placings, model_named}
 use Rattle.vw_design.specs.ModelNumbers.{IsNumberOfModel}
-use Rattle.vw_design.proofs.FilteredLists.{AllZip-append}
-use Rattle.vw_models.proofs.Places.{at_within}
-use Rattle.vw_models.proofs.Unknowns.{AreAlong}
+use Rattle.vw_design.proofs.PairedLists.{AllZip-append}
+use Rattle.vw_design.proofs.ListPlaces.{at_within}
+use Rattle.vw_models.proofs.Unknowns.{AreAlong, none_along}
 use Rattle.vw_models.specs.declared.placement.Placement.{Placement}
 use Rattle.vw_models.specs.Steps.Placed.{Placed, placed_by, IsPlacement, AreAdded}
 
@@ -65,11 +65,8 @@ module _ (design : Design) (items : List Item) (numbers : List (Option ℕ)) (i 
       (λ inside.
       let both = subst (λ (l : List (Option ℕ)). AreAlong design (Sub line name binds ∷ drop (i + 1) items) l) (drop_more numbers place None inside) there in
       record { inside = inside; here = both.0; rest = both.1 })
-      (λ past. absurd (none_along line name binds (subst (λ (l : List (Option ℕ)). AreAlong design (Sub line name binds ∷ drop (i + 1) items) l) (drop_all place numbers past) there)))
+      (λ past. absurd (none_along design line name binds (drop (i + 1) items) (subst (λ (l : List (Option ℕ)). AreAlong design (Sub line name binds ∷ drop (i + 1) items) l) (drop_all place numbers past) there)))
       (cases_lt place (length numbers))
-    where
-      none_along : (line : ℕ) (name : Word) (binds : List Bind) → AreAlong design (Sub line name binds ∷ drop (i + 1) items) [] → ⊥
-      none_along line name binds along = along
 
   -- an item that places nothing
   pub no_sub : ((line : ℕ) (name : Word) (binds : List Bind) → item ≡ Sub line name binds → ⊥)
@@ -102,10 +99,3 @@ module _ (design : Design) (items : List Item) (numbers : List (Option ℕ)) (i 
       one_added design start (record { line = line; model = model.0; binds = binds }) (filter_map (placed_by design) (drop (i + 1) items)) todo old placement
       (subst (λ (l : List Placed). IsAdding design start l todo old) here adding)
       (record { line = same_line; model = ap (slice_get design.models) same_number ∙ model.1; binds = same_binds })
-
--- one more of a list goes along
-pub one_more : {A B : Type 0} (R : A → B → Type 0) (xs : List A) (i : ℕ) (x : A) → i < length xs → x ≡ get_or xs i x → (ys : List B) → AllZip R (take i xs) ys → (y : B) → R x y → (new : List B) → new ≡ ys ++ y ∷ []
-    → AllZip R (take (i + 1) xs) new
-one_more {A} {B} R xs i x within at ys along y here new is =
-    subst (λ (l : List B). AllZip R (take (i + 1) xs) l) (sym is)
-    (subst (λ (l : List A). AllZip R l (ys ++ y ∷ [])) (sym (take_more xs i x within ∙ ap (λ (z : A). take i xs ++ z ∷ []) (sym at))) (AllZip-append R (take i xs) (x ∷ []) ys (y ∷ []) along (here, tt)))

@@ -23,8 +23,9 @@ use Rattle.vw_models.specs.Steps.ModelGraphs.{graph_of_models}
 use Rattle.vw_models.specs.Steps.ModelNames.{name_of, names_of}
 use Rattle.vw_models.proofs.Among.{Has_among}
 use Rattle.vw_design.proofs.ModelNumbers.{place_of_model, named_at, same_number}
+use Rattle.vw_design.proofs.PairedLists.{AllZip-maps}
+use Rattle.vw_design.proofs.ListPlaces.{at_within}
 use Rattle.vw_models.proofs.Models.{placed, search_within}
-use Rattle.vw_models.proofs.Places.{at_within, AllZip-maps}
 
 -- the first of numbers of which none stands twice isn't among the rest
 first_apart : (number : ℕ) (numbers : List ℕ) → IsDistinct eqb (number ∷ numbers) → is_among numbers number ≡ true → ⊥

@@ -2,7 +2,6 @@ pub mod Adding
 pub mod Searched
 pub mod AtPlacedModel
 pub mod Among
-pub mod Places
 pub mod Reaches
 pub mod Unknowns
 pub mod Models

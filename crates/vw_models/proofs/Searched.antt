@@ -13,7 +13,8 @@ use Rattle.vw_design.specs.Lists.{first_found}
 use Rattle.vw_design.specs.Paths.{Word, model_named, is_port}
 use Rattle.vw_design.specs.ModelFaults.{NameAt, NameOf, by_placing, first_placing, reached, unknown_formal_in, unknown_formal, unbound_input_in, unbound_input, both_ways, at_model}
 use Rattle.vw_design.proofs.ModelNumbers.{name_of_named}
-use Rattle.vw_models.proofs.Places.{AllZip-back}
+use Rattle.vw_design.proofs.PairedLists.{AllZip-back}
+use Rattle.vw_design.proofs.FirstOptions.{or_assoc}
 use Rattle.vw_models.specs.declared.placement.Placement.{Placement}
 use Rattle.vw_models.specs.Steps.Placed.{Placed, placed_by, placed_models, IsPlacement, at_placement}
 use Rattle.vw_models.specs.Steps.FoundAtPlaced.{unknown_formal_at, unbound_input_at, both_ways_at}
@@ -23,10 +24,6 @@ the_name line formal = record { line = line; name = formal }
 
 abbrev pub the_output : Word → Word → NameOf
 the_output model output = record { model = model; name = output }
-
-or_assoc : {A : Type 0} (a b c : Option A) → option_or (option_or a b) c ≡ option_or a (option_or b c)
-or_assoc None b c = refl
-or_assoc (Some x) b c = refl
 
 found_append : {A B : Type 0} (f : A → Option B) (xs ys : List A) → first_found f (xs ++ ys) ≡ option_or (first_found f xs) (first_found f ys)
 found_append f [] ys = refl

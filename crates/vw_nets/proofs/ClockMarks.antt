@@ -8,6 +8,7 @@ use Rattle.std.proofs.lemmas.List.{take_more}
 use Rattle.std.proofs.lemmas.List.Folds.{list_any-append, find-append}
 use Rattle.std.proofs.lemmas.List.Elements.{filter_map-append}
 use Rattle.std.proofs.lemmas.Option.{slice_get_within}
+use Rattle.std.proofs.Math.Bool.{or-true, or-false}
 use Rattle.vw_net.specs.Order.{is_among}
 use Rattle.vw_design.specs.declared.design.Design.{Design}
 use Rattle.vw_design.specs.declared.model.Model.{Model}
@@ -17,8 +18,9 @@ use Rattle.vw_design.specs.Clocks.{inputs_of, clocks_of, control_ports, clock_po
 use Rattle.vw_design.proofs.Has.{from-find, some-find, at-place}
 use Rattle.vw_design.proofs.Names.{same_name, Has-has_name}
 use Rattle.vw_drivers.specs.Firsts.{First, number_named}
+use Rattle.vw_drivers.proofs.Looks.{one_name}
 use Rattle.vw_nets.specs.Steps.Ports.{has_number, root_ports}
-use Rattle.vw_nets.proofs.PortNumbers.{somes, one_name, same_numbers}
+use Rattle.vw_nets.proofs.PortNumbers.{somes, same_numbers}
 
 module _ {A : Type 0} where
   pub set_here : (xs : List A) (i : ℕ) (v : A) → i < length xs → slice_get (set xs i v) i ≡ Some v
@@ -33,14 +35,6 @@ module _ {A : Type 0} where
   set_elsewhere (x ∷ xs) (suc i) v zero differ = refl
   set_elsewhere (x ∷ xs) (suc i) v (suc k) differ = set_elsewhere xs i v k (λ same. differ (ap suc same))
 
-or_true : (b : Bool) → b || (true || false) ≡ true
-or_true true = refl
-or_true false = refl
-
-or_false : (b : Bool) → b || (false || false) ≡ b
-or_false true = refl
-or_false false = refl
-
 -- one more number
 module _ (numbers : List ℕ) (i : ℕ) (within : i < length numbers) where
   more : (k : ℕ) → is_among (take (i + 1) numbers) k ≡ (is_among (take i numbers) k || (get_or numbers i 0 == k || false))
@@ -54,10 +48,10 @@ module _ (numbers : List ℕ) (i : ℕ) (within : i < length numbers) where
     by true same =
         let is = eqb-true (get_or numbers i 0) k same in
         ap (slice_get (set marks (get_or numbers i 0) true)) (sym is) ∙ set_here marks (get_or numbers i 0) true (omega arith)
-        ∙ ap (λ (b : Bool). Some b) (sym (more k ∙ ap (λ (b : Bool). is_among (take i numbers) k || (b || false)) same ∙ or_true (is_among (take i numbers) k)))
+        ∙ ap (λ (b : Bool). Some b) (sym (more k ∙ ap (λ (b : Bool). is_among (take i numbers) k || (b || false)) same ∙ or-true (is_among (take i numbers) k)))
     by false differ =
         set_elsewhere marks (get_or numbers i 0) true k (λ is. true≢false (sym (eq-eqb (get_or numbers i 0) k is) ∙ differ)) ∙ marked k below
-        ∙ ap (λ (b : Bool). Some b) (sym (more k ∙ ap (λ (b : Bool). is_among (take i numbers) k || (b || false)) differ ∙ or_false (is_among (take i numbers) k)))
+        ∙ ap (λ (b : Bool). Some b) (sym (more k ∙ ap (λ (b : Bool). is_among (take i numbers) k || (b || false)) differ ∙ or-false (is_among (take i numbers) k)))
 
   pub not_marked : (marks : List Bool) (count : ℕ) → ((k : ℕ) → k < count → slice_get marks k ≡ Some (is_among (take i numbers) k)) → count ≤ get_or numbers i 0
       → (k : ℕ) → k < count → slice_get marks k ≡ Some (is_among (take (i + 1) numbers) k)
@@ -65,7 +59,7 @@ module _ (numbers : List ℕ) (i : ℕ) (within : i < length numbers) where
     by : (b : Bool) → (get_or numbers i 0 == k) ≡ b → slice_get marks k ≡ Some (is_among (take (i + 1) numbers) k)
     by true same = absurd (let is : get_or numbers i 0 ≡ k = eqb-true (get_or numbers i 0) k same in omega arith)
     by false differ =
-        marked k below ∙ ap (λ (b : Bool). Some b) (sym (more k ∙ ap (λ (b : Bool). is_among (take i numbers) k || (b || false)) differ ∙ or_false (is_among (take i numbers) k)))
+        marked k below ∙ ap (λ (b : Bool). Some b) (sym (more k ∙ ap (λ (b : Bool). is_among (take i numbers) k || (b || false)) differ ∙ or-false (is_among (take i numbers) k)))
 
 -- names that all have numbers
 pub all_numbered : (number : Word → Option ℕ) (names : List Word) (numbers : List ℕ) → map number names ≡ somes numbers → filter_map number names ≡ numbers

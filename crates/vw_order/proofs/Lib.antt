@@ -1,3 +1,4 @@
+pub mod NoValue
 pub mod Among
 pub mod Rounds
 pub mod LeastFirst

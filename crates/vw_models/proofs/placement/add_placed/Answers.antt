@@ -1,4 +1,4 @@
-use Rattle.std.proofs.Common.{◌≡◌, ◌+◌, List, ℕ, Option, Some, None, sym, subst, drop, filter_map, get_or, refl}
+use Rattle.std.proofs.Common.{◌≡◌, ◌+◌, List, ℕ, Option, None, sym, subst, drop, filter_map, get_or, refl}
 use Rattle.std.specs.List.{AllZip}
 use Rattle.vw_design.specs.Paths.{Placing}
 use Rattle.vw_design.specs.ModelNumbers.{IsNumberOfModel}
@@ -8,11 +8,7 @@ use Rattle.vw_models.specs.Steps.Placed.{Placed, placed_by}
 use Rattle.vw_models.proofs.Adding.{IsAdding, sub_cut, no_sub, passed_over, placed_now}
 use Rattle.vw_models.proofs.placement.add_placed.Goals as goal
 use Rattle.vw_models.proofs.placement.add_placed.Goals.{in-Sub, in-Some+in_ok-push, in_default-targets, in_default}
-
--- no number was found
-none_is : (found : Option ℕ) → ((number : ℕ) → found ≡ Some number → ⊥) → found ≡ None
-none_is None other = refl
-none_is (Some number) other = absurd (other number refl)
+use Rattle.vw_order.proofs.NoValue.{none_is}
 
 pub loop-item-preserved : goal.loop-item-preserved
 loop-item-preserved c =

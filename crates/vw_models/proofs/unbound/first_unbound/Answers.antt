@@ -6,8 +6,9 @@ use Rattle.vw_models.specs.Steps.Placed.{at_placement}
 use Rattle.vw_models.specs.Steps.FoundAtPlaced.{unbound_input_at}
 use Rattle.vw_models.proofs.NumberedModels.{model_at_place, within_models}
 use Rattle.vw_models.proofs.Searched.{the_name, model_of, unbound_is}
-use Rattle.vw_models.proofs.AtPlacedModel.{none_is, nothing_at, something_at, nothing_left, made_none, made_some}
+use Rattle.vw_models.proofs.AtPlacedModel.{nothing_at, something_at, nothing_left, made_none, made_some}
 use Rattle.vw_models.proofs.unbound.first_unbound.Goals as goal
+use Rattle.vw_order.proofs.NoValue.{none_is}
 
 pub bounds-models-placement : goal.bounds-models-placement
 bounds-models-placement c =
