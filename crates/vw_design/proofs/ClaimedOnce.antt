@@ -19,10 +19,10 @@ use Rattle.vw_design.specs.Reads.{net_at}
 use Rattle.vw_design.specs.NetFaults.{bound_actual, claimed_by, claimed_before, first_again, claimed_again, two_drivers}
 use Rattle.vw_design.specs.PathValue.{item_at}
 use Rattle.vw_design.specs.Accepted.{IsAccepted}
-use Rattle.vw_design.proofs.Has.{none-found, from-found, Has-Contains}
+use Rattle.vw_design.proofs.ListElements.{none-found, from-found, Has-Contains}
 use Rattle.vw_design.proofs.Sites.{site_item}
 use Rattle.vw_design.proofs.Names.{same_name, name_same}
-use Rattle.vw_design.proofs.Placed.{faultless_site}
+use Rattle.vw_design.proofs.PlacedInstances.{faultless_site}
 use Rattle.vw_design.proofs.ListPlaces.{behind}
 
 -- how often a name stands among names

@@ -17,10 +17,10 @@ use Rattle.vw_design.specs.PathValue.{item_at, place_of_name, place_of_site, is_
 use Rattle.vw_design.specs.NetFaults.{is_clock_source}
 use Rattle.vw_design.specs.Accepted.{HasNoModelFault, IsAccepted}
 use Rattle.vw_design.specs.Flattened.{number_of_source, number_of}
-use Rattle.vw_design.proofs.Has.{Has, Has-left, Has-right, Has-append, Has-filter, Has-flat_map, from-flat_map, Has-map, from-map, some-place, none-find, Has-Contains}
+use Rattle.vw_design.proofs.ListElements.{Has, Has-left, Has-right, Has-append, Has-filter, Has-flat_map, from-flat_map, Has-map, from-map, some-place, none-find, Has-Contains}
 use Rattle.vw_design.proofs.Names.{equal_names, has_name-Has, Has-has_name, name_same}
 use Rattle.vw_design.proofs.Ways.{claim_at}
-use Rattle.vw_design.proofs.Placed.{faultless_site}
+use Rattle.vw_design.proofs.PlacedInstances.{faultless_site}
 use Rattle.vw_design.proofs.FlatValues.{place_within, site_of_place}
 
 -- what a driver can be

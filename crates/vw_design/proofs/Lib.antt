@@ -3,15 +3,15 @@ pub mod Worked
 pub mod WorkedRows
 pub mod WorkedFaults
 pub mod FirstOptions
-pub mod Has
+pub mod ListElements
 pub mod Names
 pub mod ModelNumbers
 pub mod Entries
 pub mod Claimed
 pub mod Ways
-pub mod Instances
-pub mod Reached
-pub mod Placed
+pub mod ListedInstances
+pub mod ShallowDesigns
+pub mod PlacedInstances
 pub mod Sites
 pub mod FilteredLists
 pub mod PairedLists
@@ -20,7 +20,7 @@ pub mod FlatValues
 pub mod FlatHistories
 pub mod DriverNumbers
 pub mod LoopFree
-pub mod Once
+pub mod SitesOnce
 pub mod Weights
 pub mod Heights
 pub mod ClaimedOnce
@@ -30,7 +30,7 @@ pub mod Sizes
 pub mod FaultLaws
 pub mod FlatReads
 pub mod Numbers
-pub mod OncePaths
+pub mod PathsOnce
 pub mod Ordered
 pub mod FlatOnce
 pub mod WordSets

@@ -10,7 +10,7 @@ use Rattle.vw_design.specs.declared.design.Design.{Design}
 use Rattle.vw_design.specs.Distinct.{has_name, are_distinct}
 use Rattle.vw_design.specs.Paths.{Word, model_named, model_at}
 use Rattle.vw_design.specs.ModelFaults.{has_model_name, place_in_file}
-use Rattle.vw_design.proofs.Has.{Has, from-find}
+use Rattle.vw_design.proofs.ListElements.{Has, from-find}
 use Rattle.vw_design.proofs.Names.{same_name, equal_names, has_name-Has}
 use Rattle.vw_design.proofs.ListPlaces.{at_within}
 

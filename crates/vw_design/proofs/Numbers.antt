@@ -12,10 +12,10 @@ use Rattle.vw_design.specs.Preorder.{Site, site_at, inside, with_inside, sites_b
 use Rattle.vw_design.specs.Limits.{weight_of}
 use Rattle.vw_design.specs.Counts.{placed_one, cell_one, items_weight, model_weight}
 use Rattle.vw_design.specs.PathValue.{item_at, place_of_site}
-use Rattle.vw_design.proofs.Has.{Has, Has-left}
+use Rattle.vw_design.proofs.ListElements.{Has, Has-left}
 use Rattle.vw_design.proofs.Entries.{item_entry}
 use Rattle.vw_design.proofs.Weights.{items_weigh, placed_weighs, instances_weigh, cells_weigh}
-use Rattle.vw_design.proofs.Once.{site_once, cell_once}
+use Rattle.vw_design.proofs.SitesOnce.{site_once, cell_once}
 use Rattle.vw_design.proofs.ListPlaces.{behind}
 
 -- numbered items cut at one of them

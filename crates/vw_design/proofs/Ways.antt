@@ -8,7 +8,7 @@ use Rattle.vw_design.specs.Distinct.{has_name}
 use Rattle.vw_design.specs.Paths.{Word, Path, model_placed, model_at, is_port}
 use Rattle.vw_design.specs.Claims.{Claim, port, driven, bound, claims, first_claim}
 use Rattle.vw_design.specs.Drivers.{Source, Turn, ends, goes_on, actual_of, turn_up, turn_by, turn, follow_turn, follow, driver}
-use Rattle.vw_design.proofs.Has.{Has-at}
+use Rattle.vw_design.proofs.ListElements.{Has-at}
 use Rattle.vw_design.proofs.Claimed.{IsClaim, claim_is}
 
 -- no instance lies at this depth or deeper, and an output of a placed model is no port of it

@@ -17,9 +17,9 @@ use Rattle.vw_design.specs.Clocks.{columns}
 use Rattle.vw_design.specs.PathValue.{place_of_name, place_of_site}
 use Rattle.vw_design.specs.Flattened.{number_of_source, number_of}
 use Rattle.vw_design.specs.Accepted.{IsAccepted}
-use Rattle.vw_design.proofs.Has.{Has, Has-at, at-Has, all-Has, Has-left, Has-right, Has-map, Has-flat_map, from-filter, Contains-Has}
+use Rattle.vw_design.proofs.ListElements.{Has, Has-at, at-Has, all-Has, Has-left, Has-right, Has-map, Has-flat_map, from-filter, Contains-Has}
 use Rattle.vw_design.proofs.Sites.{site_item}
-use Rattle.vw_design.proofs.Reached.{model_in_file}
+use Rattle.vw_design.proofs.ShallowDesigns.{model_in_file}
 use Rattle.vw_design.proofs.Sizes.{few_columns}
 use Rattle.vw_design.proofs.DriverNumbers.{read_numbered}
 use Rattle.vw_design.proofs.ListPlaces.{at_within, in_front}

@@ -12,16 +12,16 @@ use Rattle.vw_design.specs.Paths.{Word, Placing, placings, model_named, items_of
 use Rattle.vw_design.specs.ModelFaults.{has_model_name, is_reached, place_in_file}
 use Rattle.vw_design.specs.ModelNumbers.{is_reached_model, has_number_among, IsModelOrder}
 use Rattle.vw_design.proofs.Closed.{at_reached, model_is_named}
-use Rattle.vw_design.proofs.Has.{Has, at-Has, all-Has, from-any, any-Has}
+use Rattle.vw_design.proofs.ListElements.{Has, at-Has, all-Has, from-any, any-Has}
 use Rattle.vw_design.proofs.Names.{equal_names}
 use Rattle.vw_order.proofs.Among.{among_at, at_among, front_position, once_short}
-use Rattle.vw_models.proofs.Among.{among_Has}
+use Rattle.vw_models.proofs.NumbersInLists.{among_Has}
 use Rattle.vw_design.proofs.ModelNumbers.{place_of_model, model_of_place, name_of_named, named_by}
-use Rattle.vw_models.proofs.Orders.{rank, ranking}
+use Rattle.vw_models.proofs.OrderedModels.{rank, ranking}
 use Rattle.vw_models.proofs.NumberedModels.{reached_within}
 use Rattle.vw_instances.specs.declared.measure.Measure.{Measure}
 use Rattle.vw_instances.specs.Steps.Counting.{most, amount, count_in, AreCounts, IsRanked}
-use Rattle.vw_instances.proofs.Sums.{amount_same}
+use Rattle.vw_instances.proofs.ItemAmounts.{amount_same}
 
 -- the counts of the first so many of an order are right
 pub record IsFilled (design : Design) (order : List ℕ) (measure : Measure) (counts : List ℕ) (end : ℕ) : Type 0 where

@@ -12,9 +12,9 @@ use Rattle.vw_design.specs.Paths.{Word, Path, Placing, placing_of, placings, mod
 use Rattle.vw_design.specs.ModelFaults.{unknown_model}
 use Rattle.vw_design.specs.ModelNumbers.{IsNumberOfModel, AreTargets}
 use Rattle.vw_design.specs.Limits.{IsSmall}
-use Rattle.vw_design.proofs.Has.{Has, Has-right}
-use Rattle.vw_design.proofs.Reached.{shallow, nothing_placed}
-use Rattle.vw_design.proofs.Placed.{known_model}
+use Rattle.vw_design.proofs.ListElements.{Has, Has-right}
+use Rattle.vw_design.proofs.ShallowDesigns.{shallow, nothing_placed}
+use Rattle.vw_design.proofs.PlacedInstances.{known_model}
 use Rattle.vw_instances.specs.declared.frame.Frame.{Frame}
 use Rattle.vw_instances.specs.Steps.Nexts.{target_at, next_by, next_of}
 use Rattle.vw_instances.specs.Steps.Frames.{Level, IsFrame}

@@ -11,7 +11,7 @@ use Rattle.vw_design.specs.Paths.{Word, Path, placings}
 use Rattle.vw_design.specs.Claims.{and_behind}
 use Rattle.vw_design.specs.Preorder.{Site, inside, sites_below, sites, instances_at, is_cell}
 use Rattle.vw_design.specs.Limits.{IsSmall}
-use Rattle.vw_design.proofs.Reached.{shallow}
+use Rattle.vw_design.proofs.ShallowDesigns.{shallow}
 use Rattle.vw_design.proofs.Weights.{instances_weigh, cells_weigh}
 use Rattle.vw_instances.specs.declared.tables.Placed.{Placed}
 use Rattle.vw_instances.specs.declared.tables.CellSite.{CellSite}
@@ -22,7 +22,7 @@ use Rattle.vw_design.proofs.ListPlaces.{in_front, behind}
 use Rattle.vw_design.proofs.PairedLists.{AllZip-length, AllZip-wider, AllZip-push}
 use Rattle.vw_instances.proofs.GrownLists.{last_first, two_last_first, more_numbered}
 use Rattle.vw_instances.proofs.Nexts.{IsPlacedNext}
-use Rattle.vw_instances.proofs.Levels.{level_of, site_of, placings_behind, listed_more, cells_more, below_of, sites_cut, sites_start, levels_same}
+use Rattle.vw_instances.proofs.SitesLeft.{level_of, site_of, placings_behind, listed_more, cells_more, below_of, sites_cut, sites_start, levels_same}
 
 -- an item that is a gate or a latch
 pub record IsCellItem (item : Item) : Type 0 where

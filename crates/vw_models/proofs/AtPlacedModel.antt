@@ -17,7 +17,7 @@ use Rattle.vw_design.specs.ModelFaults.{unknown_formal_in, is_formal_of, unbound
 use Rattle.vw_design.proofs.FilteredLists.{find_same}
 use Rattle.vw_design.proofs.PairedLists.{AllZip-at}
 use Rattle.vw_models.specs.declared.placement.Placement.{Placement}
-use Rattle.vw_models.specs.Steps.Placed.{at_placement}
+use Rattle.vw_models.specs.Steps.PlacedModels.{at_placement}
 use Rattle.vw_models.proofs.Searched.{found_next, found_now}
 
 -- what goes along with the model at a number

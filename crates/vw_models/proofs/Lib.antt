@@ -1,13 +1,13 @@
-pub mod Adding
+pub mod AddedPlacements
 pub mod Searched
 pub mod AtPlacedModel
-pub mod Among
+pub mod NumbersInLists
 pub mod Reaches
 pub mod Unknowns
 pub mod Models
-pub mod Named
+pub mod NumbersByName
 pub mod ReachMarks
 pub mod FirstUnknown
-pub mod Orders
+pub mod OrderedModels
 pub mod CircleNames
 pub mod NumberedModels

@@ -11,7 +11,7 @@ use Rattle.vw_design.specs.declared.design.Design.{Design}
 use Rattle.vw_design.specs.Paths.{Word, Placing, placing_of, placings, model_named, model_at}
 use Rattle.vw_design.specs.ModelFaults.{is_reached, names_model, model_places, place_in_file}
 use Rattle.vw_design.specs.ModelNumbers.{IsNumberOfModel, AreTargets, is_reached_model}
-use Rattle.vw_design.proofs.Has.{Has-at, at-Has, any-Has, from-any, from-filter_map, Has-filter_map}
+use Rattle.vw_design.proofs.ListElements.{Has-at, at-Has, any-Has, from-any, from-filter_map, Has-filter_map}
 use Rattle.vw_design.proofs.Names.{same_name, equal_names}
 use Rattle.vw_design.proofs.ModelNumbers.{place_of_model, model_of_place, named_at, name_of_named, root_model}
 use Rattle.vw_design.proofs.Closed.{reached_at, reached_closed, reached_least}

@@ -4,7 +4,7 @@ use Rattle.std.proofs.lemmas.Option.{same_Some, slice_get_within}
 use Rattle.vw_design.specs.declared.design.Design.{Design}
 use Rattle.vw_design.specs.Paths.{Path}
 use Rattle.vw_design.specs.Preorder.{instances}
-use Rattle.vw_design.proofs.OncePaths.{instance_once}
+use Rattle.vw_design.proofs.PathsOnce.{instance_once}
 use Rattle.vw_design.proofs.ListPlaces.{at_within}
 use Rattle.vw_instances.specs.declared.tables.Placed.{Placed}
 use Rattle.vw_instances.specs.Tables.{ArePlaced, IsEntryAt, IsPlacedBy}

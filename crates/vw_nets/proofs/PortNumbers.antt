@@ -22,7 +22,7 @@ use Rattle.vw_drivers.specs.Names.{reads_of}
 use Rattle.vw_drivers.specs.declared.source.Source.{Source}
 use Rattle.vw_drivers.specs.declared.source.Source.TheVariants.{Port, Cell}
 use Rattle.vw_drivers.specs.Sources.{source_of}
-use Rattle.vw_drivers.proofs.Looks.{one_name}
+use Rattle.vw_drivers.proofs.ClaimLookups.{one_name}
 use Rattle.vw_nets.specs.Steps.Ports.{port_number, item_ports}
 use Rattle.vw_nets.proofs.Reading.{of_cells_alone}
 

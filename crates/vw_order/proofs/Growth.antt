@@ -12,7 +12,7 @@ use Rattle.vw_order.specs.Steps.Searches.{Leads}
 use Rattle.vw_order.proofs.Among.{among_either, among_one, among_last, once_none, once_push, once_short}
 use Rattle.vw_order.proofs.Rounds.{Leads-push, closes}
 use Rattle.vw_order.proofs.LeastFirst.{has_least}
-use Rattle.vw_order.proofs.Searches.{behind_more}
+use Rattle.vw_order.proofs.DepthSearches.{behind_more}
 
 -- a number below a bound that passes, or none does
 below : (test : ℕ → Bool) (end : ℕ) → ((number : ℕ) × (number < end) × (test number ≡ true)) ⊎ ((number : ℕ) → number < end → test number ≡ false)

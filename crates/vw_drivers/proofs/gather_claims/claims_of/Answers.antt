@@ -8,7 +8,7 @@ use Rattle.vw_drivers.specs.declared.model_claims.ModelClaims.{ModelClaims}
 use Rattle.vw_drivers.specs.Claimed.{AreClaims}
 use Rattle.vw_drivers.specs.Steps.GatheredClaims.{AreModelNumbers, with_items, ports_only}
 use Rattle.vw_drivers.proofs.FirstClaims.{gathered_firsts}
-use Rattle.vw_drivers.proofs.ClaimedAgain.{gathered_again}
+use Rattle.vw_drivers.proofs.ModelClaimsAgain.{gathered_again}
 use Rattle.vw_drivers.proofs.Targets.{at_place}
 use Rattle.vw_drivers.proofs.gather_claims.claims_of.Goals as goal
 

@@ -1,7 +1,7 @@
 use Rattle.std.proofs.Common.{◌∙◌, Some, length, find, refl, sym, ap}
 use Rattle.std.proofs.lemmas.Option.{slice_get_read, slice_get_within}
 use Rattle.vw_design.specs.Paths.{Word, is_port}
-use Rattle.vw_models.specs.Steps.Placed.{at_placement}
+use Rattle.vw_models.specs.Steps.PlacedModels.{at_placement}
 use Rattle.vw_models.specs.Steps.Formals.{IsBothWays}
 use Rattle.vw_models.specs.Steps.FoundAtPlaced.{both_ways_at}
 use Rattle.vw_models.proofs.NumberedModels.{model_at_place, within_models}

@@ -3,7 +3,7 @@ use Rattle.std.proofs.lemmas.Option.{slice_get_read}
 use Rattle.vw_design.specs.Paths.{Word}
 use Rattle.vw_design.specs.ModelFaults.{unknown_formal_in}
 use Rattle.vw_design.specs.WordSets.{has_word}
-use Rattle.vw_models.specs.Steps.Placed.{at_placement}
+use Rattle.vw_models.specs.Steps.PlacedModels.{at_placement}
 use Rattle.vw_models.specs.Steps.Formals.{AreFormals}
 use Rattle.vw_models.specs.Steps.FoundAtPlaced.{unknown_formal_at}
 use Rattle.vw_models.proofs.Searched.{the_name, model_of, unknown_is}

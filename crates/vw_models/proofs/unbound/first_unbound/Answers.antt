@@ -2,7 +2,7 @@ use Rattle.std.proofs.Common.{◌∙◌, sym}
 use Rattle.std.proofs.lemmas.Option.{slice_get_within}
 use Rattle.vw_design.specs.Paths.{Word}
 use Rattle.vw_design.specs.ModelFaults.{unbound_input_in}
-use Rattle.vw_models.specs.Steps.Placed.{at_placement}
+use Rattle.vw_models.specs.Steps.PlacedModels.{at_placement}
 use Rattle.vw_models.specs.Steps.FoundAtPlaced.{unbound_input_at}
 use Rattle.vw_models.proofs.NumberedModels.{model_at_place, within_models}
 use Rattle.vw_models.proofs.Searched.{the_name, model_of, unbound_is}

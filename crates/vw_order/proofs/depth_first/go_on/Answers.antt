@@ -10,7 +10,7 @@ use Rattle.vw_order.specs.Circles.{IsNumberCircle}
 use Rattle.vw_order.specs.Steps.Marks.{is_open_mark}
 use Rattle.vw_order.specs.Steps.Rounds.{round_from}
 use Rattle.vw_order.specs.Steps.Searches.{IsKept, IsSearch}
-use Rattle.vw_order.proofs.Searches.{IsAtTop, at_top, moved, finished, joined, opened_on, circled, same_search}
+use Rattle.vw_order.proofs.DepthSearches.{IsAtTop, at_top, moved, finished, joined, opened_on, circled, same_search}
 use Rattle.vw_order.proofs.depth_first.go_on.Given.{Over}
 use Rattle.vw_order.proofs.depth_first.go_on.Goals as goal
 use Rattle.vw_order.proofs.depth_first.go_on.Goals.{In-Some}

@@ -10,7 +10,7 @@ use Rattle.vw_instances.specs.declared.frame.Frame.{Frame}
 use Rattle.vw_instances.specs.Tables.{AreNumbered, StandsAt, IsEntryAt, IsCellSite, ArePlaced, AreCellSites}
 use Rattle.vw_instances.specs.Steps.Frames.{Level, sites_left, listed_with, cells_among, IsFrame, IsUnderWay}
 use Rattle.vw_instances.proofs.GrownLists.{none_numbered, more_numbered}
-use Rattle.vw_instances.proofs.Levels.{level_of, sites_start}
+use Rattle.vw_instances.proofs.SitesLeft.{level_of, sites_start}
 
 module _ (design : Design) where
   pub starts : IsUnderWay design (record { model = 0; parent = 0; place = 0; cells = 0 } ∷ []) [] (record { instance = 0; model = 0; item = 0; before = 0 } ∷ [])

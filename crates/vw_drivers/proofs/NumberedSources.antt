@@ -22,7 +22,7 @@ use Rattle.vw_drivers.specs.Sources.{source_of}
 use Rattle.vw_drivers.specs.Tables.{AreTables, root_firsts, instance_firsts}
 use Rattle.vw_drivers.specs.Drivers.{driver_by_numbers, IsSource, AreDrivers}
 use Rattle.vw_drivers.specs.Steps.FoundDrivers.{led}
-use Rattle.vw_drivers.proofs.Leads.{led_is}
+use Rattle.vw_drivers.proofs.LedClaims.{led_is}
 use Rattle.vw_drivers.proofs.PortRows.{meant_port, port_is}
 
 -- a name with a claim has a number

@@ -9,13 +9,13 @@ use Rattle.vw_design.specs.Paths.{Word, Net}
 use Rattle.vw_design.specs.PathValue.{item_at}
 use Rattle.vw_design.specs.Preorder.{Site, is_cell, instances, sites, cells}
 use Rattle.vw_design.specs.Reads.{net_at, nets_at}
-use Rattle.vw_design.proofs.Has.{Has-at, from-filter}
+use Rattle.vw_design.proofs.ListElements.{Has-at, from-filter}
 use Rattle.vw_design.proofs.Sites.{site_item}
 use Rattle.vw_design.proofs.PairedLists.{AllZip-at, AllZip-length}
 use Rattle.vw_design.proofs.ListPlaces.{at_within}
 use Rattle.vw_instances.specs.declared.tables.CellSite.{CellSite}
 use Rattle.vw_instances.specs.Tables.{AreCellSites, IsCellSite}
-use Rattle.vw_nets.proofs.Finds.{find_map}
+use Rattle.vw_nets.proofs.SearchSteps.{find_map}
 
 -- what stands behind the end of a table of cells
 abbrev pub no_cell : CellSite

@@ -11,7 +11,7 @@ use Rattle.vw_design.specs.Paths.{Path, model_at, items_of}
 use Rattle.vw_design.specs.Claims.{Numbered, and_behind, numbered}
 use Rattle.vw_design.specs.Preorder.{Site, site_at, inside, with_inside, sites_below, is_cell, sites, cells}
 use Rattle.vw_design.specs.PathValue.{is_site_of, place_of_site}
-use Rattle.vw_design.proofs.Has.{Has, Has-at, Has-append, from-flat_map, from-filter}
+use Rattle.vw_design.proofs.ListElements.{Has, Has-at, Has-append, from-flat_map, from-filter}
 use Rattle.vw_design.proofs.Names.{same_name, name_same}
 
 -- two sites aren't of one item

@@ -13,12 +13,12 @@ use Rattle.vw_design.specs.Preorder.{Site, site_at, inside, with_inside, sites_b
 use Rattle.vw_design.specs.ModelFaults.{unknown_model}
 use Rattle.vw_design.specs.PathValue.{item_at}
 use Rattle.vw_design.specs.Accepted.{HasNoModelFault}
-use Rattle.vw_design.proofs.Has.{Has, Has-at, from-flat_map, Contains-Has, Has-Contains}
+use Rattle.vw_design.proofs.ListElements.{Has, Has-at, from-flat_map, Contains-Has, Has-Contains}
 use Rattle.vw_design.proofs.Entries.{entry_of, item_entry}
-use Rattle.vw_design.proofs.Instances.{instance_listed, item_listed}
+use Rattle.vw_design.proofs.ListedInstances.{instance_listed, item_listed}
 use Rattle.vw_design.proofs.Sites.{site_is}
 use Rattle.vw_design.proofs.Ways.{IsShallow}
-use Rattle.vw_design.proofs.Reached.{nothing_placed, faultless_shallow}
+use Rattle.vw_design.proofs.ShallowDesigns.{nothing_placed, faultless_shallow}
 use Rattle.vw_design.proofs.ModelNumbers.{root_model}
 
 record HasModel (design : Design) (path : Path) : Type 0 where

@@ -11,10 +11,10 @@ use Rattle.vw_design.specs.Lists.{first_place}
 use Rattle.vw_design.specs.Paths.{Path, model_at, items_of}
 use Rattle.vw_design.specs.Claims.{numbered}
 use Rattle.vw_design.specs.Preorder.{Site, with_inside, sites_below, sites, instances_at, paths_of, instances}
-use Rattle.vw_design.proofs.Has.{Has, Has-at, Has-append}
+use Rattle.vw_design.proofs.ListElements.{Has, Has-at, Has-append}
 use Rattle.vw_design.proofs.Names.{same_name, equal_names}
-use Rattle.vw_design.proofs.Instances.{is_below}
-use Rattle.vw_design.proofs.Once.{entry_from, same_ends, head_same}
+use Rattle.vw_design.proofs.ListedInstances.{is_below}
+use Rattle.vw_design.proofs.SitesOnce.{entry_from, same_ends, head_same}
 
 -- no path of a list is listed twice
 abbrev Apart : List Path → Type 0

@@ -8,7 +8,7 @@ use Rattle.vw_design.specs.declared.model.Model.{Model}
 use Rattle.vw_design.specs.declared.design.Design.{Design}
 use Rattle.vw_design.specs.Paths.{Word, placings, model_named}
 use Rattle.vw_design.specs.ModelNumbers.{IsNumberOfModel, AreTargets}
-use Rattle.vw_design.proofs.Has.{at-Has, from-find}
+use Rattle.vw_design.proofs.ListElements.{at-Has, from-find}
 use Rattle.vw_design.proofs.Names.{same_name}
 use Rattle.vw_models.specs.Steps.Names.{IsNumberAmong}
 use Rattle.vw_design.proofs.ModelNumbers.{named_at}

@@ -12,7 +12,7 @@ use Rattle.vw_design.specs.Counts.{placed_one, cell_one, items_weight, model_wei
 use Rattle.vw_design.specs.Paths.{Word, Path, Placing, placing_of, placings, model_at, model_named, items_of}
 use Rattle.vw_design.specs.ModelFaults.{is_reached}
 use Rattle.vw_design.proofs.Closed.{reached_at, model_is_named}
-use Rattle.vw_design.proofs.Has.{Has, all-Has, from-filter_map}
+use Rattle.vw_design.proofs.ListElements.{Has, all-Has, from-filter_map}
 use Rattle.vw_design.proofs.Sizes.{small_of}
 use Rattle.vw_design.proofs.Weights.{capped_weight}
 use Rattle.vw_design.proofs.ModelNumbers.{place_of_model, root_model}
@@ -27,9 +27,9 @@ use Rattle.vw_instances.specs.Steps.Counting.{most, count_in, IsRanked, AreCount
 use Rattle.vw_instances.specs.Steps.Quantified.{AreTotals, first_above}
 use Rattle.vw_instances.specs.Quantities.{counted_of}
 use Rattle.vw_instances.specs.Sizes.{AreBefore, AreSizes}
-use Rattle.vw_instances.proofs.Bounds.{counted_at, least_of_root, levels_of_root}
-use Rattle.vw_instances.proofs.Reckoned.{instances_are, cells_are, depth_is, first_is}
-use Rattle.vw_instances.proofs.Sums.{weight_same, placed_weighs, front_weighs, front_places}
+use Rattle.vw_instances.proofs.RootCounts.{counted_at, least_of_root, levels_of_root}
+use Rattle.vw_instances.proofs.RootQuantities.{instances_are, cells_are, depth_is, first_is}
+use Rattle.vw_instances.proofs.ItemAmounts.{weight_same, placed_weighs, front_weighs, front_places}
 
 -- what an item places is reached, and of a smaller rank
 below_of : (among : Word → Bool) (rank : Word → ℕ) (limit : ℕ) (item : Item) (placing : Placing) → placing_of item ≡ Some placing → is_below among rank limit item ≡ true → (among placing.model ≡ true) × (rank placing.model < limit)

@@ -8,7 +8,7 @@ use Rattle.vw_design.specs.Distinct.{has_name}
 use Rattle.vw_design.specs.Paths.{Word}
 use Rattle.vw_design.proofs.Names.{same_name}
 use Rattle.vw_design.proofs.FirstOptions.{or_some, or_nothing, or_assoc}
-use Rattle.vw_design.proofs.Has.{at-place}
+use Rattle.vw_design.proofs.ListElements.{at-place}
 use Rattle.vw_drivers.specs.declared.claim.Claim.{Claim}
 use Rattle.vw_drivers.specs.Firsts.{First, number_named, claim_at, claim_named}
 use Rattle.vw_drivers.specs.Steps.GatheredClaims.{has_claim, with_first, with_firsts}
@@ -19,8 +19,8 @@ look [] name = None
 look (first ∷ firsts) name = if bytes_eq first.name name then Some first.claim else look firsts name
 
 -- the names of claims
-abbrev pub names_of : List First → List Word
-names_of firsts = map (λ first. first.name) firsts
+abbrev pub claimed_names : List First → List Word
+claimed_names firsts = map (λ first. first.name) firsts
 
 -- it is that of its number
 named_step : (same : Bool) (first : First) (firsts : List First) (name : Word) (number : Option ℕ) → option_and_then (claim_at firsts) number ≡ look firsts name
@@ -90,17 +90,17 @@ has_first_more firsts new claim name = by (has_claim firsts new) refl (bytes_eq 
       list_any-append (λ (first : First). bytes_eq first.name name) firsts (record { name = new; claim = claim } ∷ [])
       ∙ turned (bytes_eq new name) (has_claim firsts name) ∙ ap (λ (b : Bool). b || has_claim firsts name) same
 
-pub has_firsts_more : (firsts more : List First) (name : Word) → has_claim (with_firsts firsts more) name ≡ (has_claim firsts name || has_name (names_of more) name)
+pub has_firsts_more : (firsts more : List First) (name : Word) → has_claim (with_firsts firsts more) name ≡ (has_claim firsts name || has_name (claimed_names more) name)
 has_firsts_more firsts [] name = by (has_claim firsts name) where
   by : (b : Bool) → b ≡ (b || false)
   by true = refl
   by false = refl
 has_firsts_more firsts (further ∷ more) name =
     has_firsts_more (with_first firsts further.name further.claim) more name
-    ∙ ap (λ (b : Bool). b || has_name (names_of more) name) (has_first_more firsts further.name further.claim name)
+    ∙ ap (λ (b : Bool). b || has_name (claimed_names more) name) (has_first_more firsts further.name further.claim name)
     ∙ by (bytes_eq further.name name) (has_claim firsts name)
   where
-    by : (b had : Bool) → ((b || had) || has_name (names_of more) name) ≡ (had || (b || has_name (names_of more) name))
+    by : (b had : Bool) → ((b || had) || has_name (claimed_names more) name) ≡ (had || (b || has_name (claimed_names more) name))
     by true true = refl
     by true false = refl
     by false true = refl
