@@ -9,7 +9,7 @@ use Rattle.vw_design.specs.declared.design.Design.{Design}
 use Rattle.vw_design.specs.Paths.{Word, model_named, items_of}
 use Rattle.vw_design.specs.ModelFaults.{is_reached, names_model, model_places, IsModelCircle}
 use Rattle.vw_design.specs.Counts.{is_below, IsRanking}
-use Rattle.vw_design.proofs.Has.{from-any, all-Has}
+use Rattle.vw_design.proofs.ListElements.{from-any, all-Has}
 use Rattle.vw_design.proofs.Names.{same_name}
 
 module _ (design : Design) (among : Word → Bool) (rank : Word → ℕ) (ranking : IsRanking design among rank) where

@@ -12,7 +12,7 @@ use Rattle.vw_design.specs.Distinct.{has_name}
 use Rattle.vw_design.specs.Paths.{Word, Placing, placings, model_named, model_placed, model_outputs, is_port}
 use Rattle.vw_design.specs.Claims.{Numbered, numbered, Claim, port, driven, bound, bind_claim, item_claims, claims}
 use Rattle.vw_design.specs.Preorder.{is_cell}
-use Rattle.vw_design.proofs.Has.{Has, Has-append, from-flat_map, from-filter_map}
+use Rattle.vw_design.proofs.ListElements.{Has, Has-append, from-flat_map, from-filter_map}
 use Rattle.vw_design.proofs.Entries.{IsEntry, entry_of}
 
 -- what a claim says of its model: a port is one; an item's output is that of a cell; a name that is bound to a formal is

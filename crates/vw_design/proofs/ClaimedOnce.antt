@@ -19,10 +19,11 @@ use Rattle.vw_design.specs.Reads.{net_at}
 use Rattle.vw_design.specs.NetFaults.{bound_actual, claimed_by, claimed_before, first_again, claimed_again, two_drivers}
 use Rattle.vw_design.specs.PathValue.{item_at}
 use Rattle.vw_design.specs.Accepted.{IsAccepted}
-use Rattle.vw_design.proofs.Has.{none-found, from-found, Has-Contains}
+use Rattle.vw_design.proofs.ListElements.{none-found, from-found, Has-Contains}
 use Rattle.vw_design.proofs.Sites.{site_item}
 use Rattle.vw_design.proofs.Names.{same_name, name_same}
-use Rattle.vw_design.proofs.Placed.{faultless_site}
+use Rattle.vw_design.proofs.PlacedInstances.{faultless_site}
+use Rattle.vw_design.proofs.ListPlaces.{behind}
 
 -- how often a name stands among names
 abbrev once : Bool → ℕ
@@ -141,11 +142,6 @@ claims_times design model name =
 has_append : (one other : List Word) (name : Word) → has_name (one ++ other) name ≡ (has_name one name || has_name other name)
 has_append one other name = list_any-append (λ (w : Word). bytes_eq w name) one other
 
--- the place behind a front
-at_front : {A : Type 0} (front rest : List A) (x : A) → slice_get (front ++ x ∷ rest) (length front) ≡ Some x
-at_front [] rest x = refl
-at_front (y ∷ front) rest x = at_front front rest x
-
 module _ (design : Design) (name : Word) where
   -- items behind a front, none of which claims again: what the ports and the front claim counts once
   few : (ports : List Word) (front items : List Item)
@@ -159,7 +155,7 @@ module _ (design : Design) (name : Word) where
       let done = ports ++ flat_map (claimed_by design) front in
       let here : first_again done (claimed_by design item) ≡ None =
       ap (λ (list : List Item). first_again (ports ++ flat_map (claimed_by design) list) (claimed_by design item)) (sym (take_at front (item ∷ items) (length front) refl))
-      ∙ none (length front) item (at_front front items item) in
+      ∙ none (length front) item (behind front (item ∷ items)) in
       let whole : (front ++ item ∷ []) ++ items ≡ front ++ item ∷ items = append_assoc front (item ∷ []) items in
       let rest = few ports (front ++ item ∷ []) items (λ k other at.
       ap (λ (list : List Item). first_again (ports ++ flat_map (claimed_by design) (take k list)) (claimed_by design other)) whole ∙ none k other (ap (λ (list : List Item). slice_get list k) (sym whole) ∙ at)) in

@@ -16,11 +16,11 @@ use Rattle.vw_design.specs.Paths.{Word, Path, model_named, model_placed, model_a
 use Rattle.vw_design.specs.Claims.{numbered}
 use Rattle.vw_design.specs.Preorder.{instances}
 use Rattle.vw_design.specs.ModelFaults.{has_model_name, is_reached, names_model, model_places}
-use Rattle.vw_design.proofs.Has.{Has, Has-at, at-Has, any-Has, from-any, from-find, some-place, at-place}
+use Rattle.vw_design.proofs.ListElements.{Has, Has-at, at-Has, any-Has, from-any, from-find, some-place, at-place}
 use Rattle.vw_design.proofs.Names.{same_name, name_same, equal_names, has_name-Has}
 use Rattle.vw_design.proofs.Entries.{entry_of, item_entry, placing_entry}
-use Rattle.vw_design.proofs.Instances.{placer, placing_of_placed, instance_listed}
-use Rattle.vw_design.proofs.Reached.{model_in_file}
+use Rattle.vw_design.proofs.ListedInstances.{placer, placing_of_placed, instance_listed}
+use Rattle.vw_design.proofs.ShallowDesigns.{model_in_file}
 use Rattle.vw_design.proofs.Weights.{model_behind}
 use Rattle.vw_design.proofs.FilteredLists.{distinct_more}
 

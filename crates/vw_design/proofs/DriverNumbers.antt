@@ -17,42 +17,42 @@ use Rattle.vw_design.specs.PathValue.{item_at, place_of_name, place_of_site, is_
 use Rattle.vw_design.specs.NetFaults.{is_clock_source}
 use Rattle.vw_design.specs.Accepted.{HasNoModelFault, IsAccepted}
 use Rattle.vw_design.specs.Flattened.{number_of_source, number_of}
-use Rattle.vw_design.proofs.Has.{Has, Has-left, Has-right, Has-append, Has-filter, Has-flat_map, from-flat_map, Has-map, from-map, some-place, none-find, Has-Contains}
+use Rattle.vw_design.proofs.ListElements.{Has, Has-left, Has-right, Has-append, Has-filter, Has-flat_map, from-flat_map, Has-map, from-map, some-place, none-find, Has-Contains}
 use Rattle.vw_design.proofs.Names.{equal_names, has_name-Has, Has-has_name, name_same}
 use Rattle.vw_design.proofs.Ways.{claim_at}
-use Rattle.vw_design.proofs.Placed.{faultless_site}
+use Rattle.vw_design.proofs.PlacedInstances.{faultless_site}
 use Rattle.vw_design.proofs.FlatValues.{place_within, site_of_place}
 
 -- what a driver can be
-abbrev pub IsFound : Design → Source → Type 0
-IsFound design (at_port name) = (root : Model) × (model_at design [] ≡ Some root) × (is_port root name ≡ true)
-IsFound design (at_cell path number) = (item : Item) × (item_at design path number ≡ Some item) × (is_cell item ≡ true)
+abbrev pub IsPossibleSource : Design → Source → Type 0
+IsPossibleSource design (at_port name) = (root : Model) × (model_at design [] ≡ Some root) × (is_port root name ≡ true)
+IsPossibleSource design (at_cell path number) = (item : Item) × (item_at design path number ≡ Some item) × (is_cell item ≡ true)
 
 module _ (design : Design) where
-  turned_up : (turns : ℕ) → ((path : Path) (name : Word) (source : Source) → follow design turns path name ≡ Some source → IsFound design source)
-      → (path : Path) (actual : Option Word) (source : Source) → follow_turn (follow design turns) (turn_up path actual) ≡ Some source → IsFound design source
+  turned_up : (turns : ℕ) → ((path : Path) (name : Word) (source : Source) → follow design turns path name ≡ Some source → IsPossibleSource design source)
+      → (path : Path) (actual : Option Word) (source : Source) → follow_turn (follow design turns) (turn_up path actual) ≡ Some source → IsPossibleSource design source
   turned_up turns further path None source found = absurd (none-some source found)
   turned_up turns further path (Some actual) source found = further path actual source found
 
-  by_claim : (turns : ℕ) → ((path : Path) (name : Word) (source : Source) → follow design turns path name ≡ Some source → IsFound design source)
+  by_claim : (turns : ℕ) → ((path : Path) (name : Word) (source : Source) → follow design turns path name ≡ Some source → IsPossibleSource design source)
       → (path : Path) (name : Word) (claim : Option Claim) → first_claim design (model_at design path) name ≡ claim
-      → (source : Source) → follow_turn (follow design turns) (turn_by design path name claim) ≡ Some source → IsFound design source
+      → (source : Source) → follow_turn (follow design turns) (turn_by design path name claim) ≡ Some source → IsPossibleSource design source
   by_claim turns further path name None is source found = absurd (none-some source found)
   by_claim turns further [] name (Some port) is source found =
       let at = claim_at design name port (model_at design []) is in
-      subst (IsFound design) (same_Some (at_port name) source found) (at.0, at.1, at.2)
+      subst (IsPossibleSource design) (same_Some (at_port name) source found) (at.0, at.1, at.2)
   by_claim turns further (place ∷ path) name (Some port) is source found = turned_up turns further path (actual_of design place path name) source found
   by_claim turns further path name (Some (driven number)) is source found =
       let at = claim_at design name (driven number) (model_at design path) is in
       let item : item_at design path number ≡ Some at.2.0 = ap (λ (m : Option Model). slice_get (items_of m) number) at.1 ∙ at.2.1 in
-      subst (IsFound design) (same_Some (at_cell path number) source found) (at.2.0, item, at.2.2)
+      subst (IsPossibleSource design) (same_Some (at_cell path number) source found) (at.2.0, item, at.2.2)
   by_claim turns further path name (Some (bound place formal)) is source found = further (place ∷ path) formal source found
 
-  followed : (turns : ℕ) (path : Path) (name : Word) (source : Source) → follow design turns path name ≡ Some source → IsFound design source
+  followed : (turns : ℕ) (path : Path) (name : Word) (source : Source) → follow design turns path name ≡ Some source → IsPossibleSource design source
   followed zero path name source found = absurd (none-some source found)
   followed (suc turns) path name source found = by_claim turns (followed turns) path name (first_claim design (model_at design path) name) refl source found
 
-  pub driver_is : (path : Path) (name : Word) (source : Source) → driver design path name ≡ Some source → IsFound design source
+  pub driver_is : (path : Path) (name : Word) (source : Source) → driver design path name ≡ Some source → IsPossibleSource design source
   unfolding driver
   driver_is path name source found = followed 128 path name source found
 
@@ -81,7 +81,7 @@ module _ (design : Design) (accepted : IsAccepted design) where
       some-place (λ (other : Word). bytes_eq other name) name (columns design) column (name_same name)
 
   -- a driver that is no clock port has a number, of a column or a cell
-  numbered_source : (source : Source) → IsFound design source → is_clock_source design (Some source) ≡ false
+  numbered_source : (source : Source) → IsPossibleSource design source → is_clock_source design (Some source) ≡ false
       → (net : ℕ) × (number_of_source design (Some source) ≡ Some net) × (net < length (columns design) + length (cells design))
   numbered_source (at_port name) is no_clock =
       let place = port_place name is.0 is.1 is.2 no_clock in

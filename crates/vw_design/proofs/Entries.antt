@@ -6,7 +6,7 @@ use Rattle.vw_design.specs.declared.item.Item.{Item}
 use Rattle.vw_design.specs.declared.item.Item.TheVariants.{Names, Latch, Sub}
 use Rattle.vw_design.specs.Paths.{Word, Placing, placings}
 use Rattle.vw_design.specs.Claims.{Numbered, and_behind, numbered}
-use Rattle.vw_design.proofs.Has.{Has}
+use Rattle.vw_design.proofs.ListElements.{Has}
 
 -- items that stand behind others among all items: so many before them, of which so many are `.subckt` items
 record AreItems (all : List Item) (number before : ℕ) (items : List Item) : Type 0 where

@@ -1,8 +1,9 @@
--- Lists that are filtered, and lists that go along with each other.
-use Rattle.std.proofs.Common.{eqb, find, ◌++◌, ◌≡◌, ℕ, zero, suc, Bool, true, false, cond, List, [], ◌∷◌, length, map, take, Option, Some, None, slice_get, option_map, filter, refl, sym, ◌∙◌, ap, ap₂, subst, true≢false}
-use Rattle.std.specs.List.{AllByRecursion, AllZip, IsDistinct, list_any}
+-- Lists that are filtered, values by numbers, and a number more.
+use Rattle.std.proofs.Common.{eqb, find, ◌≡◌, ℕ, zero, suc, Bool, true, false, cond, List, [], ◌∷◌, length, map, take, Option, Some, None, slice_get, option_map, filter, refl, sym, ◌∙◌, ap, ap₂, true≢false}
+use Rattle.std.specs.List.{AllByRecursion, IsDistinct, list_any}
 use Rattle.std.proofs.lemmas.Bool.{cond-false, or_parts}
 use Rattle.std.proofs.lemmas.Option.{same_Some, none-some}
+use Rattle.std.proofs.Math.Nat.{suc_inj}
 use Rattle.vw_design.specs.Lists.{first_place}
 
 module _ {A : Type 0} where
@@ -38,43 +39,23 @@ module _ {A : Type 0} where
     suc_zero : (k : ℕ) → suc k ≡ 0 → ⊥
     suc_zero k e = cc
   place_by passes keep y ys (suc k) x at kept rest false is (Some before) is_further found true keeps =
-      let same : before ≡ k = suc_same before k (same_Some (suc before) (suc k) found) in
+      let same : before ≡ k = suc_inj (same_Some (suc before) (suc k) found) in
       let there = rest before is_further (ap (slice_get ys) same ∙ at) in
       ap (λ (b : Bool). cond b (Some 0) (option_map (λ place. suc place) (first_place passes (filter keep ys)))) is
       ∙ ap (option_map (λ (place : ℕ). suc place)) there
       ∙ ap (λ (n : ℕ). Some (suc (length (filter keep (take n ys))))) same
       ∙ sym (ap (λ (b : Bool). Some (length (cond b (y ∷ filter keep (take k ys)) (filter keep (take k ys))))) keeps)
-    where
-      suc_same : (a b : ℕ) → suc a ≡ suc b → a ≡ b
-      suc_same a b e = cc
   place_by passes keep y ys (suc k) x at kept rest false is (Some before) is_further found false keeps =
-      let same : before ≡ k = suc_same before k (same_Some (suc before) (suc k) found) in
+      let same : before ≡ k = suc_inj (same_Some (suc before) (suc k) found) in
       let there = rest before is_further (ap (slice_get ys) same ∙ at) in
       there ∙ ap (λ (n : ℕ). Some (length (filter keep (take n ys)))) same
       ∙ sym (ap (λ (b : Bool). Some (length (cond b (y ∷ filter keep (take k ys)) (filter keep (take k ys))))) keeps)
-    where
-      suc_same : (a b : ℕ) → suc a ≡ suc b → a ≡ b
-      suc_same a b e = cc
 
   pub place_in_filter : (passes keep : A → Bool) (xs : List A) (k : ℕ) (x : A) → first_place passes xs ≡ Some k → slice_get xs k ≡ Some x → keep x ≡ true
       → first_place passes (filter keep xs) ≡ Some (length (filter keep (take k xs)))
   place_in_filter passes keep [] k x found at kept = absurd (none-some x at)
   place_in_filter passes keep (y ∷ ys) k x found at kept =
       place_by passes keep y ys k x at kept (λ before is there. place_in_filter passes keep ys before x is there kept) (passes y) refl (first_place passes ys) refl found (keep y) refl
-
-module _ {A B : Type 0} where
-  -- the element that goes along with one
-  pub AllZip-at : (R : A → B → Type 0) (xs : List A) (ys : List B) (k : ℕ) (x : A) → AllZip R xs ys → slice_get xs k ≡ Some x → (y : B) × (slice_get ys k ≡ Some y) × R x y
-  AllZip-at R [] ys k x along at = absurd (none-some x at)
-  AllZip-at R (first ∷ xs) [] k x along at = absurd along
-  AllZip-at R (first ∷ xs) (y ∷ ys) zero x along at = (y, refl, subst (λ (z : A). R z y) (same_Some first x at) along.0)
-  AllZip-at R (first ∷ xs) (y ∷ ys) (suc k) x along at = AllZip-at R xs ys k x along.1 at
-
-  pub AllZip-length : (R : A → B → Type 0) (xs : List A) (ys : List B) → AllZip R xs ys → length xs ≡ length ys
-  AllZip-length R [] [] along = refl
-  AllZip-length R [] (y ∷ ys) along = absurd along
-  AllZip-length R (x ∷ xs) [] along = absurd along
-  AllZip-length R (x ∷ xs) (y ∷ ys) along = ap suc (AllZip-length R xs ys along.1)
 
 module _ {A : Type 0} where
   -- values of things by their numbers
@@ -92,13 +73,6 @@ module _ {A : Type 0} where
 pub find_same : {A : Type 0} (one other : A → Bool) → ((x : A) → one x ≡ other x) → (xs : List A) → find one xs ≡ find other xs
 find_same one other same [] = refl
 find_same one other same (x ∷ xs) = ap₂ (λ (b : Bool) (rest : Option _). cond b (Some x) rest) (same x) (find_same one other same xs)
-
--- lists that go along with each other, one behind the other
-pub AllZip-append : {A B : Type 0} (R : A → B → Type 0) (xs more : List A) (ys others : List B) → AllZip R xs ys → AllZip R more others → AllZip R (xs ++ more) (ys ++ others)
-AllZip-append R [] more [] others along rest = rest
-AllZip-append R [] more (y ∷ ys) others along rest = absurd along
-AllZip-append R (x ∷ xs) more [] others along rest = absurd along
-AllZip-append R (x ∷ xs) more (y ∷ ys) others along rest = (along.0, AllZip-append R xs more ys others along.1 rest)
 
 -- a number that is none of some isn't any one of them
 none_alike : (number : ℕ) (numbers : List ℕ) → list_any (eqb number) numbers ≡ false → AllByRecursion (λ other. eqb number other ≡ false) numbers

@@ -16,8 +16,9 @@ use Rattle.vw_design.specs.Reads.{root_outputs}
 use Rattle.vw_design.specs.PathValue.{path_value}
 use Rattle.vw_design.specs.PathHistory.{latch_start, latch_next, path_start, path_outputs, path_next, path_outputs_from, path_states_from, path_state_after, path_history_from, path_history}
 use Rattle.vw_design.specs.Flattened.{number_of, IsCellOf, IsFlatOf}
-use Rattle.vw_design.proofs.FilteredLists.{AllZip-length, map_numbered}
+use Rattle.vw_design.proofs.FilteredLists.{map_numbered}
 use Rattle.vw_design.proofs.FlatValues.{latches_of_cells, levels_agree}
+use Rattle.vw_design.proofs.PairedLists.{AllZip-length}
 
 abbrev starting : Bool → List Site → List Bool
 starting unknown list = map (λ (s : Site). latch_start unknown s.item) list

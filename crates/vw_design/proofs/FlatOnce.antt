@@ -3,6 +3,7 @@ use Rattle.std.proofs.Common.{◌≡◌, ◌<◌, ◌≤◌, ◌+◌, ℕ, List,
 use Rattle.std.specs.List.{AllZip}
 use Rattle.std.proofs.Math.Bridge.{le_prop}
 use Rattle.std.proofs.Math.Nat.{ℕ_set}
+use Rattle.std.proofs.lemmas.Option.{same_Some}
 use mathlib.Core.HLevel.{is_prop→PathP}
 use Rattle.vw_net.specs.declared.cell.Cell.{Cell}
 use Rattle.vw_net.specs.declared.cell.Cell.TheVariants.{Gate, Latch}
@@ -15,9 +16,6 @@ use Rattle.vw_design.specs.declared.design.Design.{Design}
 use Rattle.vw_design.specs.Paths.{Path}
 use Rattle.vw_design.specs.Preorder.{Site, cells}
 use Rattle.vw_design.specs.Flattened.{IsCellOf, IsFlatOf}
-
-some_same : {X : Type 0} (x y : X) → Some x ≡ Some y → x ≡ y
-some_same x y is = cc
 
 nets_same : (nets others : List ℕ) → map (λ net. Some net) nets ≡ map (λ net. Some net) others → nets ≡ others
 nets_same [] [] is = refl
@@ -39,7 +37,7 @@ cell_same design path (Names line ins out cover) (Latch net start) other is its 
 cell_same design path (LatchItem line d q edge control init) (Gate nets table) other is its = absurd is
 cell_same design path (LatchItem line d q edge control init) (Latch net start) (Gate nets table) is its = absurd its
 cell_same design path (LatchItem line d q edge control init) (Latch net start) (Latch other_net other_start) is its =
-    let same : net ≡ other_net = some_same net other_net (sym is.0 ∙ its.0) in
+    let same : net ≡ other_net = same_Some net other_net (sym is.0 ∙ its.0) in
     let starts : start ≡ other_start = is.1 ∙ sym its.1 in
     λ i. Latch (same i) (starts i)
 cell_same design path (Sub line model binds) (Gate nets table) other is its = absurd is

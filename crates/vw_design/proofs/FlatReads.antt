@@ -19,12 +19,12 @@ use Rattle.vw_design.specs.Clocks.{columns}
 use Rattle.vw_design.specs.PathValue.{item_at, place_of_site}
 use Rattle.vw_design.specs.Flattened.{number_of_source, number_of, IsCellOf, IsFlatOf}
 use Rattle.vw_design.specs.Loops.{gate_at, is_driven_by, reads_from, gate_reads}
-use Rattle.vw_design.proofs.Has.{Has-at, from-filter}
+use Rattle.vw_design.proofs.ListElements.{Has-at, from-filter}
 use Rattle.vw_design.proofs.Names.{same_name, equal_names}
 use Rattle.vw_design.proofs.Sites.{site_item}
-use Rattle.vw_design.proofs.FilteredLists.{AllZip-at}
 use Rattle.vw_design.proofs.FlatValues.{place_within, site_of_place}
-use Rattle.vw_design.proofs.Once.{cell_once}
+use Rattle.vw_design.proofs.SitesOnce.{cell_once}
+use Rattle.vw_design.proofs.PairedLists.{AllZip-at}
 
 module _ (design : Design) where
   -- a driver is a cell exactly where its number is the cell's

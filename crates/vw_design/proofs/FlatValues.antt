@@ -20,10 +20,11 @@ use Rattle.vw_design.specs.Preorder.{Site, is_cell, is_latch_item, sites, cells,
 use Rattle.vw_design.specs.Clocks.{columns}
 use Rattle.vw_design.specs.PathValue.{item_at, place_of_name, place_of_site, is_site_of, bit_at, item_value, source_value, path_level}
 use Rattle.vw_design.specs.Flattened.{number_of_source, number_of, IsTableOf, IsCellOf, IsFlatOf}
-use Rattle.vw_design.proofs.Has.{Has-at, at-place, from-filter}
+use Rattle.vw_design.proofs.ListElements.{Has-at, at-place, from-filter}
 use Rattle.vw_design.proofs.Names.{same_name}
 use Rattle.vw_design.proofs.Sites.{site_item}
-use Rattle.vw_design.proofs.FilteredLists.{filter-filter, place_in_filter, AllZip-at, map_numbered}
+use Rattle.vw_design.proofs.FilteredLists.{filter-filter, place_in_filter, map_numbered}
+use Rattle.vw_design.proofs.PairedLists.{AllZip-at}
 
 -- the first place of a name is one of the names
 pub place_within : (names : List Word) (name : Word) (place : ℕ) → place_of_name names name ≡ Some place → place < length names

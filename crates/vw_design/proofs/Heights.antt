@@ -13,7 +13,7 @@ use Rattle.vw_design.specs.Claims.{Numbered, numbered}
 use Rattle.vw_design.specs.Preorder.{Site, with_inside, sites_below, sites, instances_at, paths_of}
 use Rattle.vw_design.specs.Limits.{depth_at, greatest_depth}
 use Rattle.vw_design.specs.Counts.{items_height, model_height}
-use Rattle.vw_design.proofs.Has.{Has}
+use Rattle.vw_design.proofs.ListElements.{Has}
 use Rattle.vw_design.proofs.Weights.{model_behind, root_named}
 
 greatest_append : (one other : List ℕ) → greatest (one ++ other) ≡ max (greatest one) (greatest other)

@@ -1,6 +1,8 @@
 -- Elements of lists by their numbers.
-use Rattle.std.proofs.Common.{◌≡◌, ◌≢◌, ◌<◌, ℕ, zero, suc, List, [], ◌∷◌, ◌++◌, length, Some, None, slice_get, slice_set, refl, sym, ap, subst, arith}
-use Rattle.std.proofs.lemmas.Option.{none-some}
+use Rattle.std.proofs.Common.{◌≡◌, ◌≢◌, ◌<◌, ◌⊎◌, inl, inr, ⊎_elim, ℕ, zero, suc, List, [], ◌∷◌, ◌++◌, length, Some, None, slice_get, slice_set, slice_index_or, refl, sym, ◌∙◌, ap, subst, arith}
+use Rattle.std.proofs.lemmas.Bool.{cases_lt}
+use Rattle.std.proofs.lemmas.List.{get_or_past}
+use Rattle.std.proofs.lemmas.Option.{none-some, same_Some, slice_get-get_or}
 
 module _ {A : Type 0} where
   -- an element of a front, the first one behind it, and the last one
@@ -22,10 +24,22 @@ module _ {A : Type 0} where
   same_front (x ∷ xs) ys (suc k) within = same_front xs ys k (omega arith)
 
   -- each number below the length has an element
+  pub at_within : (xs : List A) (k : ℕ) → k < length xs → (x : A) × (slice_get xs k ≡ Some x)
+  at_within [] k within = absurd (omega arith)
+  at_within (x ∷ xs) zero within = (x, refl)
+  at_within (x ∷ xs) (suc k) within = at_within xs k (omega arith)
+
   pub none_at_place : (xs : List A) (k : ℕ) → k < length xs → slice_get xs k ≡ None → ⊥
   none_at_place [] k within is = omega arith
   none_at_place (x ∷ xs) zero within is = none-some x (sym is)
   none_at_place (x ∷ xs) (suc k) within is = none_at_place xs k (omega arith) is
+
+  -- an element of a list with one more
+  pub or_last : (xs : List A) (last x : A) (k : ℕ) → slice_get (xs ++ (last ∷ [])) k ≡ Some x → (slice_get xs k ≡ Some x) ⊎ ((k ≡ length xs) × (last ≡ x))
+  or_last [] last x zero at = inr (refl, same_Some last x at)
+  or_last [] last x (suc k) at = absurd (none-some x at)
+  or_last (first ∷ xs) last x zero at = inl at
+  or_last (first ∷ xs) last x (suc k) at = ⊎_elim (λ found. inl found) (λ there. inr (ap suc there.0, there.1)) (or_last xs last x k at)
 
   -- an element that was set, and the others
   pub set_here : (xs : List A) (k : ℕ) (x : A) → k < length xs → slice_get (slice_set xs k x) k ≡ Some x
@@ -39,3 +53,10 @@ module _ {A : Type 0} where
   set_elsewhere (y ∷ xs) zero (suc j) x apart = refl
   set_elsewhere (y ∷ xs) (suc k) zero x apart = refl
   set_elsewhere (y ∷ xs) (suc k) (suc j) x apart = set_elsewhere xs k j x (λ same. apart (ap suc same))
+
+-- the list at a place of lists, where it has an element
+pub list_at : {A : Type 0} → (lists : List (List A)) (k place : ℕ) (x : A) → slice_get (slice_index_or lists k []) place ≡ Some x → slice_get lists k ≡ Some (slice_index_or lists k [])
+list_at {A = A} lists k place x at = ⊎_elim
+    (λ within. slice_get-get_or lists k [] within)
+    (λ past. absurd (none-some x (sym (ap (λ (l : List A). slice_get l place) (get_or_past lists k [] past)) ∙ at)))
+    (cases_lt k (length lists))

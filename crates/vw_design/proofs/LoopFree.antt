@@ -16,7 +16,7 @@ use Rattle.vw_design.specs.Preorder.{Site, cells}
 use Rattle.vw_design.specs.PathValue.{item_at, place_of_site, item_value, source_value, path_level, path_value}
 use Rattle.vw_design.specs.Accepted.{IsAccepted}
 use Rattle.vw_design.specs.Loops.{Gate, is_driven_by, reads_from, gate_reads, IsLoopFree}
-use Rattle.vw_design.proofs.Has.{Has, Has-left, Has-right, any-Has, from-any}
+use Rattle.vw_design.proofs.ListElements.{Has, Has-left, Has-right, any-Has, from-any}
 use Rattle.vw_design.proofs.Names.{name_same}
 use Rattle.vw_design.proofs.FlatValues.{site_of_place}
 use Rattle.vw_design.proofs.DriverNumbers.{cell_place}

@@ -8,10 +8,11 @@ use Rattle.std.proofs.lemmas.Option.{none-some, same_Some}
 use Rattle.vw_design.specs.declared.model.Model.{Model}
 use Rattle.vw_design.specs.declared.design.Design.{Design}
 use Rattle.vw_design.specs.Distinct.{has_name, are_distinct}
-use Rattle.vw_design.specs.Paths.{Word, model_named}
+use Rattle.vw_design.specs.Paths.{Word, model_named, model_at}
 use Rattle.vw_design.specs.ModelFaults.{has_model_name, place_in_file}
-use Rattle.vw_design.proofs.Has.{Has, from-find}
+use Rattle.vw_design.proofs.ListElements.{Has, from-find}
 use Rattle.vw_design.proofs.Names.{same_name, equal_names, has_name-Has}
+use Rattle.vw_design.proofs.ListPlaces.{at_within}
 
 -- where names differ, the first model with the name of a model is that model
 name_at : (models : List Model) (k : ℕ) (model : Model) → slice_get models k ≡ Some model → Has model.name (map (λ m. m.name) models)
@@ -59,3 +60,7 @@ module _ (design : Design) where
 pub named_by : (name : Word) (found : Option Model) → has_model_name name found ≡ true → (model : Model) × (found ≡ Some model) × (model.name ≡ name)
 named_by name None has = absurd (true≢false (sym has))
 named_by name (Some model) has = (model, refl, same_name model.name name has)
+
+-- the root has a model
+pub root_model : (design : Design) → (model : Model) × (model_at design [] ≡ Some model)
+root_model design = at_within design.models 0 design.some

@@ -4,7 +4,7 @@ use Rattle.std.specs.Str.{bytes_eq}
 use Rattle.std.proofs.lemmas.Slice.Eq.{bytes_eq-Decides}
 use Rattle.vw_design.specs.Distinct.{has_name}
 use Rattle.vw_design.specs.Paths.{Word}
-use Rattle.vw_design.proofs.Has.{Has, any-Has, from-any}
+use Rattle.vw_design.proofs.ListElements.{Has, any-Has, from-any}
 
 pub same_name : (one other : Word) → bytes_eq one other ≡ true → one ≡ other
 same_name one other same = (bytes_eq-Decides one other).0 same

@@ -12,10 +12,11 @@ use Rattle.vw_design.specs.Preorder.{Site, site_at, inside, with_inside, sites_b
 use Rattle.vw_design.specs.Limits.{weight_of}
 use Rattle.vw_design.specs.Counts.{placed_one, cell_one, items_weight, model_weight}
 use Rattle.vw_design.specs.PathValue.{item_at, place_of_site}
-use Rattle.vw_design.proofs.Has.{Has, Has-left}
+use Rattle.vw_design.proofs.ListElements.{Has, Has-left}
 use Rattle.vw_design.proofs.Entries.{item_entry}
 use Rattle.vw_design.proofs.Weights.{items_weigh, placed_weighs, instances_weigh, cells_weigh}
-use Rattle.vw_design.proofs.Once.{site_once, cell_once}
+use Rattle.vw_design.proofs.SitesOnce.{site_once, cell_once}
+use Rattle.vw_design.proofs.ListPlaces.{behind}
 
 -- numbered items cut at one of them
 record IsCutAt (number before : ℕ) (items : List Item) (entry : Numbered) : Type 0 where
@@ -55,16 +56,12 @@ cut_entry number before (item ∷ items) entry has =
     cut in
     ⊎_elim first later has
 
--- the element behind a front, and behind what is kept of it
-behind_front : {A : Type 0} (front rest : List A) (x : A) → slice_get (front ++ x ∷ rest) (length front) ≡ Some x
-behind_front [] rest x = refl
-behind_front (y ∷ front) rest x = behind_front front rest x
-
+-- the element behind what is kept of a front
 kept_behind : {A : Type 0} (keep : A → Bool) (front rest : List A) (x : A) → keep x ≡ true → slice_get (filter keep (front ++ x ∷ rest)) (length (filter keep front)) ≡ Some x
 kept_behind {A} keep front rest x kept =
     ap (λ (list : List A). slice_get list (length (filter keep front)))
     (filter-append keep front (x ∷ rest) ∙ ap (λ (b : Bool). filter keep front ++ cond b (x ∷ filter keep rest) (filter keep rest)) kept)
-    ∙ behind_front (filter keep front) (filter keep rest) x
+    ∙ behind (filter keep front) (x ∷ filter keep rest)
 
 module _ (design : Design) where
   -- the sites of an instance, cut at one of its items: so much stands before it, and weighs as the items before it
@@ -142,7 +139,7 @@ module _ (design : Design) where
       let cut = cut_site depth path entry.entry entry.has in
       let whole = cut_design before after depth path all entry.entry cut in
       let stands : slice_get (sites design) (length (before ++ cut.front)) ≡ Some (site_at path entry.entry) =
-      ap (λ (list : List Site). slice_get list (length (before ++ cut.front))) whole ∙ behind_front (before ++ cut.front) (cut.rest ++ after) (site_at path entry.entry) in
+      ap (λ (list : List Site). slice_get list (length (before ++ cut.front))) whole ∙ behind (before ++ cut.front) (site_at path entry.entry ∷ (cut.rest ++ after)) in
       let cells_named = ap (λ (n : ℕ). items_weight cell_one (model_weight design cell_one depth) (take n items)) entry.number_is in
       let placed_named = ap (λ (n : ℕ). items_weight placed_one (model_weight design placed_one depth) (take n items)) entry.number_is in
       let sum : length (before ++ cut.front)
@@ -166,7 +163,7 @@ module _ (design : Design) where
       ap paths_of whole ∙ flat_map-append placed (before ++ cut.front) (site_at path entry ∷ (cut.rest ++ after))
       ∙ ap (λ (i : Item). front ++ (instances_at path entry.before i ++ paths_of (cut.rest ++ after))) is in
       let stands : slice_get (paths_of (sites design)) (length front) ≡ Some (suc entry.before ∷ path) =
-      ap (λ (list : List Path). slice_get list (length front)) listed ∙ behind_front front (paths_of (cut.rest ++ after)) (suc entry.before ∷ path) in
+      ap (λ (list : List Path). slice_get list (length front)) listed ∙ behind front ((suc entry.before ∷ path) ∷ paths_of (cut.rest ++ after)) in
       let counted = ap (λ (list : List Path). length list) (flat_map-append placed before cut.front) ∙ length-append (paths_of before) (paths_of cut.front) in
       let sum : 1 + (weight_of placed_one before + items_weight placed_one (model_weight design placed_one depth) (take entry.number (items_of (model_at design path)))) ≡ suc (length front) =
       omega (arith, counted, instances_weigh before, instances_weigh cut.front, cut.weighs placed_one) in

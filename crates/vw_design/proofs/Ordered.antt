@@ -18,12 +18,12 @@ use Rattle.vw_design.specs.PathValue.{item_at}
 use Rattle.vw_design.specs.Flattened.{IsCellOf, IsFlatOf}
 use Rattle.vw_design.specs.Accepted.{IsAccepted}
 use Rattle.vw_design.specs.Loops.{Gate, gate_at, reads_from, gate_reads, IsLoopFree}
-use Rattle.vw_design.proofs.Has.{Has-at, at-Has, from-any, all-Has, from-filter}
+use Rattle.vw_design.proofs.ListElements.{Has-at, at-Has, from-any, all-Has, from-filter}
 use Rattle.vw_design.proofs.Sites.{site_item}
-use Rattle.vw_design.proofs.FilteredLists.{AllZip-at}
 use Rattle.vw_design.proofs.FlatValues.{site_of_place}
 use Rattle.vw_design.proofs.DriverNumbers.{cell_place}
 use Rattle.vw_design.proofs.FlatReads.{reads_agree}
+use Rattle.vw_design.proofs.PairedLists.{AllZip-at}
 
 module _ (design : Design) (accepted : IsAccepted design) (flat : Flat) (made : IsFlatOf design flat) (order : List ℕ) (is_order : IsOrder flat.inputs flat.cells order) where
   -- a gate of the design, as it stands among the cells

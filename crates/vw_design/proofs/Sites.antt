@@ -7,7 +7,7 @@ use Rattle.vw_design.specs.Paths.{Path, model_at, items_of}
 use Rattle.vw_design.specs.Claims.{Numbered, numbered}
 use Rattle.vw_design.specs.Preorder.{Site, site_at, inside, with_inside, sites_below, sites}
 use Rattle.vw_design.specs.PathValue.{item_at}
-use Rattle.vw_design.proofs.Has.{Has, from-flat_map}
+use Rattle.vw_design.proofs.ListElements.{Has, from-flat_map}
 use Rattle.vw_design.proofs.Entries.{entry_of}
 
 -- a site is a numbered item of what stands at its path

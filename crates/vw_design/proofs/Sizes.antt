@@ -8,7 +8,7 @@ use Rattle.vw_design.specs.Distinct.{has_name}
 use Rattle.vw_design.specs.Paths.{Word, model_at}
 use Rattle.vw_design.specs.Clocks.{inputs_of, clocks_of, control_ports, clock_ports, columns}
 use Rattle.vw_design.specs.Limits.{input_count, output_count, instance_count, binding_count, cell_count, greatest_depth, IsSmall, Counted, inputs, outputs, placed, bindings, gates_and_latches, levels, count_of, limit_of, too_big}
-use Rattle.vw_design.proofs.Has.{Has, none-find}
+use Rattle.vw_design.proofs.ListElements.{Has, none-find}
 
 -- a test that lets less through leaves no more
 fewer : {A : Type 0} (narrow wide : A → Bool) → ((x : A) → narrow x ≡ true → wide x ≡ true) → (xs : List A) → length (filter narrow xs) ≤ length (filter wide xs)

@@ -1,14 +1,14 @@
 -- The way from a net to its driver: it goes up and then down, and so it ends.
 use Rattle.std.proofs.Common.{◌≡◌, ◌≤◌, ◌+◌, ℕ, zero, suc, true, false, [], ◌∷◌, length, Option, Some, None, option_and_then, ⊎_elim, refl, sym, ◌∙◌, ap, true≢false, arith}
 use Rattle.std.proofs.lemmas.Bool.{cases_lt}
-use Rattle.std.proofs.lemmas.Option.{none-some}
+use Rattle.std.proofs.lemmas.Option.{none-some, same_Some}
 use Rattle.vw_design.specs.declared.model.Model.{Model}
 use Rattle.vw_design.specs.declared.design.Design.{Design}
 use Rattle.vw_design.specs.Distinct.{has_name}
 use Rattle.vw_design.specs.Paths.{Word, Path, model_placed, model_at, is_port}
 use Rattle.vw_design.specs.Claims.{Claim, port, driven, bound, claims, first_claim}
 use Rattle.vw_design.specs.Drivers.{Source, Turn, ends, goes_on, actual_of, turn_up, turn_by, turn, follow_turn, follow, driver}
-use Rattle.vw_design.proofs.Has.{Has-at}
+use Rattle.vw_design.proofs.ListElements.{Has-at}
 use Rattle.vw_design.proofs.Claimed.{IsClaim, claim_is}
 
 -- no instance lies at this depth or deeper, and an output of a placed model is no port of it
@@ -36,12 +36,9 @@ no_port design one place path name formal is port_too =
     let here = claim_at design name (bound place formal) (model_at design path) is in
     let stands : model_at design (place ∷ path) ≡ Some here.2.0 = ap (option_and_then (model_placed design place)) here.1 ∙ here.2.1 in
     let there = claim_at design formal port (model_at design (place ∷ path)) port_too in
-    let no = one.one_way place path there.0 formal there.1 (subst_outputs here.2.0 there.0 (some_same (sym stands ∙ there.1)) formal here.2.2) in
+    let no = one.one_way place path there.0 formal there.1 (subst_outputs here.2.0 there.0 (same_Some here.2.0 there.0 (sym stands ∙ there.1)) formal here.2.2) in
     true≢false (sym there.2 ∙ no)
   where
-    some_same : {A : Type 0} {x y : A} → Some x ≡ Some y → x ≡ y
-    some_same e = cc
-
     subst_outputs : (one other : Model) → one ≡ other → (name : Word) → has_name one.outputs name ≡ true → has_name other.outputs name ≡ true
     subst_outputs one other same name has = ap (λ (m : Model). has_name m.outputs name) (sym same) ∙ has
 

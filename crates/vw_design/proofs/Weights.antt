@@ -13,7 +13,7 @@ use Rattle.vw_design.specs.Claims.{Numbered, numbered}
 use Rattle.vw_design.specs.Preorder.{Site, with_inside, sites_below, sites, instances_at, paths_of, is_cell}
 use Rattle.vw_design.specs.Limits.{weight_of}
 use Rattle.vw_design.specs.Counts.{placed_one, cell_one, items_weight, model_weight, items_height, model_height, is_below, IsRanking}
-use Rattle.vw_design.proofs.Has.{Has}
+use Rattle.vw_design.proofs.ListElements.{Has}
 use Rattle.vw_design.proofs.Names.{name_same}
 use Rattle.vw_design.proofs.Entries.{entry_of}
 

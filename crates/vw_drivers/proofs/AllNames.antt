@@ -8,8 +8,8 @@ use Rattle.vw_design.specs.declared.model.Model.{Model}
 use Rattle.vw_design.specs.declared.design.Design.{Design}
 use Rattle.vw_design.specs.Paths.{placings}
 use Rattle.vw_design.specs.ModelNumbers.{IsNumberOfModel, AreTargets}
-use Rattle.vw_design.proofs.FilteredLists.{AllZip-at, AllZip-length}
 use Rattle.vw_design.proofs.ListPlaces.{in_front, at_end}
+use Rattle.vw_design.proofs.PairedLists.{AllZip-at, AllZip-length}
 use Rattle.vw_drivers.specs.declared.model_claims.ModelClaims.{ModelClaims}
 use Rattle.vw_drivers.specs.Firsts.{First, number_named}
 use Rattle.vw_drivers.specs.declared.model_names.PlacedNames.{PlacedNames}

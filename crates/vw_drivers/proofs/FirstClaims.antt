@@ -12,7 +12,7 @@ use Rattle.vw_design.specs.declared.design.Design.{Design}
 use Rattle.vw_design.specs.Distinct.{has_name}
 use Rattle.vw_design.specs.Paths.{Word, Placing, placings, model_named, model_outputs, is_port}
 use Rattle.vw_design.specs.Claims.{Numbered, and_behind, numbered, Claim as NamedClaim, port, driven, bound, bind_claim, item_claims, claims, first_claim}
-use Rattle.vw_design.proofs.Has.{Has}
+use Rattle.vw_design.proofs.ListElements.{Has}
 use Rattle.vw_design.proofs.Entries.{IsEntry, entry_of}
 use Rattle.vw_drivers.specs.declared.claim.Claim.{Claim}
 use Rattle.vw_drivers.specs.declared.claim.Claim.TheVariants.{Port, Driven, Bound}
@@ -20,7 +20,7 @@ use Rattle.vw_drivers.specs.declared.model_claims.ModelClaims.{ModelClaims}
 use Rattle.vw_drivers.specs.Firsts.{First, claim_named}
 use Rattle.vw_drivers.specs.Steps.GatheredClaims.{with_firsts, port_first, binds_made, item_made, with_claim, with_all, with_items, ports_only}
 use Rattle.vw_drivers.specs.Claimed.{meant}
-use Rattle.vw_drivers.proofs.Looks.{look, named_look, look_append, look_firsts, with_firsts_append}
+use Rattle.vw_drivers.proofs.ClaimLookups.{look, named_look, look_append, look_firsts, with_firsts_append}
 
 -- the first of some claims and others
 first_append : {A : Type 0} (one other : List A) → slice_get (one ++ other) 0 ≡ option_or (slice_get one 0) (slice_get other 0)

@@ -16,10 +16,10 @@ use Rattle.vw_design.specs.Drivers.{actual_among}
 use Rattle.vw_design.specs.ModelFaults.{NameAt, at_model, unbound_input_in}
 use Rattle.vw_design.specs.Paths.{Word, Path, Placing, placing_at, model_placed, model_named, model_at, is_port}
 use Rattle.vw_design.specs.Preorder.{instances}
-use Rattle.vw_design.proofs.Has.{Has, Has-at, Has-left, Has-right, Has-map, from-map, all-Has, none-find}
+use Rattle.vw_design.proofs.ListElements.{Has, Has-at, Has-left, Has-right, Has-map, from-map, all-Has, none-find}
 use Rattle.vw_design.proofs.Names.{same_name, equal_names, has_name-Has, Has-has_name}
-use Rattle.vw_design.proofs.Instances.{placing_of_placed}
-use Rattle.vw_design.proofs.Reached.{faultless_shallow, nothing_placed}
+use Rattle.vw_design.proofs.ListedInstances.{placing_of_placed}
+use Rattle.vw_design.proofs.ShallowDesigns.{faultless_shallow, nothing_placed}
 use Rattle.vw_drivers.specs.Firsts.{First}
 use Rattle.vw_instances.specs.declared.tables.Placed.{Placed}
 use Rattle.vw_drivers.specs.declared.model_names.PlacedNames.{PlacedNames}
@@ -27,7 +27,7 @@ use Rattle.vw_drivers.specs.Names.{way_of}
 use Rattle.vw_drivers.specs.declared.tables.Tables.{Tables}
 use Rattle.vw_drivers.specs.Tables.{AreTables, instance_firsts}
 use Rattle.vw_drivers.specs.Steps.FoundDrivers.{placed_of, ways_of}
-use Rattle.vw_drivers.proofs.Instances.{instance_of, placed_is}
+use Rattle.vw_drivers.proofs.InstanceTables.{instance_of, placed_is}
 
 -- the item that places an instance
 pub record IsPlacing (design : Design) (tables : Tables) (number place : ℕ) (path : Path) : Type 0 where

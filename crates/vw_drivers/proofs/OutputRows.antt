@@ -20,13 +20,13 @@ use Rattle.vw_drivers.specs.declared.source.Source.{Source}
 use Rattle.vw_drivers.specs.declared.tables.Tables.{Tables}
 use Rattle.vw_drivers.specs.Tables.{AreTables, instance_firsts}
 use Rattle.vw_drivers.specs.Drivers.{at_row, at_rows, driver_by_numbers, HasOutputs}
-use Rattle.vw_drivers.specs.Steps.FoundDrivers.{Rows, ways_of, output_led, outputs_made}
-use Rattle.vw_drivers.proofs.Rows.{row_set, row_not_set}
-use Rattle.vw_drivers.proofs.Instances.{instance_of}
-use Rattle.vw_drivers.proofs.Leads.{some_first, named_first, led_is}
+use Rattle.vw_drivers.specs.Steps.FoundDrivers.{DriverRows, ways_of, output_led, outputs_made}
+use Rattle.vw_drivers.proofs.WrittenRows.{row_set, row_not_set}
+use Rattle.vw_drivers.proofs.InstanceTables.{instance_of}
+use Rattle.vw_drivers.proofs.LedClaims.{some_first, named_first, led_is}
 use Rattle.vw_drivers.proofs.Formals.{placing_of}
 
-module _ (design : Design) (faultless : HasNoModelFault design) (tables : Tables) (are : AreTables design tables) (number : ℕ) (outputs : Rows)
+module _ (design : Design) (faultless : HasNoModelFault design) (tables : Tables) (are : AreTables design tables) (number : ℕ) (outputs : DriverRows)
     (later : (other : ℕ) → number < other → HasOutputs design tables outputs other) where
   module _ (path : Path) (listed : slice_get (instances design) number ≡ Some path) (formal : Word) (no_port : first_claim design (model_at design path) formal ≡ Some port → ⊥) where
     -- the first claim is no port
@@ -46,7 +46,7 @@ module _ (design : Design) (faultless : HasNoModelFault design) (tables : Tables
         let found = some_first (Some port) (first_claim design (model_at design path) formal) (ap (option_map (meant here.is.model.items)) kind_is ∙ first) in
         absurd (no_port (found.2 ∙ sym found.1))
 
-  pub outputs_right : (entry : Placed) → slice_get tables.instances number ≡ Some entry → (rows : Rows)
+  pub outputs_right : (entry : Placed) → slice_get tables.instances number ≡ Some entry → (rows : DriverRows)
       → ((at : ℕ) → at_rows rows number at ≡ at_row (outputs_made tables outputs number entry) at) → HasOutputs design tables rows number
   outputs_right entry at_entry rows row_is = λ place path at bind listed bind_is no_port.
       let is = placing_of design faultless tables are number place path listed in
@@ -66,7 +66,7 @@ module _ (design : Design) (faultless : HasNoModelFault design) (tables : Tables
       (number_named (instance_firsts tables number) bind.formal) (claim_named (instance_firsts tables number) bind.formal) (number_named (instance_firsts tables is.entry.parent) bind.actual) refl refl
 
 -- the row is written, and the later ones stay
-pub outputs_set : (design : Design) → HasNoModelFault design → (tables : Tables) → AreTables design tables → (number : ℕ) (rows : Rows)
+pub outputs_set : (design : Design) → HasNoModelFault design → (tables : Tables) → AreTables design tables → (number : ℕ) (rows : DriverRows)
     → ((other : ℕ) → number < other → HasOutputs design tables rows other) → (entry : Placed) → slice_get tables.instances number ≡ Some entry → number < length rows
     → (row : List (Option Source)) → row ≡ outputs_made tables rows number entry → (other : ℕ) → number ≤ other → HasOutputs design tables (slice_set rows number row) other
 outputs_set design faultless tables are number rows later entry at_entry within row row_is other least =

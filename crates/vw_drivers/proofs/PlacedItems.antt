@@ -12,9 +12,9 @@ use Rattle.vw_design.specs.declared.design.Design.{Design}
 use Rattle.vw_design.specs.Paths.{Placing, placings, model_named}
 use Rattle.vw_design.specs.Claims.{and_behind}
 use Rattle.vw_design.specs.ModelNumbers.{IsNumberOfModel}
-use Rattle.vw_design.proofs.FilteredLists.{AllZip-at}
 use Rattle.vw_design.proofs.ListPlaces.{none_at_place}
 use Rattle.vw_design.proofs.ModelNumbers.{one_number}
+use Rattle.vw_design.proofs.PairedLists.{AllZip-at}
 use Rattle.vw_drivers.specs.declared.model_claims.ModelClaims.{ModelClaims}
 use Rattle.vw_drivers.specs.Firsts.{First}
 use Rattle.vw_drivers.specs.declared.model_names.PlacedNames.{PlacedNames}

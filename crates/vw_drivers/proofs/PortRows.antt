@@ -1,6 +1,5 @@
 -- The row of an instance has the drivers of its ports, where the rows of outputs and earlier rows of ports have theirs.
 use Rattle.std.proofs.Common.{◌≡◌, ◌<◌, ◌+◌, ℕ, true, List, [], ◌∷◌, map, Option, Some, None, option_map, option_and_then, slice_get, refl, sym, ◌∙◌, ap, ap₂, subst, length, ◌++◌, ⊎_elim, arith}
-use Rattle.std.specs.Str.{bytes_eq}
 use Rattle.std.proofs.lemmas.Bool.{cases_lt}
 use Rattle.std.proofs.lemmas.Option.{same_Some, none-some}
 use Rattle.vw_design.specs.declared.item.Bind.{Bind}
@@ -12,13 +11,12 @@ use Rattle.vw_design.specs.Claims.{Claim as NamedClaim, port, bound, first_claim
 use Rattle.vw_design.specs.Drivers.{actual_of, actual_among, turn_up, follow_turn, driver}
 use Rattle.vw_design.specs.Paths.{Word, Path, Placing, model_at, placing_at, is_port}
 use Rattle.vw_design.specs.Preorder.{instances}
-use Rattle.vw_design.proofs.Has.{Has, Has-map, from-map, at-place}
-use Rattle.vw_design.proofs.Names.{same_name}
+use Rattle.vw_design.proofs.ListElements.{Has, Has-map, from-map}
 use Rattle.vw_design.proofs.Ways.{claim_at as claim_of}
 use Rattle.vw_drivers.specs.declared.claim.Claim.{Claim}
 use Rattle.vw_drivers.specs.declared.claim.Claim.TheVariants as claims
 use Rattle.vw_drivers.specs.Claimed.{bind_at, meant}
-use Rattle.vw_drivers.specs.Firsts.{First, number_named, claim_named}
+use Rattle.vw_drivers.specs.Firsts.{number_named, claim_named}
 use Rattle.vw_instances.specs.declared.tables.Placed.{Placed}
 use Rattle.vw_drivers.specs.declared.model_names.Way.{Way}
 use Rattle.vw_drivers.specs.declared.model_names.Way.TheVariants as ways
@@ -28,11 +26,12 @@ use Rattle.vw_drivers.specs.declared.tables.Tables.{Tables}
 use Rattle.vw_drivers.specs.Sources.{source_of}
 use Rattle.vw_drivers.specs.Tables.{AreTables, root_firsts, instance_firsts}
 use Rattle.vw_drivers.specs.Drivers.{at_row, at_rows, driver_by_numbers, HasOutputs, HasPorts}
-use Rattle.vw_drivers.specs.Steps.FoundDrivers.{Rows, led, with_ways, ports_made}
-use Rattle.vw_drivers.proofs.Rows.{found, row_before, row_last}
-use Rattle.vw_drivers.proofs.Instances.{instance_of}
-use Rattle.vw_drivers.proofs.Leads.{PortIs, turned, named_first, led_is}
+use Rattle.vw_drivers.specs.Steps.FoundDrivers.{DriverRows, led, with_ways, ports_made}
+use Rattle.vw_drivers.proofs.WrittenRows.{found, row_before, row_last}
+use Rattle.vw_drivers.proofs.InstanceTables.{instance_of}
+use Rattle.vw_drivers.proofs.LedClaims.{PortIs, turned, named_first, led_is}
 use Rattle.vw_drivers.proofs.Formals.{IsPlacing, placing_of, bound_port, actual_is}
+use Rattle.vw_drivers.proofs.ClaimLookups.{one_name}
 
 -- a way to a port, by its number
 port_way : (number : Option ℕ) (kind : Option Claim) (actual : Option ℕ) (to : ℕ) (other : Option ℕ) → way_by number kind actual ≡ ways.Port to other → (number ≡ Some to) × (actual ≡ other)
@@ -41,13 +40,6 @@ port_way (Some at) None actual to other is = cc
 port_way (Some at) (Some (claims.Driven item)) actual to other is = cc
 port_way (Some at) (Some (claims.Bound place bind)) actual to other is = cc
 port_way (Some at) (Some claims.Port) actual to other is = (cc, cc)
-
--- names with the same number are the same
-one_name : (firsts : List First) (one other : Word) (number : ℕ) → number_named firsts one ≡ Some number → number_named firsts other ≡ Some number → one ≡ other
-one_name firsts one other number one_is other_is =
-    let here = at-place (λ (f : First). bytes_eq f.name one) firsts number one_is in
-    let there = at-place (λ (f : First). bytes_eq f.name other) firsts number other_is in
-    sym (same_name here.0.name one here.2) ∙ ap (λ (f : First). f.name) (same_Some here.0 there.0 (sym here.1 ∙ there.1)) ∙ same_name there.0.name other there.2
 
 -- a claim by numbers that means a port is one
 pub meant_port : (items : List Item) (claim : Option Claim) → option_map (meant items) claim ≡ Some (Some port) → claim ≡ Some claims.Port
@@ -59,7 +51,7 @@ meant_port items (Some (claims.Bound place number)) is = by (bind_at items place
   by None means = absurd (none-some port means)
   by (Some bind) means = cc
 
-module _ (design : Design) (faultless : HasNoModelFault design) (tables : Tables) (are : AreTables design tables) (outputs ports : Rows)
+module _ (design : Design) (faultless : HasNoModelFault design) (tables : Tables) (are : AreTables design tables) (outputs ports : DriverRows)
     (outputs_are : (other : ℕ) → HasOutputs design tables outputs other) where
   -- the rows of ports of an instance
   pub port_is : (number : ℕ) (path : Path) (listed : slice_get (instances design) number ≡ Some path) → HasPorts design tables ports number → (name : Word)
@@ -117,7 +109,7 @@ module _ (design : Design) (faultless : HasNoModelFault design) (tables : Tables
         (ap (number_named (instance_firsts tables number)) bind.2 ∙ named) (ap (claim_named (instance_firsts tables number)) bind.2 ∙ kind) in
         (actual, subst (λ (w : Way). Has w (map way is.placing.binds)) to (Has-map way bind.0 is.placing.binds bind.1))
 
-  pub ports_right : (number : ℕ) → ((other : ℕ) → other < number → HasPorts design tables ports other) → (entry : Placed) → slice_get tables.instances number ≡ Some entry → (rows : Rows)
+  pub ports_right : (number : ℕ) → ((other : ℕ) → other < number → HasPorts design tables ports other) → (entry : Placed) → slice_get tables.instances number ≡ Some entry → (rows : DriverRows)
       → ((at : ℕ) → at_rows rows number at ≡ at_row (ports_made tables outputs ports entry) at) → HasPorts design tables rows number
   ports_right number earlier entry at_entry rows row_is = λ place path name claim listed first named.
       let is = placing_of design faultless tables are number place path listed in
@@ -131,9 +123,9 @@ module _ (design : Design) (faultless : HasNoModelFault design) (tables : Tables
 
   -- one row more
   pub ports_more : (number : ℕ) → number ≡ length ports → ((other : ℕ) → other < number → HasPorts design tables ports other) → (entry : Placed) → slice_get tables.instances number ≡ Some entry
-      → (row : List (Option Source)) → row ≡ ports_made tables outputs ports entry → (rows : Rows) → rows ≡ ports ++ row ∷ [] → (other : ℕ) → other < number + 1 → HasPorts design tables rows other
+      → (row : List (Option Source)) → row ≡ ports_made tables outputs ports entry → (rows : DriverRows) → rows ≡ ports ++ row ∷ [] → (other : ℕ) → other < number + 1 → HasPorts design tables rows other
   ports_more number long earlier entry at_entry row row_is rows rows_are other within =
-      subst (λ (r : Rows). HasPorts design tables r other) (sym rows_are)
+      subst (λ (r : DriverRows). HasPorts design tables r other) (sym rows_are)
       (⊎_elim before (λ least. last (omega (arith, within, least))) (cases_lt other number))
     where
       before : other < number → HasPorts design tables (ports ++ row ∷ []) other

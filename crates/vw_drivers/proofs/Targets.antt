@@ -10,8 +10,8 @@ use Rattle.vw_design.specs.Distinct.{has_name}
 use Rattle.vw_design.specs.Paths.{Word, placings, model_named, model_outputs}
 use Rattle.vw_design.specs.Claims.{and_behind}
 use Rattle.vw_design.specs.ModelNumbers.{IsNumberOfModel}
-use Rattle.vw_design.proofs.FilteredLists.{AllZip-length, AllZip-at}
 use Rattle.vw_design.proofs.ListPlaces.{none_at_place}
+use Rattle.vw_design.proofs.PairedLists.{AllZip-length, AllZip-at}
 use Rattle.vw_drivers.specs.declared.claim.Claim.TheVariants.{Bound}
 use Rattle.vw_drivers.specs.Firsts.{First}
 use Rattle.vw_drivers.specs.Outputs.{AreOutputs}

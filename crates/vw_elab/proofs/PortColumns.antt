@@ -8,7 +8,7 @@ use Rattle.vw_design.specs.Drivers.{Source as PathSource, at_port, at_cell}
 use Rattle.vw_design.specs.Preorder.{cells}
 use Rattle.vw_design.specs.Clocks.{columns}
 use Rattle.vw_design.specs.PathValue.{place_of_name, place_of_site}
-use Rattle.vw_design.proofs.DriverNumbers.{IsFound}
+use Rattle.vw_design.proofs.DriverNumbers.{IsPossibleSource}
 use Rattle.vw_drivers.specs.Firsts.{First, number_named}
 use Rattle.vw_drivers.specs.declared.source.Source.{Source}
 use Rattle.vw_drivers.specs.declared.source.Source.TheVariants as sources
@@ -40,7 +40,7 @@ columns_count inputs names places are =
 
 -- by the columns of ports a source is the driver that it stands for
 pub by_columns : (design : Design) (root : List First) (numbers : Columns) → AreColumns design root numbers
-    → (found : Option PathSource) → ((source : PathSource) → found ≡ Some source → IsFound design source)
+    → (found : Option PathSource) → ((source : PathSource) → found ≡ Some source → IsPossibleSource design source)
     → (source : Option Source) → source ≡ source_of design root found → is_none source ≡ is_none found → driver_by numbers.ports source ≡ driver_of design found
 by_columns design root numbers are None is_found source is none = ap (driver_by numbers.ports) is
 by_columns design root numbers are (Some (at_cell path item)) is_found source is none = ap (driver_by numbers.ports) is ∙ by (place_of_site (cells design) path item) where

@@ -7,10 +7,10 @@ use Rattle.vw_design.specs.declared.design.Design.{Design}
 use Rattle.vw_design.specs.Paths.{Word, Path, items_of}
 use Rattle.vw_design.specs.Drivers.{driver}
 use Rattle.vw_design.specs.Preorder.{Site, is_cell, sites, instances, cells}
-use Rattle.vw_design.proofs.Has.{Has-at, from-filter}
-use Rattle.vw_design.proofs.FilteredLists.{AllZip-at}
+use Rattle.vw_design.proofs.ListElements.{Has-at, from-filter}
 use Rattle.vw_design.proofs.Sites.{site_item}
 use Rattle.vw_design.proofs.DriverNumbers.{driver_is}
+use Rattle.vw_design.proofs.PairedLists.{AllZip-at}
 use Rattle.vw_design.specs.Limits.{instance_count}
 use Rattle.vw_drivers.specs.Firsts.{First, number_named}
 use Rattle.vw_drivers.specs.declared.model_names.ModelNames.{ModelNames}
@@ -28,7 +28,7 @@ use Rattle.vw_nets.specs.Columns.{AreColumns}
 use Rattle.vw_elab.specs.declared.elaborated.Instance.{Instance}
 use Rattle.vw_elab.specs.declared.elaborated.Reading.{Reading}
 use Rattle.vw_elab.specs.declared.parts.Parts.{Parts}
-use Rattle.vw_elab.specs.Tables.{AreDesignParts}
+use Rattle.vw_elab.specs.Steps.DesignParts.{AreDesignParts}
 use Rattle.vw_elab.specs.Numbers.{IsPlacedBy, IsInstance, driver_of}
 use Rattle.vw_elab.specs.Steps.ByColumns.{driver_by, reading_of}
 use Rattle.vw_elab.proofs.PortColumns.{by_columns}

@@ -2,5 +2,4 @@ pub mod Refusals
 pub mod Messages
 pub mod MessageLines
 pub mod Steps
-pub mod Tables
 pub mod Numbers

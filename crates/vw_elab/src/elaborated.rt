@@ -13,7 +13,7 @@ ghost use Rattle.vw_drivers.specs.Firsts.{number_named};
 ghost use Rattle.vw_drivers.specs.Tables.{instance_firsts};
 ghost use Rattle.vw_elab.specs.Steps.ByColumns.{driver_by, reading_of};
 ghost use Rattle.vw_elab.specs.Numbers.{IsInstance, driver_of};
-ghost use Rattle.vw_elab.specs.Tables.{IsElaborated};
+ghost use Rattle.vw_elab.specs.Steps.DesignParts.{IsElaborated};
 
 use crate::driver::Driver;
 use crate::parts::Parts;
@@ -46,7 +46,7 @@ pub struct Elaborated {
 
 impl Model for Elaborated {
     ghost use Rattle.vw_design.specs.declared.design.Design.{Design as TheDesign};
-    ghost use Rattle.vw_elab.specs.Tables.{IsElaborated};
+    ghost use Rattle.vw_elab.specs.Steps.DesignParts.{IsElaborated};
 
     ghost Value = { TheDesign };
 

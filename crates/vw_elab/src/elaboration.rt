@@ -4,7 +4,7 @@ ghost use Rattle.vw_design.specs.Accepted.{HasNoModelFault, IsAccepted};
 ghost use Rattle.vw_drivers.specs.Tables.{root_firsts};
 ghost use Rattle.vw_nets.specs.Columns.{AreColumns};
 ghost use Rattle.vw_elab.specs.Refusals.{IsRefusal};
-ghost use Rattle.vw_elab.specs.Tables.{AreDesignParts};
+ghost use Rattle.vw_elab.specs.Steps.DesignParts.{AreDesignParts};
 
 use crate::elaborated::Elaborated;
 use crate::fault::DesignFault;

@@ -3,7 +3,7 @@ ghost use Rattle.std.specs.Prelude.{◌≡◌, None};
 ghost use Rattle.vw_design.specs.ModelFaults.{unknown_model};
 ghost use Rattle.vw_design.specs.ModelNumbers.{AreTargets, AreModelMarks, IsModelOrder};
 ghost use Rattle.vw_instances.specs.Sizes.{AreSizes};
-ghost use Rattle.vw_elab.specs.Steps.{Judges, HasKnownModels, HasBindings, AreModels};
+ghost use Rattle.vw_elab.specs.Steps.FaultSearch.{Judges, HasKnownModels, HasBindings, AreModelTables};
 
 use crate::fault::DesignFault;
 use std::alloc::Global;
@@ -74,7 +74,7 @@ fn check_bindings(
 
 /// The models of a design without a fault of its models' names and bindings.
 pub fn models_of(alloc: Global, design: &Design) -> Result<Models, DesignFault>
-    ensures { Judges design.now (AreModels design.now) result }
+    ensures { Judges design.now (AreModelTables design.now) result }
 {
     let targets = targets_of(alloc, design)?;
     let marks = marks_of(alloc, design, &targets)?;
@@ -85,7 +85,7 @@ pub fn models_of(alloc: Global, design: &Design) -> Result<Models, DesignFault>
 
 /// The sizes of a design, each within its limit.
 pub fn check_sizes(alloc: Global, design: &Design, models: &Models) -> Result<Sizes, DesignFault>
-    requires { AreModels design.now models.now }
+    requires { AreModelTables design.now models.now }
     ensures { Judges design.now (AreSizes design.now) result }
 {
     let targets = models.targets.as_slice();

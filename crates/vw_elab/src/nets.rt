@@ -1,7 +1,7 @@
 //! Faults of nets.
 ghost use Rattle.vw_design.specs.Accepted.{HasNoModelFault, IsAccepted};
 ghost use Rattle.vw_nets.specs.Nets.{AreNets};
-ghost use Rattle.vw_elab.specs.Steps.{Judges, HasDrivers};
+ghost use Rattle.vw_elab.specs.Steps.FaultSearch.{Judges, HasDrivers};
 
 use crate::fault::DesignFault;
 use std::alloc::Global;

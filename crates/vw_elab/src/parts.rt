@@ -3,8 +3,8 @@ ghost use Rattle.std.specs.Prelude.{◌≡◌, IfOk};
 ghost use Rattle.vw_design.specs.Accepted.{HasNoModelFault};
 ghost use Rattle.vw_nets.specs.Nets.{AreNets};
 ghost use Rattle.vw_instances.specs.Sizes.{AreSizes};
-ghost use Rattle.vw_elab.specs.Steps.{AreModels};
-ghost use Rattle.vw_elab.specs.Tables.{AreDesignParts};
+ghost use Rattle.vw_elab.specs.Steps.FaultSearch.{AreModelTables};
+ghost use Rattle.vw_elab.specs.Steps.DesignParts.{AreDesignParts};
 
 use crate::models::Models;
 use std::alloc::{AllocError, Global};
@@ -30,7 +30,7 @@ impl Parts {
         models: &Models,
         sizes: Sizes,
     ) -> Result<Self, AllocError>
-        requires models { AreModels design.now models.now }
+        requires models { AreModelTables design.now models.now }
         requires sizes { AreSizes design.now sizes }
         requires faultless { HasNoModelFault design.now }
         ensures { IfOk result (AreDesignParts design.now) }

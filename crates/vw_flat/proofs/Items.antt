@@ -1,5 +1,5 @@
 -- The item of a cell, looked up by numbers.
-use Rattle.std.proofs.Common.{◌≡◌, ◌<◌, ℕ, zero, suc, true, true≢false, List, [], ◌∷◌, length, Option, Some, None, slice_get, get_or, refl, sym, ◌∙◌, ap, arith}
+use Rattle.std.proofs.Common.{◌≡◌, ◌<◌, ℕ, true, true≢false, List, length, Option, Some, None, slice_get, get_or, refl, sym, ◌∙◌, ap}
 use Rattle.std.proofs.lemmas.Option.{none-some, same_Some, slice_get_within, slice_get_read}
 use Rattle.vw_design.specs.declared.item.Bind.{Bind}
 use Rattle.vw_design.specs.declared.item.Item.{Item}
@@ -10,26 +10,22 @@ use Rattle.vw_design.specs.Paths.{Word, Path, model_at, items_of}
 use Rattle.vw_design.specs.Preorder.{Site, is_cell, sites, instances, cells}
 use Rattle.vw_design.specs.PathValue.{item_at}
 use Rattle.vw_design.specs.Limits.{cell_count}
-use Rattle.vw_design.proofs.Has.{Has-at, from-filter}
+use Rattle.vw_design.proofs.ListElements.{Has-at, from-filter}
 use Rattle.vw_design.proofs.Sites.{site_item}
+use Rattle.vw_design.proofs.ListPlaces.{at_within}
 use Rattle.vw_instances.specs.declared.tables.CellSite.{CellSite}
 use Rattle.vw_instances.specs.Tables.{IsCellSite}
 use Rattle.vw_elab.specs.declared.elaborated.Instance.{Instance}
 use Rattle.vw_elab.specs.Numbers.{IsInstance}
 use Rattle.vw_flat.specs.Steps.Numbers.{item_with_numbers}
 
-pub some_at : {A : Type 0} → (xs : List A) (k : ℕ) → k < length xs → (x : A) × (slice_get xs k ≡ Some x)
-some_at [] k within = absurd (omega arith)
-some_at (x ∷ xs) zero within = (x, refl)
-some_at (x ∷ xs) (suc k) within = some_at xs k (omega arith)
-
 -- what stands in a list at a number is what is read there
-pub record StandsAt (A : Type 0) (xs : List A) (k : ℕ) (x : A) : Type 0 where
+pub record IsAtNumber (A : Type 0) (xs : List A) (k : ℕ) (x : A) : Type 0 where
   pub within : k < length xs
   pub read : (y : A) → y ≡ get_or xs k y → x ≡ y
 
-pub stands_at : {A : Type 0} → (xs : List A) (k : ℕ) (x : A) → slice_get xs k ≡ Some x → StandsAt A xs k x
-stands_at xs k x is =
+pub at_number : {A : Type 0} → (xs : List A) (k : ℕ) (x : A) → slice_get xs k ≡ Some x → IsAtNumber A xs k x
+at_number xs k x is =
     let within = slice_get_within xs k x is in
     record {
       within = within;
@@ -46,7 +42,7 @@ module _ (design : Design) where
 
   pub cell_is : (cell : ℕ) → cell < cell_count design → IsCell cell
   cell_is cell within =
-      let found = some_at (cells design) cell within in
+      let found = at_within (cells design) cell within in
       let listed = from-filter (λ (s : Site). is_cell s.item) found.0 (sites design) (Has-at found.0 (cells design) cell found.1) in
       record { site = found.0; at = found.1; item = site_item design found.0 listed.0; is = listed.1 }
 
@@ -91,12 +87,12 @@ module _ (design : Design) where
       → (instance : Instance) → IsInstance design entry.instance instance → (models : List Model) → models ≡ design.models → IsModelAt cell entry instance.model models
   item_read cell within entry of_site instance is_instance models are =
       let is = looked_up cell (cell_is cell within) entry of_site instance is_instance in
-      let model = stands_at models instance.model is.model (ap (λ (list : List Model). slice_get list instance.model) are ∙ is.model_is) in
+      let model = at_number models instance.model is.model (ap (λ (list : List Model). slice_get list instance.model) are ∙ is.model_is) in
       record {
         within = model.within;
         items = λ m at items same.
             let own : items ≡ is.model.items = same ∙ ap (λ (x : Model). x.items) (sym (model.read m at)) in
-            let item : StandsAt Item items entry.item is.item = stands_at items entry.item is.item (ap (λ (list : List Item). slice_get list entry.item) own ∙ is.item_is) in
+            let item : IsAtNumber Item items entry.item is.item = at_number items entry.item is.item (ap (λ (list : List Item). slice_get list entry.item) own ∙ is.item_is) in
             record {
               within = item.within;
               same = λ i here. is.same ∙ ap (λ (x : Item). Some x) (item.read i here);

@@ -1,5 +1,5 @@
 -- The numbers of what is read as data.
-use Rattle.std.proofs.Common.{◌≡◌, ◌<◌, ◌+◌, ◌^◌, ◌==◌, ◌++◌, ℕ, zero, suc, true, List, [], ◌∷◌, length, flat_map, Option, Some, None, option_map, slice_get, refl, sym, ◌∙◌, ap, subst, arith}
+use Rattle.std.proofs.Common.{◌≡◌, ◌<◌, ◌+◌, ◌^◌, ◌==◌, ℕ, true, List, length, flat_map, Option, Some, None, option_map, slice_get, refl, sym, ◌∙◌, ap, subst, arith}
 use Rattle.std.proofs.lemmas.Bool.{eqb-true}
 use Rattle.std.proofs.lemmas.List.{length-map}
 use Rattle.std.proofs.lemmas.Option.{none-some, same_Some, slice_get-map, slice_get_within, get_or_from_slice_get}
@@ -17,23 +17,18 @@ use Rattle.vw_design.specs.Clocks.{columns}
 use Rattle.vw_design.specs.PathValue.{place_of_name, place_of_site}
 use Rattle.vw_design.specs.Flattened.{number_of_source, number_of}
 use Rattle.vw_design.specs.Accepted.{IsAccepted}
-use Rattle.vw_design.proofs.Has.{Has, Has-at, at-Has, all-Has, Has-left, Has-right, Has-map, Has-flat_map, from-filter, Contains-Has}
+use Rattle.vw_design.proofs.ListElements.{Has, Has-at, at-Has, all-Has, Has-left, Has-right, Has-map, Has-flat_map, from-filter, Contains-Has}
 use Rattle.vw_design.proofs.Sites.{site_item}
-use Rattle.vw_design.proofs.Reached.{model_in_file}
+use Rattle.vw_design.proofs.ShallowDesigns.{model_in_file}
 use Rattle.vw_design.proofs.Sizes.{few_columns}
 use Rattle.vw_design.proofs.DriverNumbers.{read_numbered}
+use Rattle.vw_design.proofs.ListPlaces.{at_within, in_front}
 use Rattle.vw_drivers.specs.Names.{reads_of}
 use Rattle.vw_elab.specs.declared.driver.Driver.{Driver}
 use Rattle.vw_elab.specs.declared.driver.Driver.TheVariants as drivers
 use Rattle.vw_elab.specs.Numbers.{of_port, driver_of}
 use Rattle.vw_flat.specs.Steps.Numbers.{number_by, HasNumber, nets, item_with_numbers, numbers_at}
-use Rattle.vw_flat.proofs.Items.{some_at, some_model}
-
--- an element of a front
-at_front : {A : Type 0} → (xs ys : List A) (k : ℕ) (x : A) → slice_get xs k ≡ Some x → slice_get (xs ++ ys) k ≡ Some x
-at_front [] ys k x is = absurd (none-some x is)
-at_front (y ∷ xs) ys zero x is = is
-at_front (y ∷ xs) ys (suc k) x is = at_front xs ys k x is
+use Rattle.vw_flat.proofs.Items.{some_model}
 
 module _ (design : Design) where
   -- the number of a driver is that of its source
@@ -91,14 +86,14 @@ module _ (design : Design) where
         let names = data_of site.item in
         let at_data = λ (s : Site). nets_at s (data_of s.item) in
         let long : length (numbers_at design (slice_get (cells design) cell)) ≡ length names = ap (λ (s : Option Site). length (numbers_at design s)) is ∙ length-map names (number_of design site.path) in
-        let name = some_at names input (omega (arith, within, long)) in
+        let name = at_within names input (omega (arith, within, long)) in
         let listed = (from-filter (λ (s : Site). is_cell s.item) site (sites design) (Has-at site (cells design) cell is)).0 in
         let here = Has-map (net_at site.path) name.0 names (Has-at name.0 names input name.1) in
         record {
           site = site;
           at = is;
           name = name.0;
-          reads = at_front names (controls_of site.item) input name.0 name.1;
+          reads = in_front names (controls_of site.item) input name.0 name.1;
           has = Has-left (net_at site.path name.0) (flat_map at_data (sites design)) (root_outputs design) (Has-flat_map at_data site (sites design) (net_at site.path name.0) listed here);
           listed =
               ap (λ (s : Option Site). slice_get (numbers_at design s) input) is ∙ slice_get-map (number_of design site.path) names input ∙ ap (option_map (number_of design site.path)) name.1;

@@ -1,10 +1,9 @@
 -- An item, the number of the model that it places, and the count at that number.
-use Rattle.std.proofs.Common.{◌≡◌, ◌<◌, ◌≤◌, ◌+◌, ℕ, List, [], ◌∷◌, length, drop, get_or, Option, Some, None, slice_get, ⊎_elim, refl, sym, ◌∙◌, ap, subst, arith}
+use Rattle.std.proofs.Common.{◌≡◌, ◌<◌, ◌≤◌, ◌+◌, ℕ, List, ◌∷◌, length, drop, get_or, Option, Some, None, slice_get, ⊎_elim, refl, sym, ◌∙◌, ap, subst, arith}
 use Rattle.std.specs.List.{AllZip}
 use Rattle.std.proofs.lemmas.Bool.{cases_lt}
 use Rattle.std.proofs.lemmas.List.{drop_more, drop_all, get_or_past}
 use Rattle.std.proofs.lemmas.Option.{none-some, get_or_from_slice_get}
-use Rattle.vw_design.specs.declared.item.Bind.{Bind}
 use Rattle.vw_design.specs.declared.item.Item.{Item}
 use Rattle.vw_design.specs.declared.item.Item.TheVariants.{Names, Latch, Sub}
 use Rattle.vw_design.specs.declared.model.Model.{Model}
@@ -13,11 +12,11 @@ use Rattle.vw_design.specs.Paths.{Word, placings}
 use Rattle.vw_design.specs.Counts.{placed_one, placed_weight}
 use Rattle.vw_design.specs.ModelFaults.{place_in_file}
 use Rattle.vw_design.specs.ModelNumbers.{IsNumberOfModel, AreTargets}
-use Rattle.vw_design.proofs.FilteredLists.{AllZip-at}
 use Rattle.vw_models.specs.Steps.Reach.{Targets}
-use Rattle.vw_models.proofs.Unknowns.{AreAlong}
+use Rattle.vw_models.proofs.Unknowns.{AreAlong, none_along}
 use Rattle.vw_design.proofs.ModelNumbers.{place_of_model, model_of_place, name_of_named}
-use Rattle.vw_models.proofs.Places.{at_within}
+use Rattle.vw_design.proofs.PairedLists.{AllZip-at}
+use Rattle.vw_design.proofs.ListPlaces.{at_within}
 use Rattle.vw_instances.specs.Steps.Counting.{target_in, count_at, count_in, IsWithinModels}
 
 module _ (design : Design) (counts : List ℕ) (each : length counts ≡ length design.models) where
@@ -46,9 +45,6 @@ module _ (design : Design) (counts : List ℕ) (each : length counts ≡ length 
     pub below : count_at counts (target_in targets place item) ≡ placed_weight (count_in design counts) item
     pub rest : AreAlong design (drop (i + 1) items) (drop (place + placed_one item) targets)
 
-  none_along : (line : ℕ) (name : Word) (binds : List Bind) (rest : List Item) → AreAlong design (Sub line name binds ∷ rest) [] → ⊥
-  none_along line name binds rest along = along
-
   pub next : (items : List Item) (targets : List (Option ℕ)) (i place : ℕ) (item : Item) → i < length items → item ≡ get_or items i item → place ≤ length targets → AreAlong design (drop i items) (drop place targets) → IsNext items targets i place item
   next items targets i place item within at short along =
       by item (subst (λ (l : List Item). AreAlong design l (drop place targets)) (drop_more items i item within ∙ ap (λ (x : Item). x ∷ drop (i + 1) items) (sym at)) along) where
@@ -62,7 +58,7 @@ module _ (design : Design) (counts : List ℕ) (each : length counts ≡ length 
             (λ inside.
             let cut = subst (λ (l : List (Option ℕ)). AreAlong design (Sub line name binds ∷ drop (i + 1) items) l) (drop_more targets place None inside) there in
             record { inside = omega (arith, inside); within = within_of name (get_or targets place None) cut.0; below = count_of name (get_or targets place None) cut.0; rest = cut.1 })
-            (λ past. absurd (none_along line name binds (drop (i + 1) items) (subst (λ (l : List (Option ℕ)). AreAlong design (Sub line name binds ∷ drop (i + 1) items) l) (drop_all place targets past) there)))
+            (λ past. absurd (none_along design line name binds (drop (i + 1) items) (subst (λ (l : List (Option ℕ)). AreAlong design (Sub line name binds ∷ drop (i + 1) items) l) (drop_all place targets past) there)))
             (cases_lt place (length targets))
 
 pub along_at : (design : Design) (targets : Targets) (i : ℕ) (model : Model) → AreTargets design targets → slice_get design.models i ≡ Some model

@@ -8,7 +8,7 @@ use Rattle.vw_design.specs.declared.model.Model.{Model}
 use Rattle.vw_design.specs.Distinct.{has_name, are_distinct}
 use Rattle.vw_design.specs.Paths.{Word}
 use Rattle.vw_design.specs.Shape.{IsWellMade}
-use Rattle.vw_design.proofs.Has.{Has, Has-append}
+use Rattle.vw_design.proofs.ListElements.{Has, Has-append}
 use Rattle.vw_design.proofs.Names.{Has-has_name, has_name-Has}
 
 -- a longer name is a further one

@@ -7,7 +7,7 @@ use Rattle.vw_design.specs.Paths.{Path}
 use Rattle.vw_design.specs.Preorder.{Site, sites_below, sites, instances}
 use Rattle.vw_design.specs.Limits.{IsSmall, weight_of}
 use Rattle.vw_design.specs.Counts.{placed_one, cell_one}
-use Rattle.vw_design.proofs.Reached.{shallow}
+use Rattle.vw_design.proofs.ShallowDesigns.{shallow}
 use Rattle.vw_instances.specs.declared.tables.Placed.{Placed}
 use Rattle.vw_instances.specs.Tables.{ArePlaced, IsEntryAt}
 

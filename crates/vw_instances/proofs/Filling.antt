@@ -1,5 +1,5 @@
 -- Counts that are filled in along an order of the models.
-use Rattle.std.proofs.Common.{◌≡◌, ◌<◌, ◌≤◌, ◌+◌, ℕ, Bool, true, false, List, length, take, get_or, slice_get, slice_set, replicate, Option, Some, None, ⊎_elim, refl, sym, ◌∙◌, ap, true≢false, eqb, min, get_or-set_other, get_or-set_same, arith}
+use Rattle.std.proofs.Common.{◌≡◌, ◌<◌, ◌≤◌, ◌+◌, ℕ, Bool, true, false, List, length, take, get_or, slice_get, slice_set, replicate, Option, Some, ⊎_elim, refl, sym, ◌∙◌, ap, eqb, min, get_or-set_other, get_or-set_same, arith}
 use Rattle.std.proofs.lemmas.List.{length-replicate, take_all, get_or-take, length-take, length-set, get_or_default}
 use Rattle.std.specs.List.{list_any}
 use Rattle.std.proofs.lemmas.Bool.{cases_lt, eqb-true}
@@ -12,15 +12,16 @@ use Rattle.vw_design.specs.Paths.{Word, Placing, placings, model_named, items_of
 use Rattle.vw_design.specs.ModelFaults.{has_model_name, is_reached, place_in_file}
 use Rattle.vw_design.specs.ModelNumbers.{is_reached_model, has_number_among, IsModelOrder}
 use Rattle.vw_design.proofs.Closed.{at_reached, model_is_named}
-use Rattle.vw_design.proofs.Has.{Has, at-Has, all-Has, from-any, any-Has}
+use Rattle.vw_design.proofs.ListElements.{Has, at-Has, all-Has, from-any, any-Has}
 use Rattle.vw_design.proofs.Names.{equal_names}
 use Rattle.vw_order.proofs.Among.{among_at, at_among, front_position, once_short}
-use Rattle.vw_models.proofs.Among.{among_Has}
+use Rattle.vw_models.proofs.NumbersInLists.{among_Has}
 use Rattle.vw_design.proofs.ModelNumbers.{place_of_model, model_of_place, name_of_named, named_by}
-use Rattle.vw_models.proofs.Orders.{rank, ranking}
+use Rattle.vw_models.proofs.OrderedModels.{rank, ranking}
+use Rattle.vw_models.proofs.NumberedModels.{reached_within}
 use Rattle.vw_instances.specs.declared.measure.Measure.{Measure}
 use Rattle.vw_instances.specs.Steps.Counting.{most, amount, count_in, AreCounts, IsRanked}
-use Rattle.vw_instances.proofs.Sums.{amount_same}
+use Rattle.vw_instances.proofs.ItemAmounts.{amount_same}
 
 -- the counts of the first so many of an order are right
 pub record IsFilled (design : Design) (order : List ℕ) (measure : Measure) (counts : List ℕ) (end : ℕ) : Type 0 where
@@ -35,14 +36,8 @@ nothing_filled design order measure counts count are each = record {
 
 module _ (design : Design) (order : List ℕ) (is_order : IsModelOrder design order) where
   -- the numbers are those of models
-  reached_within : (number : ℕ) → is_reached_model design (slice_get design.models number) ≡ true → number < length design.models
-  reached_within number reached = by (slice_get design.models number) refl reached where
-    by : (found : Option Model) → slice_get design.models number ≡ found → is_reached_model design found ≡ true → number < length design.models
-    by None is reached = absurd (true≢false (sym reached))
-    by (Some model) is reached = slice_get_within design.models number model is
-
   among_within : (number : ℕ) → is_among order number ≡ true → number < length design.models
-  among_within number among = reached_within number (sym (is_order.each number) ∙ among)
+  among_within number among = reached_within design number (sym (is_order.each number) ∙ among)
 
   pub order_within : (i : ℕ) → i < length order → get_or order i 0 < length design.models
   order_within i inside = among_within (get_or order i 0) (at_among order i inside)

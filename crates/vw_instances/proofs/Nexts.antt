@@ -12,14 +12,14 @@ use Rattle.vw_design.specs.Paths.{Word, Path, Placing, placing_of, placings, mod
 use Rattle.vw_design.specs.ModelFaults.{unknown_model}
 use Rattle.vw_design.specs.ModelNumbers.{IsNumberOfModel, AreTargets}
 use Rattle.vw_design.specs.Limits.{IsSmall}
-use Rattle.vw_design.proofs.Has.{Has, Has-right}
-use Rattle.vw_design.proofs.FilteredLists.{AllZip-at}
-use Rattle.vw_design.proofs.Reached.{shallow, nothing_placed}
-use Rattle.vw_design.proofs.Placed.{known_model}
+use Rattle.vw_design.proofs.ListElements.{Has, Has-right}
+use Rattle.vw_design.proofs.ShallowDesigns.{shallow, nothing_placed}
+use Rattle.vw_design.proofs.PlacedInstances.{known_model}
 use Rattle.vw_instances.specs.declared.frame.Frame.{Frame}
 use Rattle.vw_instances.specs.Steps.Nexts.{target_at, next_by, next_of}
 use Rattle.vw_instances.specs.Steps.Frames.{Level, IsFrame}
 use Rattle.vw_design.proofs.ListPlaces.{behind}
+use Rattle.vw_design.proofs.PairedLists.{AllZip-at}
 
 -- the model that comes next, and its number
 pub record IsPlacedNext (design : Design) (targets : List (List (Option ℕ))) (path : Path) (before : ℕ) (frame : Frame) : Type 0 where

@@ -18,8 +18,8 @@ use Rattle.vw_instances.specs.declared.next.Next.TheVariants.{End, Cell, Place}
 use Rattle.vw_instances.specs.Steps.Nexts.{target_at, next_placed, next_by, next_of}
 use Rattle.vw_instances.specs.Steps.Frames.{Level, sites_left, listed_with, IsFrame, entered, behind_item, site_of_frame, placed_in_frame, IsUnderWay, steps_left}
 use Rattle.vw_instances.proofs.Nexts.{next_is, placed_next}
-use Rattle.vw_instances.proofs.Counted.{walk_within, IsTop, top_of}
-use Rattle.vw_instances.proofs.Levels.{level_of}
+use Rattle.vw_instances.proofs.ListedCounts.{walk_within, IsTop, top_of}
+use Rattle.vw_instances.proofs.SitesLeft.{level_of}
 use Rattle.vw_instances.proofs.WalkSteps.{ended, cell_listed, placed_listed}
 
 cell_end : Cell ≡ End → ⊥

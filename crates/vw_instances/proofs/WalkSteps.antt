@@ -11,8 +11,7 @@ use Rattle.vw_design.specs.Paths.{Word, Path, placings}
 use Rattle.vw_design.specs.Claims.{and_behind}
 use Rattle.vw_design.specs.Preorder.{Site, inside, sites_below, sites, instances_at, is_cell}
 use Rattle.vw_design.specs.Limits.{IsSmall}
-use Rattle.vw_design.proofs.FilteredLists.{AllZip-length}
-use Rattle.vw_design.proofs.Reached.{shallow}
+use Rattle.vw_design.proofs.ShallowDesigns.{shallow}
 use Rattle.vw_design.proofs.Weights.{instances_weigh, cells_weigh}
 use Rattle.vw_instances.specs.declared.tables.Placed.{Placed}
 use Rattle.vw_instances.specs.declared.tables.CellSite.{CellSite}
@@ -20,9 +19,10 @@ use Rattle.vw_instances.specs.declared.frame.Frame.{Frame}
 use Rattle.vw_instances.specs.Tables.{AreNumbered, IsPlacedBy, StandsAt, IsEntryAt, IsCellSite}
 use Rattle.vw_instances.specs.Steps.Frames.{Level, sites_left, listed_with, cells_among, IsFrame, entered, behind_item, site_of_frame, placed_in_frame, IsUnderWay}
 use Rattle.vw_design.proofs.ListPlaces.{in_front, behind}
-use Rattle.vw_instances.proofs.GrownLists.{last_first, two_last_first, wider, one_more, more_numbered}
+use Rattle.vw_design.proofs.PairedLists.{AllZip-length, AllZip-wider, AllZip-push}
+use Rattle.vw_instances.proofs.GrownLists.{last_first, two_last_first, more_numbered}
 use Rattle.vw_instances.proofs.Nexts.{IsPlacedNext}
-use Rattle.vw_instances.proofs.Levels.{level_of, site_of, placings_behind, listed_more, cells_more, below_of, sites_cut, sites_start, levels_same}
+use Rattle.vw_instances.proofs.SitesLeft.{level_of, site_of, placings_behind, listed_more, cells_more, below_of, sites_cut, sites_start, levels_same}
 
 -- an item that is a gate or a latch
 pub record IsCellItem (item : Item) : Type 0 where
@@ -85,7 +85,7 @@ module _ (design : Design) (table : List Placed) (made : List CellSite) (frames 
     }
 
     still_below : AllZip (IsFrame design (listed_with more_done) (length more_done)) levels (reverse frames)
-    still_below = wider (IsFrame design (listed_with walk.done) (length walk.done)) (IsFrame design (listed_with more_done) (length more_done)) still_frame levels (reverse frames) below
+    still_below = AllZip-wider (IsFrame design (listed_with walk.done) (length walk.done)) (IsFrame design (listed_with more_done) (length more_done)) still_frame levels (reverse frames) below
 
     next_frame : (before : ℕ) → before ≡ and_behind item (length (placings front))
         → IsFrame design (listed_with more_done) (length more_done) (level_of path (front ++ (item ∷ [])) rest) (behind_item frame before)
@@ -108,7 +108,7 @@ module _ (design : Design) (table : List Placed) (made : List CellSite) (frames 
     still_cell s entry is = record { instance_is = still entry.instance s.path is.instance_is; item_is = is.item_is }
 
     still_cells : AllZip (IsCellSite (listed_with more_done)) (cells_among walk.done) made
-    still_cells = wider (IsCellSite (listed_with walk.done)) (IsCellSite (listed_with more_done)) still_cell (cells_among walk.done) made walk.cells
+    still_cells = AllZip-wider (IsCellSite (listed_with walk.done)) (IsCellSite (listed_with more_done)) still_cell (cells_among walk.done) made walk.cells
 
     -- a gate or a latch is listed, and the items behind it are left
     pub cell_listed : IsCellItem item
@@ -128,7 +128,7 @@ module _ (design : Design) (table : List Placed) (made : List CellSite) (frames 
           all = ap (λ (list : List Site). more_done ++ (list ++ others)) (sym (is.within (below_of design path) path (length (placings front)))) ∙ all_more;
           placed = subst (λ (paths : List Path). AreNumbered (IsEntryAt design paths) paths table) (sym same) walk.placed;
           cells = subst (λ (list : List Site). AllZip (IsCellSite (listed_with more_done)) list (made ++ (entry ∷ []))) (sym kept)
-              (one_more (IsCellSite (listed_with more_done)) (cells_among walk.done) made site entry still_cells here);
+              (AllZip-push (IsCellSite (listed_with more_done)) (cells_among walk.done) made site entry still_cells here);
           stack = subst (λ (list : List Frame). AllZip (IsFrame design (listed_with more_done) (length more_done)) (level ∷ levels) list) (sym (last_first frames next))
               (next_frame frame.before (top.before_is ∙ sym (is.stays (length (placings front)))), still_below);
         }

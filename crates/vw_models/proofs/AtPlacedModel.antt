@@ -1,10 +1,12 @@
 -- What is found at one of the placed models.
-use Rattle.std.proofs.Common.{◌≡◌, ◌<◌, ◌≤◌, ◌+◌, ◌||◌, not, ℕ, Bool, true, false, cond, List, [], ◌∷◌, ◌++◌, drop, length, map, get_or, Option, Some, None, is_some, slice_get, find, option_map, option_and_then, refl, sym, ◌∙◌, ap, subst, true≢false}
+use Rattle.std.proofs.Common.{◌≡◌, ◌<◌, ◌≤◌, ◌+◌, ◌||◌, not, ℕ, Bool, true, false, List, ◌++◌, drop, length, map, get_or, Option, Some, None, is_some, slice_get, find, option_map, option_and_then, refl, sym, ◌∙◌, ap, subst, true≢false}
 use Rattle.std.specs.Borrow.{Bor}
 use Rattle.std.specs.List.{AllZip}
 use Rattle.std.specs.Option.{option_or}
 use Rattle.std.proofs.lemmas.List.{drop_all}
 use Rattle.std.proofs.lemmas.Option.{slice_get_within, same_Some}
+use Rattle.std.proofs.Math.Bool.{or-false}
+use Rattle.std.proofs.lemmas.List.Folds.{find-append}
 use Rattle.vw_design.specs.declared.item.Bind.{Bind}
 use Rattle.vw_design.specs.declared.model.Model.{Model}
 use Rattle.vw_design.specs.declared.design.Design.{Design}
@@ -12,15 +14,11 @@ use Rattle.vw_design.specs.Distinct.{has_name}
 use Rattle.vw_design.specs.Lists.{first_found}
 use Rattle.vw_design.specs.Paths.{Word, lent}
 use Rattle.vw_design.specs.ModelFaults.{unknown_formal_in, is_formal_of, unbound_input_in}
-use Rattle.vw_design.proofs.FilteredLists.{AllZip-at, find_same}
+use Rattle.vw_design.proofs.FilteredLists.{find_same}
+use Rattle.vw_design.proofs.PairedLists.{AllZip-at}
 use Rattle.vw_models.specs.declared.placement.Placement.{Placement}
-use Rattle.vw_models.specs.Steps.Placed.{at_placement}
+use Rattle.vw_models.specs.Steps.PlacedModels.{at_placement}
 use Rattle.vw_models.proofs.Searched.{found_next, found_now}
-
--- no value
-pub none_is : {A : Type 0} (found : Option A) → ((x : A) → found ≡ Some x → ⊥) → found ≡ None
-none_is None other = refl
-none_is (Some x) other = absurd (other x refl)
 
 -- what goes along with the model at a number
 pub zip_at : {A : Type 0} (R : Model → A → Type 0) (models : List Model) (ys : List A) (k : ℕ) (model : Model) → AllZip R models ys → slice_get models k ≡ Some model
@@ -60,24 +58,13 @@ pub unknown_by : (model : Model) (binds : List Bind) (has : Word → Bool) → (
 unknown_by model binds has are =
     ap (option_map (λ (bind : Bind). bind.formal)) (find_same (λ (bind : Bind). not (has bind.formal)) (λ (bind : Bind). not (is_formal_of model bind.formal)) (λ bind. ap not (are bind.formal)) binds)
 
-find_append : {A : Type 0} (test : A → Bool) (xs ys : List A) → find test (xs ++ ys) ≡ option_or (find test xs) (find test ys)
-find_append test [] ys = refl
-find_append {A} test (x ∷ xs) ys = by (test x) (find_append test xs ys) where
-  by : (b : Bool) → find test (xs ++ ys) ≡ option_or (find test xs) (find test ys) → cond b (Some x) (find test (xs ++ ys)) ≡ option_or (cond b (Some x) (find test xs)) (find test ys)
-  by true rest = refl
-  by false rest = rest
-
 -- an input or clock that isn't bound
 module _ (model : Model) (binds : List Bind) (has none : Word → Bool) (is : (name : Word) → has name ≡ has_name (map (λ bind. bind.formal) binds) name || none name) (empty : (name : Word) → none name ≡ false) where
-  or_false : (b : Bool) → b || false ≡ b
-  or_false true = refl
-  or_false false = refl
-
   unbound_by : option_or (find (λ name. not (has name)) model.inputs) (find (λ name. not (has name)) model.clocks) ≡ unbound_input_in model binds
   unbound_by =
-      sym (find_append (λ (name : Word). not (has name)) model.inputs model.clocks)
+      sym (find-append (λ (name : Word). not (has name)) model.inputs model.clocks)
       ∙ find_same (λ (name : Word). not (has name)) (λ (name : Word). not (has_name (map (λ (bind : Bind). bind.formal) binds) name))
-      (λ name. ap not (is name ∙ ap (λ (b : Bool). has_name (map (λ (bind : Bind). bind.formal) binds) name || b) (empty name) ∙ or_false (has_name (map (λ (bind : Bind). bind.formal) binds) name))) (model.inputs ++ model.clocks)
+      (λ name. ap not (is name ∙ ap (λ (b : Bool). has_name (map (λ (bind : Bind). bind.formal) binds) name || b) (empty name) ∙ or-false (has_name (map (λ (bind : Bind). bind.formal) binds) name))) (model.inputs ++ model.clocks)
 
   some_first : (found : Option (Bor Word)) (rest : Option Word) → is_some found ≡ true → lent found ≡ option_or (lent found) rest
   some_first None rest some = absurd (true≢false (sym some))

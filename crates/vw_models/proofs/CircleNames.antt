@@ -13,18 +13,19 @@ use Rattle.vw_net.specs.Lists.{turned}
 use Rattle.vw_design.specs.Paths.{Word, model_named}
 use Rattle.vw_design.specs.ModelFaults.{is_reached, model_places, place_in_file, IsModelCircle}
 use Rattle.vw_design.specs.ModelNumbers.{AreTargets, is_reached_model}
-use Rattle.vw_design.proofs.Has.{from-map}
+use Rattle.vw_design.proofs.ListElements.{from-map}
 use Rattle.vw_design.proofs.Names.{Has-has_name}
 use Rattle.vw_models.specs.Steps.Reach.{Targets}
 use Rattle.vw_order.specs.Graphs.{Reads}
 use Rattle.vw_order.specs.Circles.{IsNumberCircle, BeginsWithLeast}
 use Rattle.vw_order.proofs.Among.{among_right, among_at, at_among, once_apart}
 use Rattle.vw_models.specs.Steps.ModelGraphs.{graph_of_models}
-use Rattle.vw_models.specs.Steps.ModelNames.{name_of, names_of}
-use Rattle.vw_models.proofs.Among.{Has_among}
+use Rattle.vw_models.specs.Steps.ModelNames.{name_of, numbered_names}
+use Rattle.vw_models.proofs.NumbersInLists.{Has_among}
 use Rattle.vw_design.proofs.ModelNumbers.{place_of_model, named_at, same_number}
+use Rattle.vw_design.proofs.PairedLists.{AllZip-maps}
+use Rattle.vw_design.proofs.ListPlaces.{at_within}
 use Rattle.vw_models.proofs.Models.{placed, search_within}
-use Rattle.vw_models.proofs.Places.{at_within, AllZip-maps}
 
 -- the first of numbers of which none stands twice isn't among the rest
 first_apart : (number : ℕ) (numbers : List ℕ) → IsDistinct eqb (number ∷ numbers) → is_among numbers number ≡ true → ⊥
@@ -73,13 +74,13 @@ module _ (design : Design) where
     pub circle_within : (number : ℕ) → is_among circle number ≡ true → number < length design.models
     circle_within number among = (search_within design targets are).below number (is_circle.counted number among)
 
-    names_long : length (names_of design circle) ≡ length circle
+    names_long : length (numbered_names design circle) ≡ length circle
     names_long = length-map circle called
 
-    name_at : (i : ℕ) (name : Word) → i < length circle → get_or (names_of design circle) i name ≡ called (get_or circle i 0)
+    name_at : (i : ℕ) (name : Word) → i < length circle → get_or (numbered_names design circle) i name ≡ called (get_or circle i 0)
     name_at i name inside = get_or-map called circle i 0 name inside
 
-    place_at : (i : ℕ) (name : Word) → i < length circle → place_in_file design (get_or (names_of design circle) i name) ≡ get_or circle i 0
+    place_at : (i : ℕ) (name : Word) → i < length circle → place_in_file design (get_or (numbered_names design circle) i name) ≡ get_or circle i 0
     place_at i name inside = ap (place_in_file design) (name_at i name inside) ∙ place_of_called (get_or circle i 0) (circle_within (get_or circle i 0) (at_among circle i inside))
 
     placed_pair : (number next : ℕ) → Reads (graph_of_models design targets) number next → model_places (model_named design.models (called number)) (called next) ≡ true
@@ -89,7 +90,7 @@ module _ (design : Design) where
         ∙ ap (λ (w : Word). model_places (model_named design.models w) is.next.name) (ap name_of is.at)
         ∙ ap (λ (m : Option Model). model_places m is.next.name) (named_at design number is.model is.at) ∙ is.places
 
-    pub is_circle_of_names : BeginsWithLeast circle → IsModelCircle design (names_of design circle)
+    pub is_circle_of_names : BeginsWithLeast circle → IsModelCircle design (numbered_names design circle)
     is_circle_of_names least = record {
       some = omega (arith, names_long, is_circle.some);
       reached = λ i name inside.
@@ -97,7 +98,7 @@ module _ (design : Design) where
           ap (is_reached design) (name_at i name here)
           ∙ reached_called (get_or circle i 0) (is_circle.counted (get_or circle i 0) (at_among circle i here));
       distinct = names_apart circle is_circle.once circle_within;
-      placed = subst (λ (l : List Word). AllZip (λ name next. model_places (model_named design.models name) next ≡ true) (names_of design circle) l) (map_turned called circle)
+      placed = subst (λ (l : List Word). AllZip (λ name next. model_places (model_named design.models name) next ≡ true) (numbered_names design circle) l) (map_turned called circle)
           (AllZip-maps (Reads (graph_of_models design targets)) (λ name next. model_places (model_named design.models name) next ≡ true) called circle (turned circle) placed_pair is_circle.each);
       earliest = λ i name inside.
           let here : i < length circle = omega (arith, names_long, inside) in

@@ -1,5 +1,5 @@
 -- Models by their numbers: what the numbers say of names, and which numbers are reached.
-use Rattle.std.proofs.Common.{◌≡◌, ◌<◌, ℕ, Bool, true, List, [], length, get_or, slice_get, Option, Some, None, is_some, refl, sym, ◌∙◌, ap, true≢false, arith}
+use Rattle.std.proofs.Common.{◌≡◌, ℕ, Bool, true, List, [], length, get_or, slice_get, Option, Some, None, is_some, refl, sym, ◌∙◌, ap, true≢false, arith}
 use Rattle.std.specs.List.{AllZip, list_any}
 use Rattle.std.proofs.lemmas.Bool.{eqb-true}
 use Rattle.std.proofs.lemmas.Option.{none-some, same_Some, slice_get_within, get_or_from_slice_get}
@@ -8,18 +8,19 @@ use Rattle.vw_design.specs.declared.item.Item.{Item}
 use Rattle.vw_design.specs.declared.item.Item.TheVariants.{Names, Latch, Sub}
 use Rattle.vw_design.specs.declared.model.Model.{Model}
 use Rattle.vw_design.specs.declared.design.Design.{Design}
-use Rattle.vw_design.specs.Paths.{Word, Placing, placing_of, placings, model_named}
+use Rattle.vw_design.specs.Paths.{Word, Placing, placing_of, placings, model_named, model_at}
 use Rattle.vw_design.specs.ModelFaults.{is_reached, names_model, model_places, place_in_file}
 use Rattle.vw_design.specs.ModelNumbers.{IsNumberOfModel, AreTargets, is_reached_model}
-use Rattle.vw_design.proofs.Has.{Has-at, at-Has, any-Has, from-any, from-filter_map, Has-filter_map}
+use Rattle.vw_design.proofs.ListElements.{Has-at, at-Has, any-Has, from-any, from-filter_map, Has-filter_map}
 use Rattle.vw_design.proofs.Names.{same_name, equal_names}
-use Rattle.vw_design.proofs.ModelNumbers.{place_of_model, model_of_place, named_at, name_of_named}
-use Rattle.vw_design.proofs.FilteredLists.{AllZip-at, AllZip-length}
+use Rattle.vw_design.proofs.ModelNumbers.{place_of_model, model_of_place, named_at, name_of_named, root_model}
 use Rattle.vw_design.proofs.Closed.{reached_at, reached_closed, reached_least}
+use Rattle.vw_design.proofs.PairedLists.{AllZip-at, AllZip-length, AllZip-back}
+use Rattle.vw_design.proofs.ListPlaces.{at_within, list_at}
 use Rattle.vw_models.specs.Steps.Reach.{Targets, PlacesAt, AreWithin, IsClosed}
 use Rattle.vw_order.specs.Graphs.{IsWithin}
 use Rattle.vw_models.specs.Steps.ModelGraphs.{graph_of_models}
-use Rattle.vw_models.proofs.Places.{at_within, list_at, AllZip-back}
+use Rattle.vw_models.proofs.NumberedModels.{reached_within}
 
 module _ (design : Design) where
   -- the item of a placing, and the placing of an item
@@ -79,8 +80,8 @@ module _ (design : Design) where
     }
 
     -- the numbers of reached models are closed
-    root : (model : Model) × (slice_get design.models 0 ≡ Some model)
-    root = at_within design.models 0 design.some
+    abbrev root : (model : Model) × (model_at design [] ≡ Some model)
+    root = root_model design
 
     pub reached_closed_numbers : IsClosed targets (λ number. is_reached_model design (slice_get design.models number))
     reached_closed_numbers = record {
@@ -95,15 +96,10 @@ module _ (design : Design) where
     -- so a search from the root comes to them alone
     pub search_within : IsWithin (graph_of_models design targets)
     search_within = record {
-      below = below;
+      below = reached_within design;
       started = λ number start. ap (λ (n : ℕ). is_reached_model design (slice_get design.models n)) (eqb-true number 0 start) ∙ reached_closed_numbers.root;
       read = λ number place kid there places. reached_closed_numbers.placed number place kid there places;
-    } where
-      below : (number : ℕ) → is_reached_model design (slice_get design.models number) ≡ true → number < length design.models
-      below number reached = by (slice_get design.models number) refl reached where
-        by : (found : Option Model) → slice_get design.models number ≡ found → is_reached_model design found ≡ true → number < length design.models
-        by None is there = absurd (true≢false (sym there))
-        by (Some model) is there = slice_get_within design.models number model is
+    }
 
     -- and the least that are
     pub reached_least_numbers : (test : ℕ → Bool) → IsClosed targets test → (number : ℕ) → is_reached_model design (slice_get design.models number) ≡ true → test number ≡ true

@@ -1,13 +1,13 @@
 -- A model at a place, with its mark and its targets.
-use Rattle.std.proofs.Common.{◌≡◌, ◌<◌, ℕ, Bool, false, List, [], Option, Some, length, get_or, slice_get, refl, sym, ◌∙◌, ap, subst}
+use Rattle.std.proofs.Common.{◌≡◌, ◌<◌, ℕ, Bool, true, false, true≢false, List, [], Option, Some, None, length, get_or, slice_get, refl, sym, ◌∙◌, ap, subst}
 use Rattle.std.specs.List.{AllZip}
-use Rattle.std.proofs.lemmas.Option.{slice_get_read, get_or_from_slice_get}
+use Rattle.std.proofs.lemmas.Option.{slice_get_within, slice_get_read, get_or_from_slice_get}
 use Rattle.vw_design.specs.declared.model.Model.{Model}
 use Rattle.vw_design.specs.declared.design.Design.{Design}
 use Rattle.vw_design.specs.Paths.{placings}
 use Rattle.vw_design.specs.ModelFaults.{is_reached}
-use Rattle.vw_design.specs.ModelNumbers.{IsNumberOfModel, AreTargets, AreModelMarks}
-use Rattle.vw_design.proofs.FilteredLists.{AllZip-at, AllZip-length}
+use Rattle.vw_design.specs.ModelNumbers.{IsNumberOfModel, AreTargets, AreModelMarks, is_reached_model}
+use Rattle.vw_design.proofs.PairedLists.{AllZip-at, AllZip-length}
 use Rattle.vw_models.specs.Steps.Reach.{Targets}
 use Rattle.vw_models.proofs.Unknowns.{AreAlong}
 
@@ -33,3 +33,10 @@ along_at design targets i model are at =
 
 pub within_models : (models others : List Model) (i : ℕ) → others ≡ models → i < length others → i < length models
 within_models models others i are within = subst (λ (l : List Model). i < length l) are within
+
+-- the numbers that are reached are those of models
+pub reached_within : (design : Design) (number : ℕ) → is_reached_model design (slice_get design.models number) ≡ true → number < length design.models
+reached_within design number reached = by (slice_get design.models number) refl reached where
+  by : (found : Option Model) → slice_get design.models number ≡ found → is_reached_model design found ≡ true → number < length design.models
+  by None is reached = absurd (true≢false (sym reached))
+  by (Some model) is reached = slice_get_within design.models number model is

@@ -13,9 +13,10 @@ use Rattle.vw_design.specs.Lists.{first_found}
 use Rattle.vw_design.specs.Paths.{Word, model_named, is_port}
 use Rattle.vw_design.specs.ModelFaults.{NameAt, NameOf, by_placing, first_placing, reached, unknown_formal_in, unknown_formal, unbound_input_in, unbound_input, both_ways, at_model}
 use Rattle.vw_design.proofs.ModelNumbers.{name_of_named}
-use Rattle.vw_models.proofs.Places.{AllZip-back}
+use Rattle.vw_design.proofs.PairedLists.{AllZip-back}
+use Rattle.vw_design.proofs.FirstOptions.{or_assoc}
 use Rattle.vw_models.specs.declared.placement.Placement.{Placement}
-use Rattle.vw_models.specs.Steps.Placed.{Placed, placed_by, placed_models, IsPlacement, at_placement}
+use Rattle.vw_models.specs.Steps.PlacedModels.{PlacedModel, placed_by, placed_models, IsPlacement, at_placement}
 use Rattle.vw_models.specs.Steps.FoundAtPlaced.{unknown_formal_at, unbound_input_at, both_ways_at}
 
 abbrev pub the_name : ℕ → Word → NameAt
@@ -23,10 +24,6 @@ the_name line formal = record { line = line; name = formal }
 
 abbrev pub the_output : Word → Word → NameOf
 the_output model output = record { model = model; name = output }
-
-or_assoc : {A : Type 0} (a b c : Option A) → option_or (option_or a b) c ≡ option_or a (option_or b c)
-or_assoc None b c = refl
-or_assoc (Some x) b c = refl
 
 found_append : {A B : Type 0} (f : A → Option B) (xs ys : List A) → first_found f (xs ++ ys) ≡ option_or (first_found f xs) (first_found f ys)
 found_append f [] ys = refl
@@ -52,22 +49,22 @@ module _ (design : Design) where
       (placed.0.model, placed.2.model)
 
   module _ {A : Type 0} (search : ℕ → Model → List Bind → Option A) where
-    abbrev at_placed : Placed → Option A
+    abbrev at_placed : PlacedModel → Option A
     at_placed placed = search placed.line placed.model placed.binds
 
-    placed_same : (placed : Placed) (placement : Placement) → IsPlacement design placed placement → at_placement design search placement ≡ at_placed placed
+    placed_same : (placed : PlacedModel) (placement : Placement) → IsPlacement design placed placement → at_placement design search placement ≡ at_placed placed
     placed_same placed placement is =
         ap (option_and_then (λ (model : Model). search placement.line model placement.binds.now)) is.model
         ∙ ap₂ (λ (line : ℕ) (binds : List Bind). search line placed.model binds) is.line is.binds
 
-    along : (placed : List Placed) (placements : List Placement) → AllZip (IsPlacement design) placed placements → first_found (at_placement design search) placements ≡ first_found at_placed placed
+    along : (placed : List PlacedModel) (placements : List Placement) → AllZip (IsPlacement design) placed placements → first_found (at_placement design search) placements ≡ first_found at_placed placed
     along [] [] are = refl
     along [] (placement ∷ placements) are = absurd are
     along (first ∷ placed) [] are = absurd are
     along (first ∷ placed) (placement ∷ placements) are = ap₂ (λ (a b : Option A). option_or a b) (placed_same first placement are.0) (along placed placements are.1)
 
     module _ (query : ℕ → Word → List Bind → Option A) (whole : (line : ℕ) (name : Word) (binds : List Bind) → query line name binds ≡ option_and_then (λ model. search line model binds) (model_named design.models name)) where
-      by_item : (line : ℕ) (name : Word) (binds : List Bind) (rest : List Placed) (found : Option Model)
+      by_item : (line : ℕ) (name : Word) (binds : List Bind) (rest : List PlacedModel) (found : Option Model)
           → first_found at_placed (cons_option (option_map (λ (model : Model). record { line = line; model = model; binds = binds }) found) rest)
           ≡ option_or (option_and_then (λ model. search line model binds) found) (first_found at_placed rest)
       by_item line name binds rest None = refl

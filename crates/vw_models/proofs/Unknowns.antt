@@ -12,8 +12,8 @@ use Rattle.vw_design.specs.declared.design.Design.{Design}
 use Rattle.vw_design.specs.Lists.{first_found}
 use Rattle.vw_design.specs.Paths.{Word, placings, model_named}
 use Rattle.vw_design.specs.ModelNumbers.{IsNumberOfModel}
+use Rattle.vw_design.proofs.ListPlaces.{at_within}
 use Rattle.vw_models.specs.Steps.Unknown.{unknown_of}
-use Rattle.vw_models.proofs.Places.{at_within}
 
 -- the numbers of placed models go along with the placings
 abbrev pub AreAlong : Design → List Item → List (Option ℕ) → Type 0
@@ -32,7 +32,8 @@ step_by : (design : Design) (line : ℕ) (name : Word) (binds : List Bind) (rest
 step_by design line name binds rest number numbers some along =
     (along.1, ap (λ (b : Bool). option_or (cond b (Some line) None) (first_found (unknown_of design) rest)) (known design name number along.0 some))
 
-none_along : (design : Design) (line : ℕ) (name : Word) (binds : List Bind) (rest : List Item) → AreAlong design (Sub line name binds ∷ rest) [] → ⊥
+-- no number is left where a model is placed
+pub none_along : (design : Design) (line : ℕ) (name : Word) (binds : List Bind) (rest : List Item) → AreAlong design (Sub line name binds ∷ rest) [] → ⊥
 none_along design line name binds rest along = along
 
 pub sub_step : (design : Design) (items : List Item) (numbers : List (Option ℕ)) (i place : ℕ) (item : Item) (line : ℕ) (name : Word) (binds : List Bind) → i < length items → item ≡ get_or items i item → item ≡ Sub line name binds

@@ -1,4 +1,4 @@
-pub mod Placed
+pub mod PlacedModels
 pub mod Formals
 pub mod FoundAtPlaced
 pub mod Names

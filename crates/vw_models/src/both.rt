@@ -3,7 +3,7 @@ ghost use Rattle.std.specs.Prelude.{◌≡◌, option_map, IfOk};
 ghost use Rattle.std.specs.List.{AllZip};
 ghost use Rattle.vw_design.specs.ModelFaults.{both_ways};
 ghost use Rattle.vw_design.specs.ModelNumbers.{AreTargets, AreModelMarks};
-ghost use Rattle.vw_models.specs.Steps.Placed.{IsPlacement, placed_models};
+ghost use Rattle.vw_models.specs.Steps.PlacedModels.{IsPlacement, placed_models};
 ghost use Rattle.vw_models.specs.Steps.Formals.{IsBothWays};
 ghost use Rattle.vw_models.specs.PlacedFaults.{named_output};
 

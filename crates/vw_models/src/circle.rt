@@ -1,6 +1,6 @@
 //! Names of models in a circle.
 ghost use Rattle.std.specs.Prelude.{◌≡◌, ◌<◌, length, slice_index, EachIndex, IfOk};
-ghost use Rattle.vw_models.specs.Steps.ModelNames.{names_of};
+ghost use Rattle.vw_models.specs.Steps.ModelNames.{numbered_names};
 
 use std::alloc::{AllocError, Global};
 use vw_design::Design;
@@ -21,7 +21,7 @@ pub fn circle_names(
     circle: &[u32],
 ) -> Result<Sequence<Name>, AllocError>
     requires { EachIndex circle.now (λ i. slice_index circle.now i < length design.now.models) }
-    ensures { IfOk result (λ names. names ≡ names_of design.now circle.now) }
+    ensures { IfOk result (λ names. names ≡ numbered_names design.now circle.now) }
 {
     let mut names = Vec::with_capacity(alloc, circle.len())?;
     for number in circle {

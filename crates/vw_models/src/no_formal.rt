@@ -4,7 +4,7 @@ ghost use Rattle.std.specs.List.{AllZip};
 ghost use Rattle.vw_design.specs.ModelFaults.{unknown_formal};
 ghost use Rattle.vw_design.specs.ModelNumbers.{AreTargets, AreModelMarks};
 ghost use Rattle.vw_design.specs.WordSets.{has_word};
-ghost use Rattle.vw_models.specs.Steps.Placed.{IsPlacement, placed_models};
+ghost use Rattle.vw_models.specs.Steps.PlacedModels.{IsPlacement, placed_models};
 ghost use Rattle.vw_models.specs.Steps.Formals.{AreFormals};
 ghost use Rattle.vw_design.specs.Paths.{lent};
 ghost use Rattle.vw_models.specs.PlacedFaults.{name_at};

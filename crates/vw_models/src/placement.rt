@@ -3,7 +3,7 @@ ghost use Rattle.std.specs.Prelude.{◌≡◌, [], List, filter_map, IfOk, OnOk}
 ghost use Rattle.std.specs.List.{AllZip};
 ghost use Rattle.vw_design.specs.Paths.{placings};
 ghost use Rattle.vw_design.specs.ModelNumbers.{AreTargets, AreModelMarks, IsNumberOfModel};
-ghost use Rattle.vw_models.specs.Steps.Placed.{IsPlacement, AreAdded, placed_by, placed_models};
+ghost use Rattle.vw_models.specs.Steps.PlacedModels.{IsPlacement, AreAdded, placed_by, placed_models};
 
 use std::alloc::{AllocError, Global};
 use vw_design::{Bind, Design, Item};

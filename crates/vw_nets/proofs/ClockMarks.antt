@@ -1,5 +1,5 @@
 -- Numbers that are marked, and names by their numbers.
-use Rattle.std.proofs.Common.{◌≡◌, ◌≢◌, ◌<◌, ◌≤◌, ◌==◌, ◌||◌, ◌+◌, ℕ, zero, suc, Bool, true, false, List, [], ◌∷◌, ◌++◌, length, take, get_or, set, Option, Some, None, slice_get, filter_map, map, find, refl, sym, ◌∙◌, ap, ap₂, true≢false, arith}
+use Rattle.std.proofs.Common.{◌≡◌, ◌<◌, ◌≤◌, ◌==◌, ◌||◌, ◌+◌, ℕ, Bool, true, false, List, [], ◌∷◌, ◌++◌, length, take, get_or, set, Option, Some, None, slice_get, filter_map, map, find, refl, sym, ◌∙◌, ap, ap₂, true≢false, arith}
 use Rattle.std.specs.List.{cons_option}
 use Rattle.std.specs.Option.{option_or}
 use Rattle.std.specs.Str.{bytes_eq}
@@ -8,38 +8,20 @@ use Rattle.std.proofs.lemmas.List.{take_more}
 use Rattle.std.proofs.lemmas.List.Folds.{list_any-append, find-append}
 use Rattle.std.proofs.lemmas.List.Elements.{filter_map-append}
 use Rattle.std.proofs.lemmas.Option.{slice_get_within}
+use Rattle.std.proofs.Math.Bool.{or-true, or-false}
 use Rattle.vw_net.specs.Order.{is_among}
 use Rattle.vw_design.specs.declared.design.Design.{Design}
 use Rattle.vw_design.specs.declared.model.Model.{Model}
 use Rattle.vw_design.specs.Distinct.{has_name}
 use Rattle.vw_design.specs.Paths.{Word, model_at}
 use Rattle.vw_design.specs.Clocks.{inputs_of, clocks_of, control_ports, clock_ports}
-use Rattle.vw_design.proofs.Has.{from-find, some-find, at-place}
+use Rattle.vw_design.proofs.ListElements.{from-find, some-find, at-place}
 use Rattle.vw_design.proofs.Names.{same_name, Has-has_name}
+use Rattle.vw_design.proofs.ListPlaces.{set_here, set_elsewhere}
 use Rattle.vw_drivers.specs.Firsts.{First, number_named}
+use Rattle.vw_drivers.proofs.ClaimLookups.{one_name}
 use Rattle.vw_nets.specs.Steps.Ports.{has_number, root_ports}
-use Rattle.vw_nets.proofs.PortNumbers.{somes, one_name, same_numbers}
-
-module _ {A : Type 0} where
-  pub set_here : (xs : List A) (i : ℕ) (v : A) → i < length xs → slice_get (set xs i v) i ≡ Some v
-  set_here [] i v within = absurd (omega arith)
-  set_here (x ∷ xs) zero v within = refl
-  set_here (x ∷ xs) (suc i) v within = set_here xs i v (omega arith)
-
-  pub set_elsewhere : (xs : List A) (i : ℕ) (v : A) (k : ℕ) → i ≢ k → slice_get (set xs i v) k ≡ slice_get xs k
-  set_elsewhere [] i v k differ = refl
-  set_elsewhere (x ∷ xs) zero v zero differ = absurd (differ refl)
-  set_elsewhere (x ∷ xs) zero v (suc k) differ = refl
-  set_elsewhere (x ∷ xs) (suc i) v zero differ = refl
-  set_elsewhere (x ∷ xs) (suc i) v (suc k) differ = set_elsewhere xs i v k (λ same. differ (ap suc same))
-
-or_true : (b : Bool) → b || (true || false) ≡ true
-or_true true = refl
-or_true false = refl
-
-or_false : (b : Bool) → b || (false || false) ≡ b
-or_false true = refl
-or_false false = refl
+use Rattle.vw_nets.proofs.PortNumbers.{somes, same_numbers}
 
 -- one more number
 module _ (numbers : List ℕ) (i : ℕ) (within : i < length numbers) where
@@ -54,10 +36,10 @@ module _ (numbers : List ℕ) (i : ℕ) (within : i < length numbers) where
     by true same =
         let is = eqb-true (get_or numbers i 0) k same in
         ap (slice_get (set marks (get_or numbers i 0) true)) (sym is) ∙ set_here marks (get_or numbers i 0) true (omega arith)
-        ∙ ap (λ (b : Bool). Some b) (sym (more k ∙ ap (λ (b : Bool). is_among (take i numbers) k || (b || false)) same ∙ or_true (is_among (take i numbers) k)))
+        ∙ ap (λ (b : Bool). Some b) (sym (more k ∙ ap (λ (b : Bool). is_among (take i numbers) k || (b || false)) same ∙ or-true (is_among (take i numbers) k)))
     by false differ =
-        set_elsewhere marks (get_or numbers i 0) true k (λ is. true≢false (sym (eq-eqb (get_or numbers i 0) k is) ∙ differ)) ∙ marked k below
-        ∙ ap (λ (b : Bool). Some b) (sym (more k ∙ ap (λ (b : Bool). is_among (take i numbers) k || (b || false)) differ ∙ or_false (is_among (take i numbers) k)))
+        set_elsewhere marks (get_or numbers i 0) k true (λ is. true≢false (sym (eq-eqb (get_or numbers i 0) k (sym is)) ∙ differ)) ∙ marked k below
+        ∙ ap (λ (b : Bool). Some b) (sym (more k ∙ ap (λ (b : Bool). is_among (take i numbers) k || (b || false)) differ ∙ or-false (is_among (take i numbers) k)))
 
   pub not_marked : (marks : List Bool) (count : ℕ) → ((k : ℕ) → k < count → slice_get marks k ≡ Some (is_among (take i numbers) k)) → count ≤ get_or numbers i 0
       → (k : ℕ) → k < count → slice_get marks k ≡ Some (is_among (take (i + 1) numbers) k)
@@ -65,7 +47,7 @@ module _ (numbers : List ℕ) (i : ℕ) (within : i < length numbers) where
     by : (b : Bool) → (get_or numbers i 0 == k) ≡ b → slice_get marks k ≡ Some (is_among (take (i + 1) numbers) k)
     by true same = absurd (let is : get_or numbers i 0 ≡ k = eqb-true (get_or numbers i 0) k same in omega arith)
     by false differ =
-        marked k below ∙ ap (λ (b : Bool). Some b) (sym (more k ∙ ap (λ (b : Bool). is_among (take i numbers) k || (b || false)) differ ∙ or_false (is_among (take i numbers) k)))
+        marked k below ∙ ap (λ (b : Bool). Some b) (sym (more k ∙ ap (λ (b : Bool). is_among (take i numbers) k || (b || false)) differ ∙ or-false (is_among (take i numbers) k)))
 
 -- names that all have numbers
 pub all_numbered : (number : Word → Option ℕ) (names : List Word) (numbers : List ℕ) → map number names ≡ somes numbers → filter_map number names ≡ numbers

@@ -16,7 +16,7 @@ use Rattle.vw_design.specs.Preorder.{Site, is_cell, is_latch_item, instances, si
 use Rattle.vw_nets.specs.declared.edges.Typed.{Typed}
 use Rattle.vw_nets.specs.Steps.Edges.{IsTyped, other_edge, first_other}
 use Rattle.vw_nets.specs.Nets.{latches_pair}
-use Rattle.vw_nets.proofs.Along.{IsHere}
+use Rattle.vw_nets.proofs.CellSearches.{IsHere}
 
 abbrev pub typed_of : List Site → List Edged
 typed_of list = filter_map (λ site. edge_at site.path site.item) list

@@ -15,9 +15,9 @@ use Rattle.vw_design.specs.PathValue.{item_at}
 use Rattle.vw_design.specs.Preorder.{Site, instances, sites}
 use Rattle.vw_design.specs.Reads.{net_at}
 use Rattle.vw_design.proofs.FlatValues.{site_of_place}
-use Rattle.vw_design.proofs.Has.{Has, Has-at, at-Has, Has-Contains}
-use Rattle.vw_design.proofs.Once.{site_once}
-use Rattle.vw_design.proofs.Placed.{faultless_listed}
+use Rattle.vw_design.proofs.ListElements.{Has, Has-at, at-Has, Has-Contains}
+use Rattle.vw_design.proofs.SitesOnce.{site_once}
+use Rattle.vw_design.proofs.PlacedInstances.{faultless_listed}
 use Rattle.vw_design.proofs.Sites.{site_is, site_item}
 use Rattle.vw_drivers.specs.Claimed.{again_at}
 use Rattle.vw_nets.specs.declared.two_drivers.Second.{Second}

@@ -12,20 +12,22 @@ use Rattle.vw_design.specs.Paths.{Word, model_at}
 use Rattle.vw_design.specs.PathValue.{place_of_name}
 use Rattle.vw_design.specs.Claims.{Claim, port, item_claims, first_claim, numbered as numbered_items}
 use Rattle.vw_design.specs.Clocks.{inputs_of, clock_ports, columns}
-use Rattle.vw_design.proofs.Has.{Has}
+use Rattle.vw_design.proofs.ListElements.{Has}
 use Rattle.vw_design.proofs.Names.{same_name, equal_names, has_name-Has}
+use Rattle.vw_design.proofs.FirstOptions.{or_nothing}
+use Rattle.vw_design.proofs.ListPlaces.{set_here, set_elsewhere}
 use Rattle.vw_drivers.specs.declared.claim.Claim.{Claim as NumberedClaim}
 use Rattle.vw_drivers.specs.declared.model_claims.ModelClaims.{ModelClaims}
 use Rattle.vw_drivers.specs.Claimed.{AreClaims, meant}
 use Rattle.vw_drivers.specs.Firsts.{First, number_named, claim_at}
 use Rattle.vw_drivers.specs.declared.tables.Tables.{Tables}
 use Rattle.vw_drivers.specs.Tables.{AreTables, root_firsts}
+use Rattle.vw_drivers.proofs.ClaimLookups.{one_name}
 use Rattle.vw_nets.specs.declared.columns.Columns.{Columns}
 use Rattle.vw_nets.specs.Columns.{AreColumns}
 use Rattle.vw_nets.specs.Steps.Free.{unmarked, is_free, has_none, with_column, AreFree}
 use Rattle.vw_nets.specs.Steps.Wanted.{AreClockMarks}
-use Rattle.vw_nets.proofs.ClockMarks.{set_here, set_elsewhere, number_within}
-use Rattle.vw_nets.proofs.PortNumbers.{one_name}
+use Rattle.vw_nets.proofs.ClockMarks.{number_within}
 
 pub in_replicate : {A : Type 0} (count : ℕ) (x : A) (k : ℕ) → k < count → slice_get (replicate count x) k ≡ Some x
 in_replicate zero x k within = absurd (omega arith)
@@ -52,12 +54,8 @@ place_more (first ∷ names) x name =
 
 module _ (firsts : List First) (x : Word) (n : ℕ) (named : number_named firsts x ≡ Some n) (before : List Word) (ports new : List (Option ℕ))
     (had : (name : Word) (k : ℕ) → number_named firsts name ≡ Some k → slice_get ports k ≡ Some (place_of_name before name)) (written : new ≡ with_column ports n (length before)) where
-  or_none : (o : Option ℕ) → option_or o None ≡ o
-  or_none None = refl
-  or_none (Some k) = refl
-
   elsewhere : (name : Word) → bytes_eq x name ≡ false → place_of_name (before ++ x ∷ []) name ≡ place_of_name before name
-  elsewhere name differ = place_more before x name ∙ ap (λ (b : Bool). option_or (place_of_name before name) (cond b (Some (length before)) None)) differ ∙ or_none (place_of_name before name)
+  elsewhere name differ = place_more before x name ∙ ap (λ (b : Bool). option_or (place_of_name before name) (cond b (Some (length before)) None)) differ ∙ or_nothing (place_of_name before name)
 
   at_x : (name : Word) → bytes_eq x name ≡ true → place_of_name (before ++ x ∷ []) name ≡ option_or (place_of_name before x) (Some (length before))
   at_x name same =
@@ -86,7 +84,7 @@ module _ (firsts : List First) (x : Word) (n : ℕ) (named : number_named firsts
         let there : slice_get ports n ≡ Some None = had x n named ∙ ap (λ (o : Option ℕ). Some o) found in
         let put : new ≡ set ports n (Some (length before)) = written ∙ ap (λ (o : Option (Option ℕ)). cond (has_none o) (set ports n (Some (length before))) ports) there in
         ap (λ (list : List (Option ℕ)). slice_get list k) put
-        ∙ set_elsewhere ports n (Some (length before)) k (λ number. true≢false (sym (equal_names x name (one_name firsts x name n named (is ∙ ap (λ (m : ℕ). Some m) (sym number)))) ∙ differ))
+        ∙ set_elsewhere ports n k (Some (length before)) (λ number. true≢false (sym (equal_names x name (one_name firsts x name n named (is ∙ ap (λ (m : ℕ). Some m) number))) ∙ differ))
         ∙ had name k is ∙ ap (λ (o : Option ℕ). Some o) (sym (elsewhere name differ))
 
 -- one more name

@@ -1,18 +1,13 @@
 -- The places of an instance, up to the root.
-use Rattle.std.proofs.Common.{◌≡◌, ◌<◌, ◌≢◌, ◌++◌, ℕ, zero, suc, List, [], ◌∷◌, length, Some, slice_get, refl, sym, ◌∙◌, ap, subst, append_assoc, arith}
+use Rattle.std.proofs.Common.{◌≡◌, ◌<◌, ◌≢◌, ◌++◌, ℕ, List, [], ◌∷◌, Some, slice_get, sym, ◌∙◌, ap, subst, append_assoc, arith}
 use Rattle.std.proofs.lemmas.Option.{same_Some, slice_get_within}
 use Rattle.vw_design.specs.declared.design.Design.{Design}
 use Rattle.vw_design.specs.Paths.{Path}
 use Rattle.vw_design.specs.Preorder.{instances}
-use Rattle.vw_design.proofs.OncePaths.{instance_once}
+use Rattle.vw_design.proofs.PathsOnce.{instance_once}
+use Rattle.vw_design.proofs.ListPlaces.{at_within}
 use Rattle.vw_instances.specs.declared.tables.Placed.{Placed}
 use Rattle.vw_instances.specs.Tables.{ArePlaced, IsEntryAt, IsPlacedBy}
-
--- an element within a list
-pub element : {A : Type 0} (xs : List A) (k : ℕ) → k < length xs → (x : A) × (slice_get xs k ≡ Some x)
-element [] k within = absurd (omega arith)
-element (x ∷ xs) zero within = (x, refl)
-element (x ∷ xs) (suc k) within = element xs k (omega arith)
 
 module _ (design : Design) (table : List Placed) (are : ArePlaced design table) where
   -- the entry of a listed instance
@@ -27,7 +22,7 @@ module _ (design : Design) (table : List Placed) (are : ArePlaced design table) 
 
   pub parent_before : (k : ℕ) (entry : Placed) → slice_get table k ≡ Some entry → k ≢ 0 → entry.parent < k
   parent_before k entry at some =
-      let path = element (instances design) k (omega (arith, are.same_length, slice_get_within table k entry at)) in
+      let path = at_within (instances design) k (omega (arith, are.same_length, slice_get_within table k entry at)) in
       by_parent k path.0 entry (entry_is k path.0 entry path.1 at).by some
 
   root_first : (k : ℕ) → slice_get (instances design) k ≡ Some [] → k ≡ 0

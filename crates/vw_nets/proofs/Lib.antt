@@ -1,12 +1,12 @@
 pub mod InstancePlaces
-pub mod Finds
+pub mod SearchSteps
 pub mod CellItems
-pub mod Along
+pub mod CellSearches
 pub mod Reading
 pub mod Edged
 pub mod PortNumbers
 pub mod ClockMarks
-pub mod Unlikes
+pub mod UnlikePorts
 pub mod FreeColumns
-pub mod ClaimedAgain
+pub mod InstanceClaimsAgain
 pub mod FirstAgain

@@ -16,13 +16,13 @@ use Rattle.vw_design.specs.Preorder.{Site, sites, cells}
 use Rattle.vw_design.specs.PathValue.{place_of_site}
 use Rattle.vw_design.specs.Reads.{net_at, nets_at, controls_of}
 use Rattle.vw_design.specs.Clocks.{port_of, control_ports}
-use Rattle.vw_design.proofs.Has.{at-place}
 use Rattle.vw_design.proofs.Names.{same_name, equal_names}
 use Rattle.vw_drivers.specs.Firsts.{First, number_named}
 use Rattle.vw_drivers.specs.Names.{reads_of}
 use Rattle.vw_drivers.specs.declared.source.Source.{Source}
 use Rattle.vw_drivers.specs.declared.source.Source.TheVariants.{Port, Cell}
 use Rattle.vw_drivers.specs.Sources.{source_of}
+use Rattle.vw_drivers.proofs.ClaimLookups.{one_name}
 use Rattle.vw_nets.specs.Steps.Ports.{port_number, item_ports}
 use Rattle.vw_nets.proofs.Reading.{of_cells_alone}
 
@@ -31,14 +31,6 @@ somes numbers = map (λ number. Some number) numbers
 
 -- the numbers of names
 module _ (root : List First) where
-  -- one number is that of one name
-  pub one_name : (one other : Word) (number : ℕ) → number_named root one ≡ Some number → number_named root other ≡ Some number → one ≡ other
-  one_name one other number is also =
-      let first = at-place (λ (x : First). bytes_eq x.name one) root number is in
-      let second = at-place (λ (x : First). bytes_eq x.name other) root number also in
-      let same : first.0 ≡ second.0 = same_Some first.0 second.0 (sym first.1 ∙ second.1) in
-      sym (same_name first.0.name one first.2) ∙ ap (λ (x : First). x.name) same ∙ same_name second.0.name other second.2
-
   pub same_numbers : (one other : Word) (n k : ℕ) → number_named root one ≡ Some n → number_named root other ≡ Some k → bytes_eq one other ≡ (n == k)
   same_numbers one other n k is also = by (bytes_eq one other) refl (n == k) refl where
     by : (b : Bool) → bytes_eq one other ≡ b → (e : Bool) → (n == k) ≡ e → b ≡ e
@@ -48,7 +40,7 @@ module _ (root : List First) where
         absurd (true≢false (sym (eq-eqb n k number) ∙ equal))
     by false differ true equal =
         let number : n ≡ k = eqb-true n k equal in
-        absurd (true≢false (sym (equal_names one other (one_name one other n is (also ∙ ap (λ (m : ℕ). Some m) (sym number)))) ∙ differ))
+        absurd (true≢false (sym (equal_names one other (one_name root one other n is (also ∙ ap (λ (m : ℕ). Some m) (sym number)))) ∙ differ))
     by false differ false equal = refl
 
   port_is : (source : Option Source) (name : Word) → source ≡ option_map (λ number. Port number) (number_named root name) → (number : Option ℕ) → number_named root name ≡ number → is_none source ≡ false

@@ -9,7 +9,7 @@ use Rattle.vw_design.specs.declared.item.Item.TheVariants.{Names, Latch, Sub}
 use Rattle.vw_design.specs.Paths.{Word, Path, Net, model_at, model_outputs}
 use Rattle.vw_design.specs.Preorder.{Site, is_cell, sites, cells}
 use Rattle.vw_design.specs.Reads.{net_at, nets_at, root_outputs}
-use Rattle.vw_nets.proofs.Finds.{find_map}
+use Rattle.vw_nets.proofs.SearchSteps.{find_map}
 
 -- a `.subckt` item gives nothing
 module _ {A : Type 0} (made : Path → Item → List A) (none : (path : Path) (line : ℕ) (model : Word) (binds : List Bind) → made path (Sub line model binds) ≡ []) where

@@ -1,7 +1,7 @@
 -- Numbers that read each other have an order or a circle.
 use Rattle.std.proofs.Common.{◌≡◌, ◌<◌, ◌≤◌, ◌+◌, ◌&&◌, not, ℕ, zero, suc, Bool, true, false, List, [], ◌∷◌, ◌++◌, length, length-append, slice_get, Option, Some, None, ◌⊎◌, inl, inr, ⊎_elim, refl, sym, ◌∙◌, ap, eqb, true≢false, arith}
 use Rattle.std.specs.List.{IsDistinct}
-use Rattle.std.proofs.lemmas.Bool.{and_parts, cases_Bool, cases_lt}
+use Rattle.std.proofs.lemmas.Bool.{and_parts, cases_Bool, cases_lt, not-true}
 use Rattle.std.proofs.lemmas.Option.{none-some, same_Some}
 use Rattle.vw_net.specs.Order.{is_among}
 use Rattle.vw_order.specs.Steps.Rounds.{round_from}
@@ -12,7 +12,7 @@ use Rattle.vw_order.specs.Steps.Searches.{Leads}
 use Rattle.vw_order.proofs.Among.{among_either, among_one, among_last, once_none, once_push, once_short}
 use Rattle.vw_order.proofs.Rounds.{Leads-push, closes}
 use Rattle.vw_order.proofs.LeastFirst.{has_least}
-use Rattle.vw_order.proofs.Searches.{behind_more}
+use Rattle.vw_order.proofs.DepthSearches.{behind_more}
 
 -- a number below a bound that passes, or none does
 below : (test : ℕ → Bool) (end : ℕ) → ((number : ℕ) × (number < end) × (test number ≡ true)) ⊎ ((number : ℕ) → number < end → test number ≡ false)
@@ -117,7 +117,7 @@ module _ (graph : Graph) (within : IsWithin graph) where
       (λ found.
       let parts = and_parts (graph.counts found.0) (not (is_among order found.0)) found.2 in
       ⊎_elim (λ circle. inl (inl circle)) (λ next. inr (next.0, longer order next.0 part next.1))
-      (walk graph.count order [] found.0 (omega arith) (begun order found.0 parts.0 (not_true (is_among order found.0) parts.1))))
+      (walk graph.count order [] found.0 (omega arith) (begun order found.0 parts.0 (not-true (is_among order found.0) parts.1))))
       (λ none. inl (inr (
         order,
         record {
@@ -131,10 +131,6 @@ module _ (graph : Graph) (within : IsWithin graph) where
       )))
       (below (λ (number : ℕ). graph.counts number && not (is_among order number)) graph.count)
     where
-      not_true : (b : Bool) → not b ≡ true → b ≡ false
-      not_true true is = absurd (true≢false (sym is))
-      not_true false is = refl
-
       whole : (b : Bool) → (true && not b) ≡ false → b ≡ true
       whole true is = refl
       whole false is = absurd (true≢false is)

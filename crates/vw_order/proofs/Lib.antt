@@ -1,7 +1,8 @@
+pub mod NoValue
 pub mod Among
 pub mod Rounds
 pub mod LeastFirst
-pub mod Searches
+pub mod DepthSearches
 pub mod Growth
 pub mod NoCircle
 pub mod Inputs

@@ -20,8 +20,8 @@ use Rattle.vw_design.specs.Limits.{cell_count}
 use Rattle.vw_design.specs.Flattened.{IsFlatOf, IsCellOf}
 use Rattle.vw_design.specs.Loops.{Gate as GateAt, gate_at, gate_reads}
 use Rattle.vw_design.proofs.FlatReads.{reads_agree}
-use Rattle.vw_design.proofs.FilteredLists.{AllZip-length}
-use Rattle.vw_design.proofs.Has.{Has, Has-at}
+use Rattle.vw_design.proofs.ListElements.{Has, Has-at}
+use Rattle.vw_design.proofs.PairedLists.{AllZip-length}
 use Rattle.vw_flat.specs.Printed.{printed_site}
 use Rattle.vw_order.specs.Loops as orders
 use Rattle.vw_order.specs.Reads as nets

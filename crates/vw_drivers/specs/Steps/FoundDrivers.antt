@@ -19,8 +19,8 @@ use Rattle.vw_drivers.specs.Tables.{AreTables}
 use Rattle.vw_drivers.specs.Drivers.{at_rows}
 
 -- rows of drivers
-abbrev pub Rows : Type 0
-Rows = List (List (Option Source))
+abbrev pub DriverRows : Type 0
+DriverRows = List (List (Option Source))
 
 -- what holds of each design of which these are the tables
 abbrev pub OfTables : Tables → (Design → Type 0) → Type 0
@@ -48,18 +48,18 @@ child_of tables instance entry place =
     (placed_of tables entry.model place)
 
 -- the driver to which a claim with a number leads
-abbrev pub led_by : Tables → Rows → Rows → ℕ → Placed → ℕ → Option Claim → Option Source
+abbrev pub led_by : Tables → DriverRows → DriverRows → ℕ → Placed → ℕ → Option Claim → Option Source
 led_by tables outputs ports instance entry number None = None
 led_by tables outputs ports instance entry number (Some claims.Port) = if instance == 0 then Some (Port number) else at_rows ports instance number
 led_by tables outputs ports instance entry number (Some (claims.Driven item)) = cell_source tables entry item
 led_by tables outputs ports instance entry number (Some (claims.Bound place bind)) =
     option_and_then (λ child. at_rows outputs child bind) (child_of tables instance entry place)
 
-abbrev pub led_at : Tables → Rows → Rows → ℕ → ℕ → Placed → Option Source
+abbrev pub led_at : Tables → DriverRows → DriverRows → ℕ → ℕ → Placed → Option Source
 led_at tables outputs ports instance number entry =
     led_by tables outputs ports instance entry number (claim_at (firsts_of tables.claims (Some entry.model)) number)
 
-abbrev pub led : Tables → Rows → Rows → ℕ → Option ℕ → Option Source
+abbrev pub led : Tables → DriverRows → DriverRows → ℕ → Option ℕ → Option Source
 led tables outputs ports instance None = None
 led tables outputs ports instance (Some number) = option_and_then (led_at tables outputs ports instance number) (slice_get tables.instances instance)
 
@@ -70,11 +70,11 @@ ways_of tables entry =
     (option_and_then (λ parent. placed_of tables parent.model entry.place) (slice_get tables.instances entry.parent))) []
 
 -- the driver of a formal that is no port, and the row of an instance
-abbrev pub output_led : Tables → Rows → ℕ → Way → Option Source
+abbrev pub output_led : Tables → DriverRows → ℕ → Way → Option Source
 output_led tables outputs instance (ways.Output claim) = led tables outputs [] instance claim
 output_led tables outputs instance (ways.Port port actual) = None
 
-abbrev pub outputs_made : Tables → Rows → ℕ → Placed → List (Option Source)
+abbrev pub outputs_made : Tables → DriverRows → ℕ → Placed → List (Option Source)
 outputs_made tables outputs instance entry = map (output_led tables outputs instance) (ways_of tables entry)
 
 -- a row with a driver at a number, with nothing where it was shorter
@@ -85,13 +85,13 @@ with_port (first ∷ row) zero source = source ∷ row
 with_port (first ∷ row) (suc number) source = first ∷ with_port row number source
 
 -- a row with the driver of a port, given the instance of the actual; and with those of all ports
-abbrev pub with_way : Tables → Rows → Rows → ℕ → Way → List (Option Source) → List (Option Source)
+abbrev pub with_way : Tables → DriverRows → DriverRows → ℕ → Way → List (Option Source) → List (Option Source)
 with_way tables outputs ports parent (ways.Output claim) row = row
 with_way tables outputs ports parent (ways.Port port actual) row = with_port row port (led tables outputs ports parent actual)
 
-abbrev pub with_ways : Tables → Rows → Rows → ℕ → List Way → List (Option Source) → List (Option Source)
+abbrev pub with_ways : Tables → DriverRows → DriverRows → ℕ → List Way → List (Option Source) → List (Option Source)
 with_ways tables outputs ports parent [] row = row
 with_ways tables outputs ports parent (way ∷ list) row = with_ways tables outputs ports parent list (with_way tables outputs ports parent way row)
 
-abbrev pub ports_made : Tables → Rows → Rows → Placed → List (Option Source)
+abbrev pub ports_made : Tables → DriverRows → DriverRows → Placed → List (Option Source)
 ports_made tables outputs ports entry = with_ways tables outputs ports entry.parent (ways_of tables entry) []

@@ -9,5 +9,5 @@ abbrev pub name_of : Option Model → Word
 name_of None = []
 name_of (Some model) = model.name
 
-abbrev pub names_of : Design → List ℕ → List Word
-names_of design numbers = map (λ number. name_of (slice_get design.models number)) numbers
+abbrev pub numbered_names : Design → List ℕ → List Word
+numbered_names design numbers = map (λ number. name_of (slice_get design.models number)) numbers

@@ -3,12 +3,12 @@ use Rattle.std.proofs.lemmas.Option.{same_Some}
 use Rattle.vw_design.specs.declared.item.Item.{Item}
 use Rattle.vw_design.specs.declared.model.Model.{Model}
 use Rattle.vw_design.specs.Paths.{placings}
-use Rattle.vw_design.proofs.FilteredLists.{AllZip-length, AllZip-at}
+use Rattle.vw_design.proofs.PairedLists.{AllZip-length, AllZip-at}
 use Rattle.vw_drivers.specs.declared.model_claims.ModelClaims.{ModelClaims}
 use Rattle.vw_drivers.specs.Claimed.{AreClaims}
 use Rattle.vw_drivers.specs.Steps.GatheredClaims.{AreModelNumbers, with_items, ports_only}
 use Rattle.vw_drivers.proofs.FirstClaims.{gathered_firsts}
-use Rattle.vw_drivers.proofs.ClaimedAgain.{gathered_again}
+use Rattle.vw_drivers.proofs.ModelClaimsAgain.{gathered_again}
 use Rattle.vw_drivers.proofs.Targets.{at_place}
 use Rattle.vw_drivers.proofs.gather_claims.claims_of.Goals as goal
 

@@ -1,7 +1,7 @@
 use Rattle.std.proofs.Common.{◌≡◌, ◌<◌, ◌-◌, List, length, get_or, length-set, ◌∙◌, ap, ap₂, arith}
 use Rattle.std.proofs.lemmas.Option.{slice_get-get_or}
 use Rattle.vw_instances.specs.declared.tables.Placed.{Placed}
-use Rattle.vw_drivers.specs.Steps.FoundDrivers.{Rows, outputs_made}
+use Rattle.vw_drivers.specs.Steps.FoundDrivers.{DriverRows, outputs_made}
 use Rattle.vw_drivers.proofs.OutputRows.{outputs_set}
 use Rattle.vw_drivers.proofs.outputs.outputs_by.Goals as goal
 
@@ -17,7 +17,7 @@ loop-instance-preserved c =
     omega (arith, c.loop-instance-test.true, c.loop-instance.auto.instance, ap (λ (list : List Placed). length list) c.instances-instances.ensures) in
     let row_is : row ≡ outputs_made tables rows k entry =
     c.in_ok-row.ensures
-    ∙ ap₂ (λ (rows : Rows) (list : List Placed). outputs_made tables rows k (get_or list k none)) c.as_slice.ensures.value c.instances-instances.ensures in
+    ∙ ap₂ (λ (rows : DriverRows) (list : List Placed). outputs_made tables rows k (get_or list k none)) c.as_slice.ensures.value c.instances-instances.ensures in
     record {
       long = length-set rows k row ∙ c.loop-instance.invariant.long;
       right = λ design faultless are.

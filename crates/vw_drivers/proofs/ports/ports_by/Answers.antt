@@ -2,7 +2,7 @@ use Rattle.std.proofs.Common.{◌≡◌, ◌<◌, ◌∷◌, [], List, length, g
 use Rattle.std.proofs.lemmas.Option.{slice_get-get_or, slice_get_within}
 use Rattle.vw_design.specs.Preorder.{instances}
 use Rattle.vw_instances.specs.declared.tables.Placed.{Placed}
-use Rattle.vw_drivers.specs.Steps.FoundDrivers.{Rows, ports_made}
+use Rattle.vw_drivers.specs.Steps.FoundDrivers.{DriverRows, ports_made}
 use Rattle.vw_drivers.proofs.PortRows.{ports_more}
 use Rattle.vw_drivers.proofs.ports.ports_by.Goals as goal
 
@@ -19,7 +19,7 @@ loop-entry-preserved c =
     omega (arith, c.loop-entry-test.true, ap (λ (list : List Placed). length list) c.instances-entry-items.ensures) in
     let row_is : row ≡ ports_made tables outputs rows entry =
     c.in_ok-row.ensures
-    ∙ ap₂ (λ (rows : Rows) (list : List Placed). ports_made tables outputs rows (get_or list k none)) c.as_slice.ensures.value c.instances-entry-items.ensures in
+    ∙ ap₂ (λ (rows : DriverRows) (list : List Placed). ports_made tables outputs rows (get_or list k none)) c.as_slice.ensures.value c.instances-entry-items.ensures in
     record {
       long = ap length c.in_ok-push.ensures.items ∙ length-append rows (row ∷ []) ∙ omega (arith, c.loop-entry.invariant.long);
       right = λ design faultless are.

@@ -1,7 +1,7 @@
 use Rattle.std.proofs.Common.{◌∷◌, [], List, Option, None, length, ◌∙◌, ap, arith, length-append}
 use Rattle.vw_drivers.specs.declared.source.Source.{Source}
 use Rattle.vw_drivers.specs.Steps.FoundDrivers.{with_port}
-use Rattle.vw_drivers.proofs.Rows.{with_nothing, with_set}
+use Rattle.vw_drivers.proofs.WrittenRows.{with_nothing, with_set}
 use Rattle.vw_drivers.proofs.ports.put.Goals as goal
 
 pub loop-preserved : goal.loop-preserved

@@ -4,8 +4,8 @@ use Rattle.vw_net.specs.declared.cell.Cell.{Cell}
 use Rattle.vw_net.specs.Cells.{IsWellFormed}
 use Rattle.vw_design.specs.Flattened.{IsCellOf, IsFlatOf}
 use Rattle.vw_design.specs.Preorder.{Site, cells}
-use Rattle.vw_design.proofs.FilteredLists.{AllZip-length}
 use Rattle.vw_design.proofs.Sizes.{few_columns}
+use Rattle.vw_design.proofs.PairedLists.{AllZip-length}
 use Rattle.vw_flat.specs.Steps.Numbers.{nets}
 use Rattle.vw_flat.proofs.netlist.flatten.Goals.{After-of}
 use Rattle.vw_flat.proofs.netlist.flatten.Goals as goal

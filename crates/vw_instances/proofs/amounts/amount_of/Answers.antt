@@ -2,7 +2,7 @@ use Rattle.std.proofs.Common.{◌+◌, ℕ, drop, sym, ◌∙◌, ap, subst, ari
 use Rattle.vw_models.proofs.Unknowns.{AreAlong}
 use Rattle.vw_instances.specs.Steps.Counting.{count_at, count_in}
 use Rattle.vw_instances.proofs.Alongside.{next}
-use Rattle.vw_instances.proofs.Sums.{amount_more}
+use Rattle.vw_instances.proofs.ItemAmounts.{amount_more}
 use Rattle.vw_instances.proofs.amounts.amount_of.Goals as goal
 
 -- the next item, and its number

@@ -2,7 +2,7 @@ use Rattle.std.proofs.Common.{List, refl, sym, subst}
 use Rattle.std.specs.List.{AllZip}
 use Rattle.vw_instances.specs.declared.sizes.Before.{Before}
 use Rattle.vw_instances.specs.Steps.Counting.{AreEntries}
-use Rattle.vw_instances.proofs.Exact.{nothing_big, are_sizes}
+use Rattle.vw_instances.proofs.ExactCounts.{nothing_big, are_sizes}
 use Rattle.vw_instances.proofs.count.sizes_of.Goals as goal
 
 pub returns : goal.returns

@@ -4,7 +4,7 @@ use Rattle.vw_instances.specs.declared.measure.Measure.TheVariants.{Instances, C
 use Rattle.vw_instances.specs.Steps.Counting.{count_at, count_in}
 use Rattle.vw_instances.proofs.Alongside.{next}
 use Rattle.vw_instances.proofs.Prefixes.{one_more}
-use Rattle.vw_instances.proofs.Sums.{amount_more}
+use Rattle.vw_instances.proofs.ItemAmounts.{amount_more}
 use Rattle.vw_instances.proofs.entries.entries_of.Goals as goal
 
 -- the next item, and its number

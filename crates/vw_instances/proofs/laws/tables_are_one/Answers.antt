@@ -1,4 +1,4 @@
-use Rattle.vw_instances.proofs.Unique.{placed_once, cells_once}
+use Rattle.vw_instances.proofs.OnlyTables.{placed_once, cells_once}
 use Rattle.vw_instances.proofs.laws.tables_are_one.Goals as goal
 
 -- no instance is listed twice, and a model has one number

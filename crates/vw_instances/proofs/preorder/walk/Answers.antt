@@ -1,6 +1,6 @@
 use Rattle.std.proofs.Common.{sym, subst}
 use Rattle.vw_instances.specs.Tables.{ArePlaced, AreCellSites}
-use Rattle.vw_instances.proofs.Ends.{starts, ends_placed, ends_cells}
+use Rattle.vw_instances.proofs.WalkEnds.{starts, ends_placed, ends_cells}
 use Rattle.vw_instances.proofs.preorder.walk.Goals as goal
 
 pub loop-frame-init : goal.loop-frame-init

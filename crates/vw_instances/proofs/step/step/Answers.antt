@@ -1,5 +1,5 @@
 use Rattle.std.proofs.Common.{◌∙◌, sym}
-use Rattle.vw_instances.proofs.Counted.{are_small}
+use Rattle.vw_instances.proofs.ListedCounts.{are_small}
 use Rattle.vw_instances.proofs.StepCases.{ends, cell_step, cell_falls, instance_step, instance_falls}
 use Rattle.vw_instances.proofs.step.step.Goals as goal
 

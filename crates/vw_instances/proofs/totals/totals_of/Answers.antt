@@ -2,7 +2,7 @@ use Rattle.std.proofs.Common.{◌<◌, List, length, subst, sym, ◌∙◌, arit
 use Rattle.std.proofs.lemmas.List.{get_or_default}
 use Rattle.vw_design.specs.declared.model.Model.{Model}
 use Rattle.vw_models.proofs.NumberedModels.{model_at_place}
-use Rattle.vw_instances.proofs.Reckoned.{inputs_are, outputs_are, instances_are, bindings_are, cells_are, depth_is}
+use Rattle.vw_instances.proofs.RootQuantities.{inputs_are, outputs_are, instances_are, bindings_are, cells_are, depth_is}
 use Rattle.vw_instances.proofs.totals.totals_of.Goals as goal
 
 -- each from the root's counts

@@ -1,13 +1,14 @@
 use Rattle.std.proofs.Common.{◌∙◌, Some, length, find, refl, sym, ap}
 use Rattle.std.proofs.lemmas.Option.{slice_get_read, slice_get_within}
 use Rattle.vw_design.specs.Paths.{Word, is_port}
-use Rattle.vw_models.specs.Steps.Placed.{at_placement}
+use Rattle.vw_models.specs.Steps.PlacedModels.{at_placement}
 use Rattle.vw_models.specs.Steps.Formals.{IsBothWays}
 use Rattle.vw_models.specs.Steps.FoundAtPlaced.{both_ways_at}
 use Rattle.vw_models.proofs.NumberedModels.{model_at_place, within_models}
 use Rattle.vw_models.proofs.Searched.{the_output, model_of, both_is}
-use Rattle.vw_models.proofs.AtPlacedModel.{none_is, zip_at, nothing_at, something_at, nothing_left, made_none, made_some}
+use Rattle.vw_models.proofs.AtPlacedModel.{zip_at, nothing_at, something_at, nothing_left, made_none, made_some}
 use Rattle.vw_models.proofs.both.first_both.Goals as goal
+use Rattle.vw_order.proofs.NoValue.{none_is}
 
 pub bounds-outputs-placement : goal.bounds-outputs-placement
 bounds-outputs-placement c =

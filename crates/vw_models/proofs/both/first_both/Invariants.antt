@@ -1,7 +1,7 @@
 -- nothing is found yet
 use Rattle.std.proofs.Common.{◌≡◌, drop}
 use Rattle.vw_design.specs.Lists.{first_found}
-use Rattle.vw_models.specs.Steps.Placed.{at_placement}
+use Rattle.vw_models.specs.Steps.PlacedModels.{at_placement}
 use Rattle.vw_models.specs.Steps.FoundAtPlaced.{both_ways_at}
 use Rattle.vw_models.proofs.both.first_both.Given as goal
 

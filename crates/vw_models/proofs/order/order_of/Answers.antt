@@ -6,9 +6,9 @@ use Rattle.vw_order.specs.Circles.{IsNumberCircle, BeginsWithLeast}
 use Rattle.vw_order.specs.Orders.{IsNumberOrder}
 use Rattle.vw_order.proofs.Among.{at_among}
 use Rattle.vw_models.specs.Steps.ModelGraphs.{graph_of_models}
-use Rattle.vw_models.specs.Steps.ModelNames.{names_of}
+use Rattle.vw_models.specs.Steps.ModelNames.{numbered_names}
 use Rattle.vw_models.proofs.Models.{search_within}
-use Rattle.vw_models.proofs.Orders.{model_order}
+use Rattle.vw_models.proofs.OrderedModels.{model_order}
 use Rattle.vw_models.proofs.CircleNames.{circle_within, is_circle_of_names}
 use Rattle.vw_models.proofs.order.order_of.Goals as goal
 use Rattle.vw_models.proofs.order.order_of.Goals.{In-Circle}
@@ -39,5 +39,5 @@ returns-in_ok-circle_names-in-Circle c =
     let design = c.args.design.now in
     let circle = c.in-Circle.circle.items in
     let found = found (goal.at.returns-in_ok-circle_names-in-Circle c).In-Circle in
-    subst (λ (l : List Word). IsModelCircle design l) (sym (c.in_ok-circle_names-in-Circle.ensures ∙ ap (names_of design) c.deref.ensures.value))
+    subst (λ (l : List Word). IsModelCircle design l) (sym (c.in_ok-circle_names-in-Circle.ensures ∙ ap (numbered_names design) c.deref.ensures.value))
     (is_circle_of_names design c.args.targets.now c.requires.targets circle found.0 found.1)

@@ -1,18 +1,14 @@
-use Rattle.std.proofs.Common.{◌≡◌, ◌+◌, List, ℕ, Option, Some, None, sym, subst, drop, filter_map, get_or, refl}
+use Rattle.std.proofs.Common.{◌≡◌, ◌+◌, List, ℕ, Option, None, sym, subst, drop, filter_map, get_or, refl}
 use Rattle.std.specs.List.{AllZip}
 use Rattle.vw_design.specs.Paths.{Placing}
 use Rattle.vw_design.specs.ModelNumbers.{IsNumberOfModel}
 use Rattle.vw_models.proofs.Unknowns.{AreAlong}
 use Rattle.vw_models.specs.declared.placement.Placement.{Placement}
-use Rattle.vw_models.specs.Steps.Placed.{Placed, placed_by}
-use Rattle.vw_models.proofs.Adding.{IsAdding, sub_cut, no_sub, passed_over, placed_now}
+use Rattle.vw_models.specs.Steps.PlacedModels.{PlacedModel, placed_by}
+use Rattle.vw_models.proofs.AddedPlacements.{IsAdding, sub_cut, no_sub, passed_over, placed_now}
 use Rattle.vw_models.proofs.placement.add_placed.Goals as goal
 use Rattle.vw_models.proofs.placement.add_placed.Goals.{in-Sub, in-Some+in_ok-push, in_default-targets, in_default}
-
--- no number was found
-none_is : (found : Option ℕ) → ((number : ℕ) → found ≡ Some number → ⊥) → found ≡ None
-none_is None other = refl
-none_is (Some number) other = absurd (other number refl)
+use Rattle.vw_order.proofs.NoValue.{none_is}
 
 pub loop-item-preserved : goal.loop-item-preserved
 loop-item-preserved c =
@@ -47,7 +43,7 @@ loop-item-preserved c =
                 record {
                   left = left;
                   adding = subst (λ (l : List Placement). IsAdding design start (filter_map (placed_by design) (drop (i + 1) items)) todo l) stays
-                      (subst (λ (l : List Placed). IsAdding design start l todo c.loop-item.placed.items) same kept.adding);
+                      (subst (λ (l : List PlacedModel). IsAdding design start l todo c.loop-item.placed.items) same kept.adding);
                 }
           ]
       | in_default w ↦
@@ -57,6 +53,6 @@ loop-item-preserved c =
           record {
             left = subst (λ (p : ℕ). AreAlong design (drop (i + 1) items) (drop p numbers)) (sym w.place-is) left;
             adding = subst (λ (l : List Placement). IsAdding design start (filter_map (placed_by design) (drop (i + 1) items)) todo l) stays
-                (subst (λ (l : List Placed). IsAdding design start l todo c.loop-item.placed.items) same.1 kept.adding);
+                (subst (λ (l : List PlacedModel). IsAdding design start l todo c.loop-item.placed.items) same.1 kept.adding);
           }
     ]

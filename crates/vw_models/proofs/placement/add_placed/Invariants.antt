@@ -3,8 +3,8 @@ use Rattle.std.proofs.Common.{drop, filter_map}
 use Rattle.std.specs.List.{AllZip}
 use Rattle.vw_design.specs.Paths.{placings}
 use Rattle.vw_design.specs.ModelNumbers.{IsNumberOfModel}
-use Rattle.vw_models.specs.Steps.Placed.{placed_by}
-use Rattle.vw_models.proofs.Adding.{IsAdding}
+use Rattle.vw_models.specs.Steps.PlacedModels.{placed_by}
+use Rattle.vw_models.proofs.AddedPlacements.{IsAdding}
 use Rattle.vw_models.proofs.placement.add_placed.Given as goal
 
 abbrev pub invariant-loop-item : goal.invariant-loop-item

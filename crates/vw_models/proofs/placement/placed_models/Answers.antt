@@ -7,8 +7,8 @@ use Rattle.vw_design.specs.declared.design.Design.{Design}
 use Rattle.vw_design.specs.ModelFaults.{is_reached, reached}
 use Rattle.vw_models.proofs.Unknowns.{AreAlong}
 use Rattle.vw_models.specs.declared.placement.Placement.{Placement}
-use Rattle.vw_models.specs.Steps.Placed.{Placed, placed_by, placed_models, IsPlacement, AreAdded}
-use Rattle.vw_models.proofs.Adding.{IsAdding, more_added, ended}
+use Rattle.vw_models.specs.Steps.PlacedModels.{PlacedModel, placed_by, placed_models, IsPlacement, AreAdded}
+use Rattle.vw_models.proofs.AddedPlacements.{IsAdding, more_added, ended}
 use Rattle.vw_models.proofs.NumberedModels.{within_models, marks_each, targets_each, model_at_place, mark_at, along_at}
 use Rattle.vw_models.proofs.placement.placed_models.Goals as goal
 use Rattle.vw_models.proofs.placement.placed_models.Goals.{then-marks-number+in_ok-add_placed, else-marks-number}
@@ -37,7 +37,7 @@ add_placed-requires c =
     (subst (λ (l : List (Option ℕ)). AreAlong design model.items l) (sym list) (along_at design targets number model c.requires.targets at))
 
 -- what the models from one on place
-abbrev behind : Design → List Model → List Placed
+abbrev behind : Design → List Model → List PlacedModel
 behind design models = flat_map (λ model. filter_map (placed_by design) model.items) (filter (λ model. is_reached design model.name) models)
 
 module _ (design : Design) (others : List Model) (i : ℕ) (model : Model) (are : others ≡ design.models) (within : i < length others) (at : model ≡ get_or others i model) where
@@ -54,12 +54,12 @@ module _ (design : Design) (others : List Model) (i : ℕ) (model : Model) (are 
       → IsAdding design [] (behind design (drop (i + 1) design.models)) (behind design design.models) new
   go_on is old new adding items same adds =
       more_added design [] (filter_map (placed_by design) model.items) (behind design (drop (i + 1) design.models)) (behind design design.models) old new
-      (subst (λ (l : List Placed). IsAdding design [] l (behind design design.models) old) (behind_cut true is) adding)
+      (subst (λ (l : List PlacedModel). IsAdding design [] l (behind design design.models) old) (behind_cut true is) adding)
       (subst (λ (l : List Item). AreAdded design old (filter_map (placed_by design) l) new) same adds)
 
   pass_over : is_reached design model.name ≡ false → (old : List Placement) → IsAdding design [] (behind design (drop i design.models)) (behind design design.models) old
       → IsAdding design [] (behind design (drop (i + 1) design.models)) (behind design design.models) old
-  pass_over is old adding = subst (λ (l : List Placed). IsAdding design [] l (behind design design.models) old) (behind_cut false is) adding
+  pass_over is old adding = subst (λ (l : List PlacedModel). IsAdding design [] l (behind design design.models) old) (behind_cut false is) adding
 
 pub loop-number-preserved : goal.loop-number-preserved
 loop-number-preserved c =
@@ -91,5 +91,5 @@ returns c =
     let now = c.loop-number.placed.items in
     let past : length design.models ≤ c.loop-number.number = subst (λ (l : List Model). length l ≤ c.loop-number.number) c.models-model-items.ensures c.loop-number-test.false in
     let left : behind design (drop c.loop-number.number design.models) ≡ [] = ap (behind design) (drop_all c.loop-number.number design.models past) in
-    let done = ended design [] (behind design design.models) now (subst (λ (l : List Placed). IsAdding design [] l (behind design design.models) now) left c.loop-number.invariant) in
-    subst (λ (l : List Placed). AllZip (IsPlacement design) l now) (all_of design) (done [] tt)
+    let done = ended design [] (behind design design.models) now (subst (λ (l : List PlacedModel). IsAdding design [] l (behind design design.models) now) left c.loop-number.invariant) in
+    subst (λ (l : List PlacedModel). AllZip (IsPlacement design) l now) (all_of design) (done [] tt)

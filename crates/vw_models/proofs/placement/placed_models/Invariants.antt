@@ -1,8 +1,8 @@
 -- the models of the items of the models so far were added
 use Rattle.std.proofs.Common.{[], drop, filter, filter_map, flat_map}
 use Rattle.vw_design.specs.ModelFaults.{is_reached}
-use Rattle.vw_models.specs.Steps.Placed.{placed_by}
-use Rattle.vw_models.proofs.Adding.{IsAdding}
+use Rattle.vw_models.specs.Steps.PlacedModels.{placed_by}
+use Rattle.vw_models.proofs.AddedPlacements.{IsAdding}
 use Rattle.vw_models.proofs.placement.placed_models.Given as goal
 
 abbrev pub invariant-loop-number : goal.invariant-loop-number

@@ -5,7 +5,7 @@ use Rattle.vw_design.specs.declared.model.Model.{Model}
 use Rattle.vw_design.specs.Paths.{Placing, placings}
 use Rattle.vw_design.specs.ModelNumbers.{AreTargets}
 use Rattle.vw_models.specs.Steps.Names.{number_in}
-use Rattle.vw_models.proofs.Named.{targets_are}
+use Rattle.vw_models.proofs.NumbersByName.{targets_are}
 use Rattle.vw_models.proofs.targets.targets_of.Goals as goal
 
 -- one more model

@@ -10,10 +10,11 @@ use Rattle.vw_order.specs.Circles.{IsNumberCircle}
 use Rattle.vw_order.specs.Steps.Marks.{is_open_mark}
 use Rattle.vw_order.specs.Steps.Rounds.{round_from}
 use Rattle.vw_order.specs.Steps.Searches.{IsKept, IsSearch}
-use Rattle.vw_order.proofs.Searches.{IsAtTop, at_top, moved, finished, joined, opened_on, circled, same_search}
+use Rattle.vw_order.proofs.DepthSearches.{IsAtTop, at_top, moved, finished, joined, opened_on, circled, same_search}
 use Rattle.vw_order.proofs.depth_first.go_on.Given.{Over}
 use Rattle.vw_order.proofs.depth_first.go_on.Goals as goal
 use Rattle.vw_order.proofs.depth_first.go_on.Goals.{In-Some}
+use Rattle.vw_order.proofs.NoValue.{none_is}
 
 -- what a test of a mark says
 open_is : (mark : Progress) → is_open_mark mark ≡ true → mark ≡ Open
@@ -27,10 +28,6 @@ open_not Open is same = absurd (true≢false is)
 open_not Done is same = cc
 
 -- nothing was popped
-none_popped : (popped : Option ℕ) → ((x : ℕ) → popped ≡ Some x → ⊥) → popped ≡ None
-none_popped None not_some = refl
-none_popped (Some x) not_some = absurd (not_some x refl)
-
 nothing_left : (stack rest : List ℕ) (popped : Option ℕ) (count left : ℕ) → popped ≡ None → stack ≡ rest ++ option_to_list popped → rest ≡ take (count - 1) stack
     → MatchOption popped ((count ≡ 0) × (left ≡ 0)) (λ _. left + 1 ≡ count) → stack ≡ []
 nothing_left stack rest None count left none items front cases = items ∙ append-nil rest ∙ front ∙ ap (λ (n : ℕ). take (n - 1) stack) cases.0
@@ -157,7 +154,7 @@ returns g c =
     let graph = g.D.Digraph.graph c.args.digraph.now in
     let depth = c.loop-number.depth in
     let left = c.pop.new.self.items in
-    let none : c.pop.result ≡ None = none_popped c.pop.result c.in_default.not-Some in
+    let none : c.pop.result ≡ None = none_is c.pop.result c.in_default.not-Some in
     let empty : depth.stack.items ≡ [] = nothing_left depth.stack.items left c.pop.result (vec_len depth.stack) (vec_len c.pop.new.self) none c.pop.ensures.items c.pop.ensures.rest c.pop.ensures.cases in
     let rests : left ≡ [] = rest_empty depth.stack.items left c.pop.result none empty c.pop.ensures.items in
     let same : depth.stack.items ≡ left = empty ∙ sym rests in

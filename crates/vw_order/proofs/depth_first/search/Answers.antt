@@ -2,7 +2,7 @@ use Rattle.std.proofs.Common.{ℕ, List, replicate, sym, ◌∙◌, ap, subst, a
 use Rattle.vw_order.specs.declared.mark.Progress.TheVariants.{Fresh}
 use Rattle.vw_order.specs.Circles.{IsNumberCircle, BeginsWithLeast}
 use Rattle.vw_order.proofs.LeastFirst.{from_least}
-use Rattle.vw_order.proofs.Searches.{begun, same_search}
+use Rattle.vw_order.proofs.DepthSearches.{begun, same_search}
 use Rattle.vw_order.proofs.depth_first.search.Goals as goal
 
 pub loop-number-init : goal.loop-number-init

@@ -3,7 +3,7 @@ use Rattle.vw_order.specs.declared.mark.Progress.{Progress}
 use Rattle.vw_order.specs.declared.mark.Progress.TheVariants.{Fresh, Open, Done}
 use Rattle.vw_order.specs.Steps.Marks.{is_fresh_mark}
 use Rattle.vw_order.specs.Steps.Searches.{IsSearch}
-use Rattle.vw_order.proofs.Searches.{rooted, same_search}
+use Rattle.vw_order.proofs.DepthSearches.{rooted, same_search}
 use Rattle.vw_order.proofs.depth_first.visit.Goals as goal
 
 fresh_is : (mark : Progress) → is_fresh_mark mark ≡ true → mark ≡ Fresh

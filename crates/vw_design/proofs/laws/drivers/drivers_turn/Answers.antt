@@ -1,5 +1,5 @@
 use Rattle.vw_design.proofs.Ways.{driver-turn}
-use Rattle.vw_design.proofs.Reached.{faultless_shallow, faultless_one_way}
+use Rattle.vw_design.proofs.ShallowDesigns.{faultless_shallow, faultless_one_way}
 use Rattle.vw_design.proofs.laws.drivers.drivers_turn.Goals as goal
 
 -- the 127 turns behind the first are enough

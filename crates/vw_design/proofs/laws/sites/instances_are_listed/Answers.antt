@@ -1,4 +1,4 @@
-use Rattle.vw_design.proofs.Placed.{faultless_listed, faultless_placed}
+use Rattle.vw_design.proofs.PlacedInstances.{faultless_listed, faultless_placed}
 use Rattle.vw_design.proofs.laws.sites.instances_are_listed.Goals as goal
 
 -- by the length of the path; and what an item of an instance places has a model, which is known

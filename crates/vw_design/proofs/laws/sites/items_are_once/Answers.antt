@@ -1,5 +1,5 @@
-use Rattle.vw_design.proofs.Once.{site_once, cell_once}
-use Rattle.vw_design.proofs.OncePaths.{instance_once}
+use Rattle.vw_design.proofs.SitesOnce.{site_once, cell_once}
+use Rattle.vw_design.proofs.PathsOnce.{instance_once}
 use Rattle.vw_design.proofs.laws.sites.items_are_once.Goals as goal
 
 -- what stands below a path ends in it, and the numbers of its own items rise

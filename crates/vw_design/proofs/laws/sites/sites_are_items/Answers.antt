@@ -1,4 +1,4 @@
-use Rattle.vw_design.proofs.Has.{Has-Contains}
+use Rattle.vw_design.proofs.ListElements.{Has-Contains}
 use Rattle.vw_design.proofs.Sites.{site_item}
 use Rattle.vw_design.proofs.FlatValues.{latches_of_cells}
 use Rattle.vw_design.specs.Preorder.{sites}

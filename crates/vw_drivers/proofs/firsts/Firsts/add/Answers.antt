@@ -2,7 +2,7 @@ use Rattle.std.proofs.Common.{◌≡◌, ◌++◌, ◌∷◌, [], false, not, Li
 use Rattle.vw_design.specs.Paths.{Word}
 use Rattle.vw_drivers.specs.Firsts.{First}
 use Rattle.vw_drivers.specs.Steps.GatheredClaims.{has_claim}
-use Rattle.vw_drivers.proofs.Keys.{firsts_of, has_first, new_first}
+use Rattle.vw_drivers.proofs.NameMaps.{firsts_of, has_first, new_first}
 use Rattle.vw_drivers.proofs.firsts.Firsts.add.Goals as goal
 
 pub returns-then-contains_key-clause-is_new : goal.returns-then-contains_key-clause-is_new

@@ -1,6 +1,6 @@
 use Rattle.std.proofs.Common.{List, ◌∙◌, ap}
 use Rattle.vw_drivers.specs.Firsts.{First, number_named}
-use Rattle.vw_drivers.proofs.Keys.{number_first}
+use Rattle.vw_drivers.proofs.NameMaps.{number_first}
 use Rattle.vw_drivers.proofs.firsts.Firsts.number.Goals as goal
 
 pub returns-in_err-number-clause-number : goal.returns-in_err-number-clause-number

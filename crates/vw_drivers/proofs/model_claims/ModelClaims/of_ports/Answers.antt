@@ -4,7 +4,7 @@ use Rattle.vw_design.specs.Paths.{Word}
 use Rattle.vw_drivers.specs.declared.model_claims.ModelClaims.{ModelClaims}
 use Rattle.vw_drivers.specs.Firsts.{First}
 use Rattle.vw_drivers.specs.Steps.GatheredClaims.{with_firsts, port_first}
-use Rattle.vw_drivers.proofs.Looks.{with_firsts_append}
+use Rattle.vw_drivers.proofs.ClaimLookups.{with_firsts_append}
 use Rattle.vw_drivers.proofs.model_claims.ModelClaims.of_ports.Goals as goal
 
 pub returns : goal.returns

@@ -1,7 +1,7 @@
 use Rattle.std.proofs.Common.{Bor, List, ℕ, ◌∙◌, ap}
 use Rattle.vw_design.specs.Distinct.{has_name}
 use Rattle.vw_design.specs.Paths.{Word}
-use Rattle.vw_drivers.proofs.Keys.{has_listed}
+use Rattle.vw_drivers.proofs.NameMaps.{has_listed}
 use Rattle.vw_drivers.proofs.model_outputs.Outputs.has.Goals as goal
 
 pub returns : goal.returns

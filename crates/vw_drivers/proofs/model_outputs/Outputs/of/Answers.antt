@@ -5,7 +5,7 @@ use Rattle.std.proofs.lemmas.List.{take_all}
 use Rattle.std.proofs.lemmas.Map.Text.{hash_map_updates_str}
 use Rattle.vw_design.specs.Distinct.{has_name}
 use Rattle.vw_design.specs.Paths.{Word}
-use Rattle.vw_drivers.proofs.Keys.{has_listed, one_more}
+use Rattle.vw_drivers.proofs.NameMaps.{has_listed, one_more}
 use Rattle.vw_drivers.proofs.model_outputs.Outputs.of.Goals as goal
 
 pub loop-name-preserved : goal.loop-name-preserved

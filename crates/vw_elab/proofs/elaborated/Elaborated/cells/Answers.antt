@@ -1,7 +1,7 @@
 use Rattle.std.proofs.Common.{◌≡◌, sym, ◌∙◌, ap, arith}
 use Rattle.vw_design.specs.Limits.{cell_count}
 use Rattle.vw_design.specs.Preorder.{instances, cells}
-use Rattle.vw_design.proofs.FilteredLists.{AllZip-length}
+use Rattle.vw_design.proofs.PairedLists.{AllZip-length}
 use Rattle.vw_instances.specs.Tables.{IsCellSite}
 use Rattle.vw_elab.proofs.elaborated.Elaborated.cells.Goals as goal
 

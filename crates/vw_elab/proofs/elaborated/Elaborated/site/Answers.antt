@@ -2,7 +2,7 @@ use Rattle.std.proofs.Common.{◌≡◌, List, Some, length, slice_get, get_or, 
 use Rattle.vw_design.specs.declared.design.Design.{Design}
 use Rattle.vw_design.specs.Limits.{cell_count}
 use Rattle.vw_design.specs.Preorder.{Site, instances, cells}
-use Rattle.vw_design.proofs.FilteredLists.{AllZip-length}
+use Rattle.vw_design.proofs.PairedLists.{AllZip-length}
 use Rattle.vw_instances.specs.declared.tables.CellSite.{CellSite}
 use Rattle.vw_instances.specs.Tables.{IsCellSite}
 use Rattle.vw_elab.proofs.ReadTables.{site_read}

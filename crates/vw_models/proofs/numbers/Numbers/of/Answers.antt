@@ -3,7 +3,7 @@ use Rattle.std.proofs.lemmas.Map.Text.{hash_map_updates_str}
 use Rattle.std.proofs.lemmas.Option.{slice_get_read}
 use Rattle.vw_design.specs.declared.model.Model.{Model}
 use Rattle.vw_models.specs.Steps.Names.{number_in}
-use Rattle.vw_models.proofs.Named.{named_step}
+use Rattle.vw_models.proofs.NumbersByName.{named_step}
 use Rattle.vw_models.proofs.numbers.Numbers.of.Goals as goal
 
 -- one more name

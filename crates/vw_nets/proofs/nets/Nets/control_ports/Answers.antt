@@ -3,7 +3,7 @@ use Rattle.vw_design.specs.Preorder.{Site, cells}
 use Rattle.vw_drivers.specs.Firsts.{number_named}
 use Rattle.vw_drivers.specs.Tables.{root_firsts}
 use Rattle.vw_nets.specs.Steps.Ports.{item_ports}
-use Rattle.vw_nets.proofs.Along.{IsHere, no_cell, here, past}
+use Rattle.vw_nets.proofs.CellSearches.{IsHere, no_cell, here, past}
 use Rattle.vw_nets.proofs.PortNumbers.{somes, of_cells, more_ports, ports_are}
 use Rattle.vw_nets.proofs.nets.Nets.control_ports.Goals as goal
 use Rattle.vw_nets.proofs.nets.Nets.control_ports.Goals.{in-Some+in_ok-push, in_default}

@@ -3,7 +3,7 @@ use Rattle.std.proofs.lemmas.Option.{slice_get_read}
 use Rattle.vw_design.specs.Drivers.{driver}
 use Rattle.vw_design.specs.Paths.{Word}
 use Rattle.vw_nets.specs.Steps.Wanted.{wants}
-use Rattle.vw_nets.proofs.Finds.{find_next, find_now}
+use Rattle.vw_nets.proofs.SearchSteps.{find_next, find_now}
 use Rattle.vw_nets.proofs.nets.Nets.first_among.Goals as goal
 
 pub returns-then-is_wanted : goal.returns-then-is_wanted

@@ -1,9 +1,9 @@
 use Rattle.std.proofs.Common.{◌≡◌, ◌<◌, ◌∙◌, ◌+◌, ℕ, List, Option, length, sym, ap, subst, arith}
 use Rattle.vw_design.specs.Preorder.{instances}
+use Rattle.vw_design.proofs.ListPlaces.{at_within}
 use Rattle.vw_instances.specs.declared.tables.Placed.{Placed}
 use Rattle.vw_nets.specs.declared.two_drivers.Second.{Second}
 use Rattle.vw_nets.specs.Steps.Seconds.{IsFirstSecond}
-use Rattle.vw_nets.proofs.InstancePlaces.{element}
 use Rattle.vw_nets.proofs.FirstAgain.{taken, kept}
 use Rattle.vw_nets.proofs.nets.Nets.first_second.Goals as goal
 use Rattle.vw_nets.proofs.nets.Nets.first_second.Goals.{then-comes_first, else-comes_first}
@@ -14,7 +14,7 @@ loop-instance-preserved c =
     let i = c.loop-instance.instance in
     let many : length c.instances.result.now ≡ length c.args.self.now.tables.now.instances = ap (λ (list : List Placed). length list) c.instances.ensures in
     let within : i < length (instances design) = omega (arith, c.loop-instance-test.true, many, c.requires.tables.placed.same_length) in
-    let path = element (instances design) i within in
+    let path = at_within (instances design) i within in
     let found = c.second_in-found.result in
     let is = c.second_in-found.ensures path.0 path.1 in
     elim c.if-comes_first.branch [

@@ -1,7 +1,7 @@
 use Rattle.std.proofs.Common.{◌∙◌, None, Option, sym, ap, get_or, subst}
 use Rattle.vw_design.specs.NetFaults.{Edged}
 use Rattle.vw_nets.specs.Steps.Edges.{IsTyped}
-use Rattle.vw_nets.proofs.Along.{IsHere, no_cell, here, past}
+use Rattle.vw_nets.proofs.CellSearches.{IsHere, no_cell, here, past}
 use Rattle.vw_nets.proofs.Edged.{other_of, typed_here, no_type_here}
 use Rattle.vw_nets.proofs.nets.Nets.first_typed.Goals as goal
 

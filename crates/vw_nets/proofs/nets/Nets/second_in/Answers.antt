@@ -7,7 +7,7 @@ use Rattle.vw_design.specs.Preorder.{sites}
 use Rattle.vw_drivers.specs.declared.claim.Again.{Again}
 use Rattle.vw_drivers.specs.Claimed.{IsAgain}
 use Rattle.vw_nets.specs.Steps.Seconds.{position_by, IsClaimedAt, AreFrom}
-use Rattle.vw_nets.proofs.ClaimedAgain.{weights, entry, again_is, position_is, first_claimed, first_least}
+use Rattle.vw_nets.proofs.InstanceClaimsAgain.{weights, entry, again_is, position_is, first_claimed, first_least}
 use Rattle.vw_nets.proofs.nets.Nets.second_in.Goals as goal
 
 pub returns-in_err-position : goal.returns-in_err-position

@@ -1,6 +1,6 @@
 use Rattle.std.proofs.Common.{◌∙◌, ◌≡◌, ◌==◌, ℕ, List, Some, None, not, find, slice_get, ap}
 use Rattle.vw_drivers.specs.Tables.{root_firsts}
-use Rattle.vw_nets.proofs.Unlikes.{one_clock, two_clocks}
+use Rattle.vw_nets.proofs.UnlikePorts.{one_clock, two_clocks}
 use Rattle.vw_nets.proofs.nets.Nets.several_clocks.Goals as goal
 
 pub returns-in_default-other_port : goal.returns-in_default-other_port

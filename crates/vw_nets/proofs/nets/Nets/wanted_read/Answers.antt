@@ -4,7 +4,7 @@ use Rattle.vw_design.specs.Paths.{Net}
 use Rattle.vw_design.specs.Preorder.{Site}
 use Rattle.vw_nets.specs.Nets.{printed_net}
 use Rattle.vw_nets.specs.Steps.Wanted.{wants, wanted_names}
-use Rattle.vw_nets.proofs.Along.{IsHere, no_cell, of_cells, here, past, nothing_here, found_here}
+use Rattle.vw_nets.proofs.CellSearches.{IsHere, no_cell, of_cells, here, past, nothing_here, found_here}
 use Rattle.vw_nets.proofs.nets.Nets.wanted_read.Goals as goal
 
 pub returns-in-Some : goal.returns-in-Some

@@ -3,7 +3,7 @@ use Rattle.std.proofs.Common.{◌≡◌, drop}
 use Rattle.vw_design.specs.Drivers.{driver}
 use Rattle.vw_design.specs.Preorder.{cells}
 use Rattle.vw_nets.specs.Steps.Wanted.{wants, wanted_names, wanted_read}
-use Rattle.vw_nets.proofs.Along.{of_cells}
+use Rattle.vw_nets.proofs.CellSearches.{of_cells}
 use Rattle.vw_nets.proofs.nets.Nets.wanted_read.Given as goal
 
 abbrev pub invariant-loop-cell : goal.invariant-loop-cell

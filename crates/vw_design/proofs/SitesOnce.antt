@@ -11,7 +11,7 @@ use Rattle.vw_design.specs.Paths.{Path, model_at, items_of}
 use Rattle.vw_design.specs.Claims.{Numbered, and_behind, numbered}
 use Rattle.vw_design.specs.Preorder.{Site, site_at, inside, with_inside, sites_below, is_cell, sites, cells}
 use Rattle.vw_design.specs.PathValue.{is_site_of, place_of_site}
-use Rattle.vw_design.proofs.Has.{Has, Has-at, Has-append, from-flat_map, from-filter}
+use Rattle.vw_design.proofs.ListElements.{Has, Has-at, Has-append, from-flat_map, from-filter}
 use Rattle.vw_design.proofs.Names.{same_name, name_same}
 
 -- two sites aren't of one item
@@ -61,8 +61,8 @@ ends_in design (suc depth) base site has =
         (below.0 ++ (suc entry.before ∷ []), below.1 ∙ sym (append_assoc below.0 (suc entry.before ∷ []) base))
 
 -- a site behind items: an own one with a number that is no smaller, or one below a place that is no earlier
-abbrev IsBehind : Path → ℕ → ℕ → Site → Type 0
-IsBehind base number before site =
+abbrev ComesBehind : Path → ℕ → ℕ → Site → Type 0
+ComesBehind base number before site =
     ((site.path ≡ base) × (number ≤ site.number)) ⊎ ((front : Path) × (b : ℕ) × (before ≤ b) × (site.path ≡ front ++ (suc b ∷ base)))
 
 pub entry_from : (number before : ℕ) (items : List Item) (entry : Numbered) → Has entry (numbered number before items) → (number ≤ entry.number) × (before ≤ entry.before)
@@ -80,31 +80,32 @@ entry_from number before (item ∷ items) entry has =
     grows (Sub line name binds) = omega arith
 
 is_behind : (design : Design) (depth : ℕ) (base : Path) (number before : ℕ) (items : List Item) (site : Site)
-    → Has site (flat_map (with_inside (sites_below design depth) base) (numbered number before items)) → IsBehind base number before site
+    → Has site (flat_map (with_inside (sites_below design depth) base) (numbered number before items)) → ComesBehind base number before site
 is_behind design depth base number before items site has =
     let from = from-flat_map (with_inside (sites_below design depth) base) (numbered number before items) site has in
     let entry = entry_from number before items from.0 from.1 in
     ⊎_elim (λ same. inl (sym (ap (λ (s : Site). s.path) same), omega (arith, entry.0, ap (λ (s : Site). s.number) same)))
     (λ deeper. by from.0 entry.1 from.0.item deeper) from.2
   where
-    by : (entry : Numbered) → before ≤ entry.before → (item : Item) → Has site (inside (sites_below design depth) base entry.before item) → IsBehind base number before site
+    by : (entry : Numbered) → before ≤ entry.before → (item : Item) → Has site (inside (sites_below design depth) base entry.before item) → ComesBehind base number before site
     by entry late (Names line ins out cover) found = absurd found
     by entry late (Latch line d q edge control init) found = absurd found
     by entry late (Sub line name binds) found = let ends = ends_in design depth (suc entry.before ∷ base) site found in inr (ends.0, entry.before, late, ends.1)
 
+-- places that begin alike
+pub head_same : {a b : ℕ} {xs ys : Path} → suc a ∷ xs ≡ suc b ∷ ys → a ≡ b
+head_same e = cc
+
 -- a site below a place is none of the instance, and none below a later place
-below_behind : (base : Path) (number before : ℕ) (front : Path) (one other : Site) → one.path ≡ front ++ (suc before ∷ base) → IsBehind base number (suc before) other → Differ one other
+below_behind : (base : Path) (number before : ℕ) (front : Path) (one other : Site) → one.path ≡ front ++ (suc before ∷ base) → ComesBehind base number (suc before) other → Differ one other
 below_behind base number before front one other path behind same_path same_number =
     ⊎_elim
     (λ own. omega (arith, ap (λ (p : Path). length p) (sym path ∙ same_path ∙ own.0), length-append front (suc before ∷ base)))
     (λ under. omega (arith, head_same (same_ends front under.0 (suc before ∷ base) (suc under.1 ∷ base) (sym path ∙ same_path ∙ under.3) refl), under.2))
     behind
-  where
-    head_same : {a b : ℕ} {xs ys : Path} → suc a ∷ xs ≡ suc b ∷ ys → a ≡ b
-    head_same e = cc
 
 -- an own site is none of the later ones
-own_behind : (base : Path) (number before : ℕ) (one other : Site) → one.path ≡ base → one.number ≡ number → IsBehind base (suc number) before other → Differ one other
+own_behind : (base : Path) (number before : ℕ) (one other : Site) → one.path ≡ base → one.number ≡ number → ComesBehind base (suc number) before other → Differ one other
 own_behind base number before one other path is behind same_path same_number =
     ⊎_elim (λ own. omega (arith, own.1))
     (λ under. omega (arith, ap (λ (p : Path). length p) (sym path ∙ same_path ∙ under.3), length-append under.0 (suc under.1 ∷ base))) behind

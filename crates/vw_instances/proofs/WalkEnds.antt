@@ -1,30 +1,22 @@
 -- The start and the end of a walk.
-use Rattle.std.proofs.Common.{◌≡◌, ◌<◌, ◌+◌, ◌-◌, ℕ, List, [], ◌∷◌, ◌++◌, length, append-nil, Some, slice_get, take, reverse, flat_map, refl, sym, ◌∙◌, ap, subst, arith}
+use Rattle.std.proofs.Common.{◌≡◌, ◌+◌, ◌-◌, ℕ, List, [], ◌∷◌, ◌++◌, length, append-nil, take, reverse, flat_map, refl, sym, ◌∙◌, ap, subst, arith}
 use Rattle.std.specs.List.{AllZip}
-use Rattle.vw_design.specs.declared.model.Model.{Model}
 use Rattle.vw_design.specs.declared.design.Design.{Design}
-use Rattle.vw_design.specs.Paths.{model_at}
 use Rattle.vw_design.specs.Preorder.{Site, sites_below, sites}
+use Rattle.vw_design.proofs.ModelNumbers.{root_model}
 use Rattle.vw_instances.specs.declared.tables.Placed.{Placed}
 use Rattle.vw_instances.specs.declared.tables.CellSite.{CellSite}
 use Rattle.vw_instances.specs.declared.frame.Frame.{Frame}
 use Rattle.vw_instances.specs.Tables.{AreNumbered, StandsAt, IsEntryAt, IsCellSite, ArePlaced, AreCellSites}
 use Rattle.vw_instances.specs.Steps.Frames.{Level, sites_left, listed_with, cells_among, IsFrame, IsUnderWay}
 use Rattle.vw_instances.proofs.GrownLists.{none_numbered, more_numbered}
-use Rattle.vw_instances.proofs.Levels.{level_of, sites_start}
+use Rattle.vw_instances.proofs.SitesLeft.{level_of, sites_start}
 
 module _ (design : Design) where
-  -- the root has a model
-  pub root_model : (model : Model) × (model_at design [] ≡ Some model)
-  root_model = by design.models refl design.some where
-    by : (models : List Model) → design.models ≡ models → 0 < length models → (model : Model) × (slice_get design.models 0 ≡ Some model)
-    by [] is some = absurd (omega arith)
-    by (model ∷ models) is some = (model, ap (λ (list : List Model). slice_get list 0) is)
-
   pub starts : IsUnderWay design (record { model = 0; parent = 0; place = 0; cells = 0 } ∷ []) [] (record { instance = 0; model = 0; item = 0; before = 0 } ∷ [])
   unfolding sites
   starts =
-      let root = root_model in
+      let root = root_model design in
       let entry : Placed = record { model = 0; parent = 0; place = 0; cells = 0 } in
       let first : Frame = record { instance = 0; model = 0; item = 0; before = 0 } in
       let level = level_of [] [] root.0.items in

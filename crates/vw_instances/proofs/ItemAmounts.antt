@@ -5,7 +5,7 @@ use Rattle.vw_design.specs.declared.item.Item.{Item}
 use Rattle.vw_design.specs.declared.item.Item.TheVariants.{Names, Latch, Sub}
 use Rattle.vw_design.specs.Paths.{Word, Placing, placings}
 use Rattle.vw_design.specs.Counts.{items_weight, items_height, placed_weight}
-use Rattle.vw_design.proofs.Has.{Has}
+use Rattle.vw_design.proofs.ListElements.{Has}
 use Rattle.vw_instances.specs.declared.measure.Measure.{Measure}
 use Rattle.vw_instances.specs.declared.measure.Measure.TheVariants.{Instances, Bindings, Cells, Levels}
 use Rattle.vw_instances.specs.Steps.Counting.{most, merged, single, amount}

@@ -9,6 +9,7 @@ use Rattle.vw_design.specs.Counts.{placed_one, cell_one, items_weight, model_wei
 use Rattle.vw_design.specs.Paths.{Word, Path, model_at, items_of}
 use Rattle.vw_design.specs.PathValue.{item_at, place_of_site}
 use Rattle.vw_design.specs.Preorder.{instances, sites}
+use Rattle.vw_design.proofs.ListPlaces.{at_within}
 use Rattle.vw_drivers.specs.declared.claim.Again.{Again}
 use Rattle.vw_drivers.specs.declared.model_claims.ModelClaims.{ModelClaims}
 use Rattle.vw_drivers.specs.Claimed.{IsAgain}
@@ -18,7 +19,6 @@ use Rattle.vw_instances.specs.Tables.{IsEntryAt}
 use Rattle.vw_drivers.specs.declared.tables.Tables.{Tables}
 use Rattle.vw_drivers.specs.Tables.{AreTables}
 use Rattle.vw_nets.specs.Steps.Seconds.{again_by, position_by, IsClaimedAt, AreFrom, AreNone}
-use Rattle.vw_nets.proofs.InstancePlaces.{element}
 
 -- more items weigh no less
 module _ (weight : Item → ℕ) (below : Word → ℕ) where
@@ -79,7 +79,7 @@ module _ (design : Design) (tables : Tables) (are : AreTables design tables) (in
       let found = are.before path entry.2.model entry.0.model entry.2.stands entry.2.model_is in
       let in_model : slice_get entry.2.model.items place ≡ Some item = sym (ap (λ (m : Option Model). slice_get (items_of m) place) entry.2.stands) ∙ at in
       let within : place < length found.0 = omega (arith, found.2, slice_get_within entry.2.model.items place item in_model) in
-      let before = element found.0 place within in
+      let before = at_within found.0 place within in
       let weighs = found.3 place before.0 before.1 in
       let own = ap (λ (m : Option Model). items_of m) entry.2.stands in
       ap (option_and_then (λ (e : Placed). option_and_then (λ (list : List Before). option_map (λ (b : Before). e.cells + instance + (b.cells + b.instances)) (slice_get list place)) (slice_get tables.before e.model))) entry.1

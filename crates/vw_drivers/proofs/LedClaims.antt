@@ -14,7 +14,7 @@ use Rattle.vw_design.specs.Preorder.{Site, instances}
 use Rattle.vw_design.specs.Limits.{weight_of}
 use Rattle.vw_design.specs.Counts.{placed_one}
 use Rattle.vw_design.proofs.ModelNumbers.{one_number}
-use Rattle.vw_design.proofs.Reached.{faultless_shallow, faultless_one_way}
+use Rattle.vw_design.proofs.ShallowDesigns.{faultless_shallow, faultless_one_way}
 use Rattle.vw_design.proofs.Ways.{claim_at as claim_of, no_port, driver-turn}
 use Rattle.vw_drivers.specs.declared.claim.Claim.{Claim}
 use Rattle.vw_drivers.specs.declared.claim.Claim.TheVariants as claims
@@ -28,8 +28,8 @@ use Rattle.vw_drivers.specs.declared.tables.Tables.{Tables}
 use Rattle.vw_drivers.specs.Sources.{source_of}
 use Rattle.vw_drivers.specs.Tables.{AreTables, root_firsts, instance_firsts}
 use Rattle.vw_drivers.specs.Drivers.{at_rows, driver_by_numbers, HasOutputs}
-use Rattle.vw_drivers.specs.Steps.FoundDrivers.{Rows, child_of, led_by, led_at, led}
-use Rattle.vw_drivers.proofs.Instances.{HasInstance, instance_of, cell_is, child_is}
+use Rattle.vw_drivers.specs.Steps.FoundDrivers.{DriverRows, child_of, led_by, led_at, led}
+use Rattle.vw_drivers.proofs.InstanceTables.{HasInstance, instance_of, cell_is, child_is}
 
 -- the first claim by numbers and that of the design
 none_first : (first : Option NamedClaim) → None ≡ option_map (λ claim. Some claim) first → first ≡ None
@@ -89,7 +89,7 @@ module _ (design : Design) (faultless : HasNoModelFault design) (tables : Tables
       driver-turn design (faultless_shallow design faultless) (faultless_one_way design faultless) path name
       ∙ ap (λ (c : Option NamedClaim). follow_turn (driver design) (turn_by design path name c)) is
 
-  module _ (number : ℕ) (path : Path) (listed : slice_get (instances design) number ≡ Some path) (outputs ports : Rows)
+  module _ (number : ℕ) (path : Path) (listed : slice_get (instances design) number ≡ Some path) (outputs ports : DriverRows)
       (later : (other : ℕ) → number < other → HasOutputs design tables outputs other) where
     abbrev here : HasInstance design tables number path
     here = instance_of design faultless tables are number path listed

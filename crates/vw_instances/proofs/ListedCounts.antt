@@ -7,7 +7,7 @@ use Rattle.vw_design.specs.declared.design.Design.{Design}
 use Rattle.vw_design.specs.Paths.{placings}
 use Rattle.vw_design.specs.Preorder.{Site, sites, instances_at, paths_of, is_cell}
 use Rattle.vw_design.specs.Limits.{IsSmall, instance_count, cell_count}
-use Rattle.vw_design.proofs.FilteredLists.{AllZip-length}
+use Rattle.vw_design.proofs.PairedLists.{AllZip-length}
 use Rattle.vw_instances.specs.declared.tables.Placed.{Placed}
 use Rattle.vw_instances.specs.declared.tables.CellSite.{CellSite}
 use Rattle.vw_instances.specs.declared.frame.Frame.{Frame}

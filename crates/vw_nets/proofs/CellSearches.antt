@@ -9,13 +9,13 @@ use Rattle.vw_design.specs.Paths.{Word, Net}
 use Rattle.vw_design.specs.PathValue.{item_at}
 use Rattle.vw_design.specs.Preorder.{Site, is_cell, instances, sites, cells}
 use Rattle.vw_design.specs.Reads.{net_at, nets_at}
-use Rattle.vw_design.proofs.Has.{Has-at, from-filter}
-use Rattle.vw_design.proofs.FilteredLists.{AllZip-at, AllZip-length}
+use Rattle.vw_design.proofs.ListElements.{Has-at, from-filter}
 use Rattle.vw_design.proofs.Sites.{site_item}
+use Rattle.vw_design.proofs.PairedLists.{AllZip-at, AllZip-length}
+use Rattle.vw_design.proofs.ListPlaces.{at_within}
 use Rattle.vw_instances.specs.declared.tables.CellSite.{CellSite}
 use Rattle.vw_instances.specs.Tables.{AreCellSites, IsCellSite}
-use Rattle.vw_nets.proofs.Finds.{find_map}
-use Rattle.vw_nets.proofs.InstancePlaces.{element}
+use Rattle.vw_nets.proofs.SearchSteps.{find_map}
 
 -- what stands behind the end of a table of cells
 abbrev pub no_cell : CellSite
@@ -36,7 +36,7 @@ module _ (design : Design) (table : List CellSite) (are : AreCellSites design ta
   here i within =
       let cell = get_or table i no_cell in
       let inside : i < length (cells design) = omega (arith, same_count) in
-      let site = element (cells design) i inside in
+      let site = at_within (cells design) i inside in
       let found = AllZip-at (IsCellSite (instances design)) (cells design) table i site.0 are site.1 in
       let is : IsCellSite (instances design) site.0 cell =
       subst (λ (e : CellSite). IsCellSite (instances design) site.0 e) (same_Some found.0 cell (sym found.1 ∙ slice_get-get_or table i no_cell within)) found.2 in

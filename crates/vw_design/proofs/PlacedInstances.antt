@@ -13,12 +13,13 @@ use Rattle.vw_design.specs.Preorder.{Site, site_at, inside, with_inside, sites_b
 use Rattle.vw_design.specs.ModelFaults.{unknown_model}
 use Rattle.vw_design.specs.PathValue.{item_at}
 use Rattle.vw_design.specs.Accepted.{HasNoModelFault}
-use Rattle.vw_design.proofs.Has.{Has, Has-at, from-flat_map, Contains-Has, Has-Contains}
+use Rattle.vw_design.proofs.ListElements.{Has, Has-at, from-flat_map, Contains-Has, Has-Contains}
 use Rattle.vw_design.proofs.Entries.{entry_of, item_entry}
-use Rattle.vw_design.proofs.Instances.{instance_listed, item_listed}
+use Rattle.vw_design.proofs.ListedInstances.{instance_listed, item_listed}
 use Rattle.vw_design.proofs.Sites.{site_is}
 use Rattle.vw_design.proofs.Ways.{IsShallow}
-use Rattle.vw_design.proofs.Reached.{nothing_placed, faultless_shallow}
+use Rattle.vw_design.proofs.ShallowDesigns.{nothing_placed, faultless_shallow}
+use Rattle.vw_design.proofs.ModelNumbers.{root_model}
 
 record HasModel (design : Design) (path : Path) : Type 0 where
   model : Model
@@ -88,11 +89,8 @@ module _ (design : Design) (is_shallow : IsShallow design 64) (none : unknown_mo
       ⊎_elim (λ same. subst (HasModel design) same root) by_site has
 
 -- the root has a model
-root_model : (design : Design) → HasModel design []
-root_model design = by design.models refl design.some where
-  by : (models : List Model) → design.models ≡ models → 0 < length models → HasModel design []
-  by [] is some = absurd (omega arith)
-  by (model ∷ models) is some = record { model = model; stands = ap (λ (ms : List Model). slice_get ms 0) is }
+has_root : (design : Design) → HasModel design []
+has_root design = let root = root_model design in record { model = root.0; stands = root.1 }
 
 -- without a fault of models a path is an instance exactly where it is listed
 pub faultless_listed : (design : Design) → HasNoModelFault design → (path : Path) (model : Model) → model_at design path ≡ Some model → Contains (instances design) path
@@ -103,7 +101,7 @@ faultless_listed design faultless path model stands =
 
 pub faultless_placed : (design : Design) → HasNoModelFault design → (path : Path) → Contains (instances design) path → (model : Model) × (model_at design path ≡ Some model)
 faultless_placed design faultless path listed =
-    let found = path_placed design (faultless_shallow design faultless) faultless.models_known path (Has-Contains path (instances design) listed) (root_model design) in
+    let found = path_placed design (faultless_shallow design faultless) faultless.models_known path (Has-Contains path (instances design) listed) (has_root design) in
     (found.model, found.stands)
 
 -- without a fault of models each item of an instance is a site

@@ -11,10 +11,10 @@ use Rattle.vw_design.specs.Lists.{first_place}
 use Rattle.vw_design.specs.Paths.{Path, model_at, items_of}
 use Rattle.vw_design.specs.Claims.{numbered}
 use Rattle.vw_design.specs.Preorder.{Site, with_inside, sites_below, sites, instances_at, paths_of, instances}
-use Rattle.vw_design.proofs.Has.{Has, Has-at, Has-append}
+use Rattle.vw_design.proofs.ListElements.{Has, Has-at, Has-append}
 use Rattle.vw_design.proofs.Names.{same_name, equal_names}
-use Rattle.vw_design.proofs.Instances.{is_below}
-use Rattle.vw_design.proofs.Once.{entry_from, same_ends}
+use Rattle.vw_design.proofs.ListedInstances.{is_below}
+use Rattle.vw_design.proofs.SitesOnce.{entry_from, same_ends, head_same}
 
 -- no path of a list is listed twice
 abbrev Apart : List Path → Type 0
@@ -56,10 +56,7 @@ module _ (design : Design) where
   -- a path that ends in a place is none that ends in a later one
   ends_differ : (base : Path) (before : ℕ) (front path other : Path) → path ≡ front ++ (suc before ∷ base) → EndsBehind base (suc before) other → path ≡ other → ⊥
   ends_differ base before front path other is behind same =
-      omega (arith, heads (same_ends front behind.0 (suc before ∷ base) (suc behind.1 ∷ base) (sym is ∙ same ∙ behind.3) refl), behind.2)
-    where
-      heads : {a b : ℕ} {xs ys : Path} → suc a ∷ xs ≡ suc b ∷ ys → a ≡ b
-      heads e = cc
+      omega (arith, head_same (same_ends front behind.0 (suc before ∷ base) (suc behind.1 ∷ base) (sym is ∙ same ∙ behind.3) refl), behind.2)
 
   apart_items : (depth : ℕ) (base : Path) → ((path : Path) → Apart (paths_of (sites_below design depth path))) → (number before : ℕ) (items : List Item)
       → Apart (paths_of (flat_map (with_inside (sites_below design depth) base) (numbered number before items)))

@@ -14,6 +14,7 @@ use Rattle.vw_design.specs.Distinct.{has_name}
 use Rattle.vw_design.specs.Paths.{Word, model_named, model_outputs}
 use Rattle.vw_design.specs.Claims.{and_behind}
 use Rattle.vw_design.specs.NetFaults.{bound_actual, claimed_by, first_again}
+use Rattle.vw_design.proofs.FirstOptions.{or_assoc, or_nothing}
 use Rattle.vw_drivers.specs.declared.claim.Again.{Again}
 use Rattle.vw_drivers.specs.declared.claim.Claim.TheVariants.{Bound}
 use Rattle.vw_drivers.specs.declared.model_claims.ModelClaims.{ModelClaims}
@@ -21,22 +22,22 @@ use Rattle.vw_drivers.specs.Firsts.{First}
 use Rattle.vw_drivers.specs.Steps.GatheredClaims.{has_claim, port_first, binds_made, item_made, with_claim, with_all, with_items, ports_only}
 use Rattle.vw_drivers.specs.Claimed.{IsAgain}
 use Rattle.vw_drivers.proofs.FirstClaims.{all_firsts}
-use Rattle.vw_drivers.proofs.Looks.{names_of, or_or, or_nothing, has_first_more, has_firsts_more}
+use Rattle.vw_drivers.proofs.ClaimLookups.{claimed_names, has_first_more, has_firsts_more}
 
 abbrev pub again_of : ℕ → Word → Again
 again_of item name = record { item = item; name = name }
 
 -- the names that an item claims
-binds_names : (outputs : List Word) (place number : ℕ) (binds : List Bind) → names_of (binds_made outputs place number binds) ≡ filter_map (bound_actual outputs) binds
+binds_names : (outputs : List Word) (place number : ℕ) (binds : List Bind) → claimed_names (binds_made outputs place number binds) ≡ filter_map (bound_actual outputs) binds
 binds_names outputs place number [] = refl
 binds_names outputs place number (bind ∷ binds) = by (has_name outputs bind.formal) (binds_names outputs place (suc number) binds) where
-  by : (b : Bool) → names_of (binds_made outputs place (suc number) binds) ≡ filter_map (bound_actual outputs) binds
-      → names_of (if b then record { name = bind.actual; claim = Bound place number } ∷ binds_made outputs place (suc number) binds else binds_made outputs place (suc number) binds)
+  by : (b : Bool) → claimed_names (binds_made outputs place (suc number) binds) ≡ filter_map (bound_actual outputs) binds
+      → claimed_names (if b then record { name = bind.actual; claim = Bound place number } ∷ binds_made outputs place (suc number) binds else binds_made outputs place (suc number) binds)
       ≡ cons_option (if b then Some bind.actual else None) (filter_map (bound_actual outputs) binds)
   by true rest = ap (λ (names : List Word). bind.actual ∷ names) rest
   by false rest = rest
 
-made_names : (design : Design) (number before : ℕ) (item : Item) → names_of (item_made design number before item) ≡ claimed_by design item
+made_names : (design : Design) (number before : ℕ) (item : Item) → claimed_names (item_made design number before item) ≡ claimed_by design item
 made_names design number before (Names line ins out cover) = refl
 made_names design number before (Latch line d q edge control init) = refl
 made_names design number before (Sub line model binds) = binds_names (model_outputs (model_named design.models model)) (suc before) 0 binds
@@ -47,7 +48,7 @@ Knows names firsts = (name : Word) → has_name names name ≡ has_claim firsts 
 
 -- what an item claims again, where nothing was claimed again before
 all_again : (item : ℕ) (more : List First) (claims : ModelClaims) (before : List Word) → Knows before claims.firsts
-    → (with_all item more claims).again ≡ option_or claims.again (option_map (again_of item) (first_again before (names_of more)))
+    → (with_all item more claims).again ≡ option_or claims.again (option_map (again_of item) (first_again before (claimed_names more)))
 all_again item [] claims before knows = sym (or_nothing claims.again)
 all_again item (further ∷ more) claims before knows =
     let next = with_claim item further.name further.claim claims in
@@ -57,17 +58,17 @@ all_again item (further ∷ more) claims before knows =
     ∙ by (has_claim claims.firsts further.name) (has_name before further.name) (knows further.name)
   where
     by : (had was : Bool) → was ≡ had
-        → option_or (if had then option_or claims.again (Some (again_of item further.name)) else claims.again) (option_map (again_of item) (first_again (further.name ∷ before) (names_of more)))
-        ≡ option_or claims.again (option_map (again_of item) (if was then Some further.name else first_again (further.name ∷ before) (names_of more)))
-    by true true same = or_or claims.again (Some (again_of item further.name)) (option_map (again_of item) (first_again (further.name ∷ before) (names_of more)))
+        → option_or (if had then option_or claims.again (Some (again_of item further.name)) else claims.again) (option_map (again_of item) (first_again (further.name ∷ before) (claimed_names more)))
+        ≡ option_or claims.again (option_map (again_of item) (if was then Some further.name else first_again (further.name ∷ before) (claimed_names more)))
+    by true true same = or_assoc claims.again (Some (again_of item further.name)) (option_map (again_of item) (first_again (further.name ∷ before) (claimed_names more)))
     by true false same = cc
     by false true same = cc
     by false false same = refl
 
-all_known : (item : ℕ) (more : List First) (claims : ModelClaims) (before : List Word) → Knows before claims.firsts → Knows (before ++ names_of more) (with_all item more claims).firsts
+all_known : (item : ℕ) (more : List First) (claims : ModelClaims) (before : List Word) → Knows before claims.firsts → Knows (before ++ claimed_names more) (with_all item more claims).firsts
 all_known item more claims before knows = λ name.
-    list_any-append (λ (other : Word). bytes_eq other name) before (names_of more)
-    ∙ ap (λ (b : Bool). b || has_name (names_of more) name) (knows name)
+    list_any-append (λ (other : Word). bytes_eq other name) before (claimed_names more)
+    ∙ ap (λ (b : Bool). b || has_name (claimed_names more) name) (knows name)
     ∙ sym (has_firsts_more claims.firsts more name)
     ∙ ap (λ (firsts : List First). has_claim firsts name) (sym (all_firsts item more claims))
 
@@ -89,7 +90,7 @@ items_again design number places (item ∷ items) claims before knows =
     items_again design (suc number) (and_behind item places) items (with_all number made claims) (before ++ claimed_by design item) known
     ∙ ap (λ (again : Option Again). option_or again (again_from design (suc number) (before ++ claimed_by design item) items))
     (all_again number made claims before knows ∙ ap (λ (list : List Word). option_or claims.again (option_map (again_of number) (first_again before list))) names)
-    ∙ or_or claims.again (option_map (again_of number) (first_again before (claimed_by design item))) (again_from design (suc number) (before ++ claimed_by design item) items)
+    ∙ or_assoc claims.again (option_map (again_of number) (first_again before (claimed_by design item))) (again_from design (suc number) (before ++ claimed_by design item) items)
 
 -- what an item behind others claims again
 abbrev again_behind : Design → List Word → List Item → ℕ → Item → Option Word
@@ -139,7 +140,7 @@ module _ (design : Design) where
           (0, omega arith, (first, refl, first_behind before (first ∷ items) first ∙ is), λ j item below at. absurd (omega (arith, below)))
 
 -- the names of ports
-ports_names : (names : List Word) → names_of (map port_first names) ≡ names
+ports_names : (names : List Word) → claimed_names (map port_first names) ≡ names
 ports_names [] = refl
 ports_names (name ∷ names) = ap (λ (list : List Word). name ∷ list) (ports_names names)
 

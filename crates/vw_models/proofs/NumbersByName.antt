@@ -8,11 +8,11 @@ use Rattle.vw_design.specs.declared.model.Model.{Model}
 use Rattle.vw_design.specs.declared.design.Design.{Design}
 use Rattle.vw_design.specs.Paths.{Word, placings, model_named}
 use Rattle.vw_design.specs.ModelNumbers.{IsNumberOfModel, AreTargets}
-use Rattle.vw_design.proofs.Has.{at-Has, from-find}
+use Rattle.vw_design.proofs.ListElements.{at-Has, from-find}
 use Rattle.vw_design.proofs.Names.{same_name}
 use Rattle.vw_models.specs.Steps.Names.{IsNumberAmong}
-use Rattle.vw_models.proofs.Places.{AllZip-values}
 use Rattle.vw_design.proofs.ModelNumbers.{named_at}
+use Rattle.vw_design.proofs.PairedLists.{AllZip-values}
 
 module _ (models : List Model) (count : ℕ) (model : Model) (key name : Word) (at : slice_get models count ≡ Some model) (is_key : key ≡ model.name) where
   named_by : (same : Bool) → bytes_eq key name ≡ same → (old : Option ℕ) → IsNumberAmong models count name old → IsNumberAmong models (count + 1) name (cond same (Some count) old)

@@ -16,10 +16,10 @@ use Rattle.vw_design.specs.Preorder.{instances}
 use Rattle.vw_design.specs.ModelFaults.{NameOf, has_model_name, is_reached, reached, by_placing, first_placing, at_model, both_ways}
 use Rattle.vw_design.specs.Limits.{depth_at, greatest_depth}
 use Rattle.vw_design.specs.Accepted.{HasNoModelFault}
-use Rattle.vw_design.proofs.Has.{Has, Has-map, Has-at, Has-filter, any-Has, from-find, none-find, none-found}
+use Rattle.vw_design.proofs.ListElements.{Has, Has-map, Has-at, Has-filter, any-Has, from-find, none-find, none-found}
 use Rattle.vw_design.proofs.Names.{name_same, Has-has_name}
 use Rattle.vw_design.proofs.Entries.{placing_entry, entry_of}
-use Rattle.vw_design.proofs.Instances.{placer, placing_of_placed, instance_listed}
+use Rattle.vw_design.proofs.ListedInstances.{placer, placing_of_placed, instance_listed}
 use Rattle.vw_design.proofs.Ways.{IsShallow, IsOneWay}
 
 -- an output of a model

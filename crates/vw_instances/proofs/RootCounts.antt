@@ -11,12 +11,12 @@ use Rattle.vw_design.specs.Paths.{Word, Path, Placing, placings, placing_at, mod
 use Rattle.vw_design.specs.ModelFaults.{is_reached}
 use Rattle.vw_design.specs.Counts.{items_height, is_below}
 use Rattle.vw_design.proofs.Closed.{reached_at, model_is_named}
-use Rattle.vw_design.proofs.Has.{Has, Has-at}
+use Rattle.vw_design.proofs.ListElements.{Has, Has-at}
 use Rattle.vw_design.proofs.ModelNumbers.{name_of_named}
 use Rattle.vw_instances.specs.declared.measure.Measure.{Measure}
 use Rattle.vw_instances.specs.declared.measure.Measure.TheVariants.{Levels}
 use Rattle.vw_instances.specs.Steps.Counting.{most, amount, count_in, AreCounts, IsRanked}
-use Rattle.vw_instances.proofs.Sums.{placed_lower}
+use Rattle.vw_instances.proofs.ItemAmounts.{placed_lower}
 
 module _ (design : Design) where
   -- an instance that isn't the root is placed by one above it

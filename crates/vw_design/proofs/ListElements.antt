@@ -2,9 +2,10 @@
 use Rattle.std.proofs.Common.{◌≡◌, ◌<◌, ℕ, zero, suc, Bool, true, false, cond, List, [], ◌∷◌, ◌++◌, length, map, get_or, Option, Some, None, slice_get, ◌⊎◌, inl, inr, ⊎_elim, refl, sym, ◌∙◌, ap, subst, true≢false, filter, find, flat_map, filter_map, option_map, Contains, arith}
 use Rattle.std.specs.List.{cons_option, list_any, list_all}
 use Rattle.std.specs.Option.{option_or}
-use Rattle.std.proofs.lemmas.Bool.{or_cases, or_left, or_right, and_parts}
+use Rattle.std.proofs.lemmas.Bool.{or_cases, or_left, or_right, and_parts, and_from}
 use Rattle.std.proofs.lemmas.Option.{same_Some, none-some}
 use Rattle.vw_design.specs.Lists.{first_found, first_place}
+use Rattle.vw_design.proofs.FirstOptions.{or_none}
 
 -- x is an element of a list
 abbrev pub Has : {A : Type 0} → A → List A → Type 0
@@ -120,11 +121,6 @@ module _ {A : Type 0} where
   at-place p [] place found = absurd (none-some place found)
   at-place p (y ∷ ys) place found = at_step p y ys place (p y) refl (at-place p ys) (first_place p ys) refl found
 
--- neither of two is there
-pub or_none : {B : Type 0} (one other : Option B) → option_or one other ≡ None → (one ≡ None) × (other ≡ None)
-or_none None other none = (refl, none)
-or_none (Some x) other none = absurd (none-some x (sym none))
-
 module _ {A B : Type 0} where
   pub Has-map : (f : A → B) (x : A) (xs : List A) → Has x xs → Has (f x) (map f xs)
   Has-map f x [] has = absurd has
@@ -178,6 +174,11 @@ module _ {A B : Type 0} where
   none-found f x (y ∷ ys) none has =
       let parts = or_none (f y) (first_found f ys) none in
       ⊎_elim (λ same. ap f (sym same) ∙ parts.0) (λ later. none-found f x ys parts.1 later) has
+
+-- every element passes
+pub all_pass : {A : Type 0} (test : A → Bool) (xs : List A) → ((x : A) → Has x xs → test x ≡ true) → list_all test xs ≡ true
+all_pass test [] passes = refl
+all_pass test (x ∷ xs) passes = and_from (test x) (list_all test xs) (passes x (inl refl)) (all_pass test xs (λ y has. passes y (inr has)))
 
 -- in std's words
 module _ {A : Type 0} where

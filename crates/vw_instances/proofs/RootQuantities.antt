@@ -21,7 +21,7 @@ use Rattle.vw_instances.specs.declared.measure.Measure.TheVariants.{Instances, B
 use Rattle.vw_instances.specs.declared.totals.Totals.{Totals}
 use Rattle.vw_instances.specs.Steps.Counting.{most, count_in, AreCounts, IsRanked}
 use Rattle.vw_instances.specs.Steps.Quantified.{total_of, first_above, AreTotals}
-use Rattle.vw_instances.proofs.Bounds.{exact_levels}
+use Rattle.vw_instances.proofs.RootCounts.{exact_levels}
 
 module _ (design : Design) (root : Model) (is : model_at design [] ≡ Some root) (ranked : IsRanked design) where
   reached : is_reached design root.name ≡ true

@@ -12,12 +12,11 @@ use Rattle.vw_design.specs.Counts.{placed_one, cell_one, items_weight, model_wei
 use Rattle.vw_design.specs.Paths.{Word, Path, Placing, placing_of, placings, model_at, model_named, items_of}
 use Rattle.vw_design.specs.ModelFaults.{is_reached}
 use Rattle.vw_design.proofs.Closed.{reached_at, model_is_named}
-use Rattle.vw_design.proofs.Has.{Has, all-Has, from-filter_map}
-use Rattle.vw_design.proofs.FilteredLists.{AllZip-at}
+use Rattle.vw_design.proofs.ListElements.{Has, all-Has, from-filter_map}
 use Rattle.vw_design.proofs.Sizes.{small_of}
 use Rattle.vw_design.proofs.Weights.{capped_weight}
-use Rattle.vw_design.proofs.ModelNumbers.{place_of_model}
-use Rattle.vw_models.proofs.Places.{at_within}
+use Rattle.vw_design.proofs.ModelNumbers.{place_of_model, root_model}
+use Rattle.vw_design.proofs.PairedLists.{AllZip-at}
 use Rattle.vw_instances.specs.declared.measure.Measure.TheVariants.{Instances, Cells}
 use Rattle.vw_instances.specs.declared.quantity.Quantity.{Quantity}
 use Rattle.vw_instances.specs.declared.sizes.Before.{Before}
@@ -28,9 +27,9 @@ use Rattle.vw_instances.specs.Steps.Counting.{most, count_in, IsRanked, AreCount
 use Rattle.vw_instances.specs.Steps.Quantified.{AreTotals, first_above}
 use Rattle.vw_instances.specs.Quantities.{counted_of}
 use Rattle.vw_instances.specs.Sizes.{AreBefore, AreSizes}
-use Rattle.vw_instances.proofs.Bounds.{counted_at, least_of_root, levels_of_root}
-use Rattle.vw_instances.proofs.Reckoned.{instances_are, cells_are, depth_is, first_is}
-use Rattle.vw_instances.proofs.Sums.{weight_same, placed_weighs, front_weighs, front_places}
+use Rattle.vw_instances.proofs.RootCounts.{counted_at, least_of_root, levels_of_root}
+use Rattle.vw_instances.proofs.RootQuantities.{instances_are, cells_are, depth_is, first_is}
+use Rattle.vw_instances.proofs.ItemAmounts.{weight_same, placed_weighs, front_weighs, front_places}
 
 -- what an item places is reached, and of a smaller rank
 below_of : (among : Word → Bool) (rank : Word → ℕ) (limit : ℕ) (item : Item) (placing : Placing) → placing_of item ≡ Some placing → is_below among rank limit item ≡ true → (among placing.model ≡ true) × (rank placing.model < limit)
@@ -68,8 +67,8 @@ module _ (design : Design) (ranked : IsRanked design) where
         omega (arith, capped, placed_weighs weight count placing model.items among, few))
 
 module _ (design : Design) (tables : CountingTables) (are : AreCountingTables design tables) (small : too_big design ≡ None) where
-  root : (root : Model) × (model_at design [] ≡ Some root)
-  root = at_within design.models 0 design.some
+  abbrev root : (root : Model) × (model_at design [] ≡ Some root)
+  root = root_model design
 
   number_of_root : (counts : List ℕ) → count_in design counts root.0.name ≡ slice_index_or counts 0 0
   number_of_root counts = ap (λ (n : ℕ). slice_index_or counts n 0) (place_of_model design 0 root.0 root.1)

@@ -8,7 +8,7 @@ use Rattle.vw_design.specs.declared.design.Design.{Design}
 use Rattle.vw_design.specs.Paths.{Path, Placing, placings, model_named, model_placed, model_at, items_of}
 use Rattle.vw_design.specs.Claims.{Numbered, numbered}
 use Rattle.vw_design.specs.Preorder.{Site, site_at, inside, with_inside, sites_below, sites, instances_at, paths_of, instances}
-use Rattle.vw_design.proofs.Has.{Has, Has-flat_map, from-flat_map}
+use Rattle.vw_design.proofs.ListElements.{Has, Has-flat_map, from-flat_map}
 use Rattle.vw_design.proofs.Entries.{placing_entry}
 
 -- an instance that is listed below another one is placed by an item of that one, or listed below what the item places

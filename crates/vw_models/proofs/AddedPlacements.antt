@@ -1,8 +1,8 @@
 -- Placements that are added item by item.
-use Rattle.std.proofs.Common.{◌≡◌, ◌<◌, ◌+◌, ℕ, List, [], ◌∷◌, ◌++◌, drop, take, length, get_or, Option, Some, None, slice_get, filter_map, option_map, ⊎_elim, refl, sym, ◌∙◌, ap, subst, append_assoc, append-nil}
+use Rattle.std.proofs.Common.{◌≡◌, ◌<◌, ◌+◌, ℕ, List, [], ◌∷◌, ◌++◌, drop, length, get_or, Option, Some, None, slice_get, filter_map, option_map, ⊎_elim, refl, sym, ◌∙◌, ap, subst, append_assoc, append-nil}
 use Rattle.std.specs.List.{AllZip, cons_option}
 use Rattle.std.proofs.lemmas.Bool.{cases_lt}
-use Rattle.std.proofs.lemmas.List.{drop_more, drop_all, take_more}
+use Rattle.std.proofs.lemmas.List.{drop_more, drop_all}
 use Rattle.vw_design.specs.declared.item.Bind.{Bind}
 use Rattle.vw_design.specs.declared.item.Item.{Item}
 use Rattle.vw_design.specs.declared.item.Item.TheVariants.{Names, Latch, Sub}
@@ -10,39 +10,39 @@ use Rattle.vw_design.specs.declared.model.Model.{Model}
 use Rattle.vw_design.specs.declared.design.Design.{Design}
 use Rattle.vw_design.specs.Paths.{Word, placings, model_named}
 use Rattle.vw_design.specs.ModelNumbers.{IsNumberOfModel}
-use Rattle.vw_design.proofs.FilteredLists.{AllZip-append}
-use Rattle.vw_models.proofs.Places.{at_within}
-use Rattle.vw_models.proofs.Unknowns.{AreAlong}
+use Rattle.vw_design.proofs.PairedLists.{AllZip-append}
+use Rattle.vw_design.proofs.ListPlaces.{at_within}
+use Rattle.vw_models.proofs.Unknowns.{AreAlong, none_along}
 use Rattle.vw_models.specs.declared.placement.Placement.{Placement}
-use Rattle.vw_models.specs.Steps.Placed.{Placed, placed_by, IsPlacement, AreAdded}
+use Rattle.vw_models.specs.Steps.PlacedModels.{PlacedModel, placed_by, IsPlacement, AreAdded}
 
 -- those of some placed models were added, and some are left
-pub record IsAdding (design : Design) (start : List Placement) (left todo : List Placed) (now : List Placement) : Type 0 where
-  pub done : List Placed
+pub record IsAdding (design : Design) (start : List Placement) (left todo : List PlacedModel) (now : List Placement) : Type 0 where
+  pub done : List PlacedModel
   pub all : done ++ left ≡ todo
   pub entries : AreAdded design start done now
 
 module _ (design : Design) (start : List Placement) where
-  pub begun : (todo : List Placed) → IsAdding design start todo todo start
+  pub begun : (todo : List PlacedModel) → IsAdding design start todo todo start
   begun todo = record {
     done = [];
     all = refl;
-    entries = λ before along. subst (λ (l : List Placed). AllZip (IsPlacement design) l start) (sym (append-nil before)) along;
+    entries = λ before along. subst (λ (l : List PlacedModel). AllZip (IsPlacement design) l start) (sym (append-nil before)) along;
   }
 
-  pub ended : (todo : List Placed) (now : List Placement) → IsAdding design start [] todo now → AreAdded design start todo now
-  ended todo now adding = subst (λ (l : List Placed). AreAdded design start l now) (sym (append-nil adding.done) ∙ adding.all) adding.entries
+  pub ended : (todo : List PlacedModel) (now : List Placement) → IsAdding design start [] todo now → AreAdded design start todo now
+  ended todo now adding = subst (λ (l : List PlacedModel). AreAdded design start l now) (sym (append-nil adding.done) ∙ adding.all) adding.entries
 
   -- more are added
-  pub more_added : (added left todo : List Placed) (old new : List Placement) → IsAdding design start (added ++ left) todo old → AreAdded design old added new → IsAdding design start left todo new
+  pub more_added : (added left todo : List PlacedModel) (old new : List Placement) → IsAdding design start (added ++ left) todo old → AreAdded design old added new → IsAdding design start left todo new
   more_added added left todo old new adding adds = record {
     done = adding.done ++ added;
     all = append_assoc adding.done added left ∙ adding.all;
     entries = λ before along.
-        subst (λ (l : List Placed). AllZip (IsPlacement design) l new) (append_assoc before adding.done added) (adds (before ++ adding.done) (adding.entries before along));
+        subst (λ (l : List PlacedModel). AllZip (IsPlacement design) l new) (append_assoc before adding.done added) (adds (before ++ adding.done) (adding.entries before along));
   }
 
-  pub one_added : (placed : Placed) (left todo : List Placed) (old : List Placement) (placement : Placement) → IsAdding design start (placed ∷ left) todo old → IsPlacement design placed placement
+  pub one_added : (placed : PlacedModel) (left todo : List PlacedModel) (old : List Placement) (placement : Placement) → IsAdding design start (placed ∷ left) todo old → IsPlacement design placed placement
       → IsAdding design start left todo (old ++ placement ∷ [])
   one_added placed left todo old placement adding is =
       more_added (placed ∷ []) left todo old (old ++ placement ∷ []) adding
@@ -65,11 +65,8 @@ module _ (design : Design) (items : List Item) (numbers : List (Option ℕ)) (i 
       (λ inside.
       let both = subst (λ (l : List (Option ℕ)). AreAlong design (Sub line name binds ∷ drop (i + 1) items) l) (drop_more numbers place None inside) there in
       record { inside = inside; here = both.0; rest = both.1 })
-      (λ past. absurd (none_along line name binds (subst (λ (l : List (Option ℕ)). AreAlong design (Sub line name binds ∷ drop (i + 1) items) l) (drop_all place numbers past) there)))
+      (λ past. absurd (none_along design line name binds (drop (i + 1) items) (subst (λ (l : List (Option ℕ)). AreAlong design (Sub line name binds ∷ drop (i + 1) items) l) (drop_all place numbers past) there)))
       (cases_lt place (length numbers))
-    where
-      none_along : (line : ℕ) (name : Word) (binds : List Bind) → AreAlong design (Sub line name binds ∷ drop (i + 1) items) [] → ⊥
-      none_along line name binds along = along
 
   -- an item that places nothing
   pub no_sub : ((line : ℕ) (name : Word) (binds : List Bind) → item ≡ Sub line name binds → ⊥)
@@ -93,19 +90,12 @@ module _ (design : Design) (items : List Item) (numbers : List (Option ℕ)) (i 
       → filter_map (placed_by design) (drop i items) ≡ filter_map (placed_by design) (drop (i + 1) items)
   passed_over line name binds is none = placed_here line name binds is None none
 
-  pub placed_now : (line : ℕ) (name : Word) (binds : List Bind) → item ≡ Sub line name binds → (number : ℕ) → IsNumberOfModel design name (Some number) → (start : List Placement) (todo : List Placed) (old : List Placement)
+  pub placed_now : (line : ℕ) (name : Word) (binds : List Bind) → item ≡ Sub line name binds → (number : ℕ) → IsNumberOfModel design name (Some number) → (start : List Placement) (todo : List PlacedModel) (old : List Placement)
       → IsAdding design start (filter_map (placed_by design) (drop i items)) todo old → (placement : Placement) → placement.line ≡ line → placement.number ≡ number → placement.binds.now ≡ binds
       → IsAdding design start (filter_map (placed_by design) (drop (i + 1) items)) todo (old ++ placement ∷ [])
   placed_now line name binds is number found start todo old adding placement same_line same_number same_binds =
       let model = at_within design.models number found.0 in
       let here = placed_here line name binds is (Some model.0) (sym found.1 ∙ model.1) in
       one_added design start (record { line = line; model = model.0; binds = binds }) (filter_map (placed_by design) (drop (i + 1) items)) todo old placement
-      (subst (λ (l : List Placed). IsAdding design start l todo old) here adding)
+      (subst (λ (l : List PlacedModel). IsAdding design start l todo old) here adding)
       (record { line = same_line; model = ap (slice_get design.models) same_number ∙ model.1; binds = same_binds })
-
--- one more of a list goes along
-pub one_more : {A B : Type 0} (R : A → B → Type 0) (xs : List A) (i : ℕ) (x : A) → i < length xs → x ≡ get_or xs i x → (ys : List B) → AllZip R (take i xs) ys → (y : B) → R x y → (new : List B) → new ≡ ys ++ y ∷ []
-    → AllZip R (take (i + 1) xs) new
-one_more {A} {B} R xs i x within at ys along y here new is =
-    subst (λ (l : List B). AllZip R (take (i + 1) xs) l) (sym is)
-    (subst (λ (l : List A). AllZip R l (ys ++ y ∷ [])) (sym (take_more xs i x within ∙ ap (λ (z : A). take i xs ++ z ∷ []) (sym at))) (AllZip-append R (take i xs) (x ∷ []) ys (y ∷ []) along (here, tt)))

@@ -13,7 +13,7 @@ use Rattle.vw_design.specs.Preorder.{Site, sites_below, instances_at, instances,
 use Rattle.vw_design.specs.PathValue.{place_of_path}
 use Rattle.vw_design.specs.Limits.{weight_of}
 use Rattle.vw_design.specs.Counts.{placed_one, cell_one}
-use Rattle.vw_design.proofs.Has.{Has-at, Has-map}
+use Rattle.vw_design.proofs.ListElements.{Has-at, Has-map}
 use Rattle.vw_design.proofs.Names.{has_name-Has}
 use Rattle.vw_instances.specs.declared.tables.Placed.{Placed}
 use Rattle.vw_instances.specs.declared.tables.CellSite.{CellSite}

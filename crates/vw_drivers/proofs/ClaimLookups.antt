@@ -3,9 +3,12 @@ use Rattle.std.proofs.Common.{◌≡◌, ◌||◌, ℕ, zero, suc, Bool, true, f
 use Rattle.std.specs.Option.{option_or}
 use Rattle.std.specs.Str.{bytes_eq}
 use Rattle.std.proofs.lemmas.List.Folds.{list_any-append}
+use Rattle.std.proofs.lemmas.Option.{same_Some}
 use Rattle.vw_design.specs.Distinct.{has_name}
 use Rattle.vw_design.specs.Paths.{Word}
 use Rattle.vw_design.proofs.Names.{same_name}
+use Rattle.vw_design.proofs.FirstOptions.{or_some, or_nothing, or_assoc}
+use Rattle.vw_design.proofs.ListElements.{at-place}
 use Rattle.vw_drivers.specs.declared.claim.Claim.{Claim}
 use Rattle.vw_drivers.specs.Firsts.{First, number_named, claim_at, claim_named}
 use Rattle.vw_drivers.specs.Steps.GatheredClaims.{has_claim, with_first, with_firsts}
@@ -16,8 +19,8 @@ look [] name = None
 look (first ∷ firsts) name = if bytes_eq first.name name then Some first.claim else look firsts name
 
 -- the names of claims
-abbrev pub names_of : List First → List Word
-names_of firsts = map (λ first. first.name) firsts
+abbrev pub claimed_names : List First → List Word
+claimed_names firsts = map (λ first. first.name) firsts
 
 -- it is that of its number
 named_step : (same : Bool) (first : First) (firsts : List First) (name : Word) (number : Option ℕ) → option_and_then (claim_at firsts) number ≡ look firsts name
@@ -46,18 +49,6 @@ some_look (first ∷ firsts) name = by (bytes_eq first.name name) (some_look fir
   by true rest = refl
   by false rest = rest
 
-pub or_some : {A : Type 0} (found other : Option A) → is_some found ≡ true → found ≡ option_or found other
-or_some None other is = cc
-or_some (Some x) other is = refl
-
-pub or_nothing : {A : Type 0} (found : Option A) → option_or found None ≡ found
-or_nothing None = refl
-or_nothing (Some x) = refl
-
-pub or_or : {A : Type 0} (one other third : Option A) → option_or (option_or one other) third ≡ option_or one (option_or other third)
-or_or None other third = refl
-or_or (Some x) other third = refl
-
 -- one claim more
 pub look_first : (firsts : List First) (new : Word) (claim : Claim) (name : Word)
     → look (with_first firsts new claim) name ≡ option_or (look firsts name) (look (record { name = new; claim = claim } ∷ []) name)
@@ -75,7 +66,7 @@ look_firsts firsts [] name = sym (or_nothing (look firsts name))
 look_firsts firsts (further ∷ more) name =
     look_firsts (with_first firsts further.name further.claim) more name
     ∙ ap (λ (found : Option Claim). option_or found (look more name)) (look_first firsts further.name further.claim name)
-    ∙ or_or (look firsts name) (look (further ∷ []) name) (look more name)
+    ∙ or_assoc (look firsts name) (look (further ∷ []) name) (look more name)
     ∙ ap (option_or (look firsts name)) (sym (look_append (further ∷ []) more name))
 
 pub with_firsts_append : (firsts one other : List First) → with_firsts firsts (one ++ other) ≡ with_firsts (with_firsts firsts one) other
@@ -99,18 +90,25 @@ has_first_more firsts new claim name = by (has_claim firsts new) refl (bytes_eq 
       list_any-append (λ (first : First). bytes_eq first.name name) firsts (record { name = new; claim = claim } ∷ [])
       ∙ turned (bytes_eq new name) (has_claim firsts name) ∙ ap (λ (b : Bool). b || has_claim firsts name) same
 
-pub has_firsts_more : (firsts more : List First) (name : Word) → has_claim (with_firsts firsts more) name ≡ (has_claim firsts name || has_name (names_of more) name)
+pub has_firsts_more : (firsts more : List First) (name : Word) → has_claim (with_firsts firsts more) name ≡ (has_claim firsts name || has_name (claimed_names more) name)
 has_firsts_more firsts [] name = by (has_claim firsts name) where
   by : (b : Bool) → b ≡ (b || false)
   by true = refl
   by false = refl
 has_firsts_more firsts (further ∷ more) name =
     has_firsts_more (with_first firsts further.name further.claim) more name
-    ∙ ap (λ (b : Bool). b || has_name (names_of more) name) (has_first_more firsts further.name further.claim name)
+    ∙ ap (λ (b : Bool). b || has_name (claimed_names more) name) (has_first_more firsts further.name further.claim name)
     ∙ by (bytes_eq further.name name) (has_claim firsts name)
   where
-    by : (b had : Bool) → ((b || had) || has_name (names_of more) name) ≡ (had || (b || has_name (names_of more) name))
+    by : (b had : Bool) → ((b || had) || has_name (claimed_names more) name) ≡ (had || (b || has_name (claimed_names more) name))
     by true true = refl
     by true false = refl
     by false true = refl
     by false false = refl
+
+-- names with the same number are the same
+pub one_name : (firsts : List First) (one other : Word) (number : ℕ) → number_named firsts one ≡ Some number → number_named firsts other ≡ Some number → one ≡ other
+one_name firsts one other number one_is other_is =
+    let here = at-place (λ (f : First). bytes_eq f.name one) firsts number one_is in
+    let there = at-place (λ (f : First). bytes_eq f.name other) firsts number other_is in
+    sym (same_name here.0.name one here.2) ∙ ap (λ (f : First). f.name) (same_Some here.0 there.0 (sym here.1 ∙ there.1)) ∙ same_name there.0.name other there.2

@@ -2,7 +2,7 @@
 use Rattle.std.proofs.Common.{◌≡◌, ◌==◌, ℕ, true, List, refl, subst}
 use Rattle.std.proofs.lemmas.Bool.{eqb-true, eq-eqb}
 use Rattle.vw_net.specs.Order.{is_among}
-use Rattle.vw_design.proofs.Has.{Has, any-Has, from-any}
+use Rattle.vw_design.proofs.ListElements.{Has, any-Has, from-any}
 
 -- the test and the relation
 pub among_Has : (numbers : List ℕ) (number : ℕ) → is_among numbers number ≡ true → Has number numbers

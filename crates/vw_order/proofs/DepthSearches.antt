@@ -5,6 +5,7 @@ use Rattle.std.proofs.lemmas.Bool.{cases_lt, cases_eq}
 use Rattle.std.proofs.Math.Seq.{take-append_seam, get_or-append_seam}
 use Rattle.std.proofs.lemmas.List.{get_or_append_left, get_or-replicate, get_or_past, take-append-le, length-set, length-replicate}
 use Rattle.std.proofs.lemmas.List.Folds.{list_any-append}
+use Rattle.std.proofs.Math.Bool.{or-false}
 use Rattle.vw_net.specs.Order.{is_among}
 use Rattle.vw_order.specs.declared.mark.Progress.{Progress}
 use Rattle.vw_order.specs.declared.mark.Progress.TheVariants.{Fresh, Open, Done}
@@ -34,14 +35,10 @@ fresh_mark true on not_done not_open = absurd (not_done refl)
 fresh_mark false true not_done not_open = absurd (not_open refl)
 fresh_mark false false not_done not_open = (refl, refl)
 
-or_falses : (b : Bool) → (b || (false || false)) ≡ b
-or_falses true = refl
-or_falses false = refl
-
 -- one more doesn't change whether another one is there
 pub among_other : (numbers : List ℕ) (number other : ℕ) → number ≢ other → is_among (numbers ++ number ∷ []) other ≡ is_among numbers other
 among_other numbers number other apart =
-    list_any-append (λ (n : ℕ). n == other) numbers (number ∷ []) ∙ ap (λ (b : Bool). is_among numbers other || (b || false)) (ne_eqb number other apart) ∙ or_falses (is_among numbers other)
+    list_any-append (λ (n : ℕ). n == other) numbers (number ∷ []) ∙ ap (λ (b : Bool). is_among numbers other || (b || false)) (ne_eqb number other apart) ∙ or-false (is_among numbers other)
 
 -- one more stands behind those that it reads
 pub behind_more : (graph : Graph) (order : List ℕ) (number : ℕ) → IsBehind graph order → ((place read : ℕ) → ReadsAt graph number place read → is_among order read ≡ true) → IsBehind graph (order ++ number ∷ [])

@@ -19,18 +19,18 @@ use Rattle.vw_design.specs.ModelFaults.{has_model_name, is_reached, names_model,
 use Rattle.vw_design.specs.Counts.{is_below, IsRanking}
 use Rattle.vw_design.specs.ModelNumbers.{IsNumberOfModel, AreTargets, is_reached_model, has_number_among, IsModelOrder}
 use Rattle.vw_design.proofs.Circles.{no_circle}
-use Rattle.vw_design.proofs.Has.{Has, Has-at, any-Has, from-any, all-Has, Has-filter, Has-filter_map, from-filter_map, none-found}
+use Rattle.vw_design.proofs.ListElements.{Has, Has-at, any-Has, from-any, all-Has, Has-filter, Has-filter_map, from-filter_map, none-found, all_pass}
 use Rattle.vw_design.proofs.Names.{equal_names}
 use Rattle.vw_models.specs.Steps.Reach.{Targets, IsClosed, PlacesAt}
 use Rattle.vw_models.specs.Steps.Unknown.{unknown_of}
 use Rattle.vw_order.specs.Orders.{IsNumberOrder}
 use Rattle.vw_order.proofs.Among.{among_at, at_among, front_among, front_position, once_apart}
 use Rattle.vw_models.specs.Steps.ModelGraphs.{graph_of_models}
-use Rattle.vw_models.proofs.Among.{among_Has, Has_among}
+use Rattle.vw_models.proofs.NumbersInLists.{among_Has, Has_among}
 use Rattle.vw_models.proofs.FirstUnknown.{unknown_is}
 use Rattle.vw_design.proofs.ModelNumbers.{model_of_place, same_number, name_of_named, named_by}
+use Rattle.vw_design.proofs.ListPlaces.{at_within}
 use Rattle.vw_models.proofs.Models.{number_placed, reached_least_numbers}
-use Rattle.vw_models.proofs.Places.{at_within, all_pass}
 
 module _ (design : Design) where
   -- the model of a number has the name

@@ -1,6 +1,6 @@
 -- Maps and sets from names, as lists.
 use Rattle.std.proofs.Common.{◌≡◌, ◌<◌, ◌||◌, ◌+◌, ℕ, suc, Bool, true, false, not, cond, List, [], ◌∷◌, ◌++◌, length, map, take, get_or, position, Option, Some, None, option_map, is_some, nat_lt, if◌then◌else◌, refl, sym, ◌∙◌, ap, arith}
-use Rattle.std.specs.List.{AllZip, prefix_len}
+use Rattle.std.specs.List.{prefix_len}
 use Rattle.std.specs.Map.{lookup, keys_of}
 use Rattle.std.specs.Str.{bytes_eq}
 use Rattle.std.proofs.lemmas.Cmp.{nat_list_eq_equiv}
@@ -92,10 +92,3 @@ number_first [] bytes name = refl
 number_first (entry ∷ entries) bytes name =
     place_step (bytes_eq name (bytes entry.0)) (bytes_eq (bytes entry.0) name) (prefix_len (λ key. not (bytes_eq name (bytes key))) (keys_of entries)) (length (keys_of entries))
     (number_named (firsts_of bytes entries) name) (names_sym name (bytes entry.0)) (number_first entries bytes name)
-
--- lists that go along with each other, and one element more
-pub along_more : {A B : Type 0} (R : A → B → Type 0) (xs : List A) (ys : List B) (x : A) (y : B) → AllZip R xs ys → R x y → AllZip R (xs ++ x ∷ []) (ys ++ y ∷ [])
-along_more R [] [] x y along more = (more, tt)
-along_more R [] (z ∷ ys) x y along more = absurd along
-along_more R (z ∷ xs) [] x y along more = absurd along
-along_more R (z ∷ xs) (w ∷ ys) x y along more = (along.0, along_more R xs ys x y along.1 more)

@@ -12,7 +12,7 @@ use Rattle.vw_design.specs.Drivers.{Source, at_port, at_cell, driver}
 use Rattle.vw_design.specs.Reads.{controls}
 use Rattle.vw_design.specs.NetFaults.{first_unlike, several_clocks}
 use Rattle.vw_design.proofs.DriverNumbers.{driver_is}
-use Rattle.vw_design.proofs.Has.{Has, Has-at, from-filter_map, from-find}
+use Rattle.vw_design.proofs.ListElements.{Has, Has-at, from-filter_map, from-find}
 use Rattle.vw_design.proofs.Names.{name_same}
 use Rattle.vw_drivers.specs.Firsts.{First, number_named}
 use Rattle.vw_nets.specs.Nets.{ports_pair}

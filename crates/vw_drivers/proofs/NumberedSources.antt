@@ -9,7 +9,7 @@ use Rattle.vw_design.specs.Claims.{Numbered, numbered, Claim as NamedClaim, port
 use Rattle.vw_design.specs.Drivers.{Source as PathSource, at_port, at_cell, driver}
 use Rattle.vw_design.specs.Paths.{Word, Path, model_at, is_port}
 use Rattle.vw_design.specs.Preorder.{instances}
-use Rattle.vw_design.proofs.DriverNumbers.{IsFound, driver_is, cell_place}
+use Rattle.vw_design.proofs.DriverNumbers.{IsPossibleSource, driver_is, cell_place}
 use Rattle.vw_drivers.specs.declared.claim.Claim.{Claim}
 use Rattle.vw_drivers.specs.declared.claim.Claim.TheVariants.{Port as ClaimedPort}
 use Rattle.vw_drivers.specs.declared.model_claims.ModelClaims.{ModelClaims}
@@ -22,7 +22,7 @@ use Rattle.vw_drivers.specs.Sources.{source_of}
 use Rattle.vw_drivers.specs.Tables.{AreTables, root_firsts, instance_firsts}
 use Rattle.vw_drivers.specs.Drivers.{driver_by_numbers, IsSource, AreDrivers}
 use Rattle.vw_drivers.specs.Steps.FoundDrivers.{led}
-use Rattle.vw_drivers.proofs.Leads.{led_is}
+use Rattle.vw_drivers.proofs.LedClaims.{led_is}
 use Rattle.vw_drivers.proofs.PortRows.{meant_port, port_is}
 
 -- a name with a claim has a number
@@ -44,7 +44,7 @@ module _ (design : Design) (faultless : HasNoModelFault design) (tables : Tables
       let named = has_number claims.0.firsts name ClaimedPort kind in
       (named.0, ap (λ (c : Option ModelClaims). number_named (unwrap_or (option_map (λ (f : ModelClaims). f.firsts) c) []) name) claims.1 ∙ named.1)
 
-  has_numbers : (source : PathSource) → IsFound design source → is_none (source_of design (root_firsts tables) (Some source)) ≡ is_none (Some source)
+  has_numbers : (source : PathSource) → IsPossibleSource design source → is_none (source_of design (root_firsts tables) (Some source)) ≡ is_none (Some source)
   has_numbers (at_port name) is = ap (λ (n : Option ℕ). is_none (option_map (λ (k : ℕ). Port k) n)) (port_number name is.0 is.1 is.2).1
   has_numbers (at_cell path item) is = ap (λ (n : Option ℕ). is_none (option_map (λ (k : ℕ). Cell k) n)) (cell_place design faultless path item is.0 is.1 is.2).1
 
