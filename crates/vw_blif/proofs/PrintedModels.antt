@@ -10,7 +10,7 @@ use Rattle.vw_text.specs.PlainLines.{is_plain, numbered_lines}
 use Rattle.vw_design.specs.Paths.{Word}
 use Rattle.vw_blif.specs.Kinds.{kind, is_model, is_end, input, output, clocked}
 use Rattle.vw_blif.specs.Spelled.{Binding, SpelledItem, table, latch, place, SpelledModel}
-use Rattle.vw_blif.specs.Blocks.{Part, Cut, with_element, cut_before, until}
+use Rattle.vw_blif.specs.Blocks.{Part, CutList, with_element, cut_before, until}
 use Rattle.vw_blif.specs.Designs.{item_of, ports_of, model_by, model_of, blocks, spelled_models}
 use Rattle.vw_blif.specs.Printed.{latch_words, bind_word, item_lines, port_lines, head_lines, model_lines, design_lines}
 use Rattle.vw_blif.specs.PlainDesigns.{is_plain_bind, is_plain_item, can_stand_beside, is_plain_model, line_of, are_numbered, have_numbers}
@@ -23,7 +23,7 @@ part_cut : (begins : Line → Bool) (line : Line) (tail rest : List Line) → be
     → cut_before begins (line ∷ (tail ++ rest)) ≡ record { before = []; parts = record { head = line; tail = tail } ∷ (cut_before begins rest).parts }
 part_cut begins line tail rest is none fresh =
     let cut = cut_before begins rest in
-    ap₂ (λ (test : Bool) (c : Cut Line). with_element test line c) is (cut_front begins tail rest none)
+    ap₂ (λ (test : Bool) (c : CutList Line). with_element test line c) is (cut_front begins tail rest none)
     ∙ ap (λ (ls : List Line). record { before = []; parts = record { head = line; tail = ls } ∷ cut.parts })
     (ap (λ (ls : List Line). tail ++ ls) fresh ∙ append-nil tail)
 
@@ -50,11 +50,11 @@ group_first line rows rest inputs outputs clocks items begins stays none stay ad
     let part : Part Line = record { head = line; tail = rows } in
     let cut = part_cut begins_group line rows rest begins none adds.before in
     record {
-      before = ap (λ (c : Cut Line). c.before) cut;
-      inputs_ = ap (λ (c : Cut Line). flat_map (ports_of input) c.parts) cut ∙ ap (λ (ws : List Word). ports_of input part ++ ws) adds.inputs_;
-      outputs_ = ap (λ (c : Cut Line). flat_map (ports_of output) c.parts) cut ∙ ap (λ (ws : List Word). ports_of output part ++ ws) adds.outputs_;
-      clocks_ = ap (λ (c : Cut Line). flat_map (ports_of clocked) c.parts) cut ∙ ap (λ (ws : List Word). ports_of clocked part ++ ws) adds.clocks_;
-      items_ = ap (λ (c : Cut Line). filter_map item_of c.parts) cut ∙ ap (λ (is : List SpelledItem). cons_option (item_of part) is) adds.items_;
+      before = ap (λ (c : CutList Line). c.before) cut;
+      inputs_ = ap (λ (c : CutList Line). flat_map (ports_of input) c.parts) cut ∙ ap (λ (ws : List Word). ports_of input part ++ ws) adds.inputs_;
+      outputs_ = ap (λ (c : CutList Line). flat_map (ports_of output) c.parts) cut ∙ ap (λ (ws : List Word). ports_of output part ++ ws) adds.outputs_;
+      clocks_ = ap (λ (c : CutList Line). flat_map (ports_of clocked) c.parts) cut ∙ ap (λ (ws : List Word). ports_of clocked part ++ ws) adds.clocks_;
+      items_ = ap (λ (c : CutList Line). filter_map item_of c.parts) cut ∙ ap (λ (is : List SpelledItem). cons_option (item_of part) is) adds.items_;
       stay = ap₂ (λ (a b : Bool). a || b) stays (list_any-append leaves rows rest ∙ ap₂ (λ (a b : Bool). a || b) stay adds.stay);
     }
 
@@ -222,8 +222,8 @@ model_first n model rest design plain at are =
     list_any-append (λ line. is_model (kind line)) body (last ∷ []) ∙ ap (λ (b : Bool). b || false) (neither body adds.stay).0 in
     let cut = ap (λ (ls : List Line). blocks (ls ++ rest)) (model_cut n model) ∙ part_cut (λ line. is_model (kind line)) first (body ++ last ∷ []) rest refl none are.before in
     record {
-      before = ap (λ (c : Cut Line). c.before) cut;
-      models = ap (λ (c : Cut Line). map model_of c.parts) cut ∙ ap₂ (λ (m : SpelledModel) (ms : List SpelledModel). m ∷ ms) (model_back n model body last refl adds) are.models;
+      before = ap (λ (c : CutList Line). c.before) cut;
+      models = ap (λ (c : CutList Line). map model_of c.parts) cut ∙ ap₂ (λ (m : SpelledModel) (ms : List SpelledModel). m ∷ ms) (model_back n model body last refl adds) are.models;
     }
 
 all_models : (n : ℕ) (design : List SpelledModel) → list_all is_plain_model design ≡ true → have_numbers n design ≡ true → AreModels (numbered_lines n (design_lines design)) design

@@ -13,13 +13,13 @@ use Rattle.vw_blif.specs.Spelled.{SpelledItem, table, SpelledModel}
 use Rattle.vw_blif.specs.Rows.{row_marks, are_on_set}
 use Rattle.vw_blif.specs.Latches.{latch_of}
 use Rattle.vw_blif.specs.Bindings.{spelled_placing}
-use Rattle.vw_blif.specs.Blocks.{Part, Cut, cut_before, until}
+use Rattle.vw_blif.specs.Blocks.{Part, CutList, cut_before, until}
 
 -- the blocks of lines, and the groups of the lines behind a `.model` line
-abbrev pub blocks : List Line → Cut Line
+abbrev pub blocks : List Line → CutList Line
 blocks lines = cut_before (λ line. is_model (kind line)) lines
 
-abbrev pub groups : List Line → Cut Line
+abbrev pub groups : List Line → CutList Line
 groups lines = cut_before (λ line. not (is_row (kind line))) (until (λ line. is_end (kind line)) lines)
 
 -- the table of a `.names` line and its rows

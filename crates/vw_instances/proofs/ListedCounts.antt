@@ -12,7 +12,7 @@ use Rattle.vw_instances.specs.declared.tables.Placed.{Placed}
 use Rattle.vw_instances.specs.declared.tables.CellSite.{CellSite}
 use Rattle.vw_instances.specs.declared.frame.Frame.{Frame}
 use Rattle.vw_instances.specs.Tables.{IsCellSite}
-use Rattle.vw_instances.specs.Steps.Frames.{Level, sites_left, listed_with, cells_among, IsFrame, IsUnderWay}
+use Rattle.vw_instances.specs.Steps.Frames.{FrameLevel, sites_left, listed_with, cells_among, IsFrame, IsUnderWay}
 use Rattle.vw_instances.proofs.GrownLists.{last_first}
 
 -- a site is a cell, or it places an instance
@@ -50,8 +50,8 @@ module _ (design : Design) where
 
   -- the last frame apart
   pub record IsTop (table : List Placed) (made : List CellSite) (frames : List Frame) (frame : Frame) (walk : IsUnderWay design table made (frames ++ (frame ∷ []))) : Type 0 where
-    pub level : Level
-    pub levels : List Level
+    pub level : FrameLevel
+    pub levels : List FrameLevel
     pub all : walk.done ++ flat_map (sites_left design) (level ∷ levels) ≡ sites design
     pub top : IsFrame design (listed_with walk.done) (length walk.done) level frame
     pub below : AllZip (IsFrame design (listed_with walk.done) (length walk.done)) levels (reverse frames)
@@ -60,7 +60,7 @@ module _ (design : Design) where
   top_of table made frames frame walk =
       by walk.levels walk.all (subst (λ (list : List Frame). AllZip (IsFrame design (listed_with walk.done) (length walk.done)) walk.levels list) (last_first frames frame) walk.stack)
     where
-      by : (levels : List Level) → walk.done ++ flat_map (sites_left design) levels ≡ sites design
+      by : (levels : List FrameLevel) → walk.done ++ flat_map (sites_left design) levels ≡ sites design
           → AllZip (IsFrame design (listed_with walk.done) (length walk.done)) levels (frame ∷ reverse frames) → IsTop table made frames frame walk
       by [] all along = absurd along
       by (level ∷ levels) all along = record { level = level; levels = levels; all = all; top = along.0; below = along.1 }

@@ -17,7 +17,7 @@ use Rattle.vw_design.proofs.ShallowDesigns.{shallow, nothing_placed}
 use Rattle.vw_design.proofs.PlacedInstances.{known_model}
 use Rattle.vw_instances.specs.declared.frame.Frame.{Frame}
 use Rattle.vw_instances.specs.Steps.Nexts.{target_at, next_by, next_of}
-use Rattle.vw_instances.specs.Steps.Frames.{Level, IsFrame}
+use Rattle.vw_instances.specs.Steps.Frames.{FrameLevel, IsFrame}
 use Rattle.vw_design.proofs.ListPlaces.{behind}
 use Rattle.vw_design.proofs.PairedLists.{AllZip-at}
 
@@ -31,7 +31,7 @@ pub record IsPlacedNext (design : Design) (targets : List (List (Option ℕ))) (
 
 module _ (design : Design) where
   -- it goes by the first item that is left
-  pub next_is : (targets : List (List (Option ℕ))) (listed : List Path) (done : ℕ) (level : Level) (frame : Frame) → IsFrame design listed done level frame
+  pub next_is : (targets : List (List (Option ℕ))) (listed : List Path) (done : ℕ) (level : FrameLevel) (frame : Frame) → IsFrame design listed done level frame
       → next_of design targets frame.model frame.item frame.before ≡ next_by (target_at targets frame.model frame.before) (slice_get level.left 0)
   next_is targets listed done level frame is =
       let items : items_of (slice_get design.models frame.model) ≡ level.front ++ level.left = ap items_of is.model_is ∙ is.items in

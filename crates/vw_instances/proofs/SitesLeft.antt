@@ -9,9 +9,9 @@ use Rattle.vw_design.specs.declared.design.Design.{Design}
 use Rattle.vw_design.specs.Paths.{Path, placing_of, placings, model_at, items_of}
 use Rattle.vw_design.specs.Claims.{and_behind, numbered}
 use Rattle.vw_design.specs.Preorder.{Site, inside, with_inside, sites_below, instances_at, paths_of, is_cell}
-use Rattle.vw_instances.specs.Steps.Frames.{Level, sites_left, listed_with, cells_among}
+use Rattle.vw_instances.specs.Steps.Frames.{FrameLevel, sites_left, listed_with, cells_among}
 
-abbrev pub level_of : Path → List Item → List Item → Level
+abbrev pub level_of : Path → List Item → List Item → FrameLevel
 level_of path front left = record { path = path; front = front; left = left }
 
 -- the site of the item behind a front

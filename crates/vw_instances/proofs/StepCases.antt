@@ -16,7 +16,7 @@ use Rattle.vw_instances.specs.declared.frame.Frame.{Frame}
 use Rattle.vw_instances.specs.declared.next.Next.{Next}
 use Rattle.vw_instances.specs.declared.next.Next.TheVariants.{End, Cell, Place}
 use Rattle.vw_instances.specs.Steps.Nexts.{target_at, next_placed, next_by, next_of}
-use Rattle.vw_instances.specs.Steps.Frames.{Level, sites_left, listed_with, IsFrame, entered, behind_item, site_of_frame, placed_in_frame, IsUnderWay, steps_left}
+use Rattle.vw_instances.specs.Steps.Frames.{FrameLevel, sites_left, listed_with, IsFrame, entered, behind_item, site_of_frame, placed_in_frame, IsUnderWay, steps_left}
 use Rattle.vw_instances.proofs.Nexts.{next_is, placed_next}
 use Rattle.vw_instances.proofs.ListedCounts.{walk_within, IsTop, top_of}
 use Rattle.vw_instances.proofs.SitesLeft.{level_of}
@@ -39,13 +39,13 @@ module _ (design : Design) (targets : List (List (Option ℕ))) (are_targets : A
   abbrev coming : Next
   coming = next_of design targets frame.model frame.item frame.before
 
-  abbrev Left : Level → List Level → Type 0
+  abbrev Left : FrameLevel → List FrameLevel → Type 0
   Left level levels = walk.done ++ flat_map (sites_left design) (level ∷ levels) ≡ sites design
 
-  abbrev Below : List Level → Type 0
+  abbrev Below : List FrameLevel → Type 0
   Below levels = AllZip (IsFrame design (listed_with walk.done) (length walk.done)) levels (reverse frames)
 
-  abbrev Top : Level → Type 0
+  abbrev Top : FrameLevel → Type 0
   Top level = IsFrame design (listed_with walk.done) (length walk.done) level frame
 
   top : IsTop design table made frames frame walk
@@ -57,7 +57,7 @@ module _ (design : Design) (targets : List (List (Option ℕ))) (are_targets : A
   -- nothing is next where no item is left
   pub ends : coming ≡ End → IsUnderWay design table made frames
   ends is = by top.level.path top.level.front top.level.left top.levels top.all top.top top.below (by_left End is) where
-    by : (path : Path) (front left : List Item) (levels : List Level) → Left (level_of path front left) levels → Top (level_of path front left) → Below levels
+    by : (path : Path) (front left : List Item) (levels : List FrameLevel) → Left (level_of path front left) levels → Top (level_of path front left) → Below levels
         → next_by (target_at targets frame.model frame.before) (slice_get left 0) ≡ End → IsUnderWay design table made frames
     by path front [] levels all is_top below none = ended design table made frames frame walk path front levels below all
     by path front (Names line ins out cover ∷ rest) levels all is_top below none = absurd (cell_end none)
@@ -70,7 +70,7 @@ module _ (design : Design) (targets : List (List (Option ℕ))) (are_targets : A
   pub lists_cell : coming ≡ Cell
       → IsUnderWay design table (made ++ (site_of_frame frame ∷ [])) (frames ++ (behind_item frame frame.before ∷ []))
   lists_cell is = by top.level.path top.level.front top.level.left top.levels top.all top.top top.below (by_left Cell is) where
-    by : (path : Path) (front left : List Item) (levels : List Level) → Left (level_of path front left) levels → Top (level_of path front left) → Below levels
+    by : (path : Path) (front left : List Item) (levels : List FrameLevel) → Left (level_of path front left) levels → Top (level_of path front left) → Below levels
         → next_by (target_at targets frame.model frame.before) (slice_get left 0) ≡ Cell
         → IsUnderWay design table (made ++ (site_of_frame frame ∷ [])) (frames ++ (behind_item frame frame.before ∷ []))
     by path front [] levels all is_top below cell = absurd (cell_end (sym cell))
@@ -89,7 +89,7 @@ module _ (design : Design) (targets : List (List (Option ℕ))) (are_targets : A
       → IsUnderWay design (table ++ (placed_in_frame frame model (length made) ∷ [])) made
       (frames ++ (behind_item frame (frame.before + 1) ∷ entered (length table) model ∷ []))
   lists_instance model is = by top.level.path top.level.front top.level.left top.levels top.all top.top top.below (by_left (Place model) is) where
-    by : (path : Path) (front left : List Item) (levels : List Level) → Left (level_of path front left) levels → Top (level_of path front left) → Below levels
+    by : (path : Path) (front left : List Item) (levels : List FrameLevel) → Left (level_of path front left) levels → Top (level_of path front left) → Below levels
         → next_by (target_at targets frame.model frame.before) (slice_get left 0) ≡ Place model
         → IsUnderWay design (table ++ (placed_in_frame frame model (length made) ∷ [])) made
         (frames ++ (behind_item frame (frame.before + 1) ∷ entered (length table) model ∷ []))

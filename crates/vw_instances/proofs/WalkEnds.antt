@@ -8,7 +8,7 @@ use Rattle.vw_instances.specs.declared.tables.Placed.{Placed}
 use Rattle.vw_instances.specs.declared.tables.CellSite.{CellSite}
 use Rattle.vw_instances.specs.declared.frame.Frame.{Frame}
 use Rattle.vw_instances.specs.Tables.{AreNumbered, StandsAt, IsEntryAt, IsCellSite, ArePlaced, AreCellSites}
-use Rattle.vw_instances.specs.Steps.Frames.{Level, sites_left, listed_with, cells_among, IsFrame, IsUnderWay}
+use Rattle.vw_instances.specs.Steps.Frames.{FrameLevel, sites_left, listed_with, cells_among, IsFrame, IsUnderWay}
 use Rattle.vw_instances.proofs.GrownLists.{none_numbered, more_numbered}
 use Rattle.vw_instances.proofs.SitesLeft.{level_of, sites_start}
 
@@ -59,7 +59,7 @@ module _ (design : Design) where
     all_done =
         by walk.levels (subst (λ (list : List Frame). AllZip (IsFrame design (listed_with walk.done) (length walk.done)) walk.levels list) (ap (λ (list : List Frame). reverse list) no_frames) walk.stack) walk.all
       where
-        by : (levels : List Level) → AllZip (IsFrame design (listed_with walk.done) (length walk.done)) levels [] → walk.done ++ flat_map (sites_left design) levels ≡ sites design
+        by : (levels : List FrameLevel) → AllZip (IsFrame design (listed_with walk.done) (length walk.done)) levels [] → walk.done ++ flat_map (sites_left design) levels ≡ sites design
             → walk.done ≡ sites design
         by [] along all = sym (append-nil walk.done) ∙ all
         by (level ∷ levels) along all = absurd along

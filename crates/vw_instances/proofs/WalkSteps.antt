@@ -17,7 +17,7 @@ use Rattle.vw_instances.specs.declared.tables.Placed.{Placed}
 use Rattle.vw_instances.specs.declared.tables.CellSite.{CellSite}
 use Rattle.vw_instances.specs.declared.frame.Frame.{Frame}
 use Rattle.vw_instances.specs.Tables.{AreNumbered, IsPlacedBy, StandsAt, IsEntryAt, IsCellSite}
-use Rattle.vw_instances.specs.Steps.Frames.{Level, sites_left, listed_with, cells_among, IsFrame, entered, behind_item, site_of_frame, placed_in_frame, IsUnderWay}
+use Rattle.vw_instances.specs.Steps.Frames.{FrameLevel, sites_left, listed_with, cells_among, IsFrame, entered, behind_item, site_of_frame, placed_in_frame, IsUnderWay}
 use Rattle.vw_design.proofs.ListPlaces.{in_front, behind}
 use Rattle.vw_design.proofs.PairedLists.{AllZip-length, AllZip-wider, AllZip-push}
 use Rattle.vw_instances.proofs.GrownLists.{last_first, two_last_first, more_numbered}
@@ -38,7 +38,7 @@ still_by listed longer still number [] entry is = is
 still_by listed longer still number (place ∷ path) entry is = (is.0, still entry.parent path is.1, is.2)
 
 module _ (design : Design) (table : List Placed) (made : List CellSite) (frames : List Frame) (frame : Frame) (walk : IsUnderWay design table made (frames ++ (frame ∷ [])))
-    (path : Path) (front : List Item) (levels : List Level) (below : AllZip (IsFrame design (listed_with walk.done) (length walk.done)) levels (reverse frames)) where
+    (path : Path) (front : List Item) (levels : List FrameLevel) (below : AllZip (IsFrame design (listed_with walk.done) (length walk.done)) levels (reverse frames)) where
   -- where no item is left, the frame stands for nothing
   pub ended : walk.done ++ flat_map (sites_left design) (level_of path front [] ∷ levels) ≡ sites design → IsUnderWay design table made frames
   ended all = record { done = walk.done; levels = levels; all = all; placed = walk.placed; cells = walk.cells; stack = below }
@@ -72,7 +72,7 @@ module _ (design : Design) (table : List Placed) (made : List CellSite) (frames 
     longer : length more_done ≡ suc (length walk.done)
     longer = omega (arith, length-append walk.done (site ∷ []))
 
-    still_frame : (level : Level) (other : Frame) → IsFrame design (listed_with walk.done) (length walk.done) level other → IsFrame design (listed_with more_done) (length more_done) level other
+    still_frame : (level : FrameLevel) (other : Frame) → IsFrame design (listed_with walk.done) (length walk.done) level other → IsFrame design (listed_with more_done) (length more_done) level other
     still_frame level other is = record {
       model = is.model;
       stands = is.stands;

@@ -9,7 +9,7 @@ use Rattle.vw_plan.specs.declared.wire.Wire.{Wire}
 use Rattle.vw_plantext.specs.Content.{Content, hop_count, IsHopInRange, IsWireInRange, IsInRange}
 use Rattle.vw_plantext.specs.Grammar.{number_line, hop_line, wire_line, body_lines}
 use Rattle.vw_plantext.specs.Steps.Hops.{IsHopLine, IsNoHopLine, IsNoWireHeadLine}
-use Rattle.vw_plantext.specs.Steps.Bodies.{UnfinishedWire, State, part_with_hop, FollowsWires, FollowsHops, FollowsPart, IsLeft, part_hops, part_count, IsPartInRange, FitsPart, Fits, TakesPlanLine, RefusesLine, ClosesWire}
+use Rattle.vw_plantext.specs.Steps.Bodies.{UnfinishedWire, BodyState, part_with_hop, FollowsWires, FollowsHops, FollowsPart, IsLeft, part_hops, part_count, IsPartInRange, FitsPart, Fits, TakesPlanLine, RefusesLine, ClosesWire}
 use Rattle.vw_plantext.proofs.NumberLines.{AreSmall, number_line_injective}
 use Rattle.vw_plantext.proofs.Lines.{IsSmall, small_wire, hop_count-cons}
 use Rattle.vw_plantext.proofs.Spellings.{plain_wire, hop_line_injective, body_lines-cons}
@@ -150,8 +150,8 @@ hop_count-nil = refl
 pub moved : (part other : Option UnfinishedWire) → part ≡ other → (left : ℕ) (done all : List Wire) (lines : List (List ℕ)) → FollowsPart part left done all lines → FollowsPart other left done all lines
 moved part_ other same left done all lines follows = subst (λ (p : Option UnfinishedWire). FollowsPart p left done all lines) same follows
 
-module _ (state : State) (fits : Fits state) (part : UnfinishedWire) (is : state.part ≡ Some part) where
-  abbrev with_part : UnfinishedWire → State
+module _ (state : BodyState) (fits : Fits state) (part : UnfinishedWire) (is : state.part ≡ Some part) where
+  abbrev with_part : UnfinishedWire → BodyState
   with_part made = record { chip_of = state.chip_of; period = state.period; wires = state.wires; part = Some made; left = state.left; room = state.room }
 
   part_fits : IsPartInRange part
@@ -183,7 +183,7 @@ module _ (state : State) (fits : Fits state) (part : UnfinishedWire) (is : state
     makes content more is_left = record { chip_of = is_left.chip_of; period = is_left.period; wires = moved (Some part) state.part (sym old) state.left state.wires content.wires (line ∷ more) (follows_hop_back part state.left state.wires content.wires line more hop is_hop some is_left.wires) }
 
   -- a wire that has all its hops, among the others
-  abbrev done : State
+  abbrev done : BodyState
   done = record { chip_of = state.chip_of; period = state.period; wires = state.wires ++ record { net = part.net; to = part.to; hops = part.hops } ∷ []; part = None; left = state.left; room = state.room }
 
   pub closes_full : part.left ≡ 0 → ClosesWire state done
@@ -211,8 +211,8 @@ module _ (state : State) (fits : Fits state) (part : UnfinishedWire) (is : state
     makes : (content : Content) (more : List (List ℕ)) → IsLeft done content more → IsLeft state content more
     makes content more is_left = record { chip_of = is_left.chip_of; period = is_left.period; wires = moved (Some part) state.part (sym old) state.left state.wires content.wires more (opened_wires part full state.left state.wires content.wires more is_left.wires) }
 
-module _ (state : State) (fits : Fits state) (is : state.part ≡ None) where
-  abbrev with_wire : UnfinishedWire → State
+module _ (state : BodyState) (fits : Fits state) (is : state.part ≡ None) where
+  abbrev with_wire : UnfinishedWire → BodyState
   with_wire made = record { chip_of = state.chip_of; period = state.period; wires = state.wires; part = Some made; left = state.left - 1; room = state.room - made.left }
 
   all_hops : hop_count state.wires + (state.room + 1) ≡ 2 ^ 30

@@ -10,7 +10,7 @@ use Rattle.vw_plantext.specs.Content.{Content, hop_count, IsInRange}
 use Rattle.vw_plantext.specs.Grammar.{body_lines, plan_lines, spelling}
 use Rattle.vw_plantext.specs.CanStand.{CanStand, IsFirstBadLine}
 use Rattle.vw_plantext.specs.Steps.Cuts.{IsOneLine, IsLineCut}
-use Rattle.vw_plantext.specs.Steps.Bodies.{UnfinishedWire, State, FollowsWires, IsLeft, part_hops, part_count, is_complete, is_complete_but, RefusesLine}
+use Rattle.vw_plantext.specs.Steps.Bodies.{UnfinishedWire, BodyState, FollowsWires, IsLeft, part_hops, part_count, is_complete, is_complete_but, RefusesLine}
 use Rattle.vw_plantext.specs.Steps.Starts.{IsReadTo, IsFaultOfText}
 use Rattle.vw_plantext.specs.Steps.Finished.{content_read, EndsPlan, EndsBadly, IsSpelled}
 use Rattle.vw_plantext.proofs.HopAndWireLines.{moved}
@@ -33,7 +33,7 @@ only_end left done all lines none follows = by_rest follows.rest follows.count f
   by_rest [] size are = are
   by_rest (wire ∷ rest) size are = absurd (omega arith)
 
-module _ (text : List ℕ) (state : State) (rest : List ℕ) (number : ℕ) (to : IsReadTo text state rest number) (complete : is_complete state ≡ true) (line after : List ℕ) (cut : IsLineCut rest line after) where
+module _ (text : List ℕ) (state : BodyState) (rest : List ℕ) (number : ℕ) (to : IsReadTo text state rest number) (complete : is_complete state ≡ true) (line after : List ℕ) (cut : IsLineCut rest line after) where
   are : IsComplete state.part state.left
   are = complete_parts state.part state.left complete
 

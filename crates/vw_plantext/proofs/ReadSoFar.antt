@@ -12,7 +12,7 @@ use Rattle.vw_plantext.specs.Content.{Content, hop_count, IsHopInRange, IsWireIn
 use Rattle.vw_plantext.specs.Grammar.{number_line, head_line, chips_line, hop_line, wire_lines, body_lines, plan_lines}
 use Rattle.vw_plantext.specs.CanStand.{CanStand, IsFirstBadLine}
 use Rattle.vw_plantext.specs.Steps.Cuts.{IsOneLine, IsLineCut}
-use Rattle.vw_plantext.specs.Steps.Bodies.{UnfinishedWire, State, FollowsWires, FollowsHops, FollowsPart, IsLeft, part_hops, part_count, IsPartInRange, FitsPart, Fits, HasRead, TakesPlanLine, RefusesLine, ClosesWire}
+use Rattle.vw_plantext.specs.Steps.Bodies.{UnfinishedWire, BodyState, FollowsWires, FollowsHops, FollowsPart, IsLeft, part_hops, part_count, IsPartInRange, FitsPart, Fits, HasRead, TakesPlanLine, RefusesLine, ClosesWire}
 use Rattle.vw_plantext.specs.Steps.Starts.{head_numbers, IsReadTo, IsHeadLine, IsNoHeadLine, IsChipsLine, IsNoChipsLine}
 use Rattle.vw_plantext.specs.declared.start.Head.{Head}
 use Rattle.vw_plantext.proofs.NumberLines.{number_line_injective}
@@ -38,7 +38,7 @@ hop_count-replicate : (count : ℕ) → hop_count (replicate count no_wire) ≡ 
 hop_count-replicate zero = refl
 hop_count-replicate (suc count) = omega (arith, hop_count-cons no_wire (replicate count no_wire), hop_count-replicate count)
 
-module _ (lines : List (List ℕ)) (state : State) (read : HasRead lines state) where
+module _ (lines : List (List ℕ)) (state : BodyState) (read : HasRead lines state) where
   abbrev content_with : List Wire → Content
   content_with wires = record { chip_of = state.chip_of; wires = wires; period = state.period }
 
@@ -120,7 +120,7 @@ module _ (lines : List (List ℕ)) (state : State) (read : HasRead lines state) 
   refused_behind line refuses can = refuses can.content can.rest can.in_range (read.tells can.content (line ∷ can.rest) can.in_range (sym (append_assoc lines (line ∷ []) can.rest) ∙ can.begins))
 
   -- one line more
-  pub read_more : (line : List ℕ) (mid new : State) → TakesPlanLine state line mid → ClosesWire mid new → HasRead (lines ++ line ∷ []) new
+  pub read_more : (line : List ℕ) (mid new : BodyState) → TakesPlanLine state line mid → ClosesWire mid new → HasRead (lines ++ line ∷ []) new
   read_more line mid new takes closes = record { fits = closes.fits; some_left = closes.some_left; tells = tells; makes = makes } where
     tells : (content : Content) (more : List (List ℕ)) → IsInRange content → (lines ++ line ∷ []) ++ more ≡ plan_lines content → IsLeft new content more
     tells content more fits same = closes.tells content more (takes.tells content more fits (read.tells content (line ∷ more) fits (sym (append_assoc lines (line ∷ []) more) ∙ same)))
@@ -142,7 +142,7 @@ module _ (cells wires period : ℕ) (few_cells : cells < 2 ^ 32) (few_wires : wi
     abbrev second_line : List ℕ
     second_line = number_line (codes "chips") chips
 
-    abbrev begun : State
+    abbrev begun : BodyState
     begun = record { chip_of = chips; period = period; wires = []; part = None; left = wires; room = room }
 
     pub read_two : HasRead (first_line ∷ second_line ∷ []) begun
@@ -239,14 +239,14 @@ module _ (text line rest : List ℕ) (cut : IsLineCut text line rest) (head : He
         whole = whole_more text (line ∷ []) rest second after (whole_more text [] text line rest refl cut.whole) second_cut.whole;
       }
 
-module _ (text : List ℕ) (state : State) (rest : List ℕ) (number : ℕ) (to : IsReadTo text state rest number) where
+module _ (text : List ℕ) (state : BodyState) (rest : List ℕ) (number : ℕ) (to : IsReadTo text state rest number) where
   pub fault_no_further : IsOneLine rest → IsFirstBadLine text number
   fault_no_further one_line_ = no_further_line text to.lines rest number to.number_ to.whole (can_stand_read to.lines state to.read) one_line_ (incomplete to.lines state to.read)
 
   pub fault_line : (line after : List ℕ) → IsLineCut rest line after → RefusesLine state line → IsFirstBadLine text number
   fault_line line after cut refuses = bad_line text to.lines rest number to.number_ to.whole (can_stand_read to.lines state to.read) line after cut (refused_behind to.lines state to.read line refuses)
 
-  pub read_further : (line after : List ℕ) (mid new : State) → IsLineCut rest line after → TakesPlanLine state line mid → ClosesWire mid new → IsReadTo text new after (number + 1)
+  pub read_further : (line after : List ℕ) (mid new : BodyState) → IsLineCut rest line after → TakesPlanLine state line mid → ClosesWire mid new → IsReadTo text new after (number + 1)
   read_further line after mid new cut takes closes = record {
     lines = to.lines ++ line ∷ [];
     read = read_more to.lines state to.read line mid new takes closes;

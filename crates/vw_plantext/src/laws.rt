@@ -21,5 +21,6 @@ pub fn one_line_is_first()
 
 /// A text spells one plan at most.
 pub fn plans_spell_once()
-    ensures { (text : List ℕ) (one other : Plan) → Spells text one → Spells text other → one ≡ other }
+    ensures { (text : List ℕ) (one other : Plan) → Spells text one → Spells text other
+        → one ≡ other }
 {}

@@ -10,7 +10,7 @@ use Rattle.vw_design.specs.Paths.{Word}
 use Rattle.vw_blif.specs.Kinds.{input, output, clocked}
 use Rattle.vw_blif.specs.Spelled.{SpelledItem, table, SpelledModel, spelled_item}
 use Rattle.vw_blif.specs.Rows.{value_word, row_marks, are_on_set}
-use Rattle.vw_blif.specs.Blocks.{Cut}
+use Rattle.vw_blif.specs.Blocks.{CutList}
 use Rattle.vw_blif.specs.Designs.{groups, item_of, ports_of}
 use Rattle.vw_blif.specs.Before.{OpenTable, is_open, open_table, ports_before}
 use Rattle.vw_blif.specs.Faults.{fault_at}
@@ -38,7 +38,7 @@ table_items (Some t) rows = table_made t rows ∷ []
 -- ---- models
 
 -- the model that the parts so far, an open table and what a cut has make
-abbrev pub model_with : Word → List Word → List Word → List Word → List SpelledItem → Option Table → Cut Line → SpelledModel
+abbrev pub model_with : Word → List Word → List Word → List Word → List SpelledItem → Option Table → CutList Line → SpelledModel
 model_with name inputs outputs clocks items open_ cut = record {
   name = name;
   inputs = inputs ++ flat_map (ports_of input) cut.parts;

@@ -11,7 +11,7 @@ use Rattle.vw_blif.specs.declared.block.Block.{Block}
 use Rattle.vw_blif.specs.declared.reader.Reader.{Reader}
 use Rattle.vw_blif.specs.Words.{first_word}
 use Rattle.vw_blif.specs.Spelled.{SpelledModel, spelled_model}
-use Rattle.vw_blif.specs.Blocks.{Cut}
+use Rattle.vw_blif.specs.Blocks.{CutList}
 use Rattle.vw_blif.specs.Designs.{blocks, model_of}
 use Rattle.vw_blif.specs.Before.{is_open, model_names}
 use Rattle.vw_blif.specs.Faults.{fault_at}
@@ -21,7 +21,7 @@ use Rattle.vw_blif.specs.Steps.Says.{Says}
 use Rattle.vw_blif.specs.Steps.Blocks.{block_made, IsAsBefore}
 
 -- the models that the open model and what a cut has make
-abbrev pub models_with : Option Block → Cut Line → List SpelledModel
+abbrev pub models_with : Option Block → CutList Line → List SpelledModel
 models_with None cut = map model_of cut.parts
 models_with (Some b) cut = block_made b cut.before ∷ map model_of cut.parts
 

@@ -14,13 +14,13 @@ use Rattle.vw_instances.specs.declared.frame.Frame.{Frame}
 use Rattle.vw_instances.specs.Tables.{AreNumbered, IsEntryAt, IsCellSite}
 
 -- an instance whose items are being listed: those that are listed, and those that are left
-pub record Level : Type 0 where
+pub record FrameLevel : Type 0 where
   pub path : Path
   pub front : List Item
   pub left : List Item
 
 -- the sites that are left in it
-abbrev pub sites_left : Design → Level → List Site
+abbrev pub sites_left : Design → FrameLevel → List Site
 sites_left design level =
     flat_map (with_inside (sites_below design (64 + length design.models - length level.path)) level.path)
     (numbered (length level.front) (length (placings level.front)) level.left)
@@ -33,7 +33,7 @@ abbrev pub cells_among : List Site → List Site
 cells_among done = filter (λ site. is_cell site.item) done
 
 -- a frame stands for such an instance, among listed paths, where so many sites are done
-pub record IsFrame (design : Design) (listed : List Path) (done : ℕ) (level : Level) (frame : Frame) : Type 0 where
+pub record IsFrame (design : Design) (listed : List Path) (done : ℕ) (level : FrameLevel) (frame : Frame) : Type 0 where
   pub model : Model
   pub stands : model_at design level.path ≡ Some model
   pub items : model.items ≡ level.front ++ level.left
@@ -61,7 +61,7 @@ placed_in_frame frame model cells = record { model = model; parent = frame.insta
 -- the tables have the sites that are done, and the frames, of which the last one comes first, have the others
 pub record IsUnderWay (design : Design) (table : List Placed) (made : List CellSite) (frames : List Frame) : Type 0 where
   pub done : List Site
-  pub levels : List Level
+  pub levels : List FrameLevel
   pub all : done ++ flat_map (sites_left design) levels ≡ sites design
   pub placed : AreNumbered (IsEntryAt design (listed_with done)) (listed_with done) table
   pub cells : AllZip (IsCellSite (listed_with done)) (cells_among done) made

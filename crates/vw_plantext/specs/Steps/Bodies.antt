@@ -17,7 +17,7 @@ pub record UnfinishedWire : Type 0 where
 
 -- a plan whose wires are being read: those that have all their hops, the one whose hops are being read, how many further
 -- ones are left, and how many hops these may have in all
-pub record State : Type 0 where
+pub record BodyState : Type 0 where
   pub chip_of : List ℕ
   pub period : ℕ
   pub wires : List Wire
@@ -28,7 +28,7 @@ pub record State : Type 0 where
 abbrev pub part_of : OpenWire → UnfinishedWire
 part_of wire = record { net = wire.net; to = wire.to; hops = wire.hops.items; left = wire.left }
 
-abbrev pub state_of : Body → State
+abbrev pub state_of : Body → BodyState
 state_of body = record { chip_of = body.chip_of.items; period = body.period; wires = body.wires.items; part = option_map part_of body.wire; left = body.left; room = body.room }
 
 -- one more hop
@@ -57,7 +57,7 @@ FollowsPart None left done all lines = FollowsWires left done all lines
 FollowsPart (Some part) left done all lines = FollowsHops part left done all lines
 
 -- a plan that was read up to here, and the lines that are left of it
-pub record IsLeft (state : State) (content : Content) (lines : List (List ℕ)) : Type 0 where
+pub record IsLeft (state : BodyState) (content : Content) (lines : List (List ℕ)) : Type 0 where
   pub chip_of : content.chip_of ≡ state.chip_of
   pub period : content.period ≡ state.period
   pub wires : FollowsPart state.part state.left state.wires content.wires lines
@@ -81,7 +81,7 @@ FitsPart None = Unit {0}
 FitsPart (Some part) = IsPartInRange part
 
 -- what was read is in range, and so is what is left
-pub record Fits (state : State) : Type 0 where
+pub record Fits (state : BodyState) : Type 0 where
   pub few_cells : length state.chip_of < 2 ^ 32
   pub chips : All (λ chip. chip < 2 ^ 32) state.chip_of
   pub short : state.period ≤ 2 ^ 62
@@ -100,28 +100,28 @@ abbrev pub is_complete_but : Option UnfinishedWire → ℕ → Bool
 is_complete_but None left = left == 0
 is_complete_but (Some part) left = false
 
-abbrev pub is_complete : State → Bool
+abbrev pub is_complete : BodyState → Bool
 is_complete state = is_complete_but state.part state.left
 
 -- these lines were read
-pub record HasRead (lines : List (List ℕ)) (state : State) : Type 0 where
+pub record HasRead (lines : List (List ℕ)) (state : BodyState) : Type 0 where
   pub fits : Fits state
   pub some_left : HasSomeLeft state.part
   pub tells : (content : Content) (more : List (List ℕ)) → IsInRange content → lines ++ more ≡ plan_lines content → IsLeft state content more
   pub makes : (content : Content) (more : List (List ℕ)) → IsLeft state content more → lines ++ more ≡ plan_lines content
 
 -- a line was taken
-pub record TakesPlanLine (old : State) (line : List ℕ) (new : State) : Type 0 where
+pub record TakesPlanLine (old : BodyState) (line : List ℕ) (new : BodyState) : Type 0 where
   pub fits : Fits new
   pub tells : (content : Content) (more : List (List ℕ)) → IsInRange content → IsLeft old content (line ∷ more) → IsLeft new content more
   pub makes : (content : Content) (more : List (List ℕ)) → IsLeft new content more → IsLeft old content (line ∷ more)
 
 -- a line can't stand there
-abbrev pub RefusesLine : State → List ℕ → Type 0
+abbrev pub RefusesLine : BodyState → List ℕ → Type 0
 RefusesLine old line = (content : Content) (more : List (List ℕ)) → IsInRange content → ¬ (IsLeft old content (line ∷ more))
 
 -- a wire that has all its hops is put to the others
-pub record ClosesWire (old new : State) : Type 0 where
+pub record ClosesWire (old new : BodyState) : Type 0 where
   pub fits : Fits new
   pub some_left : HasSomeLeft new.part
   pub tells : (content : Content) (more : List (List ℕ)) → IsLeft old content more → IsLeft new content more

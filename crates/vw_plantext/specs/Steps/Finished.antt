@@ -5,14 +5,14 @@ use Rattle.vw_plantext.specs.declared.fault.PlanTextFault.{PlanTextFault}
 use Rattle.vw_plantext.specs.declared.fault.PlanTextFault.TheVariants.{BadLine}
 use Rattle.vw_plantext.specs.Content.{Content, content_of, IsInRange}
 use Rattle.vw_plantext.specs.Grammar.{spelling}
-use Rattle.vw_plantext.specs.Steps.Bodies.{State}
+use Rattle.vw_plantext.specs.Steps.Bodies.{BodyState}
 
 -- what was read
-abbrev pub content_read : State → Content
+abbrev pub content_read : BodyState → Content
 content_read state = record { chip_of = state.chip_of; wires = state.wires; period = state.period }
 
 -- the last line, with nothing behind it, and the plan that was read
-pub record EndsPlan (state : State) (line after : List ℕ) (plan : Plan) : Type 0 where
+pub record EndsPlan (state : BodyState) (line after : List ℕ) (plan : Plan) : Type 0 where
   pub line_ : line ≡ codes "end"
   pub nothing : after ≡ []
   pub is : content_of plan ≡ content_read state

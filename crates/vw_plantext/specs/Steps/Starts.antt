@@ -7,7 +7,7 @@ use Rattle.vw_plantext.specs.declared.fault.PlanTextFault.{PlanTextFault}
 use Rattle.vw_plantext.specs.declared.fault.PlanTextFault.TheVariants.{TooLarge, BadLine, NoMemory}
 use Rattle.vw_plantext.specs.Grammar.{number_line}
 use Rattle.vw_plantext.specs.CanStand.{IsFirstBadLine}
-use Rattle.vw_plantext.specs.Steps.Bodies.{State, HasRead}
+use Rattle.vw_plantext.specs.Steps.Bodies.{BodyState, HasRead}
 
 -- the numbers of a first line
 abbrev pub head_numbers : ℕ → ℕ → ℕ → List ℕ
@@ -49,7 +49,7 @@ abbrev pub IsNoChipsLine : ℕ → List ℕ → Type 0
 IsNoChipsLine cells line = (chips : List ℕ) → length chips ≡ cells → All (λ chip. chip < 2 ^ 32) chips → line ≢ number_line (codes "chips") chips
 
 -- a text was read up to here, and this is the number of the next line
-pub record IsReadTo (text : List ℕ) (state : State) (rest : List ℕ) (number : ℕ) : Type 0 where
+pub record IsReadTo (text : List ℕ) (state : BodyState) (rest : List ℕ) (number : ℕ) : Type 0 where
   pub lines : List (List ℕ)
   pub read : HasRead lines state
   pub number_ : length lines + 1 ≡ number

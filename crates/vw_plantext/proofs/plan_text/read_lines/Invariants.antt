@@ -1,10 +1,10 @@
 -- how far the text is read
 use Rattle.std.proofs.Common.{ℕ, List, ◌≤◌, ◌+◌, length}
-use Rattle.vw_plantext.specs.Steps.Bodies.{State, state_of}
+use Rattle.vw_plantext.specs.Steps.Bodies.{BodyState, state_of}
 use Rattle.vw_plantext.specs.Steps.Starts.{IsReadTo}
 use Rattle.vw_plantext.proofs.plan_text.read_lines.Given as goal
 
-pub record IsAt (text : List ℕ) (state : State) (rest : List ℕ) (number : ℕ) : Type 0 where
+pub record IsAt (text : List ℕ) (state : BodyState) (rest : List ℕ) (number : ℕ) : Type 0 where
   pub to : IsReadTo text state rest number
   pub small : number + length rest ≤ 3 + 67108864
 
