@@ -5,7 +5,7 @@ use Rattle.std.proofs.lemmas.List.{take_more}
 use Rattle.std.proofs.lemmas.Option.{same_Some, none-some}
 
 module _ {A B : Type 0} where
-  -- the element that goes along with one
+  -- what goes along with an element of the first
   pub AllZip-at : (R : A → B → Type 0) (xs : List A) (ys : List B) (k : ℕ) (x : A) → AllZip R xs ys → slice_get xs k ≡ Some x → (y : B) × (slice_get ys k ≡ Some y) × R x y
   AllZip-at R [] ys k x along at = absurd (none-some x at)
   AllZip-at R (first ∷ xs) [] k x along at = absurd along
@@ -18,7 +18,7 @@ module _ {A B : Type 0} where
   AllZip-length R (x ∷ xs) [] along = absurd along
   AllZip-length R (x ∷ xs) (y ∷ ys) along = ap suc (AllZip-length R xs ys along.1)
 
-  -- and the other way round
+  -- and with one of the second
   pub AllZip-back : (R : A → B → Type 0) (xs : List A) (ys : List B) (k : ℕ) (y : B) → AllZip R xs ys → slice_get ys k ≡ Some y → (x : A) × (slice_get xs k ≡ Some x) × R x y
   AllZip-back R [] [] k y along at = absurd (none-some y at)
   AllZip-back R [] (first ∷ ys) k y along at = absurd along

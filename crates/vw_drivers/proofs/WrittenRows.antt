@@ -1,4 +1,4 @@
--- DriverRows of drivers: what they have at a number when further drivers are written.
+-- Rows of drivers: what they have at a number when further drivers are written.
 use Rattle.std.proofs.Common.{◌≡◌, ◌≢◌, ◌<◌, ◌≤◌, ℕ, zero, suc, List, [], ◌∷◌, ◌++◌, length, Option, None, slice_set, option_and_then, inl, inr, ⊎_elim, refl, sym, ◌∙◌, ap, subst, arith}
 use Rattle.std.proofs.lemmas.Bool.{cases_eq}
 use Rattle.vw_design.proofs.ListElements.{Has}
