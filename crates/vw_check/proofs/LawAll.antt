@@ -55,7 +55,7 @@ module _ (setting : Setting) where
   wires = missing_wire setting.ordered.flat setting.plan ∷ extra_wire setting.ordered.flat setting.plan ∷ []
 
   abbrev hops : List (Option PlanFault)
-  hops = broken_route setting ∷ bad_pin setting.board setting.plan ∷ out_of_order setting.board setting.plan ∷ past_period setting.board setting.plan ∷ pin_clash setting.plan ∷ []
+  hops = broken_route setting ∷ bad_pin setting.board setting.plan ∷ out_of_order setting.plan ∷ past_period setting.plan ∷ pin_clash setting.plan ∷ []
 
   abbrev moments : List (Option PlanFault)
   moments = too_early setting ∷ late_latch setting ∷ []

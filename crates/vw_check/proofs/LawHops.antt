@@ -4,7 +4,6 @@ use Rattle.std.specs.Option.{option_map_or}
 use Rattle.std.proofs.lemmas.Bool.{and_parts, and_from, or_left, ltb-true, ltb-false, lt-ltb, le-ltb}
 use Rattle.std.proofs.lemmas.List.Elements.{All-head, All-tail}
 use Rattle.vw_plan.specs.declared.link.Link.{Link}
-use Rattle.vw_plan.specs.declared.board.Board.{Board}
 use Rattle.vw_plan.specs.declared.plan.Plan.{Plan}
 use Rattle.vw_plan.specs.declared.wire.Hop.{Hop}
 use Rattle.vw_plan.specs.declared.wire.Wire.{Wire}
@@ -85,30 +84,30 @@ goes_from_leads links from to (hop ∷ next ∷ hops) leads all =
 
 -- ---- rising microcycles: hop by hop, and as a whole
 
-later_later : (board : Board) (first : Hop) (hops : List Hop) (number : ℕ) (hop : Hop) → is_later board (first ∷ hops) (suc number) hop ≡ true → is_later board hops number hop ≡ true
-later_later board first hops zero hop is = refl
-later_later board first hops (suc number) hop is = is
+later_later : (first : Hop) (hops : List Hop) (number : ℕ) (hop : Hop) → is_later (first ∷ hops) (suc number) hop ≡ true → is_later hops number hop ≡ true
+later_later first hops zero hop is = refl
+later_later first hops (suc number) hop is = is
 
-later_step : (board : Board) (first : Hop) (hops : List Hop) (number : ℕ) (hop : Hop) → 1 ≤ number → is_later board hops number hop ≡ true → is_later board (first ∷ hops) (suc number) hop ≡ true
-later_step board first hops zero hop some is = absurd (omega arith)
-later_step board first hops (suc number) hop some is = is
+later_step : (first : Hop) (hops : List Hop) (number : ℕ) (hop : Hop) → 1 ≤ number → is_later hops number hop ≡ true → is_later (first ∷ hops) (suc number) hop ≡ true
+later_step first hops zero hop some is = absurd (omega arith)
+later_step first hops (suc number) hop some is = is
 
-pub rises_from_later : (board : Board) (hops : List Hop) → EachAt (λ number hop. is_later board hops number hop ≡ true) 0 hops → rises board hops ≡ true
-rises_from_later board [] each = refl
-rises_from_later board (hop ∷ []) each = refl
-rises_from_later board (hop ∷ next ∷ hops) each =
-    and_from (nat_lt (arrival board hop) next.at) (rises board (next ∷ hops)) each.1.0
-    (rises_from_later board (next ∷ hops)
-    (each_shift (λ number one. is_later board (hop ∷ next ∷ hops) number one ≡ true) (λ number one. is_later board (next ∷ hops) number one ≡ true) 0 (next ∷ hops)
-    (λ number one below is. later_later board hop (next ∷ hops) number one is) each.1))
+pub rises_from_later : (hops : List Hop) → EachAt (λ number hop. is_later hops number hop ≡ true) 0 hops → rises hops ≡ true
+rises_from_later [] each = refl
+rises_from_later (hop ∷ []) each = refl
+rises_from_later (hop ∷ next ∷ hops) each =
+    and_from (nat_lt (arrival hop) next.at) (rises (next ∷ hops)) each.1.0
+    (rises_from_later (next ∷ hops)
+    (each_shift (λ number one. is_later (hop ∷ next ∷ hops) number one ≡ true) (λ number one. is_later (next ∷ hops) number one ≡ true) 0 (next ∷ hops)
+    (λ number one below is. later_later hop (next ∷ hops) number one is) each.1))
 
-pub later_from_rises : (board : Board) (hops : List Hop) → rises board hops ≡ true → EachAt (λ number hop. is_later board hops number hop ≡ true) 0 hops
-later_from_rises board [] is = tt
-later_from_rises board (hop ∷ []) is = (refl, tt)
-later_from_rises board (hop ∷ next ∷ hops) is =
-    let parts = and_parts (nat_lt (arrival board hop) next.at) (rises board (next ∷ hops)) is in
-    let rest = later_from_rises board (next ∷ hops) parts.1 in
-    (refl, (parts.0, each_unshift (λ number one. is_later board (hop ∷ next ∷ hops) number one ≡ true) (λ number one. is_later board (next ∷ hops) number one ≡ true) 1 hops (λ number one above below later. later_step board hop (next ∷ hops) number one above later) rest.1))
+pub later_from_rises : (hops : List Hop) → rises hops ≡ true → EachAt (λ number hop. is_later hops number hop ≡ true) 0 hops
+later_from_rises [] is = tt
+later_from_rises (hop ∷ []) is = (refl, tt)
+later_from_rises (hop ∷ next ∷ hops) is =
+    let parts = and_parts (nat_lt (arrival hop) next.at) (rises (next ∷ hops)) is in
+    let rest = later_from_rises (next ∷ hops) parts.1 in
+    (refl, (parts.0, each_unshift (λ number one. is_later (hop ∷ next ∷ hops) number one ≡ true) (λ number one. is_later (next ∷ hops) number one ≡ true) 1 hops (λ number one above below later. later_step hop (next ∷ hops) number one above later) rest.1))
 
 -- ---- a test of each hop of each wire
 

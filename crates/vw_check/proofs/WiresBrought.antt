@@ -18,8 +18,8 @@ pub wire_leads : {S : Type 0} (wires : List Wire) (table : HashMap (ℕ × ℕ) 
 wire_leads wires table has net node = leads (λ (wire : Wire). (wire.net, wire.to)) (brings net node) net node (turned net node) wires table has
 
 module _ (setting : Setting) (node net : ℕ) where
-  pub brought_by : (place : ℕ) (wire : Wire) → slice_get setting.plan.wires place ≡ Some wire → LeadsTo (brings net node) setting.plan.wires (Some place) → after_last setting.board wire.hops ≡ brought_at setting node net
-  brought_by place wire is leads = ap (λ (found : Option Wire). option_map_or (λ (one : Wire). after_last setting.board one.hops) found 0) (sym is ∙ leads.1)
+  pub brought_by : (place : ℕ) (wire : Wire) → slice_get setting.plan.wires place ≡ Some wire → LeadsTo (brings net node) setting.plan.wires (Some place) → after_last wire.hops ≡ brought_at setting node net
+  brought_by place wire is leads = ap (λ (found : Option Wire). option_map_or (λ (one : Wire). after_last one.hops) found 0) (sym is ∙ leads.1)
 
   pub brought_none : LeadsTo (brings net node) setting.plan.wires None → 0 ≡ brought_at setting node net
-  brought_none leads = ap (λ (found : Option Wire). option_map_or (λ (one : Wire). after_last setting.board one.hops) found 0) (sym leads)
+  brought_none leads = ap (λ (found : Option Wire). option_map_or (λ (one : Wire). after_last one.hops) found 0) (sym leads)

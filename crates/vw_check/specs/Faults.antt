@@ -24,8 +24,8 @@ abbrev pub hop_fault : Setting → Option PlanFault
 hop_fault setting = first_some (
     broken_route setting
     ∷ bad_pin setting.board setting.plan
-    ∷ out_of_order setting.board setting.plan
-    ∷ past_period setting.board setting.plan
+    ∷ out_of_order setting.plan
+    ∷ past_period setting.plan
     ∷ pin_clash setting.plan
     ∷ [])
 

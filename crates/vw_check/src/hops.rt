@@ -74,9 +74,9 @@ fn goes_on(
 }
 
 /// Whether a hop is later than the one before it.
-fn is_later(board: &Board, hops: &[Hop], number: usize, hop: &Hop) -> bool
+fn is_later(hops: &[Hop], number: usize, hop: &Hop) -> bool
     requires { number < length hops.now }
-    ensures { result ≡ is_later board.now hops.now number hop.now }
+    ensures { result ≡ is_later hops.now number hop.now }
 {
     if number == 0 {
         return true;
@@ -102,7 +102,7 @@ fn keeps(
     match rule {
         Rule::Route => goes_on(board, links, from, wire, number, hop),
         Rule::Pin => hop.pin() < width_between(board, links, hop.from(), hop.to()),
-        Rule::Order => is_later(board, wire.hops(), number, hop),
+        Rule::Order => is_later(wire.hops(), number, hop),
         Rule::Period => hop.at() < period,
     }
 }

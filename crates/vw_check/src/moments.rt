@@ -16,9 +16,9 @@ use vw_net::{Cell, Ordered};
 use vw_plan::{Board, Hop, Plan, leads_settle, node_of};
 
 /// One past the microcycle of the last of some hops; 0 where there is none.
-fn after_last(board: &Board, hops: &[Hop]) -> u64
+fn after_last(hops: &[Hop]) -> u64
     requires { All (λ hop. hop.at ≤ 2 ^ 62) hops.now }
-    ensures value { result ≡ after_last board.now hops.now }
+    ensures value { result ≡ after_last hops.now }
     ensures few { result ≤ 2 ^ 62 + 1 }
 {
     match hops.last() {
@@ -41,7 +41,7 @@ fn brought_at(
     ensures few { result ≤ 2 ^ 62 + 1 }
 {
     match wires.first(net, node) {
-        Some(wire) => after_last(board, plan.wires()[wire].hops()),
+        Some(wire) => after_last(plan.wires()[wire].hops()),
         None => 0,
     }
 }

@@ -107,7 +107,7 @@ module _ (ordered : Ordered) (board : Board) (plan : Plan) (routes : List Route)
   usable_same net = ap (λ (lead : ℕ). lead + (if is_gate (driving_cell ordered.flat net) && eqb (home setting net) (home setting net) then board.settle else 0)) (right_at ordered board plan routes draft.hops.items draft.leads.items way.fit.long wires worked way.zero (home setting net) net (plan_leads net))
 
   begin_same : (limit : ℕ) → phase_start setting limit ≡ start_by ordered.flat board plan.chip_of limit routes draft.hops.items
-  begin_same limit = ap (λ (list : List Wire). greatest (map (λ wire. if nat_lt (depth ordered.flat plan.chip_of wire.net) limit then after_last board wire.hops else 0) list)) wires ∙ phase_same ordered board plan limit routes draft.hops.items way.fit.long
+  begin_same limit = ap (λ (list : List Wire). greatest (map (λ wire. if nat_lt (depth ordered.flat plan.chip_of wire.net) limit then after_last wire.hops else 0) list)) wires ∙ phase_same ordered board plan limit routes draft.hops.items way.fit.long
 
   well : (number : ℕ) (route : Route) → slice_get routes number ≡ Some route → IsSentWell setting (record { net = route.net; to = route.to; hops = slice_index_or draft.hops.items number [] })
   well number route at =

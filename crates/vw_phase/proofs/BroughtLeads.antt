@@ -16,24 +16,24 @@ use Rattle.vw_plan.specs.Setting.{Setting, home, setting_of}
 use Rattle.vw_plan.proofs.LeadLevels.{Settles}
 use Rattle.vw_phase.specs.Steps.Leads.{hops_to, lead_by, usable_by, wires_of}
 
-pub brought_wires : (board : Board) (node net : ℕ) (routes : List Route) (hops : List (List Hop)) → option_map_or (λ (wire : Wire). after_last board wire.hops) (find (brings net node) (wires_of routes hops)) 0 ≡ after_last board (hops_to routes hops node net)
-brought_wires board node net [] hops = refl
-brought_wires board node net (route ∷ routes) [] = refl
-brought_wires board node net (route ∷ routes) (sent ∷ hops) =
-    let if_here = λ (is : (eqb route.net net && eqb route.to node) ≡ true). let whole : option_map_or (λ (wire : Wire). after_last board wire.hops) (find (brings net node) (wires_of (route ∷ routes) (sent ∷ hops))) 0 ≡ after_last board (hops_to (route ∷ routes) (sent ∷ hops) node net) = rw is refl in whole in
-    let if_later = λ (is : (eqb route.net net && eqb route.to node) ≡ false). let whole : option_map_or (λ (wire : Wire). after_last board wire.hops) (find (brings net node) (wires_of (route ∷ routes) (sent ∷ hops))) 0 ≡ after_last board (hops_to (route ∷ routes) (sent ∷ hops) node net) = rw is (brought_wires board node net routes hops) in whole in
+pub brought_wires : (node net : ℕ) (routes : List Route) (hops : List (List Hop)) → option_map_or (λ (wire : Wire). after_last wire.hops) (find (brings net node) (wires_of routes hops)) 0 ≡ after_last (hops_to routes hops node net)
+brought_wires node net [] hops = refl
+brought_wires node net (route ∷ routes) [] = refl
+brought_wires node net (route ∷ routes) (sent ∷ hops) =
+    let if_here = λ (is : (eqb route.net net && eqb route.to node) ≡ true). let whole : option_map_or (λ (wire : Wire). after_last wire.hops) (find (brings net node) (wires_of (route ∷ routes) (sent ∷ hops))) 0 ≡ after_last (hops_to (route ∷ routes) (sent ∷ hops) node net) = rw is refl in whole in
+    let if_later = λ (is : (eqb route.net net && eqb route.to node) ≡ false). let whole : option_map_or (λ (wire : Wire). after_last wire.hops) (find (brings net node) (wires_of (route ∷ routes) (sent ∷ hops))) 0 ≡ after_last (hops_to (route ∷ routes) (sent ∷ hops) node net) = rw is (brought_wires node net routes hops) in whole in
     ⊎_elim if_here if_later (cases_Bool (eqb route.net net && eqb route.to node))
 
 module _ (ordered : Ordered) (board : Board) (plan : Plan) (routes : List Route) (hops : List (List Hop)) (leads : List ℕ) (wires : plan.wires ≡ wires_of routes hops) (settles : Settles (setting_of ordered board plan)) where
   abbrev setting : Setting
   setting = setting_of ordered board plan
 
-  brought_is : (node net : ℕ) → brought_at setting node net ≡ after_last board (hops_to routes hops node net)
-  brought_is node net = ap (λ (list : List Wire). option_map_or (λ (wire : Wire). after_last board wire.hops) (find (brings net node) list) 0) wires ∙ brought_wires board node net routes hops
+  brought_is : (node net : ℕ) → brought_at setting node net ≡ after_last (hops_to routes hops node net)
+  brought_is node net = ap (λ (list : List Wire). option_map_or (λ (wire : Wire). after_last wire.hops) (find (brings net node) list) 0) wires ∙ brought_wires node net routes hops
 
   pub lead_is : (node net : ℕ) → lead setting (home setting net) net ≡ slice_index leads net → lead setting node net ≡ lead_by ordered.flat board plan.chip_of routes hops leads node net
   lead_is node net right =
-      let by = λ (own : Bool). if own then slice_index leads net else after_last board (hops_to routes hops node net) in
+      let by = λ (own : Bool). if own then slice_index leads net else after_last (hops_to routes hops node net) in
       let if_home = λ (is : eqb (home setting net) node ≡ true).
       let here : home setting net ≡ node = eqb-true (home setting net) node is in
       ap (λ (at : ℕ). lead setting at net) (sym here) ∙ right ∙ sym (ap by is) in

@@ -16,10 +16,10 @@ use Rattle.vw_plan.specs.Nets.{node_of}
 use Rattle.vw_phase.specs.Steps.Leads.{hops_to, lead_by}
 use Rattle.vw_phase.proofs.UntouchedMoments.{hops_to-place, route_place}
 
-pub last_low : (board : Board) (top : ℕ) (hops : List Hop) → All (λ hop. hop.at + 1 ≤ top) hops → after_last board hops ≤ top
-last_low board top [] low = omega arith
-last_low board top (hop ∷ []) low = omega (arith, All-head (λ (one : Hop). one.at + 1 ≤ top) hop [] low)
-last_low board top (hop ∷ next ∷ hops) low = last_low board top (next ∷ hops) (All-tail (λ (one : Hop). one.at + 1 ≤ top) hop (next ∷ hops) low)
+pub last_low : (top : ℕ) (hops : List Hop) → All (λ hop. hop.at + 1 ≤ top) hops → after_last hops ≤ top
+last_low top [] low = omega arith
+last_low top (hop ∷ []) low = omega (arith, All-head (λ (one : Hop). one.at + 1 ≤ top) hop [] low)
+last_low top (hop ∷ next ∷ hops) low = last_low top (next ∷ hops) (All-tail (λ (one : Hop). one.at + 1 ≤ top) hop (next ∷ hops) low)
 
 pub hops_low : (top : ℕ) (hops : List (List Hop)) (number : ℕ) → All (All (λ hop. hop.at + 1 ≤ top)) hops → All (λ hop. hop.at + 1 ≤ top) (slice_index_or hops number [])
 hops_low top hops number low = ⊎_elim (λ within. low number [] within) (λ past. subst (All (λ hop. hop.at + 1 ≤ top)) (sym (get_or_past hops number [] past)) (All-nil (λ (hop : Hop). hop.at + 1 ≤ top))) (cases_lt number (length hops))
@@ -29,9 +29,9 @@ index_low top leads net low = ⊎_elim (λ within. low net 0 within) (λ past. l
 
 module _ (flat : Flat) (board : Board) (chip_of : List ℕ) (routes : List Route) (hops : List (List Hop)) (leads : List ℕ) (top : ℕ) (long : length hops ≡ length routes) (hops_are : All (All (λ hop. hop.at + 1 ≤ top)) hops) (leads_are : All (λ lead. lead ≤ top) leads) where
   pub lead_low : (node net : ℕ) → lead_by flat board chip_of routes hops leads node net ≤ top
-  lead_low node net = elim (eqb (node_of flat chip_of net) node) as (λ own. (if own then slice_index leads net else after_last board (hops_to routes hops node net)) ≤ top) [
+  lead_low node net = elim (eqb (node_of flat chip_of net) node) as (λ own. (if own then slice_index leads net else after_last (hops_to routes hops node net)) ≤ top) [
     | true ↦ index_low top leads net leads_are
-    | false ↦ last_low board top (hops_to routes hops node net) (subst (All (λ hop. hop.at + 1 ≤ top)) (sym (hops_to-place routes hops node net long)) (hops_low top hops (route_place routes net node) hops_are))
+    | false ↦ last_low top (hops_to routes hops node net) (subst (All (λ hop. hop.at + 1 ≤ top)) (sym (hops_to-place routes hops node net long)) (hops_low top hops (route_place routes net node) hops_are))
   ]
 
   greatest_low : (node : ℕ) (nets : List ℕ) → greatest (map (lead_by flat board chip_of routes hops leads node) nets) ≤ top

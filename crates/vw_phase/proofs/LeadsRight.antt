@@ -23,13 +23,13 @@ use Rattle.vw_plan.proofs.LeadLevels.{driven_lead_agree}
 use Rattle.vw_phase.proofs.SettledReads.{among_at, gate_number}
 
 -- the arrival of a net, by routes and hops
-pub brought_same : (board : Board) (routes : List Route) (hops : List (List Hop)) (node net : ℕ) → length hops ≡ length routes → option_map_or (λ wire. after_last board wire.hops) (find (brings net node) (wires_of routes hops)) 0 ≡ after_last board (hops_to routes hops node net)
-brought_same board [] hops node net long = refl
-brought_same board (route ∷ routes) [] node net long = absurd (omega (arith, long))
-brought_same board (route ∷ routes) (sent ∷ hops) node net long =
-    let rest = brought_same board routes hops node net (omega (arith, long)) in
+pub brought_same : (routes : List Route) (hops : List (List Hop)) (node net : ℕ) → length hops ≡ length routes → option_map_or (λ wire. after_last wire.hops) (find (brings net node) (wires_of routes hops)) 0 ≡ after_last (hops_to routes hops node net)
+brought_same [] hops node net long = refl
+brought_same (route ∷ routes) [] node net long = absurd (omega (arith, long))
+brought_same (route ∷ routes) (sent ∷ hops) node net long =
+    let rest = brought_same routes hops node net (omega (arith, long)) in
     let first : Wire = record { net = route.net; to = route.to; hops = sent } in
-    elim (eqb route.net net && eqb route.to node) as (λ here. option_map_or (λ wire. after_last board wire.hops) (if here then Some first else find (brings net node) (wires_of routes hops)) 0 ≡ after_last board (if here then sent else hops_to routes hops node net)) [
+    elim (eqb route.net net && eqb route.to node) as (λ here. option_map_or (λ wire. after_last wire.hops) (if here then Some first else find (brings net node) (wires_of routes hops)) 0 ≡ after_last (if here then sent else hops_to routes hops node net)) [
       | true ↦ refl
       | false ↦ rest
     ]
@@ -58,13 +58,13 @@ module _ (ordered : Ordered) (board : Board) (plan : Plan) (routes : List Route)
   right_at node net right =
       let if_home = λ (is : eqb (home setting net) node ≡ true).
       let here : home setting net ≡ node = eqb-true (home setting net) node is in
-      ap (λ (at : ℕ). lead setting at net) (sym here) ∙ right ∙ sym (ap (λ (own : Bool). if own then slice_index leads net else after_last board (hops_to routes hops node net)) is) in
+      ap (λ (at : ℕ). lead setting at net) (sym here) ∙ right ∙ sym (ap (λ (own : Bool). if own then slice_index leads net else after_last (hops_to routes hops node net)) is) in
       let if_away = λ (is : eqb (home setting net) node ≡ false).
       lead-by_driver setting node net
       ∙ ap (λ (own : Bool). if own then driven_lead (lead setting node) (driving_cell ordered.flat net) else brought_at setting node net) is
-      ∙ ap (λ (list : List Wire). option_map_or (λ wire. after_last board wire.hops) (find (brings net node) list) 0) wires
-      ∙ brought_same board routes hops node net long
-      ∙ sym (ap (λ (own : Bool). if own then slice_index leads net else after_last board (hops_to routes hops node net)) is) in
+      ∙ ap (λ (list : List Wire). option_map_or (λ wire. after_last wire.hops) (find (brings net node) list) 0) wires
+      ∙ brought_same routes hops node net long
+      ∙ sym (ap (λ (own : Bool). if own then slice_index leads net else after_last (hops_to routes hops node net)) is) in
       ⊎_elim if_home if_away (cases_Bool (eqb (home setting net) node))
 
   -- a net is right if the nets that its gate reads are

@@ -27,15 +27,15 @@ none_in_all : (hops : List (List Hop)) → AreNone hops → all_hops hops ≡ []
 none_in_all [] none = refl
 none_in_all (sent ∷ hops) none = flat_map-cons (λ (one : List Hop). one) sent hops ∙ ap₂ (λ (a b : List Hop). a ++ b) (All-head (λ (one : List Hop). one ≡ []) sent hops none) (none_in_all hops (All-tail (λ (one : List Hop). one ≡ []) sent hops none))
 
-none_last : (board : Board) (hops : List (List Hop)) → AreNone hops → 0 ≡ greatest (map (after_last board) hops)
-none_last board [] none = refl
-none_last board (sent ∷ hops) none = ap₂ max (ap (after_last board) (sym (All-head (λ (one : List Hop). one ≡ []) sent hops none))) (none_last board hops (All-tail (λ (one : List Hop). one ≡ []) sent hops none))
+none_last : (hops : List (List Hop)) → AreNone hops → 0 ≡ greatest (map after_last hops)
+none_last [] none = refl
+none_last (sent ∷ hops) none = ap₂ max (ap after_last (sym (All-head (λ (one : List Hop). one ≡ []) sent hops none))) (none_last hops (All-tail (λ (one : List Hop). one ≡ []) sent hops none))
 
 -- no net has depth below 0
 start_zero : (flat : Flat) (board : Board) (chip_of : List ℕ) (routes : List Route) (hops : List (List Hop)) → start_by flat board chip_of 0 routes hops ≡ 0
 start_zero flat board chip_of [] hops = refl
 start_zero flat board chip_of (route ∷ routes) [] = refl
-start_zero flat board chip_of (route ∷ routes) (sent ∷ hops) = ap₂ max (ap (λ (bit : Bool). if bit then after_last board sent else 0) (le-ltb (depth flat chip_of route.net) 0 (omega arith))) (start_zero flat board chip_of routes hops)
+start_zero flat board chip_of (route ∷ routes) (sent ∷ hops) = ap₂ max (ap (λ (bit : Bool). if bit then after_last sent else 0) (le-ltb (depth flat chip_of route.net) 0 (omega arith))) (start_zero flat board chip_of routes hops)
 
 -- a list of zeros has 0 everywhere, and past its end
 zero_at : (count net : ℕ) → ◌≡◌ {A = ℕ} (get_or (replicate count 0) net 0) 0
@@ -62,7 +62,7 @@ started ordered board chip_of routes tasks draft untouched =
       sent = λ number route at done. absurd (true≢false (sym done));
       worked = λ place within done. absurd (true≢false (sym done));
       zero = λ net no. ap (λ (list : List ℕ). get_or list net 0) untouched.leads ∙ zero_at nets net;
-      last = untouched.last ∙ none_last board draft.hops.items untouched.none;
+      last = untouched.last ∙ none_last draft.hops.items untouched.none;
       size = ap length no_slot ∙ sym (ap length (none_in_all draft.hops.items untouched.none));
       slots = λ hop. rw (none_in_all draft.hops.items untouched.none, no_slot) refl;
       begin = sym (start_zero ordered.flat board chip_of routes draft.hops.items);

@@ -19,7 +19,7 @@ module _ (flat : Flat) (board : Board) (chip_of : List ℕ) where
   -- where all hops are of lesser depth, the phase begins behind all of them
   pub start_all : (limit : ℕ) (routes : List Route) (hops : List (List Hop)) → length hops ≡ length routes
       → ((number : ℕ) (route : Route) → slice_get routes number ≡ Some route → (slice_index_or hops number [] ≡ [] → ⊥) → depth flat chip_of route.net < limit)
-      → start_by flat board chip_of limit routes hops ≡ greatest (map (after_last board) hops)
+      → start_by flat board chip_of limit routes hops ≡ greatest (map after_last hops)
   start_all limit [] [] long lesser = refl
   start_all limit [] (sent ∷ hops) long lesser = absurd (omega (arith, long))
   start_all limit (route ∷ routes) [] long lesser = absurd (omega (arith, long))
@@ -29,7 +29,7 @@ module _ (flat : Flat) (board : Board) (chip_of : List ℕ) where
   start_all limit (route ∷ routes) ((hop ∷ sent) ∷ hops) long lesser =
       let rest = start_all limit routes hops (omega (arith, long)) (λ number other at some. lesser (suc number) other at some) in
       let here = lesser 0 route refl (λ none. let no : length (hop ∷ sent) ≡ 0 = ap length none in absurd (omega (arith, no))) in
-      ap₂ max (ap (λ (bit : Bool). if bit then after_last board (hop ∷ sent) else 0) (lt-ltb (depth flat chip_of route.net) limit here)) rest
+      ap₂ max (ap (λ (bit : Bool). if bit then after_last (hop ∷ sent) else 0) (lt-ltb (depth flat chip_of route.net) limit here)) rest
 
 module _ (ordered : Ordered) (board : Board) (chip_of : List ℕ) (routes : List Route) (tasks : List Task) (are : AreTasks ordered chip_of routes tasks) (count : ℕ) (draft : Draft) (within : count < length tasks) where
   abbrev its : ℕ

@@ -48,10 +48,10 @@ long_set (first ∷ hops) (suc number) sent within none =
     let other : length (all_hops (first ∷ hops)) ≡ length first + length (all_hops hops) = ap length (flat_map-cons (λ (one : List Hop). one) first hops) ∙ length-append first (all_hops hops) in
     omega (arith, one, other, long_set hops number sent (omega (arith, within)) none)
 
-greatest_set : (board : Board) (hops : List (List Hop)) (number : ℕ) (sent : List Hop) → number < length hops → get_or hops number [] ≡ [] → greatest (map (after_last board) (set hops number sent)) ≡ max (greatest (map (after_last board) hops)) (after_last board sent)
-greatest_set board [] number sent within none = absurd (omega (arith, within))
-greatest_set board (first ∷ hops) zero sent within none = let empty : after_last board first ≡ 0 = ap (after_last board) none in omega (arith, empty)
-greatest_set board (first ∷ hops) (suc number) sent within none = omega (arith, greatest_set board hops number sent (omega (arith, within)) none)
+greatest_set : (hops : List (List Hop)) (number : ℕ) (sent : List Hop) → number < length hops → get_or hops number [] ≡ [] → greatest (map after_last (set hops number sent)) ≡ max (greatest (map after_last hops)) (after_last sent)
+greatest_set [] number sent within none = absurd (omega (arith, within))
+greatest_set (first ∷ hops) zero sent within none = let empty : after_last first ≡ 0 = ap after_last none in omega (arith, empty)
+greatest_set (first ∷ hops) (suc number) sent within none = omega (arith, greatest_set hops number sent (omega (arith, within)) none)
 
 settle_low : (board : Board) (bit : Bool) → (if bit then board.settle else 0) ≤ 15
 settle_low board true = board.quick
@@ -177,7 +177,7 @@ module _ (ordered : Ordered) (board : Board) (chip_of : List ℕ) (routes : List
             soon = subst (λ leads. All (λ lead. lead ≤ top) leads.items) (sym has.leads) (All-weaker (λ lead. lead ≤ limit (length draft.table.taken)) (λ lead. lead ≤ top) (λ lead low. omega (arith, low, taken_long)) draft.leads.items way.fit.early.soon);
             sent = subst (All (All (λ hop. hop.at + 1 ≤ top))) (sym has.hops) (All-set (All (λ hop. hop.at + 1 ≤ top)) draft.hops.items number sent_hops sent_low
                 (All-weaker (All (λ hop. hop.at + 1 ≤ limit (length draft.table.taken))) (All (λ hop. hop.at + 1 ≤ top)) (λ hops low. All-weaker (λ hop. hop.at + 1 ≤ limit (length draft.table.taken)) (λ hop. hop.at + 1 ≤ top) (λ hop is. omega (arith, is, taken_long)) hops low) draft.hops.items way.fit.early.sent));
-            last = omega (arith, has.last, way.fit.early.last, taken_long, last_low board top sent_hops sent_low);
+            last = omega (arith, has.last, way.fit.early.last, taken_long, last_low top sent_hops sent_low);
           };
         };
         none = λ other not. hops_other other (λ same. true≢false (sym (ap (is_done tasks (count + 1) true) same ∙ own_done) ∙ not)) ∙ way.none other (not_done_before tasks count true other within not);
@@ -185,7 +185,7 @@ module _ (ordered : Ordered) (board : Board) (chip_of : List ℕ) (routes : List
         worked = λ place early done. ap (λ leads. slice_index leads.items (ordered.flat.inputs + slice_index ordered.order place)) has.leads ∙ way.worked place early (no_lead place done)
             ∙ sym (place_kept ordered board chip_of routes tasks count draft.hops.items new.hops.items draft.leads.items new.leads.items kept place (reads_done ordered board chip_of routes tasks each are are_routes count within start place (no_lead place done)));
         zero = λ net no. ap (λ leads. slice_index leads.items net) has.leads ∙ way.zero net no;
-        last = has.last ∙ ap (λ (after : ℕ). max after (after_last board sent_hops)) way.last ∙ sym (greatest_set board draft.hops.items number sent_hops inside none_yet) ∙ ap (λ (list : List (List Hop)). greatest (map (after_last board) list)) (sym has.hops);
+        last = has.last ∙ ap (λ (after : ℕ). max after (after_last sent_hops)) way.last ∙ sym (greatest_set draft.hops.items number sent_hops inside none_yet) ∙ ap (λ (list : List (List Hop)). greatest (map after_last list)) (sym has.hops);
         size = omega (arith, taken_long, way.size, long_set draft.hops.items number sent_hops inside none_yet, ap (λ (list : List (List Hop)). length (all_hops list)) has.hops);
         slots = slots_at;
         begin = way.begin ∙ sym (start_same ordered.flat board chip_of level routes draft.hops.items new.hops.items way.fit.long long_new (λ other other_route is less. kept.hops_same other (shallow_before ordered board chip_of routes tasks each are are_routes count within other other_route is less)));

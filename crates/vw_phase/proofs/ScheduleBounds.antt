@@ -44,12 +44,12 @@ wires_early bound (route ∷ routes) (sent ∷ hops) small early =
     (All-weaker (λ hop. hop.at + 1 ≤ bound) (λ hop. hop.at ≤ 2 ^ 62) (λ hop is. omega (arith, is, small)) sent (All-head (All (λ hop. hop.at + 1 ≤ bound)) sent hops early))
     (wires_early bound routes hops small (All-tail (All (λ hop. hop.at + 1 ≤ bound)) sent hops early))
 
-pub hops_to_early : (board : Board) (bound node net : ℕ) (routes : List Route) (hops : List (List Hop)) → All (All (λ hop. hop.at + 1 ≤ bound)) hops → after_last board (hops_to routes hops node net) ≤ bound
-hops_to_early board bound node net [] hops early = omega arith
-hops_to_early board bound node net (route ∷ routes) [] early = omega arith
-hops_to_early board bound node net (route ∷ routes) (sent ∷ hops) early =
-    let if_here = λ (is : (eqb route.net net && eqb route.to node) ≡ true). let whole : after_last board (hops_to (route ∷ routes) (sent ∷ hops) node net) ≤ bound = rw is (last_within board bound sent (All-weaker (λ hop. hop.at + 1 ≤ bound) (λ hop. hop.at < bound) (λ hop its. omega (arith, its)) sent (All-head (All (λ hop. hop.at + 1 ≤ bound)) sent hops early))) in whole in
-    let if_later = λ (is : (eqb route.net net && eqb route.to node) ≡ false). let whole : after_last board (hops_to (route ∷ routes) (sent ∷ hops) node net) ≤ bound = rw is (hops_to_early board bound node net routes hops (All-tail (All (λ hop. hop.at + 1 ≤ bound)) sent hops early)) in whole in
+pub hops_to_early : (bound node net : ℕ) (routes : List Route) (hops : List (List Hop)) → All (All (λ hop. hop.at + 1 ≤ bound)) hops → after_last (hops_to routes hops node net) ≤ bound
+hops_to_early bound node net [] hops early = omega arith
+hops_to_early bound node net (route ∷ routes) [] early = omega arith
+hops_to_early bound node net (route ∷ routes) (sent ∷ hops) early =
+    let if_here = λ (is : (eqb route.net net && eqb route.to node) ≡ true). let whole : after_last (hops_to (route ∷ routes) (sent ∷ hops) node net) ≤ bound = rw is (last_within bound sent (All-weaker (λ hop. hop.at + 1 ≤ bound) (λ hop. hop.at < bound) (λ hop its. omega (arith, its)) sent (All-head (All (λ hop. hop.at + 1 ≤ bound)) sent hops early))) in whole in
+    let if_later = λ (is : (eqb route.net net && eqb route.to node) ≡ false). let whole : after_last (hops_to (route ∷ routes) (sent ∷ hops) node net) ≤ bound = rw is (hops_to_early bound node net routes hops (All-tail (All (λ hop. hop.at + 1 ≤ bound)) sent hops early)) in whole in
     ⊎_elim if_here if_later (cases_Bool (eqb route.net net && eqb route.to node))
 
 module _ (ordered : Ordered) (board : Board) (chip_of : List ℕ) (routes : List Route) (draft : Draft) (fit : IsFit ordered board routes draft) where
@@ -60,7 +60,7 @@ module _ (ordered : Ordered) (board : Board) (chip_of : List ℕ) (routes : List
   lead_early node net =
       let home = eqb (node_of ordered.flat chip_of net) node in
       let at_home : slice_index draft.leads.items net ≤ most = ⊎_elim (λ inside. fit.early.soon net 0 inside) (λ past. let none : slice_index draft.leads.items net ≡ 0 = get_or_past draft.leads.items net 0 past in omega (arith, none)) (cases_lt net (length draft.leads.items)) in
-      let away = hops_to_early board most node net routes draft.hops.items fit.early.sent in
+      let away = hops_to_early most node net routes draft.hops.items fit.early.sent in
       let if_home = λ (is : home ≡ true). let whole : lead_by ordered.flat board chip_of routes draft.hops.items draft.leads.items node net ≤ most = rw is at_home in whole in
       let if_away = λ (is : home ≡ false). let whole : lead_by ordered.flat board chip_of routes draft.hops.items draft.leads.items node net ≤ most = rw is away in whole in
       ⊎_elim if_home if_away (cases_Bool home)

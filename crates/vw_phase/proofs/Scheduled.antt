@@ -60,10 +60,10 @@ latest_at_most moment_of limit from (first ∷ cells) each =
     let rest = latest_at_most moment_of limit (suc from) cells (λ number cell is. let next : from + suc number ≡ suc from + number = omega arith in subst (λ (at : ℕ). moment_of at cell ≤ limit) next (each (suc number) cell is)) in
     omega (arith, rest, each 0 first refl, ap (λ (at : ℕ). moment_of at first) none)
 
-pub last_within : (board : Board) (limit : ℕ) (hops : List Hop) → All (λ hop. hop.at < limit) hops → after_last board hops ≤ limit
-last_within board limit [] within = omega arith
-last_within board limit (hop ∷ []) within = let early : hop.at < limit = All-head (λ one. one.at < limit) hop [] within in omega arith
-last_within board limit (hop ∷ next ∷ hops) within = last_within board limit (next ∷ hops) (All-tail (λ one. one.at < limit) hop (next ∷ hops) within)
+pub last_within : (limit : ℕ) (hops : List Hop) → All (λ hop. hop.at < limit) hops → after_last hops ≤ limit
+last_within limit [] within = omega arith
+last_within limit (hop ∷ []) within = let early : hop.at < limit = All-head (λ one. one.at < limit) hop [] within in omega arith
+last_within limit (hop ∷ next ∷ hops) within = last_within limit (next ∷ hops) (All-tail (λ one. one.at < limit) hop (next ∷ hops) within)
 
 all_listed : (routes : List Route) → All (λ route. list_any (is_pair route.net route.to) (map need_of_route routes) ≡ true) routes
 all_listed [] = All-nil (λ route. list_any (is_pair route.net route.to) [] ≡ true)
@@ -108,22 +108,22 @@ module _ (ordered : Ordered) (board : Board) (plan : Plan) where
       (routed_one route sent along.0 (All-head (IsRoute flat board plan.chip_of) route routes ways) (All-head (λ one. is_needed flat plan.chip_of one.net one.to ≡ true) route routes needed))
       (routed_all routes hops along.1 (All-tail (IsRoute flat board plan.chip_of) route routes ways) (All-tail (λ one. is_needed flat plan.chip_of one.net one.to ≡ true) route routes needed))
 
-  rising_all : (routes : List Route) (hops : List (List Hop)) → AllZip (IsAlong board) routes hops → greatest (map (after_last board) hops) ≤ plan.period → All (IsRising setting) (wires_of routes hops)
+  rising_all : (routes : List Route) (hops : List (List Hop)) → AllZip (IsAlong board) routes hops → greatest (map after_last hops) ≤ plan.period → All (IsRising setting) (wires_of routes hops)
   rising_all [] hops along early = All-nil (IsRising setting)
   rising_all (route ∷ routes) [] along early = absurd along
   rising_all (route ∷ routes) (sent ∷ hops) along early =
       All-cons (IsRising setting) (record { net = route.net; to = route.to; hops = sent }) (wires_of routes hops)
-      (record { later = along.0.rising; within = All-weaker (λ hop. hop.at + 1 ≤ after_last board sent) (λ hop. hop.at < plan.period) (λ hop is. omega (arith, is, early)) sent (before_last board sent along.0.rising) })
+      (record { later = along.0.rising; within = All-weaker (λ hop. hop.at + 1 ≤ after_last sent) (λ hop. hop.at < plan.period) (λ hop is. omega (arith, is, early)) sent (before_last sent along.0.rising) })
       (rising_all routes hops along.1 (omega (arith, early)))
 
   -- where wires rise within a period, the last hop is within it
-  last_all : (routes : List Route) (hops : List (List Hop)) → length hops ≡ length routes → All (IsRising setting) (wires_of routes hops) → greatest (map (after_last board) hops) ≤ plan.period
+  last_all : (routes : List Route) (hops : List (List Hop)) → length hops ≡ length routes → All (IsRising setting) (wires_of routes hops) → greatest (map after_last hops) ≤ plan.period
   last_all routes [] long rising = omega arith
   last_all [] (sent ∷ hops) long rising = absurd (omega (arith, long))
   last_all (route ∷ routes) (sent ∷ hops) long rising =
       let wire : Wire = record { net = route.net; to = route.to; hops = sent } in
       let first : IsRising setting wire = All-head (IsRising setting) wire (wires_of routes hops) rising in
-      omega (arith, last_within board plan.period sent first.within, last_all routes hops (omega (arith, long)) (All-tail (IsRising setting) wire (wires_of routes hops) rising))
+      omega (arith, last_within plan.period sent first.within, last_all routes hops (omega (arith, long)) (All-tail (IsRising setting) wire (wires_of routes hops) rising))
 
   -- what a latch reads is a net
   latch_within : (number d : ℕ) (init : Init) → slice_get flat.cells number ≡ Some (Latch d init) → d < flat.inputs + length flat.cells

@@ -23,7 +23,7 @@ module _ (board : Board) where
   sent_steps taken ready (step ∷ steps) (hop ∷ hops) sent = ap₂ (λ (one : ℕ × ℕ) (rest : List (ℕ × ℕ)). one ∷ rest) sent.0 (sent_steps (taken ++ taken_by board hop ∷ []) (hop.at + 1) steps hops sent.2)
 
   -- each is later than the one before it
-  pub sent_rises : (taken : List Taken) (ready : ℕ) (steps : List (ℕ × ℕ)) (hops : List Hop) → AreSent board taken ready steps hops → rises board hops ≡ true
+  pub sent_rises : (taken : List Taken) (ready : ℕ) (steps : List (ℕ × ℕ)) (hops : List Hop) → AreSent board taken ready steps hops → rises hops ≡ true
   sent_rises taken ready [] [] sent = refl
   sent_rises taken ready [] (hop ∷ hops) sent = absurd sent
   sent_rises taken ready (step ∷ steps) [] sent = absurd sent
@@ -32,7 +32,7 @@ module _ (board : Board) where
   sent_rises taken ready (step ∷ second ∷ steps) (hop ∷ []) sent = absurd sent.2
   sent_rises taken ready (step ∷ second ∷ steps) (hop ∷ next ∷ hops) sent =
       let later : hop.at < next.at = let in_time : hop.at + 1 ≤ next.at = sent.2.1.in_time in omega arith in
-      and_from (nat_lt hop.at next.at) (rises board (next ∷ hops)) (lt-ltb hop.at next.at later) (sent_rises (taken ++ taken_by board hop ∷ []) (hop.at + 1) (second ∷ steps) (next ∷ hops) sent.2)
+      and_from (nat_lt hop.at next.at) (rises (next ∷ hops)) (lt-ltb hop.at next.at later) (sent_rises (taken ++ taken_by board hop ∷ []) (hop.at + 1) (second ∷ steps) (next ∷ hops) sent.2)
 
   -- the first isn't before the moment
   pub sent_ready : (taken : List Taken) (ready : ℕ) (steps : List (ℕ × ℕ)) (hops : List Hop) → 0 < length steps → AreSent board taken ready steps hops → ForSome (slice_get hops 0) (λ hop. ready ≤ hop.at)

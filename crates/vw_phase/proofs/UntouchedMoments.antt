@@ -45,8 +45,8 @@ start_same flat board chip_of limit (route ∷ routes) (sent ∷ hops) [] long l
 start_same flat board chip_of limit (route ∷ routes) (sent ∷ hops) (later ∷ more) long long_more same =
     let rest = start_same flat board chip_of limit routes hops more (omega (arith, long)) (omega (arith, long_more)) (λ number other at less. same (suc number) other at less) in
     let own = depth flat chip_of route.net in
-    let here : (if nat_lt own limit then after_last board later else 0) ≡ (if nat_lt own limit then after_last board sent else 0) =
-    ⊎_elim (λ less. ap (λ (hops : List Hop). if nat_lt own limit then after_last board hops else 0) (same 0 route refl less)) (λ not. ap (λ (bit : Bool). if bit then after_last board later else 0) (le-ltb own limit not) ∙ sym (ap (λ (bit : Bool). if bit then after_last board sent else 0) (le-ltb own limit not))) (cases_lt own limit) in
+    let here : (if nat_lt own limit then after_last later else 0) ≡ (if nat_lt own limit then after_last sent else 0) =
+    ⊎_elim (λ less. ap (λ (hops : List Hop). if nat_lt own limit then after_last hops else 0) (same 0 route refl less)) (λ not. ap (λ (bit : Bool). if bit then after_last later else 0) (le-ltb own limit not) ∙ sym (ap (λ (bit : Bool). if bit then after_last sent else 0) (le-ltb own limit not))) (cases_lt own limit) in
     ap₂ max here rest
 
 module _ (ordered : Ordered) (board : Board) (chip_of : List ℕ) (routes : List Route) (tasks : List Task) (count : ℕ) where
@@ -70,14 +70,14 @@ module _ (ordered : Ordered) (board : Board) (chip_of : List ℕ) (routes : List
     lead_kept node net settled =
         let own = node_of ordered.flat chip_of net in
         let if_home = λ (is : eqb own node ≡ true).
-        ap (λ (bit : Bool). if bit then slice_index later net else after_last board (hops_to routes more node net)) is
+        ap (λ (bit : Bool). if bit then slice_index later net else after_last (hops_to routes more node net)) is
         ∙ kept.leads_same net (settled.0 (eqb-true own node is))
-        ∙ sym (ap (λ (bit : Bool). if bit then slice_index leads net else after_last board (hops_to routes hops node net)) is) in
+        ∙ sym (ap (λ (bit : Bool). if bit then slice_index leads net else after_last (hops_to routes hops node net)) is) in
         let if_away = λ (is : eqb own node ≡ false).
         let apart : own ≡ node → ⊥ = λ same. true≢false (sym (eq-eqb own node same) ∙ is) in
-        ap (λ (bit : Bool). if bit then slice_index later net else after_last board (hops_to routes more node net)) is
-        ∙ ap (after_last board) (hops_to-place routes more node net kept.long_more ∙ kept.hops_same (route_place routes net node) (settled.1 apart) ∙ sym (hops_to-place routes hops node net kept.long))
-        ∙ sym (ap (λ (bit : Bool). if bit then slice_index leads net else after_last board (hops_to routes hops node net)) is) in
+        ap (λ (bit : Bool). if bit then slice_index later net else after_last (hops_to routes more node net)) is
+        ∙ ap after_last (hops_to-place routes more node net kept.long_more ∙ kept.hops_same (route_place routes net node) (settled.1 apart) ∙ sym (hops_to-place routes hops node net kept.long))
+        ∙ sym (ap (λ (bit : Bool). if bit then slice_index leads net else after_last (hops_to routes hops node net)) is) in
         ⊎_elim if_home if_away (cases_Bool (eqb own node))
 
     -- the lead of a gate that reads what is settled

@@ -77,10 +77,10 @@ all_wires P (route ∷ routes) (sent ∷ hops) long each = All-cons P (record { 
 
 -- when a phase begins
 pub phase_same : (ordered : Ordered) (board : Board) (plan : Plan) (limit : ℕ) (routes : List Route) (hops : List (List Hop)) → length hops ≡ length routes
-    → greatest (map (λ wire. if nat_lt (depth ordered.flat plan.chip_of wire.net) limit then after_last board wire.hops else 0) (wires_of routes hops)) ≡ start_by ordered.flat board plan.chip_of limit routes hops
+    → greatest (map (λ wire. if nat_lt (depth ordered.flat plan.chip_of wire.net) limit then after_last wire.hops else 0) (wires_of routes hops)) ≡ start_by ordered.flat board plan.chip_of limit routes hops
 phase_same ordered board plan limit [] hops long = refl
 phase_same ordered board plan limit (route ∷ routes) [] long = absurd (omega (arith, long))
-phase_same ordered board plan limit (route ∷ routes) (sent ∷ hops) long = ap (max (if nat_lt (depth ordered.flat plan.chip_of route.net) limit then after_last board sent else 0)) (phase_same ordered board plan limit routes hops (omega (arith, long)))
+phase_same ordered board plan limit (route ∷ routes) (sent ∷ hops) long = ap (max (if nat_lt (depth ordered.flat plan.chip_of route.net) limit then after_last sent else 0)) (phase_same ordered board plan limit routes hops (omega (arith, long)))
 
 -- ---- earliest hops
 

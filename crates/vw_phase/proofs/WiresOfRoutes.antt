@@ -53,15 +53,15 @@ leads_along links from (next ∷ further) to (hop ∷ hops) steps walk =
 ltb-true-lt : (a b : ℕ) → nat_lt a b ≡ true → a < b
 ltb-true-lt a b is = grind (arith, is)
 
-pub before_last : (board : Board) (hops : List Hop) → rises board hops ≡ true → All (λ hop. hop.at + 1 ≤ after_last board hops) hops
-before_last board [] rise = All-nil (λ hop. hop.at + 1 ≤ 0)
-before_last board (hop ∷ []) rise = All-cons (λ one. one.at + 1 ≤ hop.at + 1) hop [] (omega arith) (All-nil (λ one. one.at + 1 ≤ hop.at + 1))
-before_last board (hop ∷ next ∷ hops) rise =
-    let parts = and_parts (nat_lt hop.at next.at) (rises board (next ∷ hops)) rise in
+pub before_last : (hops : List Hop) → rises hops ≡ true → All (λ hop. hop.at + 1 ≤ after_last hops) hops
+before_last [] rise = All-nil (λ hop. hop.at + 1 ≤ 0)
+before_last (hop ∷ []) rise = All-cons (λ one. one.at + 1 ≤ hop.at + 1) hop [] (omega arith) (All-nil (λ one. one.at + 1 ≤ hop.at + 1))
+before_last (hop ∷ next ∷ hops) rise =
+    let parts = and_parts (nat_lt hop.at next.at) (rises (next ∷ hops)) rise in
     let later : hop.at < next.at = ltb-true-lt hop.at next.at parts.0 in
-    let rest = before_last board (next ∷ hops) parts.1 in
-    let second : next.at + 1 ≤ after_last board (next ∷ hops) = All-head (λ one. one.at + 1 ≤ after_last board (next ∷ hops)) next hops rest in
-    All-cons (λ one. one.at + 1 ≤ after_last board (next ∷ hops)) hop (next ∷ hops) (omega (arith, later, second)) rest
+    let rest = before_last (next ∷ hops) parts.1 in
+    let second : next.at + 1 ≤ after_last (next ∷ hops) = All-head (λ one. one.at + 1 ≤ after_last (next ∷ hops)) next hops rest in
+    All-cons (λ one. one.at + 1 ≤ after_last (next ∷ hops)) hop (next ∷ hops) (omega (arith, later, second)) rest
 
 -- ---- one hop a pin
 

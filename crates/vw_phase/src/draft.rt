@@ -46,7 +46,7 @@ pub fn send(
 {
     if let Some((first, further)) = route.nodes().split_first() {
         let hops = send_along(alloc, given, &mut draft.table, *first, further, ready)?;
-        draft.after = draft.after.max(after_last(given.board, &hops));
+        draft.after = draft.after.max(after_last(&hops));
         draft.hops[number as usize] = Sequence::of(hops);
     }
     Ok(())

@@ -10,12 +10,12 @@ ghost use Rattle.vw_phase.specs.Steps.Leads.{hops_to};
 
 use crate::given::Given;
 use vw_net::{Cell, Flat, Sequence};
-use vw_plan::{Board, Hop, node_of};
+use vw_plan::{Hop, node_of};
 
 /// One past the arrival of the last of some hops; 0 where there is none.
-pub fn after_last(board: &Board, hops: &[Hop]) -> u64
+pub fn after_last(hops: &[Hop]) -> u64
     requires { All (λ hop. hop.at ≤ 2 ^ 62) hops.now }
-    ensures { result ≡ after_last board.now hops.now }
+    ensures { result ≡ after_last hops.now }
 {
     match hops.last() {
         Some(hop) => hop.at() + 1,
@@ -28,10 +28,10 @@ fn arrival(given: &Given, hops: &[Sequence<Hop>], node: u32, net: u32) -> u64
     requires hops { length hops.now ≡ length given.now.routes.now }
     requires early { All (All (λ hop. hop.at ≤ 2 ^ 61)) hops.now }
     ensures { result
-        ≡ after_last given.now.board.now (hops_to given.now.routes.now hops.now node net) }
+        ≡ after_last (hops_to given.now.routes.now hops.now node net) }
 {
     match given.places.first(net, node) {
-        Some(place) => after_last(given.board, hops[place].as_slice()),
+        Some(place) => after_last(hops[place].as_slice()),
         None => 0,
     }
 }

@@ -29,7 +29,7 @@ IsEarliest board plan ready hop = (at : ℕ) → ready ≤ at → at < hop.at �
 -- so are the hops of a wire, of which the first is ready at a moment, and each later one when the one before it has arrived
 abbrev pub AreEarliest : Board → Plan → ℕ → List Hop → Type 0
 AreEarliest board plan ready [] = Unit {0}
-AreEarliest board plan ready (hop ∷ hops) = IsEarliest board plan ready hop × AreEarliest board plan (arrival board hop + 1) hops
+AreEarliest board plan ready (hop ∷ hops) = IsEarliest board plan ready hop × AreEarliest board plan (arrival hop + 1) hops
 
 -- ---- phases: the wires of one depth start only behind those of lesser depth
 
@@ -39,7 +39,7 @@ wire_depth setting wire = depth setting.ordered.flat setting.plan.chip_of wire.n
 
 -- one past the arrival of the last hop of all wires of lesser depth; 0 where there is none
 abbrev pub phase_start : Setting → ℕ → ℕ
-phase_start setting limit = greatest (map (λ wire. if nat_lt (wire_depth setting wire) limit then after_last setting.board wire.hops else 0) setting.plan.wires)
+phase_start setting limit = greatest (map (λ wire. if nat_lt (wire_depth setting wire) limit then after_last wire.hops else 0) setting.plan.wires)
 
 -- when the first hop of a wire is ready: its net is usable, and its phase has begun
 abbrev pub ready_in_phase : Setting → Wire → ℕ

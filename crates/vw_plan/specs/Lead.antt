@@ -7,21 +7,20 @@ use Rattle.vw_net.specs.declared.cell.Cell.{Cell}
 use Rattle.vw_net.specs.declared.cell.Cell.TheVariants.{Gate, Latch}
 use Rattle.vw_net.specs.Order.{is_gate}
 use Rattle.vw_net.specs.Lists.{greatest}
-use Rattle.vw_plan.specs.declared.board.Board.{Board}
 use Rattle.vw_plan.specs.declared.wire.Hop.{Hop}
 use Rattle.vw_plan.specs.declared.wire.Wire.{Wire}
 use Rattle.vw_plan.specs.Nets.{driving_cell}
 use Rattle.vw_plan.specs.Setting.{Setting, home}
 
 -- the microcycle in which the bit of a hop arrives: the one in which it is sent
-abbrev pub arrival : Board → Hop → ℕ
-arrival board hop = hop.at
+abbrev pub arrival : Hop → ℕ
+arrival hop = hop.at
 
 -- one past the arrival of the last of some hops; 0 where there is none
-abbrev pub after_last : Board → List Hop → ℕ
-after_last board [] = 0
-after_last board (hop ∷ []) = arrival board hop + 1
-after_last board (hop ∷ next ∷ hops) = after_last board (next ∷ hops)
+abbrev pub after_last : List Hop → ℕ
+after_last [] = 0
+after_last (hop ∷ []) = arrival hop + 1
+after_last (hop ∷ next ∷ hops) = after_last (next ∷ hops)
 
 -- whether a wire brings a net to a node
 abbrev pub brings : ℕ → ℕ → Wire → Bool
@@ -29,7 +28,7 @@ brings net node wire = wire.net == net && wire.to == node
 
 -- one past the arrival of a net at a node, by the first wire that brings it there; 0 where there is none
 abbrev pub brought_at : Setting → ℕ → ℕ → ℕ
-brought_at setting node net = option_map_or (λ wire. after_last setting.board wire.hops) (find (brings net node) setting.plan.wires) 0
+brought_at setting node net = option_map_or (λ wire. after_last wire.hops) (find (brings net node) setting.plan.wires) 0
 
 -- the lead of what a node drives itself: 0 for an input or a latch, and for a gate the greatest lead of its inputs
 abbrev pub driven_lead : (ℕ → ℕ) → Option Cell → ℕ

@@ -5,7 +5,6 @@ use Rattle.std.specs.Option.{ForSome}
 use Rattle.vw_net.specs.declared.cell.Init.{Init}
 use Rattle.vw_net.specs.declared.cell.Cell.TheVariants.{Latch}
 use Rattle.vw_plan.specs.declared.link.Link.{Link}
-use Rattle.vw_plan.specs.declared.board.Board.{Board}
 use Rattle.vw_plan.specs.declared.wire.Hop.{Hop}
 use Rattle.vw_plan.specs.declared.wire.Wire.{Wire}
 use Rattle.vw_plan.specs.declared.plan.Plan.{Plan}
@@ -49,15 +48,15 @@ pub record IsRouted (setting : Setting) (wire : Wire) : Type 0 where
 -- ---- rising microcycles
 
 -- whether each hop is later than the arrival of the one before it
-abbrev pub rises : Board → List Hop → Bool
-rises board [] = true
-rises board (hop ∷ []) = true
-rises board (hop ∷ next ∷ hops) = nat_lt (arrival board hop) next.at && rises board (next ∷ hops)
+abbrev pub rises : List Hop → Bool
+rises [] = true
+rises (hop ∷ []) = true
+rises (hop ∷ next ∷ hops) = nat_lt (arrival hop) next.at && rises (next ∷ hops)
 
 -- the hops of a wire follow each other, and each arrives before the period ends
 pub record IsRising (setting : Setting) (wire : Wire) : Type 0 where
-  pub later : IsTrue (rises setting.board wire.hops)
-  pub within : All (λ hop. arrival setting.board hop < setting.plan.period) wire.hops
+  pub later : IsTrue (rises wire.hops)
+  pub within : All (λ hop. arrival hop < setting.plan.period) wire.hops
 
 -- ---- one hop a pin
 

@@ -29,8 +29,8 @@ rule_fault Period wire hop = PastPeriod wire hop
 abbrev pub keeps : Rule → Board → ℕ → ℕ → Wire → ℕ → Hop → Bool
 keeps Route board period from wire number hop = goes_on board.links from wire number hop
 keeps Pin board period from wire number hop = has_pin board.links hop
-keeps Order board period from wire number hop = is_later board wire.hops number hop
-keeps Period board period from wire number hop = nat_lt (arrival board hop) period
+keeps Order board period from wire number hop = is_later wire.hops number hop
+keeps Period board period from wire number hop = nat_lt (arrival hop) period
 
 -- the first hop of a wire that breaks a rule
 abbrev pub first_in_wire : Rule → Board → ℕ → ℕ → ℕ → Wire → Option PlanFault

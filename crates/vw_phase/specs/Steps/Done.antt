@@ -38,7 +38,7 @@ all_hops hops = flat_map (λ sent. sent) hops
 -- the hops of a route go along its nodes, one after the other, on pins of the board
 pub record IsAlong (board : Board) (route : Route) (sent : List Hop) : Type 0 where
   pub steps : map (λ hop. (hop.from, hop.to)) sent ≡ steps_of route.nodes
-  pub rising : IsTrue (rises board sent)
+  pub rising : IsTrue (rises sent)
   pub pins : All (λ hop. IsTrue (has_pin board.links hop)) sent
 
 -- a wire is sent as early as it can be in its phase
@@ -54,7 +54,7 @@ pub record IsTasksDone (ordered : Ordered) (board : Board) (chip_of : List ℕ) 
   pub sent_well : (plan : Plan) → Has chip_of routes draft.hops.items plan → All (IsSentWell (setting_of ordered board plan)) plan.wires
   pub leads : (plan : Plan) → Has chip_of routes draft.hops.items plan → (net : ℕ) → net < ordered.flat.inputs + length ordered.flat.cells
       → let setting = setting_of ordered board plan in lead setting (home setting net) net ≡ slice_index draft.leads.items net
-  pub last : draft.after ≡ greatest (map (after_last board) draft.hops.items)
+  pub last : draft.after ≡ greatest (map after_last draft.hops.items)
 
 -- the moment at which what a latch reads is usable on the latch's chip; 0 for a gate
 abbrev pub latch_moment : Flat → Board → List ℕ → List Route → List (List Hop) → List ℕ → ℕ → Cell → ℕ

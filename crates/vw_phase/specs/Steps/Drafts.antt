@@ -44,7 +44,7 @@ pub record IsSentMore (board : Board) (route : Route) (number ready : ℕ) (old 
   pub soon : All (λ hop. hop.at + 1 ≤ ready + length (steps_of route.nodes) * 2 ^ 30) (hops_at new number)
   pub widths : new.table.widths ≡ old.table.widths
   pub taken : new.table.taken ≡ old.table.taken ++ map (taken_by board) (hops_at new number)
-  pub last : new.after ≡ max old.after (after_last board (hops_at new number))
+  pub last : new.after ≡ max old.after (after_last (hops_at new number))
 
 -- one draft is another, but for the lead of one gate
 pub record HasLead (ordered : Ordered) (board : Board) (chip_of : List ℕ) (routes : List Route) (place : ℕ) (old new : Draft) : Type 0 where

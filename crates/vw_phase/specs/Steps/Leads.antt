@@ -28,7 +28,7 @@ wires_of (route ∷ routes) (sent ∷ hops) = record { net = route.net; to = rou
 -- the lead of a net at a node, from leads at their own nodes and hops
 abbrev pub lead_by : Flat → Board → List ℕ → List Route → List (List Hop) → List ℕ → ℕ → ℕ → ℕ
 lead_by flat board chip_of routes hops leads node net =
-    if node_of flat chip_of net == node then slice_index leads net else after_last board (hops_to routes hops node net)
+    if node_of flat chip_of net == node then slice_index leads net else after_last (hops_to routes hops node net)
 
 -- the microcycle from which on a node can use a net, from the same
 abbrev pub usable_by : Flat → Board → List ℕ → List Route → List (List Hop) → List ℕ → ℕ → ℕ → ℕ

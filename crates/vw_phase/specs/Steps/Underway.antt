@@ -64,7 +64,7 @@ abbrev pub start_by : Flat → Board → List ℕ → ℕ → List Route → Lis
 start_by flat board chip_of limit [] hops = 0
 start_by flat board chip_of limit (route ∷ routes) [] = 0
 start_by flat board chip_of limit (route ∷ routes) (sent ∷ hops) =
-    max (if nat_lt (depth flat chip_of route.net) limit then after_last board sent else 0) (start_by flat board chip_of limit routes hops)
+    max (if nat_lt (depth flat chip_of route.net) limit then after_last sent else 0) (start_by flat board chip_of limit routes hops)
 
 -- when the first hop of a net's route is ready
 abbrev pub ready_by : Ordered → Board → List ℕ → List Route → List (List Hop) → List ℕ → ℕ → ℕ
@@ -88,7 +88,7 @@ pub record IsUnderway (ordered : Ordered) (board : Board) (chip_of : List ℕ) (
   pub worked : (place : ℕ) → place < length ordered.order → is_done tasks count false place ≡ true
       → slice_index draft.leads.items (ordered.flat.inputs + slice_index ordered.order place) ≡ lead_at_place ordered board chip_of routes draft.hops.items draft.leads.items place
   pub zero : (net : ℕ) → is_gate (driving_cell ordered.flat net) ≡ false → slice_index draft.leads.items net ≡ 0
-  pub last : draft.after ≡ greatest (map (after_last board) draft.hops.items)
+  pub last : draft.after ≡ greatest (map after_last draft.hops.items)
   pub size : length draft.table.taken ≡ length (all_hops draft.hops.items)
   pub slots : (hop : Hop) → uses hop (all_hops draft.hops.items) ≡ (if is_taken draft.table.taken (hop_link board hop) hop.pin hop.at then 1 else 0)
   pub begin : start ≡ start_by ordered.flat board chip_of level routes draft.hops.items

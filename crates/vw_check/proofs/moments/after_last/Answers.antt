@@ -3,4 +3,4 @@ use Rattle.vw_check.proofs.LastHops.{after_last-last}
 use Rattle.vw_check.proofs.moments.after_last.Goals as goal
 
 pub returns-in-Some-clause-value : goal.returns-in-Some-clause-value
-returns-in-Some-clause-value c = ap (λ (at : ℕ). at + 1) c.at.ensures ∙ after_last-last c.args.board.now c.args.hops.now c.in-Some.hop.now (sym c.in-Some.ensures.value)
+returns-in-Some-clause-value c = ap (λ (at : ℕ). at + 1) c.at.ensures ∙ after_last-last c.args.hops.now c.in-Some.hop.now (sym c.in-Some.ensures.value)

@@ -34,7 +34,7 @@ returns-in-Some-clause-value c =
     let wires = c.args.plan.now.wires in
     let there = subst (LeadsTo (brings c.args.net c.args.node) wires) (sym c.first.ensures ∙ c.in-Some.is) (wire_leads wires c.args.wires.now.places c.requires c.args.net c.args.node) in
     let same = c.index-wires-wire.is ∙ ap (λ (list : List Wire). get_or list c.in-Some.wire c.index-wires-wire.result) c.wires.ensures in
-    c.after_last.ensures.value ∙ ap (after_last c.args.board.now) c.hops.ensures
+    c.after_last.ensures.value ∙ ap after_last c.hops.ensures
     ∙ brought_by (setting_of c.args.ordered.now c.args.board.now c.args.plan.now) c.args.node c.args.net c.in-Some.wire c.index-wires-wire.result (slice_get_read wires (length wires) c.in-Some.wire c.index-wires-wire.result refl there.0 same) there
 
 pub returns-in-None-clause-value : goal.returns-in-None-clause-value

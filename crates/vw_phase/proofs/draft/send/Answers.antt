@@ -22,7 +22,7 @@ returns-in_ok-hops c =
       soon = subst (All (λ hop. hop.at + 1 ≤ c.args.ready + length (steps_of c.args.route.now.nodes) * 2 ^ 30)) (sym at) (λ number hop within. omega (arith, c.in_ok-hops.ensures.soon number hop within, ap (λ (all : List ℕ). length (steps_of all)) nodes, steps_long c.in-Some.first.now c.in-Some.further.now));
       widths = c.in_ok-hops.ensures.ok.2;
       taken = c.in_ok-hops.ensures.ok.1 ∙ ap (λ (list : List Hop). old.table.taken ++ map (taken_by board) list) (sym at);
-      last = c.max-draft.ensures ∙ ap (max old.after) (c.after_last.ensures ∙ ap (after_last board) (c.deref.ensures.value ∙ sym at));
+      last = c.max-draft.ensures ∙ ap (max old.after) (c.after_last.ensures ∙ ap after_last (c.deref.ensures.value ∙ sym at));
     }
 
 pub send_along-requires-clause-few : goal.send_along-requires-clause-few

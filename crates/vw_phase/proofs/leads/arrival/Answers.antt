@@ -30,10 +30,10 @@ returns-in-Some c =
     let given = c.args.given.now in
     let there = subst (Finds c.args.node c.args.net given.routes.now c.args.hops.now) (sym c.first.ensures ∙ c.in-Some.is) (finds c.args.node c.args.net given.routes.now c.args.hops.now given.places.now.places c.requires.hops given.has_places) in
     let within : c.in-Some.place < length c.args.hops.now = omega (arith, there.0, c.requires.hops) in
-    c.after_last.ensures ∙ ap (after_last given.board.now) (c.as_slice.ensures ∙ c.index-hops-place.is ∙ get_or_default c.args.hops.now c.in-Some.place c.index-hops-place.result [] within ∙ there.1)
+    c.after_last.ensures ∙ ap after_last (c.as_slice.ensures ∙ c.index-hops-place.is ∙ get_or_default c.args.hops.now c.in-Some.place c.index-hops-place.result [] within ∙ there.1)
 
 pub returns-in-None : goal.returns-in-None
 returns-in-None c =
     let given = c.args.given.now in
     let there = subst (Finds c.args.node c.args.net given.routes.now c.args.hops.now) (sym c.first.ensures ∙ c.in-None.is) (finds c.args.node c.args.net given.routes.now c.args.hops.now given.places.now.places c.requires.hops given.has_places) in
-    ap (after_last given.board.now) (sym there)
+    ap after_last (sym there)
