@@ -1,6 +1,7 @@
 -- Bindings, one after the other.
 use Rattle.std.proofs.Common.{◌≡◌, Bool, true, false, not, ◌||◌, List, [], ◌∷◌, ◌++◌, map, refl, sym, ◌∙◌, ap, ap₂, true≢false}
 use Rattle.std.specs.Str.{bytes_eq}
+use Rattle.std.proofs.Math.Bool.{or-false}
 use Rattle.std.proofs.lemmas.Bool.{or_parts, and_parts, and_from}
 use Rattle.std.proofs.lemmas.List.{map-append}
 use Rattle.std.proofs.lemmas.List.Folds.{list_any-append}
@@ -27,12 +28,8 @@ are_distinct-push (other ∷ names) name all new =
     let parts = and_parts (not (has_name names other)) (are_distinct names) all in
     let apart = or_parts (bytes_eq other name) (has_name names name) new in
     and_from (not (has_name (names ++ name ∷ []) other)) (are_distinct (names ++ name ∷ []))
-    (ap not (has_name-push names name other ∙ ap (λ b. has_name names other || b) (same_bytes other name apart.0)) ∙ ap not (or_nothing (has_name names other)) ∙ parts.0)
+    (ap not (has_name-push names name other ∙ ap (λ b. has_name names other || b) (same_bytes other name apart.0)) ∙ ap not (or-false (has_name names other)) ∙ parts.0)
     (are_distinct-push names name parts.1 apart.1)
-  where
-    or_nothing : (b : Bool) → (b || false) ≡ b
-    or_nothing true = refl
-    or_nothing false = refl
 
 -- one binding more
 pub binds_more : (words : List Word) (word : Word) (binds : List Bind) (bind : Bind) → AreBinds words binds → is_no_bind word ≡ false

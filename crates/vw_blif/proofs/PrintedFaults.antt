@@ -31,7 +31,7 @@ use Rattle.vw_blif.specs.Read.{first_fault}
 use Rattle.vw_blif.specs.Printed.{mark_byte, row_words, init_word, latch_words, bind_word, item_lines, port_lines, model_lines, design_lines}
 use Rattle.vw_blif.specs.PlainDesigns.{is_plain_bind, is_plain_item, are_plain_ports, is_plain_model}
 use Rattle.vw_blif.proofs.Binds.{same_bytes}
-use Rattle.vw_blif.proofs.TableSteps.{same_word}
+use Rattle.vw_design.proofs.Names.{name_same}
 use Rattle.vw_blif.proofs.PrintedWords.{plain_parts}
 use Rattle.vw_blif.proofs.PrintedGroups.{numbered-append, row_kind, row_last, rows_at, formal_back, actual_back}
 use Rattle.vw_blif.proofs.PrintedModels.{item_first, body_lines, first_line, end_line, model_cut}
@@ -88,7 +88,7 @@ row_fits width on (mark ∷ marks) long =
 
 -- the next row ends in the digit of the first
 same_digit : (value : Option Word) (word digit : Word) → word ≡ digit → differs_from value digit ≡ false → differs_from (Some (or_value value word)) digit ≡ false
-same_digit None word digit is same = ap (λ (w : Word). not (bytes_eq w digit)) is ∙ ap not (same_word digit)
+same_digit None word digit is same = ap (λ (w : Word). not (bytes_eq w digit)) is ∙ ap not (name_same digit)
 same_digit (Some first) word digit is same = same
 
 rows_fine : (names : List Word) (width n : ℕ) (on : Bool) (rows : List (List Mark)) (rest : List Line) → list_all (λ row. eqb (length row) width) rows ≡ true → GoesOn names rest

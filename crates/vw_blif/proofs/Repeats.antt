@@ -1,25 +1,17 @@
 -- Words that stand among those before them.
 use Rattle.std.proofs.Common.{◌≡◌, ◌<◌, ◌+◌, ℕ, Bool, true, false, not, ◌||◌, cond, List, [], ◌∷◌, ◌++◌, length, take, drop, get_or, Option, Some, is_some, refl, sym, ◌∙◌, ap, ap₂, append_assoc, append-nil}
 use Rattle.std.specs.Str.{bytes_eq}
-use Rattle.std.proofs.Math.Bool.{or_assoc, or_comm}
+use Rattle.std.proofs.Math.Bool.{or_assoc, or_comm, or-false}
 use Rattle.std.proofs.lemmas.List.{take-append-drop, drop_more, take_more}
 use Rattle.std.proofs.lemmas.List.Folds.{list_any-append}
 use Rattle.vw_design.specs.Distinct.{has_name}
 use Rattle.vw_design.specs.Paths.{Word}
 use Rattle.vw_blif.specs.Bindings.{repeats}
 
--- a word that was added is seen, and so is what was seen before
-pub some_or : {X : Type 0} (b : Bool) (x : X) (found : Option X) → is_some (cond b (Some x) found) ≡ (b || is_some found)
-some_or true x found = refl
-some_or false x found = refl
-
-pub or_false : (b : Bool) → (b || false) ≡ b
-or_false true = refl
-or_false false = refl
-
+-- a word that was added at the end
 pub has_name-push : (names : List Word) (name other : Word) → has_name (names ++ name ∷ []) other ≡ (has_name names other || bytes_eq name other)
 has_name-push names name other =
-    list_any-append (λ n. bytes_eq n other) names (name ∷ []) ∙ ap (λ b. has_name names other || b) (or_false (bytes_eq name other))
+    list_any-append (λ n. bytes_eq n other) names (name ∷ []) ∙ ap (λ b. has_name names other || b) (or-false (bytes_eq name other))
 
 -- words and then others
 pub repeats-append : (before words others : List Word) → repeats before (words ++ others) ≡ (repeats before words || repeats (before ++ words) others)

@@ -2,6 +2,7 @@
 use Rattle.std.proofs.Common.{◌≡◌, ◌<◌, ◌≤◌, ◌-◌, ℕ, zero, suc, Bool, true, false, not, ◌||◌, List, [], ◌∷◌, ◌++◌, length, map, take, Option, Some, None, ltb, eqb, refl, sym, ◌∙◌, ap, ap₂, append_assoc, length-take, ne_eqb, eqb-true, All, true≢false, arith}
 use Rattle.std.specs.Prelude.{codes, option_map}
 use Rattle.std.specs.Str.{bytes_eq}
+use Rattle.std.proofs.Math.Bool.{or-false}
 use Rattle.std.proofs.lemmas.Bool.{and_parts, le-ltb}
 use Rattle.std.proofs.lemmas.List.{map-append, length-map}
 use Rattle.std.proofs.lemmas.List.Elements.{All-push}
@@ -19,6 +20,7 @@ use Rattle.vw_blif.specs.Before.{or_value}
 use Rattle.vw_blif.specs.Faults.{differs_from}
 use Rattle.vw_blif.specs.Steps.Blocks.{on_or}
 use Rattle.vw_blif.specs.Steps.Tables.{BeginsTable, AddsRow, is_other_value}
+use Rattle.vw_design.proofs.Names.{name_same}
 use Rattle.vw_blif.proofs.LastWord.{front_words-take}
 
 pub length-front_words : (words : List Word) → 0 < length words → length (front_words words) ≡ length words - 1
@@ -64,20 +66,13 @@ value_is word is = by_test (bytes_eq word (codes "1")) refl
   where
     by_test : (t : Bool) → bytes_eq word (codes "1") ≡ t → value_word t ≡ word
     by_test true one = sym ((bytes_eq-Decides word (codes "1")).0 one)
-    by_test false other = sym ((bytes_eq-Decides word (codes "0")).0 (sym (or_nothing (bytes_eq word (codes "0"))) ∙ ap (λ b. bytes_eq word (codes "0") || b) (sym other) ∙ is))
-      where
-        or_nothing : (b : Bool) → (b || false) ≡ b
-        or_nothing true = refl
-        or_nothing false = refl
+    by_test false other = sym ((bytes_eq-Decides word (codes "0")).0 (sym (or-false (bytes_eq word (codes "0"))) ∙ ap (λ b. bytes_eq word (codes "0") || b) (sym other) ∙ is))
 
 same_value : (first one : Bool) → is_other_value (Some first) one ≡ false → first ≡ one
 same_value true true same = refl
 same_value true false same = absurd (true≢false same)
 same_value false true same = absurd (true≢false same)
 same_value false false same = refl
-
-pub same_word : (word : Word) → bytes_eq word word ≡ true
-same_word word = (bytes_eq-Decides word word).1 refl
 
 module _ (line : Line) (one : Bool) (width : ℕ) (ends : one ≡ bytes_eq (last_word line.words) (codes "1")) (row_is : is_row_of width line.words ≡ true) where
   word_is : value_word one ≡ last_word line.words
@@ -93,7 +88,7 @@ module _ (line : Line) (one : Bool) (width : ℕ) (ends : one ≡ bytes_eq (last
 
   same_told : (on : Option Bool) → is_other_value on one ≡ false → differs_from (option_map value_word on) (last_word line.words) ≡ false
   same_told None same = refl
-  same_told (Some first) same = ap not (ap₂ bytes_eq (ap value_word (same_value first one same) ∙ word_is) refl ∙ same_word (last_word line.words))
+  same_told (Some first) same = ap not (ap₂ bytes_eq (ap value_word (same_value first one same) ∙ word_is) refl ∙ name_same (last_word line.words))
 
 pub adds_row : (line : Line) (old new : Table) (row : Row) (one : Bool) → new.line ≡ old.line → new.ins ≡ old.ins → new.out ≡ old.out → new.on ≡ Some one
     → new.rows.items ≡ old.rows.items ++ row ∷ [] → row.marks ≡ row_marks line.words → one ≡ bytes_eq (last_word line.words) (codes "1")

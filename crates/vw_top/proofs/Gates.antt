@@ -21,25 +21,19 @@ use Rattle.vw_design.specs.Flattened.{IsFlatOf, IsCellOf}
 use Rattle.vw_design.specs.Loops.{Gate as GateAt, gate_at, gate_reads}
 use Rattle.vw_design.proofs.FlatReads.{reads_agree}
 use Rattle.vw_design.proofs.ListElements.{Has, Has-at}
-use Rattle.vw_design.proofs.PairedLists.{AllZip-length}
+use Rattle.vw_design.proofs.PairedLists.{AllZip-length, AllZip-back, AllZip-push}
 use Rattle.vw_flat.specs.Printed.{printed_site}
 use Rattle.vw_order.specs.Loops as orders
 use Rattle.vw_order.specs.Reads as nets
 use Rattle.vw_top.specs.Designs.{IsLoopOf}
 
 module _ {A B : Type 0} (R : A → B → Type 0) where
-  -- pairs with one more at the end, and turned lists of pairs
-  pushed : (xs : List A) (ys : List B) (x : A) (y : B) → AllZip R xs ys → R x y → AllZip R (xs ++ x ∷ []) (ys ++ y ∷ [])
-  pushed [] [] x y all here = (here, tt)
-  pushed [] (b ∷ ys) x y all here = absurd all
-  pushed (a ∷ xs) [] x y all here = absurd all
-  pushed (a ∷ xs) (b ∷ ys) x y all here = (all.0, pushed xs ys x y all.1 here)
-
+  -- turned lists of pairs
   turned_pairs : (xs : List A) (ys : List B) → AllZip R xs ys → AllZip R (turned xs) (turned ys)
   turned_pairs [] [] all = tt
   turned_pairs [] (y ∷ ys) all = absurd all
   turned_pairs (x ∷ xs) [] all = absurd all
-  turned_pairs (x ∷ xs) (y ∷ ys) all = pushed xs ys x y all.1 all.0
+  turned_pairs (x ∷ xs) (y ∷ ys) all = AllZip-push R xs ys x y all.1 all.0
 
 -- what holds of two lists, carried over to two others
 carried : {A B : Type 0} → (P : A → A → Type 0) (R : A → B → Type 0) (Q : B → B → Type 0) → ((a c : A) (b d : B) → P a c → R a b → R c d → Q b d)
@@ -60,13 +54,6 @@ mapped f Q (u ∷ us) [] all = absurd all
 mapped f Q (u ∷ us) (v ∷ vs) all = (all.0, mapped f Q us vs all.1)
 
 -- the first of a pair
-back : {A B : Type 0} → (R : A → B → Type 0) (xs : List A) (ys : List B) (k : ℕ) (y : B) → AllZip R xs ys → slice_get ys k ≡ Some y → (x : A) × (slice_get xs k ≡ Some x) × R x y
-back R [] [] k y all at = absurd (none-some y at)
-back R [] (z ∷ ys) k y all at = absurd all
-back R (x ∷ xs) [] k y all at = absurd all
-back R (x ∷ xs) (z ∷ ys) zero y all at = (x, refl, subst (R x) (same_Some z y at) all.0)
-back R (x ∷ xs) (z ∷ ys) (suc k) y all at = back R xs ys k y all.1 at
-
 module _ (design : Design) (flat : Flat) (is : IsFlatOf design flat) where
   -- a cell number, and the gate or latch of the design with this number
   abbrev IsAt : ℕ → Site → Type 0
@@ -93,7 +80,7 @@ module _ (design : Design) (flat : Flat) (is : IsFlatOf design flat) where
     by None at = absurd (true≢false (sym gate ∙ ap is_gate at))
     by (Some (Latch net start)) at = absurd (true≢false (sym gate ∙ ap is_gate at))
     by (Some (Gate ins table)) at =
-        let site = back (λ (s : Site) (cell : Cell). IsCellOf design s.path s.item cell) (cells design) flat.cells number (Gate ins table) is.cells at in
+        let site = AllZip-back (λ (s : Site) (cell : Cell). IsCellOf design s.path s.item cell) (cells design) flat.cells number (Gate ins table) is.cells at in
         is_names number site.0 site.1 site.0.item refl ins table site.2
 
   -- whatever reads in the netlist reads in the design
