@@ -1,7 +1,7 @@
 -- Lines that are cut, and put together again.
 use Rattle.std.proofs.Common.{◌≡◌, Bool, true, false, not, ◌||◌, List, [], ◌∷◌, ◌++◌, refl, sym, ◌∙◌, ap, ap₂, append-nil, true≢false}
 use Rattle.std.specs.List.{list_any, list_all, flat_map}
-use Rattle.std.proofs.lemmas.Bool.{and_parts, and_from, or_parts}
+use Rattle.std.proofs.lemmas.Bool.{and_parts, and_from, or_parts, not-true}
 use Rattle.vw_text.specs.declared.line.Line.{Line}
 use Rattle.vw_blif.specs.Blocks.{Part, CutList, with_element, cut_before}
 use Rattle.vw_blif.specs.Cuts.{IsCut}
@@ -40,13 +40,9 @@ module _ (begins : Line → Bool) where
       let h = and_parts (begins part.head) (list_all (λ (p : Part Line). begins p.head) parts) heads in
       let t = and_parts (not (list_any begins part.tail)) (list_all (λ (p : Part Line). not (list_any begins p.tail)) parts) tails in
       ap₂ (λ (test : Bool) (cut : CutList Line). with_element test part.head cut) h.0
-      (cut_front part.tail (flat_map (λ (p : Part Line). p.head ∷ p.tail) parts) (not_true (list_any begins part.tail) t.0)
+      (cut_front part.tail (flat_map (λ (p : Part Line). p.head ∷ p.tail) parts) (not-true (list_any begins part.tail) t.0)
       ∙ ap (λ (cut : CutList Line). record { before = part.tail ++ cut.before; parts = cut.parts }) (cut_parts parts h.1 t.1))
       ∙ ap (λ (tail : List Line). record { before = []; parts = record { head = part.head; tail = tail } ∷ parts }) (append-nil part.tail)
-    where
-      not_true : (b : Bool) → not b ≡ true → b ≡ false
-      not_true true is = absurd (true≢false (sym is))
-      not_true false is = refl
 
   pub is_only : (lines : List Line) (cut : CutList Line) → IsCut begins lines cut → cut ≡ cut_before begins lines
   is_only lines cut is =
