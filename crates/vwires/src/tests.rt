@@ -5,6 +5,19 @@ use std::{fs, process};
 const TOGGLE: &[u8] =
     b".model toggle\n.inputs en\n.outputs q\n.names en q d\n10 1\n01 1\n.latch d q 0\n.end\n";
 
+const TRIANGLE: &[u8] =
+    b"board 1\nchips 2\ncells 1\nsettle 0\npins 4\nlink 0 1 1\nlink 0 2 1\nlink 1 0 1\nlink 1 2 1\nlink 2 0 1\nlink 2 1 1\n";
+
+/// A chip with room for one of the toggle's two cells.
+const SMALL: &[u8] = b"board 1\nchips 1\ncells 1\nsettle 0\npins 4\nlink 0 1 1\nlink 1 0 1\n";
+
+const PLAN: &[u8] =
+    b"plan 1 2 4 2\nchips 1 2\nwire 0 1 1\nhop 0 1 0 0\nwire 1 2 1\nhop 1 2 0 1\nwire 2 0 1\nhop 2 0 0 0\nwire 2 1 1\nhop 2 1 0 0\nend\n";
+
+/// The same with the table's value sent before its inputs are there.
+const EARLY: &[u8] =
+    b"plan 1 2 4 2\nchips 1 2\nwire 0 1 1\nhop 0 1 0 0\nwire 1 2 1\nhop 1 2 0 0\nwire 2 0 1\nhop 2 0 0 0\nwire 2 1 1\nhop 2 1 0 0\nend\n";
+
 /// The exit status of these words.
 fn status(rt: &HostRuntime, words: &[&[u8]]) -> Result<u8, AllocError> {
     let mut names = Vec::new(rt.alloc());
@@ -14,27 +27,39 @@ fn status(rt: &HostRuntime, words: &[&[u8]]) -> Result<u8, AllocError> {
     Ok(status_of(rt, &names))
 }
 
-/// The exit status of `sim` on two files of the machine with these texts.
-fn sim_status(rt: &HostRuntime, design: &[u8], stimulus: &[u8]) -> Result<u8, Fail> {
+/// The exit status of a command on files of the machine with these texts.
+fn status_on(rt: &HostRuntime, command: &[u8], texts: &[&[u8]]) -> Result<u8, Fail> {
     let number = process::id(rt.process());
-    let design_path = format!(in rt.alloc(); "/tmp/vwires_{number}.blif")?;
-    let stimulus_path = format!(in rt.alloc(); "/tmp/vwires_{number}.stim")?;
-    fs::write(rt, design_path.as_str(), design)?;
-    fs::write(rt, stimulus_path.as_str(), stimulus)?;
-    let found = status(
-        rt,
-        &[b"sim", design_path.as_bytes(), stimulus_path.as_bytes()],
-    )?;
-    fs::remove_file(rt, design_path.as_str())?;
-    fs::remove_file(rt, stimulus_path.as_str())?;
+    let mut names = Vec::new(rt.alloc());
+    names.push(Name::of(command.to_vec(rt.alloc())?))?;
+    for (place, text) in texts.iter().enumerate() {
+        let path = format!(in rt.alloc(); "/tmp/vwires_{number}_{place}")?;
+        fs::write(rt, path.as_str(), *text)?;
+        names.push(Name::of(path.into_bytes()))?;
+    }
+    let found = status_of(rt, &names);
+    for place in 0..texts.len() {
+        let path = format!(in rt.alloc(); "/tmp/vwires_{number}_{place}")?;
+        fs::remove_file(rt, path.as_str())?;
+    }
     Ok(found)
 }
 
 #[test]
-fn texts_in_files_have_their_statuses(rt: HostRuntime) -> Result<(), Fail> {
-    assert_eq!(rt; sim_status(&rt, TOGGLE, b"1\n1\n0\n")?, 0);
-    assert_eq!(rt; sim_status(&rt, b"no design\n", b"1\n")?, 1);
-    assert_eq!(rt; sim_status(&rt, TOGGLE, b"10\n")?, 5);
+fn designs_and_stimuli_in_files_have_their_statuses(rt: HostRuntime) -> Result<(), Fail> {
+    assert_eq!(rt; status_on(&rt, b"sim", &[TOGGLE, b"1\n1\n0\n"])?, 0);
+    assert_eq!(rt; status_on(&rt, b"sim", &[b"no design\n", b"1\n"])?, 1);
+    assert_eq!(rt; status_on(&rt, b"sim", &[TOGGLE, b"10\n"])?, 5);
+    Ok(())
+}
+
+#[test]
+fn boards_and_plans_in_files_have_their_statuses(rt: HostRuntime) -> Result<(), Fail> {
+    assert_eq!(rt; status_on(&rt, b"check", &[TOGGLE, TRIANGLE, PLAN])?, 0);
+    assert_eq!(rt; status_on(&rt, b"check", &[TOGGLE, b"board 2\n", PLAN])?, 3);
+    assert_eq!(rt; status_on(&rt, b"check", &[TOGGLE, TRIANGLE, EARLY])?, 4);
+    assert_eq!(rt; status_on(&rt, b"plan", &[TOGGLE, TRIANGLE])?, 0);
+    assert_eq!(rt; status_on(&rt, b"plan", &[TOGGLE, SMALL])?, 6);
     Ok(())
 }
 
