@@ -20,28 +20,28 @@ use Rattle.vw_board.specs.Steps.Separate.{AreSeparate}
 use Rattle.vw_board.specs.Steps.Links.{ReadsLink, ReadsSoFar}
 
 -- a number that was found in a range
-record IsWithin (least greatest value : ℕ) (found : Option ℕ) : Type 0 where
+record IsFoundInRange (least greatest value : ℕ) (found : Option ℕ) : Type 0 where
   is : unwrap_or found 0 ≡ value
   above : least ≤ value
   below : value ≤ greatest
 
-in_range : (least greatest value number : ℕ) → (in_it : Bool) → in_it ≡ (leb least number && leb number greatest) → (if in_it then Some number else None) ≡ Some value → IsWithin least greatest value (Some number)
+in_range : (least greatest value number : ℕ) → (in_it : Bool) → in_it ≡ (leb least number && leb number greatest) → (if in_it then Some number else None) ≡ Some value → IsFoundInRange least greatest value (Some number)
 in_range least greatest value number true is found =
     let parts : (leb least number ≡ true) × (leb number greatest ≡ true) = and_parts (leb least number) (leb number greatest) (sym is) in
     let same : number ≡ value = ap (λ (o : Option ℕ). unwrap_or o 0) found in
     record { is = same; above = let low : least ≤ number = leb-true least number parts.0 in omega arith; below = let high : number ≤ greatest = leb-true number greatest parts.1 in omega arith }
 in_range least greatest value number false is found = cc
 
-was_within : (least greatest value : ℕ) (found : Option ℕ) → within least greatest found ≡ Some value → IsWithin least greatest value found
+was_within : (least greatest value : ℕ) (found : Option ℕ) → within least greatest found ≡ Some value → IsFoundInRange least greatest value found
 was_within least greatest value None found = cc
 was_within least greatest value (Some number) found = in_range least greatest value number (leb least number && leb number greatest) refl found
 
 -- a line with its form and with three numbers in their ranges is the line of a link that isn't at fault
 pub link_fine : (chips : ℕ) (links : List Link) (line : Line) (link : Link) → has_words (codes "link") 4 line ≡ true → number_within 0 chips 1 line ≡ Some link.from → number_within 0 chips 2 line ≡ Some link.to → number_within 1 64 3 line ≡ Some link.width → link.from ≢ link.to → has_link links link.from link.to ≡ false → ReadsLink chips links line link
 link_fine chips links line link form is_from is_to is_width apart new =
-    let at_from : IsWithin 0 chips link.from (spelled_number (word_at 1 line)) = was_within 0 chips link.from (spelled_number (word_at 1 line)) is_from in
-    let at_to : IsWithin 0 chips link.to (spelled_number (word_at 2 line)) = was_within 0 chips link.to (spelled_number (word_at 2 line)) is_to in
-    let at_width : IsWithin 1 64 link.width (spelled_number (word_at 3 line)) = was_within 1 64 link.width (spelled_number (word_at 3 line)) is_width in
+    let at_from : IsFoundInRange 0 chips link.from (spelled_number (word_at 1 line)) = was_within 0 chips link.from (spelled_number (word_at 1 line)) is_from in
+    let at_to : IsFoundInRange 0 chips link.to (spelled_number (word_at 2 line)) = was_within 0 chips link.to (spelled_number (word_at 2 line)) is_to in
+    let at_width : IsFoundInRange 1 64 link.width (spelled_number (word_at 3 line)) = was_within 1 64 link.width (spelled_number (word_at 3 line)) is_width in
     let differ : eqb link.from link.to ≡ false = ne_eqb link.from link.to apart in
     record {
       fine = rw (form, is_from, is_to, is_width, at_from.is, at_to.is, differ, new) refl;

@@ -60,25 +60,25 @@ pins_given placed old new wire number hop has free put other =
 -- ---- the hops of a wire
 
 -- what is left of the hops of a wire, behind those that have their pins
-pub record IsLeft {S : Type 0} (placed : List PlacedHop) (wire number : ℕ) (hops : List Hop) (users : hash.HashMap PinKey (ℕ × ℕ) S) : Type 0 where
+pub record IsRestOfHops {S : Type 0} (placed : List PlacedHop) (wire number : ℕ) (hops : List Hop) (users : hash.HashMap PinKey (ℕ × ℕ) S) : Type 0 where
   pub before : List PlacedHop
   pub pins : HasPins before users
   pub left : clash_behind before (hops_placed wire number (drop number hops)) ≡ clash_behind placed (hops_placed wire 0 hops)
   pub all : before ++ hops_placed wire number (drop number hops) ≡ placed ++ hops_placed wire 0 hops
 
-pub left_first : {S : Type 0} (placed : List PlacedHop) (wire : ℕ) (hops : List Hop) (users : hash.HashMap PinKey (ℕ × ℕ) S) → HasPins placed users → IsLeft placed wire 0 hops users
+pub left_first : {S : Type 0} (placed : List PlacedHop) (wire : ℕ) (hops : List Hop) (users : hash.HashMap PinKey (ℕ × ℕ) S) → HasPins placed users → IsRestOfHops placed wire 0 hops users
 left_first placed wire hops users pins = record { before = placed; pins = pins; left = refl; all = refl }
 
 none_before : (before : Option PlacedHop) → None ≡ option_map numbers before → before ≡ None
 none_before None is = refl
 none_before (Some earlier) is = cc
 
-module _ {S : Type 0} (placed : List PlacedHop) (wire number : ℕ) (hops : List Hop) (users : hash.HashMap PinKey (ℕ × ℕ) S) (now : IsLeft placed wire number hops users) (hop : Hop) (within : number < length hops) (default : Hop) (is : hop ≡ get_or hops number default) where
+module _ {S : Type 0} (placed : List PlacedHop) (wire number : ℕ) (hops : List Hop) (users : hash.HashMap PinKey (ℕ × ℕ) S) (now : IsRestOfHops placed wire number hops users) (hop : Hop) (within : number < length hops) (default : Hop) (is : hop ≡ get_or hops number default) where
   here : hops_placed wire number (drop number hops) ≡ placed_at wire number hop ∷ hops_placed wire (number + 1) (drop (number + 1) hops)
   here = rw (add-one, drop-cons hops number default within, ← is) refl
 
   -- a hop that shares no pin leaves the rest
-  pub left_next : (after : hash.HashMap PinKey (ℕ × ℕ) S) → user_in users hop ≡ None → (HasPins now.before users → HasPins (now.before ++ placed_at wire number hop ∷ []) after) → IsLeft placed wire (number + 1) hops after
+  pub left_next : (after : hash.HashMap PinKey (ℕ × ℕ) S) → user_in users hop ≡ None → (HasPins now.before users → HasPins (now.before ++ placed_at wire number hop ∷ []) after) → IsRestOfHops placed wire (number + 1) hops after
   left_next after free give = record {
     before = now.before ++ placed_at wire number hop ∷ [];
     pins = give now.pins;
@@ -102,7 +102,7 @@ module _ {S : Type 0} (placed : List PlacedHop) (wire number : ℕ) (hops : List
       some_before (first_sharing now.before hop) first_wire first_number (clash_behind (now.before ++ placed_at wire number hop ∷ []) (hops_placed wire (number + 1) (drop (number + 1) hops))) (sym used ∙ now.pins hop)
       ∙ sym (ap (clash_behind now.before) here) ∙ now.left
 
-pub left_end : {S : Type 0} (placed : List PlacedHop) (wire number : ℕ) (hops : List Hop) (users : hash.HashMap PinKey (ℕ × ℕ) S) → IsLeft placed wire number hops users → length hops ≤ number → (None ≡ clash_behind placed (hops_placed wire 0 hops)) × HasPins (placed ++ hops_placed wire 0 hops) users
+pub left_end : {S : Type 0} (placed : List PlacedHop) (wire number : ℕ) (hops : List Hop) (users : hash.HashMap PinKey (ℕ × ℕ) S) → IsRestOfHops placed wire number hops users → length hops ≤ number → (None ≡ clash_behind placed (hops_placed wire 0 hops)) × HasPins (placed ++ hops_placed wire 0 hops) users
 left_end placed wire number hops users now past =
     let none : drop number hops ≡ [] = drop_all number hops past in
     let all : now.before ++ [] ≡ placed ++ hops_placed wire 0 hops = rw none at now.all in

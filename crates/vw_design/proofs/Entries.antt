@@ -66,24 +66,24 @@ pub entry_of : (all : List Item) (entry : Numbered) → Has entry (numbered 0 0 
 entry_of all entry has = entry_at all 0 0 all (record { items_at = λ k. ap (slice_get all) (omega arith); placings_at = λ k. ap (slice_get (placings all)) (omega arith) }) entry has
 
 -- the item with a number has an entry
-pub record HasItem (list : List Numbered) (number : ℕ) (item : Item) : Type 0 where
+pub record IsListedItem (list : List Numbered) (number : ℕ) (item : Item) : Type 0 where
   pub entry : Numbered
   pub has : Has entry list
   pub number_is : entry.number ≡ number
   pub item_is : entry.item ≡ item
 
-behind : (number : ℕ) (first : Numbered) (list : List Numbered) (k : ℕ) (item : Item) → HasItem list (suc number + k) item → HasItem (first ∷ list) (number + suc k) item
+behind : (number : ℕ) (first : Numbered) (list : List Numbered) (k : ℕ) (item : Item) → IsListedItem list (suc number + k) item → IsListedItem (first ∷ list) (number + suc k) item
 behind number first list k item has = record { entry = has.entry; has = inr has.has; number_is = has.number_is ∙ omega arith; item_is = has.item_is }
 
-has_item : (number before : ℕ) (items : List Item) (k : ℕ) (item : Item) → slice_get items k ≡ Some item → HasItem (numbered number before items) (number + k) item
+has_item : (number before : ℕ) (items : List Item) (k : ℕ) (item : Item) → slice_get items k ≡ Some item → IsListedItem (numbered number before items) (number + k) item
 has_item number before [] k item at = absurd (none-some item at)
 has_item number before (first ∷ items) zero item at =
     record { entry = record { number = number; before = before; item = first }; has = inl refl; number_is = omega arith; item_is = same_Some first item at }
 has_item number before (first ∷ items) (suc k) item at =
     behind number (record { number = number; before = before; item = first }) (numbered (suc number) (and_behind first before) items) k item (has_item (suc number) (and_behind first before) items k item at)
 
-pub item_entry : (items : List Item) (k : ℕ) (item : Item) → slice_get items k ≡ Some item → HasItem (numbered 0 0 items) k item
-item_entry items k item at = subst (λ (n : ℕ). HasItem (numbered 0 0 items) n item) (omega arith) (has_item 0 0 items k item at)
+pub item_entry : (items : List Item) (k : ℕ) (item : Item) → slice_get items k ≡ Some item → IsListedItem (numbered 0 0 items) k item
+item_entry items k item at = subst (λ (n : ℕ). IsListedItem (numbered 0 0 items) n item) (omega arith) (has_item 0 0 items k item at)
 
 -- and so has the `.subckt` item at a place
 pub record HasPlacing (list : List Numbered) (before : ℕ) (placing : Placing) : Type 0 where

@@ -34,23 +34,23 @@ followed_by (first ∷ gates) gate = gates ++ gate ∷ []
 
 module _ (design : Design) where
   -- each gate reads the next, and the last one this one
-  abbrev Leads : List Gate → Gate → Type 0
-  Leads gates gate = AllZip (λ one next. gate_reads design one next ≡ true) gates (followed_by gates gate)
+  abbrev ReadAlong : List Gate → Gate → Type 0
+  ReadAlong gates gate = AllZip (λ one next. gate_reads design one next ≡ true) gates (followed_by gates gate)
 
-  leads_on : (gates : List Gate) (gate next : Gate) → Leads gates gate → gate_reads design gate next ≡ true → Leads (gates ++ gate ∷ []) next
+  leads_on : (gates : List Gate) (gate next : Gate) → ReadAlong gates gate → gate_reads design gate next ≡ true → ReadAlong (gates ++ gate ∷ []) next
   leads_on [] gate next leads reads = (reads, tt)
   leads_on (first ∷ []) gate next leads reads = (leads.0, leads_on [] gate next tt reads)
   leads_on (first ∷ second ∷ gates) gate next leads reads = (leads.0, leads_on (second ∷ gates) gate next leads.1 reads)
 
   -- from one of the gates on
-  leads_from : (gates : List Gate) (gate from : Gate) → Has from gates → Leads gates gate → (rest : List Gate) × Leads (from ∷ rest) gate
+  leads_from : (gates : List Gate) (gate from : Gate) → Has from gates → ReadAlong gates gate → (rest : List Gate) × ReadAlong (from ∷ rest) gate
   leads_from [] gate from has leads = absurd has
-  leads_from (first ∷ []) gate from has leads = ⊎_elim (λ same. ([], subst (λ (g : Gate). Leads (g ∷ []) gate) same leads)) (λ none. absurd none) has
+  leads_from (first ∷ []) gate from has leads = ⊎_elim (λ same. ([], subst (λ (g : Gate). ReadAlong (g ∷ []) gate) same leads)) (λ none. absurd none) has
   leads_from (first ∷ second ∷ gates) gate from has leads =
-      ⊎_elim (λ same. (second ∷ gates, subst (λ (g : Gate). Leads (g ∷ second ∷ gates) gate) same leads)) (λ later. leads_from (second ∷ gates) gate from later leads.1) has
+      ⊎_elim (λ same. (second ∷ gates, subst (λ (g : Gate). ReadAlong (g ∷ second ∷ gates) gate) same leads)) (λ later. leads_from (second ∷ gates) gate from later leads.1) has
 
   -- a gate to which itself leads is a loop
-  no_return : IsLoopFree design → (gates : List Gate) (gate : Gate) → Has gate gates → Leads gates gate → ⊥
+  no_return : IsLoopFree design → (gates : List Gate) (gate : Gate) → Has gate gates → ReadAlong gates gate → ⊥
   no_return free gates gate has leads =
       let from = leads_from gates gate gate has leads in
       free (gate ∷ from.0) (record { some = omega arith; each = from.1 })
@@ -119,10 +119,10 @@ module _ (design : Design) (accepted : IsAccepted design) (free : IsLoopFree des
       ap (reads_from design path next) is ∙ by ∙ any-Has (λ (n : Word). is_driven_by next (driver design path n)) name ins has here
 
   -- the inputs of a gate, to which gates lead that were met, where those behind it are known to stay
-  inputs_stay : (left : ℕ) (gates : List Gate) (numbers : List ℕ) → IsMet design gates numbers → (path : Path) (number : ℕ) → Leads design gates (record { path = path; number = number })
+  inputs_stay : (left : ℕ) (gates : List Gate) (numbers : List ℕ) → IsMet design gates numbers → (path : Path) (number : ℕ) → ReadAlong design gates (record { path = path; number = number })
       → (line : ℕ) (ins : List Word) (out : Word) (cover : Cover) → item_at design path number ≡ Some (Names line ins out cover)
       → ((place : ℕ) → IsMet design (gates ++ record { path = path; number = number } ∷ []) (place ∷ numbers) → (name : Word)
-      → ((gate : Gate) → driver design path name ≡ Some (at_cell gate.path gate.number) → Leads design (gates ++ record { path = path; number = number } ∷ []) gate) → Stays left path name)
+      → ((gate : Gate) → driver design path name ≡ Some (at_cell gate.path gate.number) → ReadAlong design (gates ++ record { path = path; number = number } ∷ []) gate) → Stays left path name)
       → (name : Word) → Has name ins → Stays left path name
   inputs_stay left gates numbers met path number leads line ins out cover is further name has =
       let gate : Gate = record { path = path; number = number } in
@@ -137,10 +137,10 @@ module _ (design : Design) (accepted : IsAccepted design) (free : IsLoopFree des
       (λ next drives. leads_on design gates gate next leads (reads_next path number ins (Names line ins out cover) name next is refl has drives)) in
       ⊎_elim back on (cases_Bool (list_any (eqb place.0) numbers))
 
-  item_stays : (left : ℕ) (gates : List Gate) (numbers : List ℕ) → IsMet design gates numbers → (path : Path) (number : ℕ) → Leads design gates (record { path = path; number = number })
+  item_stays : (left : ℕ) (gates : List Gate) (numbers : List ℕ) → IsMet design gates numbers → (path : Path) (number : ℕ) → ReadAlong design gates (record { path = path; number = number })
       → (item : Option Item) → item_at design path number ≡ item
       → ((place : ℕ) → IsMet design (gates ++ record { path = path; number = number } ∷ []) (place ∷ numbers) → (name : Word)
-      → ((gate : Gate) → driver design path name ≡ Some (at_cell gate.path gate.number) → Leads design (gates ++ record { path = path; number = number } ∷ []) gate) → Stays left path name)
+      → ((gate : Gate) → driver design path name ≡ Some (at_cell gate.path gate.number) → ReadAlong design (gates ++ record { path = path; number = number } ∷ []) gate) → Stays left path name)
       → (one other : ℕ) → left ≤ one → left ≤ other → item_value design state (path_level one design row state) path number item ≡ item_value design state (path_level other design row state) path number item
   item_stays left gates numbers met path number leads None is further one other late late_other = refl
   item_stays left gates numbers met path number leads (Some (Names line ins out cover)) is further one other late late_other =
@@ -150,9 +150,9 @@ module _ (design : Design) (accepted : IsAccepted design) (free : IsLoopFree des
   item_stays left gates numbers met path number leads (Some (Sub line model binds)) is further one other late late_other = refl
 
   source_stays : (left : ℕ) (gates : List Gate) (numbers : List ℕ) → IsMet design gates numbers → (source : Option Source)
-      → ((gate : Gate) → source ≡ Some (at_cell gate.path gate.number) → Leads design gates gate)
+      → ((gate : Gate) → source ≡ Some (at_cell gate.path gate.number) → ReadAlong design gates gate)
       → ((path : Path) (number place : ℕ) → IsMet design (gates ++ record { path = path; number = number } ∷ []) (place ∷ numbers) → (name : Word)
-      → ((gate : Gate) → driver design path name ≡ Some (at_cell gate.path gate.number) → Leads design (gates ++ record { path = path; number = number } ∷ []) gate) → Stays left path name)
+      → ((gate : Gate) → driver design path name ≡ Some (at_cell gate.path gate.number) → ReadAlong design (gates ++ record { path = path; number = number } ∷ []) gate) → Stays left path name)
       → (one other : ℕ) → left ≤ one → left ≤ other → source_value design row state (path_level one design row state) source ≡ source_value design row state (path_level other design row state) source
   source_stays left gates numbers met None leads further one other late late_other = refl
   source_stays left gates numbers met (Some (at_port name)) leads further one other late late_other = refl
@@ -161,7 +161,7 @@ module _ (design : Design) (accepted : IsAccepted design) (free : IsLoopFree des
 
   -- with so many cells left that weren't met, so many levels are enough
   settles : (left : ℕ) (gates : List Gate) (numbers : List ℕ) → IsMet design gates numbers → length numbers + left ≡ length (cells design)
-      → (path : Path) (name : Word) → ((gate : Gate) → driver design path name ≡ Some (at_cell gate.path gate.number) → Leads design gates gate) → Stays (left + 1) path name
+      → (path : Path) (name : Word) → ((gate : Gate) → driver design path name ≡ Some (at_cell gate.path gate.number) → ReadAlong design gates gate) → Stays (left + 1) path name
   settles zero gates numbers met count path name leads =
       one_up 0 path name (driver design path name) refl (source_stays 0 gates numbers met (driver design path name) leads
       (λ p n place more name leads. absurd (omega (arith, few_met design (gates ++ record { path = p; number = n } ∷ []) (place ∷ numbers) more))))

@@ -75,13 +75,13 @@ module _ (design : Design) (accepted : IsAccepted design) (flat : Flat) (made : 
   reader gate next reads = reader_by gate next (item_at design gate.path gate.number) refl reads
 
   -- a place in the order
-  record IsPlaced (cell limit : ℕ) : Type 0 where
+  record StandsInOrder (cell limit : ℕ) : Type 0 where
     index : ℕ
     below : index < limit
     within : index < length order
     is : slice_index order index ≡ cell
 
-  placed_among : (cell limit : ℕ) → limit ≤ length order → is_among (take limit order) cell ≡ true → IsPlaced cell limit
+  placed_among : (cell limit : ℕ) → limit ≤ length order → is_among (take limit order) cell ≡ true → StandsInOrder cell limit
   placed_among cell limit fits among =
       let found = from-any (λ (other : ℕ). other == cell) (take limit order) among in
       let at = at-Has found.0 (take limit order) found.1 in
@@ -101,7 +101,7 @@ module _ (design : Design) (accepted : IsAccepted design) (flat : Flat) (made : 
   no_latch (Some (Latch net start)) gate latch = true≢false (sym gate)
 
   -- a gate stands behind the gates that it reads
-  earlier : (gate next : Gate) (a : IsGateAt gate) (b : IsGateAt next) → gate_reads design gate next ≡ true → (index : ℕ) → index < length order → slice_index order index ≡ a.place → IsPlaced b.place index
+  earlier : (gate next : Gate) (a : IsGateAt gate) (b : IsGateAt next) → gate_reads design gate next ≡ true → (index : ℕ) → index < length order → slice_index order index ≡ a.place → StandsInOrder b.place index
   earlier gate next a b reads index within is =
       let nets = read_nets_at (slice_get flat.cells a.place) in
       let agree = reads_agree design flat made a.place b.place a.site b.site a.at b.at a.line a.ins a.out a.cover a.item in
@@ -128,7 +128,7 @@ module _ (design : Design) (accepted : IsAccepted design) (flat : Flat) (made : 
 
   -- along gates of which each reads the next, places in the order fall
   falls : (gate : Gate) (gates : List Gate) (last : Gate) → AllZip (λ one next. gate_reads design one next ≡ true) (gate ∷ gates) (gates ++ last ∷ []) → (a : IsGateAt gate) (b : IsGateAt last)
-      → (index : ℕ) → index < length order → slice_index order index ≡ a.place → IsPlaced b.place index
+      → (index : ℕ) → index < length order → slice_index order index ≡ a.place → StandsInOrder b.place index
   falls gate [] last leads a b index within is = earlier gate last a b leads.0 index within is
   falls gate (next ∷ gates) last leads a b index within is =
       let middle = first_gate next gates last leads.1 in

@@ -43,16 +43,16 @@ made_names design number before (Latch line d q edge control init) = refl
 made_names design number before (Sub line model binds) = binds_names (model_outputs (model_named design.models model)) (suc before) 0 binds
 
 -- names and claims that are the same
-abbrev Knows : List Word → List First → Type 0
-Knows names firsts = (name : Word) → has_name names name ≡ has_claim firsts name
+abbrev HaveSameNames : List Word → List First → Type 0
+HaveSameNames names firsts = (name : Word) → has_name names name ≡ has_claim firsts name
 
 -- what an item claims again, where nothing was claimed again before
-all_again : (item : ℕ) (more : List First) (claims : ModelClaims) (before : List Word) → Knows before claims.firsts
+all_again : (item : ℕ) (more : List First) (claims : ModelClaims) (before : List Word) → HaveSameNames before claims.firsts
     → (with_all item more claims).again ≡ option_or claims.again (option_map (again_of item) (first_again before (claimed_names more)))
 all_again item [] claims before knows = sym (or_nothing claims.again)
 all_again item (further ∷ more) claims before knows =
     let next = with_claim item further.name further.claim claims in
-    let known : Knows (further.name ∷ before) next.firsts = λ name.
+    let known : HaveSameNames (further.name ∷ before) next.firsts = λ name.
     ap (λ (b : Bool). bytes_eq further.name name || b) (knows name) ∙ sym (has_first_more claims.firsts further.name further.claim name) in
     all_again item more next (further.name ∷ before) known
     ∙ by (has_claim claims.firsts further.name) (has_name before further.name) (knows further.name)
@@ -65,7 +65,7 @@ all_again item (further ∷ more) claims before knows =
     by false true same = cc
     by false false same = refl
 
-all_known : (item : ℕ) (more : List First) (claims : ModelClaims) (before : List Word) → Knows before claims.firsts → Knows (before ++ claimed_names more) (with_all item more claims).firsts
+all_known : (item : ℕ) (more : List First) (claims : ModelClaims) (before : List Word) → HaveSameNames before claims.firsts → HaveSameNames (before ++ claimed_names more) (with_all item more claims).firsts
 all_known item more claims before knows = λ name.
     list_any-append (λ (other : Word). bytes_eq other name) before (claimed_names more)
     ∙ ap (λ (b : Bool). b || has_name (claimed_names more) name) (knows name)
@@ -78,14 +78,14 @@ again_from design number before [] = None
 again_from design number before (item ∷ items) =
     option_or (option_map (again_of number) (first_again before (claimed_by design item))) (again_from design (suc number) (before ++ claimed_by design item) items)
 
-items_again : (design : Design) (number places : ℕ) (items : List Item) (claims : ModelClaims) (before : List Word) → Knows before claims.firsts
+items_again : (design : Design) (number places : ℕ) (items : List Item) (claims : ModelClaims) (before : List Word) → HaveSameNames before claims.firsts
     → (with_items design number places items claims).again ≡ option_or claims.again (again_from design number before items)
 unfolding again_from
 items_again design number places [] claims before knows = sym (or_nothing claims.again)
 items_again design number places (item ∷ items) claims before knows =
     let made = item_made design number places item in
     let names = made_names design number places item in
-    let known : Knows (before ++ claimed_by design item) (with_all number made claims).firsts = λ name.
+    let known : HaveSameNames (before ++ claimed_by design item) (with_all number made claims).firsts = λ name.
     ap (λ (list : List Word). has_name (before ++ list) name) (sym names) ∙ all_known number made claims before knows name in
     items_again design (suc number) (and_behind item places) items (with_all number made claims) (before ++ claimed_by design item) known
     ∙ ap (λ (again : Option Again). option_or again (again_from design (suc number) (before ++ claimed_by design item) items))
@@ -160,7 +160,7 @@ from_first design model (Some again) is =
 pub gathered_again : (design : Design) (model : Model) → IsAgain design (Some model) (with_items design 0 0 model.items (ports_only model)).again
 gathered_again design model =
     let ports = model.inputs ++ model.clocks in
-    let known : Knows ports (ports_only model).firsts = λ name.
+    let known : HaveSameNames ports (ports_only model).firsts = λ name.
     sym (has_firsts_more [] (map port_first ports) name ∙ ap (λ (names : List Word). has_name names name) (ports_names ports)) in
     subst (IsAgain design (Some model)) (sym (items_again design 0 0 model.items (ports_only model) ports known))
     (from_first design model (again_from design 0 ports model.items) (from_is design 0 ports model.items))

@@ -61,13 +61,13 @@ module _ (design : Design) where
       by_columns design (root_firsts tables) numbers are (driver design path name) (driver_is design path name) source (is.is path name listed same) (is.none path name listed same)
 
   -- what a cell reads is in the tables
-  pub record IsRead (parts : Parts) (cell input : ℕ) (site : Site) (name : Word) : Type 0 where
+  pub record IsReadInTables (parts : Parts) (cell input : ℕ) (site : Site) (name : Word) : Type 0 where
     pub instance : ℕ
     pub listed : slice_get (instances design) instance ≡ Some site.path
     pub reading : reading_of parts cell input ≡ Some (record { instance = instance; claim = number_named (instance_firsts parts.tables instance) name })
 
   pub read_is : (parts : Parts) → AreDesignParts design parts
-      → (cell input : ℕ) (site : Site) (name : Word) → slice_get (cells design) cell ≡ Some site → slice_get (reads_of site.item) input ≡ Some name → IsRead parts cell input site name
+      → (cell input : ℕ) (site : Site) (name : Word) → slice_get (cells design) cell ≡ Some site → slice_get (reads_of site.item) input ≡ Some name → IsReadInTables parts cell input site name
   read_is parts are cell input site name at reads =
       let tables = parts.tables in
       let found = AllZip-at (IsCellSite (instances design)) (cells design) parts.cells cell site are.cells at in

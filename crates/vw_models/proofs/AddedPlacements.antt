@@ -50,7 +50,7 @@ module _ (design : Design) (start : List Placement) where
 
 -- an item and the number at its place
 module _ (design : Design) (items : List Item) (numbers : List (Option ℕ)) (i place : ℕ) (item : Item) (within : i < length items) (at : item ≡ get_or items i item) where
-  pub record IsCut (name : Word) : Type 0 where
+  pub record IsPairedItem (name : Word) : Type 0 where
     pub inside : place < length numbers
     pub here : IsNumberOfModel design name (get_or numbers place None)
     pub rest : AreAlong design (drop (i + 1) items) (drop (place + 1) numbers)
@@ -58,7 +58,7 @@ module _ (design : Design) (items : List Item) (numbers : List (Option ℕ)) (i 
   pub cut : drop i items ≡ item ∷ drop (i + 1) items
   cut = drop_more items i item within ∙ ap (λ (x : Item). x ∷ drop (i + 1) items) (sym at)
 
-  pub sub_cut : (line : ℕ) (name : Word) (binds : List Bind) → item ≡ Sub line name binds → AreAlong design (drop i items) (drop place numbers) → IsCut name
+  pub sub_cut : (line : ℕ) (name : Word) (binds : List Bind) → item ≡ Sub line name binds → AreAlong design (drop i items) (drop place numbers) → IsPairedItem name
   sub_cut line name binds is along =
       let there = subst (λ (l : List Item). AreAlong design l (drop place numbers)) (cut ∙ ap (λ (x : Item). x ∷ drop (i + 1) items) is) along in
       ⊎_elim

@@ -39,14 +39,14 @@ module _ (design : Design) where
     each_model = sym (AllZip-length (λ model numbers. AllZip (λ placing number. IsNumberOfModel design placing.model number) (placings model.items) numbers) design.models targets are)
 
     -- a number that stands at a place is that of a model that is placed
-    pub record IsPlaced (number placed : ℕ) : Type 0 where
+    pub record IsPlacedNumber (number placed : ℕ) : Type 0 where
       pub model : Model
       pub next : Model
       pub at : slice_get design.models number ≡ Some model
       pub next_at : slice_get design.models placed ≡ Some next
       pub places : model_places (Some model) next.name ≡ true
 
-    pub placed : (number place kid : ℕ) → PlacesAt targets number place kid → IsPlaced number kid
+    pub placed : (number place kid : ℕ) → PlacesAt targets number place kid → IsPlacedNumber number kid
     placed number place kid places =
         let listed = list_at targets number place (Some kid) places in
         let model = AllZip-back (λ model numbers. AllZip (λ placing number. IsNumberOfModel design placing.model number) (placings model.items) numbers) design.models targets number (get_or targets number []) are listed in

@@ -39,7 +39,7 @@ module _ (targets : Targets) where
     pub reached : AreReached targets found
 
   -- a number that may be added
-  pub record IsFit (number : ℕ) : Type 0 where
+  pub record MayBeAdded (number : ℕ) : Type 0 where
     pub within : number < length targets
     pub reached : (test : ℕ → Bool) → IsClosed targets test → test number ≡ true
 
@@ -48,7 +48,7 @@ module _ (targets : Targets) where
     pub grows : Grows found new
     pub has : is_among new number ≡ true
 
-  add_by : (found : List ℕ) (number : ℕ) (among : Bool) → is_among found number ≡ among → AreGood found → IsFit number → IsAdded found number (cond among found (found ++ number ∷ []))
+  add_by : (found : List ℕ) (number : ℕ) (among : Bool) → is_among found number ≡ among → AreGood found → MayBeAdded number → IsAdded found number (cond among found (found ++ number ∷ []))
   add_by found number true is good fit = record { good = good; grows = grows_not found; has = is }
   add_by found number false is good fit = record {
     good = record {
@@ -61,28 +61,28 @@ module _ (targets : Targets) where
     has = among_last found number;
   }
 
-  pub add : (found : List ℕ) (number : ℕ) → AreGood found → IsFit number → IsAdded found number (with_number found number)
+  pub add : (found : List ℕ) (number : ℕ) → AreGood found → MayBeAdded number → IsAdded found number (with_number found number)
   add found number good fit = add_by found number (is_among found number) refl good fit
 
-  pub record AreAdded (found : List ℕ) (placed : List (Option ℕ)) (new : List ℕ) : Type 0 where
+  pub record AddsPlaced (found : List ℕ) (placed : List (Option ℕ)) (new : List ℕ) : Type 0 where
     pub good : AreGood new
     pub grows : Grows found new
     pub has : (place number : ℕ) → slice_get placed place ≡ Some (Some number) → is_among new number ≡ true
 
-  pub add_all : (found : List ℕ) (placed : List (Option ℕ)) → AreGood found → ((place number : ℕ) → slice_get placed place ≡ Some (Some number) → IsFit number)
-      → AreAdded found placed (with_targets found placed)
+  pub add_all : (found : List ℕ) (placed : List (Option ℕ)) → AreGood found → ((place number : ℕ) → slice_get placed place ≡ Some (Some number) → MayBeAdded number)
+      → AddsPlaced found placed (with_targets found placed)
   add_all found [] good fit = record { good = good; grows = grows_not found; has = λ place number at. absurd (none-some (Some number) at) }
   add_all found (None ∷ placed) good fit =
       let rest = add_all found placed good (λ place number at. fit (suc place) number at) in
       record { good = rest.good; grows = rest.grows; has = has rest } where
-        has : AreAdded found placed (with_targets found placed) → (place number : ℕ) → slice_get (None ∷ placed) place ≡ Some (Some number) → is_among (with_targets found placed) number ≡ true
+        has : AddsPlaced found placed (with_targets found placed) → (place number : ℕ) → slice_get (None ∷ placed) place ≡ Some (Some number) → is_among (with_targets found placed) number ≡ true
         has rest zero number at = absurd (none-some number (same_Some None (Some number) at))
         has rest (suc place) number at = rest.has place number at
   add_all found (Some first ∷ placed) good fit =
       let one = add found first good (fit 0 first refl) in
       let rest = add_all (with_number found first) placed one.good (λ place number at. fit (suc place) number at) in
       record { good = rest.good; grows = grows_on found (with_number found first) (with_targets (with_number found first) placed) one.grows rest.grows; has = has one rest } where
-        has : IsAdded found first (with_number found first) → AreAdded (with_number found first) placed (with_targets (with_number found first) placed)
+        has : IsAdded found first (with_number found first) → AddsPlaced (with_number found first) placed (with_targets (with_number found first) placed)
             → (place number : ℕ) → slice_get (Some first ∷ placed) place ≡ Some (Some number) → is_among (with_targets (with_number found first) placed) number ≡ true
         has one rest zero number at =
             let same : first ≡ number = same_Some first number (same_Some (Some first) (Some number) at) in
@@ -97,7 +97,7 @@ module _ (targets : Targets) where
     pub closed : (i place placed : ℕ) → i < at → PlacesAt targets (get_or found i 0) place placed → is_among found placed ≡ true
 
   -- what a number that was reached places may be added
-  fit : AreWithin targets → (found : List ℕ) → AreGood found → (number : ℕ) → is_among found number ≡ true → (place placed : ℕ) → PlacesAt targets number place placed → IsFit placed
+  fit : AreWithin targets → (found : List ℕ) → AreGood found → (number : ℕ) → is_among found number ≡ true → (place placed : ℕ) → PlacesAt targets number place placed → MayBeAdded placed
   fit within found good number among place placed places = record {
     within = within.within number place placed places;
     reached = λ test closed. closed.placed number place placed (good.reached test closed number among) places;

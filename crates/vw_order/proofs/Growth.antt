@@ -59,17 +59,17 @@ module _ (graph : Graph) (within : IsWithin graph) where
     behind : IsBehind graph order
 
   -- numbers that are left, of which each reads the next
-  record IsWalk (order stack : List ℕ) (last : ℕ) : Type 0 where
+  record IsReadingChain (order stack : List ℕ) (last : ℕ) : Type 0 where
     counted : (number : ℕ) → is_among (stack ++ last ∷ []) number ≡ true → graph.counts number ≡ true
     once : IsDistinct eqb (stack ++ last ∷ [])
     leads : Leads graph (stack ++ last ∷ [])
     left : is_among order last ≡ false
 
-  walk_short : (order stack : List ℕ) (last : ℕ) → IsWalk order stack last → length stack + 1 ≤ graph.count
+  walk_short : (order stack : List ℕ) (last : ℕ) → IsReadingChain order stack last → length stack + 1 ≤ graph.count
   walk_short order stack last along = omega (arith, length-append stack (last ∷ []), once_short (stack ++ last ∷ []) graph.count along.once (λ number among. within.below number (along.counted number among)))
 
   -- a walk ends at a number that may come next, or closes a circle, or goes on
-  step : (order stack : List ℕ) (last : ℕ) → IsWalk order stack last → (Circle ⊎ ((number : ℕ) × IsNext order number)) ⊎ ((next : ℕ) × IsWalk order (stack ++ last ∷ []) next)
+  step : (order stack : List ℕ) (last : ℕ) → IsReadingChain order stack last → (Circle ⊎ ((number : ℕ) × IsNext order number)) ⊎ ((next : ℕ) × IsReadingChain order (stack ++ last ∷ []) next)
   step order stack last along = ⊎_elim
       (λ found. ⊎_elim
       (λ met. inl (inl (round_from found.1 stack ++ last ∷ [], closes graph stack last found.1 along.once along.leads (found.0, found.2) met along.counted)))
@@ -78,7 +78,7 @@ module _ (graph : Graph) (within : IsWithin graph) where
       (λ kids. inl (inr (last, record { counts = along.counted last (among_last stack last); left = along.left; kids = kids })))
       (left_place order (graph.reads last))
     where
-      on : (next : ℕ) → is_among (stack ++ last ∷ []) next ≡ false → is_among order next ≡ false → Reads graph last next → IsWalk order (stack ++ last ∷ []) next
+      on : (next : ℕ) → is_among (stack ++ last ∷ []) next ≡ false → is_among order next ≡ false → Reads graph last next → IsReadingChain order (stack ++ last ∷ []) next
       on next new left reads = record {
         counted = λ number among. ⊎_elim (λ old. along.counted number old) (λ top. ap graph.counts (sym (among_one next number top)) ∙ within.read last reads.0 next (along.counted last (among_last stack last)) reads.1) (among_either (stack ++ last ∷ []) (next ∷ []) number among);
         once = once_push (stack ++ last ∷ []) next along.once new;
@@ -86,13 +86,13 @@ module _ (graph : Graph) (within : IsWithin graph) where
         left = left;
       }
 
-  walk : (steps : ℕ) (order stack : List ℕ) (last : ℕ) → graph.count ≤ length stack + steps → IsWalk order stack last → Circle ⊎ ((number : ℕ) × IsNext order number)
+  walk : (steps : ℕ) (order stack : List ℕ) (last : ℕ) → graph.count ≤ length stack + steps → IsReadingChain order stack last → Circle ⊎ ((number : ℕ) × IsNext order number)
   walk zero order stack last far along = absurd (omega (arith, far, walk_short order stack last along))
   walk (suc steps) order stack last far along =
       ⊎_elim (λ ended. ended) (λ further. walk steps order (stack ++ last ∷ []) further.0 (omega (arith, far, length-append stack (last ∷ []))) further.1) (step order stack last along)
 
   -- a walk begins anywhere
-  begun : (order : List ℕ) (first : ℕ) → graph.counts first ≡ true → is_among order first ≡ false → IsWalk order [] first
+  begun : (order : List ℕ) (first : ℕ) → graph.counts first ≡ true → is_among order first ≡ false → IsReadingChain order [] first
   begun order first counts left = record {
     counted = λ number among. ap graph.counts (sym (among_one first number among)) ∙ counts;
     once = once_push [] first once_none refl;

@@ -30,13 +30,13 @@ further_place None place = refl
 further_place (Some p) place = ap Some (omega arith)
 
 -- the text that stands at the place
-pub record StandsAt (files : List Held) (name : List ℕ) (place : ℕ) (d : Held) : Type 0 where
+pub record IsTextAt (files : List Held) (name : List ℕ) (place : ℕ) (d : Held) : Type 0 where
   pub within : place < length files
   pub same : (get_or files place d).name ≡ name
   pub text : told_in files name ≡ held (get_or files place d).bytes.items
   pub faults : (others : ℕ) → faults_in files others name ≡ (get_or files place d).faults
 
-stands_first : (file : Held) (files : List Held) (name : List ℕ) (place : ℕ) (d : Held) → bytes_eq file.name name ≡ true → place ≡ 0 → StandsAt (file ∷ files) name place d
+stands_first : (file : Held) (files : List Held) (name : List ℕ) (place : ℕ) (d : Held) → bytes_eq file.name name ≡ true → place ≡ 0 → IsTextAt (file ∷ files) name place d
 stands_first file files name place d passes first = rw first (record {
   within = omega arith;
   same = (bytes_eq-Decides file.name name).0 passes;
@@ -44,7 +44,7 @@ stands_first file files name place d passes first = rw first (record {
   faults = λ others. rw passes refl;
 })
 
-stands_later : (file : Held) (files : List Held) (name : List ℕ) (place earlier : ℕ) (d : Held) → bytes_eq file.name name ≡ false → place ≡ suc earlier → StandsAt files name earlier d → StandsAt (file ∷ files) name place d
+stands_later : (file : Held) (files : List Held) (name : List ℕ) (place earlier : ℕ) (d : Held) → bytes_eq file.name name ≡ false → place ≡ suc earlier → IsTextAt files name earlier d → IsTextAt (file ∷ files) name place d
 stands_later file files name place earlier d fails later rest = rw later (record {
   within = omega (arith, rest.within);
   same = rest.same;
@@ -52,7 +52,7 @@ stands_later file files name place earlier d fails later rest = rw later (record
   faults = λ others. rw fails (rest.faults others);
 })
 
-pub stands_at : (files : List Held) (name : List ℕ) (place : ℕ) (d : Held) → text_place files name ≡ Some place → StandsAt files name place d
+pub stands_at : (files : List Held) (name : List ℕ) (place : ℕ) (d : Held) → text_place files name ≡ Some place → IsTextAt files name place d
 stands_at [] name place d e = absurd (cc)
 stands_at (file ∷ files) name place d e =
     ⊎_elim

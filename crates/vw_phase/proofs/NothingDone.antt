@@ -20,14 +20,14 @@ use Rattle.vw_phase.specs.Steps.Underway.{IsUnderway, start_by}
 use Rattle.vw_net.specs.declared.flat.Flat.{Flat}
 
 -- hops of which there are none
-abbrev AreNone : List (List Hop) → Type 0
-AreNone hops = All (λ sent. sent ≡ []) hops
+abbrev HaveNoHops : List (List Hop) → Type 0
+HaveNoHops hops = All (λ sent. sent ≡ []) hops
 
-none_in_all : (hops : List (List Hop)) → AreNone hops → all_hops hops ≡ []
+none_in_all : (hops : List (List Hop)) → HaveNoHops hops → all_hops hops ≡ []
 none_in_all [] none = refl
 none_in_all (sent ∷ hops) none = flat_map-cons (λ (one : List Hop). one) sent hops ∙ ap₂ (λ (a b : List Hop). a ++ b) (All-head (λ (one : List Hop). one ≡ []) sent hops none) (none_in_all hops (All-tail (λ (one : List Hop). one ≡ []) sent hops none))
 
-none_last : (hops : List (List Hop)) → AreNone hops → 0 ≡ greatest (map after_last hops)
+none_last : (hops : List (List Hop)) → HaveNoHops hops → 0 ≡ greatest (map after_last hops)
 none_last [] none = refl
 none_last (sent ∷ hops) none = ap₂ max (ap after_last (sym (All-head (λ (one : List Hop). one ≡ []) sent hops none))) (none_last hops (All-tail (λ (one : List Hop). one ≡ []) sent hops none))
 

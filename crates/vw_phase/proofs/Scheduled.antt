@@ -31,7 +31,7 @@ use Rattle.vw_plan.specs.declared.wire.Wire.{Wire}
 use Rattle.vw_plan.specs.Earliest.{AreEarliest, phase_start, ready_in_phase, wire_depth}
 use Rattle.vw_phase.specs.declared.draft.Draft.{Draft}
 use Rattle.vw_phase.specs.Schedules.{IsSchedule}
-use Rattle.vw_phase.specs.Steps.Done.{Has, IsAlong, IsTasksDone, IsSentWell, all_hops, latch_moment, latest}
+use Rattle.vw_phase.specs.Steps.Done.{IsMadeOf, IsAlong, IsTasksDone, IsSentWell, all_hops, latch_moment, latest}
 use Rattle.vw_phase.specs.Steps.Leads.{wires_of}
 use Rattle.vw_phase.proofs.WiresOfRoutes.{as_many, before_last, follows, leads_along, once_apart}
 use Rattle.vw_plan.proofs.LeadLevels.{Settles}
@@ -135,7 +135,7 @@ module _ (ordered : Ordered) (board : Board) (plan : Plan) where
       let fits : IsWellFormed nets (Latch d init) = subst (IsWellFormed nets) same (flat.cells_fit number (Latch d init) within) in
       All-head (λ net. net < nets) d [] fits.1
 
-  module _ (chip_of : List ℕ) (routes : List Route) (draft : Draft) (done : IsTasksDone ordered board chip_of routes draft) (law : (one : Setting) → Settles one) (has : Has chip_of routes draft.hops.items plan) where
+  module _ (chip_of : List ℕ) (routes : List Route) (draft : Draft) (done : IsTasksDone ordered board chip_of routes draft) (law : (one : Setting) → Settles one) (has : IsMadeOf chip_of routes draft.hops.items plan) where
     abbrev moment_of : ℕ → Cell → ℕ
     moment_of = latch_moment flat board chip_of routes draft.hops.items draft.leads.items
 
@@ -181,7 +181,7 @@ module _ (ordered : Ordered) (board : Board) (plan : Plan) (routes : List Route)
   abbrev hops : List (List Hop)
   hops = draft.hops.items
 
-  has : Has plan.chip_of routes hops plan
+  has : IsMadeOf plan.chip_of routes hops plan
   has = record { chips = refl; wires = wires }
 
   needed_all : All (λ route. is_needed ordered.flat plan.chip_of route.net route.to ≡ true) routes
@@ -213,7 +213,7 @@ module _ (ordered : Ordered) (board : Board) (plan : Plan) (routes : List Route)
       earliest = All-weaker (IsSentWell its) (λ wire. AreEarliest board plan (ready_in_phase its wire) wire.hops) (λ wire well. well.earliest) plan.wires (done.sent_well plan has);
     };
     least_period = λ other same_chips same_wires shorter sound_other.
-        let other_has : Has plan.chip_of routes hops other = record { chips = same_chips; wires = same_wires ∙ wires } in
+        let other_has : IsMadeOf plan.chip_of routes hops other = record { chips = same_chips; wires = same_wires ∙ wires } in
         let not_shorter : max (max draft.after 1) (latest (latch_moment ordered.flat board plan.chip_of routes hops draft.leads.items) 0 ordered.flat.cells) ≤ other.period = period_long ordered board other plan.chip_of routes draft done law other_has sound_other in
         omega (arith, not_shorter, period, shorter);
   }

@@ -39,7 +39,7 @@ pub cut_at : (further : List ℕ) (place : ℕ) → place < length further → d
 cut_at further place within = let next : suc place ≡ place + 1 = omega arith in drop-cons further place 0 within ∙ ap (λ (from : ℕ). get_or further place 0 ∷ drop from further) next
 
 -- so far a way has been gone up to a place
-pub record IsUnderWay (board : Board) (start : List Taken) (ready first : ℕ) (further : List ℕ) (slots : Slots) (hops : List Hop) (from moment place : ℕ) : Type 0 where
+pub record IsOnItsWay (board : Board) (start : List Taken) (ready first : ℕ) (further : List ℕ) (slots : Slots) (hops : List Hop) (from moment place : ℕ) : Type 0 where
   pub linked : AreLinked board.links from (drop place further)
   pub widths : slots.widths ≡ map (λ link. link.width) board.links
   pub taken : slots.taken ≡ start ++ map (taken_by board) hops
@@ -51,10 +51,10 @@ pub record IsUnderWay (board : Board) (start : List Taken) (ready first : ℕ) (
 
 module _ (board : Board) (start : List Taken) (ready first : ℕ) (further : List ℕ) where
   -- one hop further
-  pub further_on : (slots : Slots) (hops : List Hop) (from moment place : ℕ) → IsUnderWay board start ready first further slots hops from moment place → place < length further → length start + length further < 2 ^ 30
+  pub further_on : (slots : Slots) (hops : List Hop) (from moment place : ℕ) → IsOnItsWay board start ready first further slots hops from moment place → place < length further → length start + length further < 2 ^ 30
       → (hop : Hop) (link : ℕ) (slot : Slot) (after : Slots) (later : List Hop) (next : ℕ) → next ≡ slot.at + 1 → hop.from ≡ from → hop.to ≡ get_or further place 0 → hop.pin ≡ slot.pin → hop.at ≡ slot.at
       → link ≡ link_place board.links from (get_or further place 0) → IsFirstFree slots link moment slot → slot.at ≤ moment + length slots.taken → after ≡ with_slot slots link slot → later ≡ hops ++ hop ∷ []
-      → IsUnderWay board start ready first further after later (get_or further place 0) next (place + 1)
+      → IsOnItsWay board start ready first further after later (get_or further place 0) next (place + 1)
   further_on slots hops from moment place way within few hop link slot after later next next_is from_is to_is pin_is at_is link_is free soon after_is later_is =
       let to = get_or further place 0 in
       let cut : drop place further ≡ to ∷ drop (place + 1) further = cut_at further place within in

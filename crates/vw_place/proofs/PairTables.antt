@@ -32,17 +32,17 @@ range_below many place default within =
     omega (arith, get_or-range_with_len 0 many place default below)
 
 -- a needed pair has a net of the design, and a node of the board
-abbrev pub IsWithin : Flat → ℕ → Need → Type 0
-IsWithin flat chips need = (need.net < flat.inputs + length flat.cells) × (need.to ≤ chips)
+abbrev pub IsPairWithin : Flat → ℕ → Need → Type 0
+IsPairWithin flat chips need = (need.net < flat.inputs + length flat.cells) × (need.to ≤ chips)
 
-pub pairs_within : (flat : Flat) (chip_of : List ℕ) (chips : ℕ) → All (λ chip. chip ≤ chips) chip_of → All (IsWithin flat chips) (needed_pairs flat chip_of)
+pub pairs_within : (flat : Flat) (chip_of : List ℕ) (chips : ℕ) → All (λ chip. chip ≤ chips) chip_of → All (IsPairWithin flat chips) (needed_pairs flat chip_of)
 unfolding needed_pairs
 pairs_within flat chip_of chips low =
     let nodes = greatest chip_of + 1 in
     let pair = λ (net node : ℕ). let need : Need = record { net = net; to = node } in need in
     let few = greatest_low chips chip_of low in
-    all_nets (IsWithin flat chips) (λ net. map (pair net) (needed_nodes flat chip_of net)) 0 (flat.inputs + length flat.cells) (λ net below.
-    All-map (IsWithin flat chips) (pair net) (needed_nodes flat chip_of net) (All-filter (is_needed flat chip_of net) (λ node. IsWithin flat chips (pair net node)) (range_with_len 0 nodes) (All-weaker (λ node. node < nodes) (λ node. IsWithin flat chips (pair net node)) (λ node is. (omega arith, omega arith)) (range_with_len 0 nodes) (range_below nodes))))
+    all_nets (IsPairWithin flat chips) (λ net. map (pair net) (needed_nodes flat chip_of net)) 0 (flat.inputs + length flat.cells) (λ net below.
+    All-map (IsPairWithin flat chips) (pair net) (needed_nodes flat chip_of net) (All-filter (is_needed flat chip_of net) (λ node. IsPairWithin flat chips (pair net node)) (range_with_len 0 nodes) (All-weaker (λ node. node < nodes) (λ node. IsPairWithin flat chips (pair net node)) (λ node is. (omega arith, omega arith)) (range_with_len 0 nodes) (range_below nodes))))
 
 -- a net's own node is one of the board
 pub home_low : (flat : Flat) (chip_of : List ℕ) (chips net : ℕ) → All (λ chip. chip ≤ chips) chip_of → node_of flat chip_of net ≤ chips
@@ -121,9 +121,9 @@ none_counted flat chip_of needs table many is_many is_table = record {
   at place default within = ap (λ (list : List ℕ). get_or list place default) is_table ∙ get_or-replicate many place 0 default within
 
 -- a pair that is listed
-pub need_within : (flat : Flat) (chip_of : List ℕ) (needs : List Need) (place : ℕ) (default : Need) → All (λ chip. chip ≤ 32) chip_of → needs ≡ needed_pairs flat chip_of → place < length needs → IsWithin flat 32 (get_or needs place default)
+pub need_within : (flat : Flat) (chip_of : List ℕ) (needs : List Need) (place : ℕ) (default : Need) → All (λ chip. chip ≤ 32) chip_of → needs ≡ needed_pairs flat chip_of → place < length needs → IsPairWithin flat 32 (get_or needs place default)
 need_within flat chip_of needs place default low is_needs within =
-    subst (λ (list : List Need). All (IsWithin flat 32) list) (sym is_needs) (pairs_within flat chip_of 32 low) place default within
+    subst (λ (list : List Need). All (IsPairWithin flat 32) list) (sym is_needs) (pairs_within flat chip_of 32 low) place default within
 
 pub all_counted : (flat : Flat) (chip_of : List ℕ) (needs : List Need) (place : ℕ) (table : List ℕ) → All (λ chip. chip ≤ 32) chip_of → needs ≡ needed_pairs flat chip_of → length needs ≤ place → place ≤ length needs → IsCounted flat chip_of needs place table → IsTraffic flat chip_of table
 all_counted flat chip_of needs place table low is_needs whole within counted =

@@ -9,7 +9,7 @@ use Rattle.vw_plan.specs.declared.link.Link.{Link}
 use Rattle.vw_plan.specs.declared.board.Board.{Board}
 use Rattle.vw_plan.specs.Walks.{has_link, IsWalk}
 use Rattle.vw_plan.specs.Distance.{IsDistance, distance, has_walk, least}
-use Rattle.vw_plan.proofs.Walking.{Found, found_link, has_walk-IsWalk, Walked, walk-has_walk, IsLeast, least_passes}
+use Rattle.vw_plan.proofs.Walking.{Found, found_link, has_walk-IsWalk, Walked, walk-has_walk, IsLeastPassing, least_passes}
 
 -- a walk that goes through no node twice
 record Simple (links : List Link) (from to : ℕ) : Type 0 where
@@ -82,12 +82,12 @@ module _ (chips : ℕ) (links : List Link) (ends : All (λ link. (link.from ≤ 
       record { count = length simple.nodes; few = few_links from to within simple; passes = has_walk-IsWalk links from simple.nodes to simple.walk }
 
   -- the least number of links that passes the test is at most that of a walk
-  pub least_of_walk : (from : ℕ) (nodes : List ℕ) (to : ℕ) → from ≤ chips → IsWalk links from nodes to → IsLeast (λ count. has_walk links count from to) chips (length nodes)
+  pub least_of_walk : (from : ℕ) (nodes : List ℕ) (to : ℕ) → from ≤ chips → IsWalk links from nodes to → IsLeastPassing (λ count. has_walk links count from to) chips (length nodes)
   least_of_walk from nodes to within walk =
       let test = λ (count : ℕ). has_walk links count from to in
       let short : IsShort from to = short_walk from nodes to within walk in
-      let found : IsLeast test chips short.count = least_passes test chips short.count short.few short.passes in
-      let if_long = λ (long : chips < length nodes). let whole : IsLeast test chips (length nodes) = record { below = omega (arith, found.below, short.few); passes = found.passes } in whole in
+      let found : IsLeastPassing test chips short.count = least_passes test chips short.count short.few short.passes in
+      let if_long = λ (long : chips < length nodes). let whole : IsLeastPassing test chips (length nodes) = record { below = omega (arith, found.below, short.few); passes = found.passes } in whole in
       let if_short = λ (fits : length nodes ≤ chips). least_passes test chips (length nodes) fits (has_walk-IsWalk links from nodes to walk) in
       ⊎_elim if_long if_short (cases_lt chips (length nodes))
 

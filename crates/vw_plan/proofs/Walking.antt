@@ -57,15 +57,15 @@ walk-has_walk links (suc count) from to has =
     record { nodes = link.to ∷ rest.nodes; walk = (here, rest.walk); long = ap suc rest.long }
 
 -- of the numbers that pass a test, none below the limit is less than the least, and the least passes
-pub record IsLeast (test : ℕ → Bool) (limit number : ℕ) : Type 0 where
+pub record IsLeastPassing (test : ℕ → Bool) (limit number : ℕ) : Type 0 where
   pub below : least test limit ≤ number
   pub passes : test (least test limit) ≡ true
 
-pub least_passes : (test : ℕ → Bool) (limit number : ℕ) → number ≤ limit → test number ≡ true → IsLeast test limit number
+pub least_passes : (test : ℕ → Bool) (limit number : ℕ) → number ≤ limit → test number ≡ true → IsLeastPassing test limit number
 least_passes test zero number within passes = let none : number ≡ 0 = omega arith in record { below = omega arith; passes = subst (λ n. test n ≡ true) none passes }
 least_passes test (suc limit) zero within first = record { below = rw first (omega arith); passes = rw first first }
 least_passes test (suc limit) (suc number) within passes =
-    let rest : IsLeast (λ other. test (suc other)) limit number = least_passes (λ other. test (suc other)) limit number (omega arith) passes in
-    let if_first = λ (first : test 0 ≡ true). let whole : IsLeast test (suc limit) (suc number) = record { below = rw first (omega arith); passes = rw first first } in whole in
-    let if_later = λ (later : test 0 ≡ false). let whole : IsLeast test (suc limit) (suc number) = record { below = rw later (omega (arith, rest.below)); passes = rw later rest.passes } in whole in
+    let rest : IsLeastPassing (λ other. test (suc other)) limit number = least_passes (λ other. test (suc other)) limit number (omega arith) passes in
+    let if_first = λ (first : test 0 ≡ true). let whole : IsLeastPassing test (suc limit) (suc number) = record { below = rw first (omega arith); passes = rw first first } in whole in
+    let if_later = λ (later : test 0 ≡ false). let whole : IsLeastPassing test (suc limit) (suc number) = record { below = rw later (omega (arith, rest.below)); passes = rw later rest.passes } in whole in
     ⊎_elim if_first if_later (cases_Bool (test 0))

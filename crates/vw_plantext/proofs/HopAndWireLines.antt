@@ -9,9 +9,9 @@ use Rattle.vw_plan.specs.declared.wire.Wire.{Wire}
 use Rattle.vw_plantext.specs.Content.{Content, hop_count, IsHopInRange, IsWireInRange, IsInRange}
 use Rattle.vw_plantext.specs.Grammar.{number_line, hop_line, wire_line, body_lines}
 use Rattle.vw_plantext.specs.Steps.Hops.{IsHopLine, IsNoHopLine, IsNoWireHeadLine}
-use Rattle.vw_plantext.specs.Steps.Bodies.{UnfinishedWire, BodyState, part_with_hop, FollowsWires, FollowsHops, FollowsPart, IsLeft, part_hops, part_count, IsPartInRange, FitsPart, Fits, TakesPlanLine, RefusesLine, ClosesWire}
+use Rattle.vw_plantext.specs.Steps.Bodies.{UnfinishedWire, BodyState, part_with_hop, FollowsWires, FollowsHops, FollowsPart, IsRestOfPlan, part_hops, part_count, IsPartInRange, FitsPart, Fits, TakesPlanLine, RefusesLine, ClosesWire}
 use Rattle.vw_plantext.proofs.NumberLines.{AreSmall, number_line_injective}
-use Rattle.vw_plantext.proofs.Lines.{IsSmall, small_wire, hop_count-cons}
+use Rattle.vw_plantext.proofs.Lines.{Fits64Bits, small_wire, hop_count-cons}
 use Rattle.vw_plantext.proofs.Spellings.{plain_wire, hop_line_injective, body_lines-cons}
 
 -- what holds of each element holds of one amid others
@@ -117,7 +117,7 @@ module _ (left : ℕ) (done all : List Wire) (line : List ℕ) (more : List (Lis
         let size : length first.rest + 1 ≡ left = first.count in
         record { hops = first.wire.hops; hops_left = ap (λ (list : List ℕ). slice_index list 2) numbers; rest = first.rest; count = omega arith; are = first.are ∙ ap (λ (w : Wire). done ++ w ∷ first.rest) same; lines_are = first.behind } where
           small_numbers : net < 2 ^ 32 → to < 2 ^ 32 → count < 2 ^ 30 → AreSmall (net ∷ to ∷ count ∷ [])
-          small_numbers net_small to_small count_small = All-cons IsSmall net (to ∷ count ∷ []) (omega arith) (All-cons IsSmall to (count ∷ []) (omega arith) (All-cons IsSmall count [] (omega arith) (All-nil IsSmall)))
+          small_numbers net_small to_small count_small = All-cons Fits64Bits net (to ∷ count ∷ []) (omega arith) (All-cons Fits64Bits to (count ∷ []) (omega arith) (All-cons Fits64Bits count [] (omega arith) (All-nil Fits64Bits)))
 
     follows_wire_back : FollowsHops part (left - 1) done all more → FollowsWires left done all (line ∷ more)
     follows_wire_back follows =
@@ -176,10 +176,10 @@ module _ (state : BodyState) (fits : Fits state) (part : UnfinishedWire) (is : s
       hops = let hops : hop_count state.wires + ((length part.hops + part.left) + (state.room + 1)) ≡ 2 ^ 30 = subst (λ (p : Option UnfinishedWire). hop_count state.wires + (part_hops p + (state.room + 1)) ≡ 2 ^ 30) old fits.hops in omega (arith, length-append part.hops (hop ∷ []));
     }
 
-    tells : (content : Content) (more : List (List ℕ)) → IsInRange content → IsLeft state content (line ∷ more) → IsLeft (with_part (part_with_hop part hop)) content more
+    tells : (content : Content) (more : List (List ℕ)) → IsInRange content → IsRestOfPlan state content (line ∷ more) → IsRestOfPlan (with_part (part_with_hop part hop)) content more
     tells content more in_range is_left = record { chip_of = is_left.chip_of; period = is_left.period; wires = follows_hop part state.left state.wires content.wires line more hop is_hop some in_range.wires (moved state.part (Some part) old state.left state.wires content.wires (line ∷ more) is_left.wires) }
 
-    makes : (content : Content) (more : List (List ℕ)) → IsLeft (with_part (part_with_hop part hop)) content more → IsLeft state content (line ∷ more)
+    makes : (content : Content) (more : List (List ℕ)) → IsRestOfPlan (with_part (part_with_hop part hop)) content more → IsRestOfPlan state content (line ∷ more)
     makes content more is_left = record { chip_of = is_left.chip_of; period = is_left.period; wires = moved (Some part) state.part (sym old) state.left state.wires content.wires (line ∷ more) (follows_hop_back part state.left state.wires content.wires line more hop is_hop some is_left.wires) }
 
   -- a wire that has all its hops, among the others
@@ -205,10 +205,10 @@ module _ (state : BodyState) (fits : Fits state) (part : UnfinishedWire) (is : s
       hops = let hops : hop_count state.wires + ((length part.hops + part.left) + (state.room + 1)) ≡ 2 ^ 30 = subst (λ (p : Option UnfinishedWire). hop_count state.wires + (part_hops p + (state.room + 1)) ≡ 2 ^ 30) old fits.hops in omega (arith, hop_count-append state.wires (record { net = part.net; to = part.to; hops = part.hops } ∷ []), hop_count-cons (record { net = part.net; to = part.to; hops = part.hops }) [], hop_count-nil);
     }
 
-    tells : (content : Content) (more : List (List ℕ)) → IsLeft state content more → IsLeft done content more
+    tells : (content : Content) (more : List (List ℕ)) → IsRestOfPlan state content more → IsRestOfPlan done content more
     tells content more is_left = record { chip_of = is_left.chip_of; period = is_left.period; wires = closed_wires part full state.left state.wires content.wires more (moved state.part (Some part) old state.left state.wires content.wires more is_left.wires) }
 
-    makes : (content : Content) (more : List (List ℕ)) → IsLeft done content more → IsLeft state content more
+    makes : (content : Content) (more : List (List ℕ)) → IsRestOfPlan done content more → IsRestOfPlan state content more
     makes content more is_left = record { chip_of = is_left.chip_of; period = is_left.period; wires = moved (Some part) state.part (sym old) state.left state.wires content.wires more (opened_wires part full state.left state.wires content.wires more is_left.wires) }
 
 module _ (state : BodyState) (fits : Fits state) (is : state.part ≡ None) where
@@ -240,10 +240,10 @@ module _ (state : BodyState) (fits : Fits state) (is : state.part ≡ None) wher
     small : count < 2 ^ 30
     small = let all : hop_count state.wires + (state.room + 1) ≡ 2 ^ 30 = all_hops in omega arith
 
-    tells : (content : Content) (more : List (List ℕ)) → IsInRange content → IsLeft state content (line ∷ more) → IsLeft (with_wire (record { net = net; to = to; hops = []; left = count })) content more
+    tells : (content : Content) (more : List (List ℕ)) → IsInRange content → IsRestOfPlan state content (line ∷ more) → IsRestOfPlan (with_wire (record { net = net; to = to; hops = []; left = count })) content more
     tells content more in_range is_left = record { chip_of = is_left.chip_of; period = is_left.period; wires = follows_wire state.left state.wires content.wires line more net to count is_line some net_fits to_fits small in_range.wires in_range.few_hops (moved state.part None old state.left state.wires content.wires (line ∷ more) is_left.wires) }
 
-    makes : (content : Content) (more : List (List ℕ)) → IsLeft (with_wire (record { net = net; to = to; hops = []; left = count })) content more → IsLeft state content (line ∷ more)
+    makes : (content : Content) (more : List (List ℕ)) → IsRestOfPlan (with_wire (record { net = net; to = to; hops = []; left = count })) content more → IsRestOfPlan state content (line ∷ more)
     makes content more is_left = record { chip_of = is_left.chip_of; period = is_left.period; wires = moved None state.part (sym old) state.left state.wires content.wires (line ∷ more) (follows_wire_back state.left state.wires content.wires line more net to count is_line some net_fits to_fits small is_left.wires) }
 
 -- a wire of its parts

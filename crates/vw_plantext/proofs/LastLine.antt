@@ -10,7 +10,7 @@ use Rattle.vw_plantext.specs.Content.{Content, hop_count, IsInRange}
 use Rattle.vw_plantext.specs.Grammar.{body_lines, plan_lines, spelling}
 use Rattle.vw_plantext.specs.CanStand.{CanStand, IsFirstBadLine}
 use Rattle.vw_plantext.specs.Steps.Cuts.{IsOneLine, IsLineCut}
-use Rattle.vw_plantext.specs.Steps.Bodies.{UnfinishedWire, BodyState, FollowsWires, IsLeft, part_hops, part_count, is_complete, is_complete_but, RefusesLine}
+use Rattle.vw_plantext.specs.Steps.Bodies.{UnfinishedWire, BodyState, FollowsWires, IsRestOfPlan, part_hops, part_count, is_complete, is_complete_but, RefusesLine}
 use Rattle.vw_plantext.specs.Steps.Starts.{IsReadTo, IsFaultOfText}
 use Rattle.vw_plantext.specs.Steps.Finished.{content_read, EndsPlan, EndsBadly, IsSpelled}
 use Rattle.vw_plantext.proofs.HopAndWireLines.{moved}
@@ -37,10 +37,10 @@ module _ (text : List ℕ) (state : BodyState) (rest : List ℕ) (number : ℕ) 
   are : IsComplete state.part state.left
   are = complete_parts state.part state.left complete
 
-  end_left : (content : Content) (more : List (List ℕ)) → IsLeft state content more → more ≡ codes "end" ∷ []
+  end_left : (content : Content) (more : List (List ℕ)) → IsRestOfPlan state content more → more ≡ codes "end" ∷ []
   end_left content more is_left = only_end state.left state.wires content.wires more are.all (moved state.part None are.none state.left state.wires content.wires more is_left.wires)
 
-  read_is_left : IsLeft state (content_read state) (codes "end" ∷ [])
+  read_is_left : IsRestOfPlan state (content_read state) (codes "end" ∷ [])
   read_is_left = record { chip_of = refl; period = refl; wires = moved None state.part (sym are.none) state.left state.wires state.wires (codes "end" ∷ []) (record { rest = []; count = sym are.all; are = sym (append-nil state.wires); lines_are = refl }) }
 
   all_lines : to.lines ++ codes "end" ∷ [] ≡ plan_lines (content_read state)

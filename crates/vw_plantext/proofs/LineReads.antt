@@ -11,7 +11,7 @@ use Rattle.vw_plantext.specs.Steps.Hops.{hop_numbers, IsHop, IsNoHop, IsHopLine,
 use Rattle.vw_plantext.specs.declared.start.Head.{Head}
 use Rattle.vw_plantext.specs.Steps.Starts.{head_numbers, IsPlanHead, IsNoHead, IsHeadLine, IsNoHeadLine, AreChips, AreNoChips, IsChipsLine, IsNoChipsLine}
 use Rattle.vw_plantext.proofs.NumberLines.{AreSmall, IsNumberLine, line_numbers-Some, line_numbers-number_line}
-use Rattle.vw_plantext.proofs.Lines.{IsSmall, small_hop, small_head, small_chips}
+use Rattle.vw_plantext.proofs.Lines.{Fits64Bits, small_hop, small_head, small_chips}
 use Rattle.vw_plantext.proofs.Spellings.{plain_hop, plain_wire, plain_plan, plain_chips}
 
 -- the answer to a test, and what it says
@@ -31,7 +31,7 @@ hop_line_read line numbers read (Some hop) found =
     record { is = is.is ∙ ap (number_line (codes "hop")) found.are; in_range = found.in_range }
 
 wire_small : (room net to hops : ℕ) → room < 2 ^ 64 → net < 2 ^ 32 → to < 2 ^ 32 → hops ≤ room → AreSmall (net ∷ to ∷ hops ∷ [])
-wire_small room net to hops fits net_fits to_fits few = All-cons IsSmall net (to ∷ hops ∷ []) (omega arith) (All-cons IsSmall to (hops ∷ []) (omega arith) (All-cons IsSmall hops [] (omega arith) (All-nil IsSmall)))
+wire_small room net to hops fits net_fits to_fits few = All-cons Fits64Bits net (to ∷ hops ∷ []) (omega arith) (All-cons Fits64Bits to (hops ∷ []) (omega arith) (All-cons Fits64Bits hops [] (omega arith) (All-nil Fits64Bits)))
 
 wire_back : (room net to hops : ℕ) → room < 2 ^ 64 → net < 2 ^ 32 → to < 2 ^ 32 → hops ≤ room → line_numbers (codes "wire") (number_line (codes "wire") (net ∷ to ∷ hops ∷ [])) ≡ Some (net ∷ to ∷ hops ∷ [])
 wire_back room net to hops fits net_fits to_fits few = line_numbers-number_line (codes "wire") (net ∷ to ∷ hops ∷ []) plain_wire refl (wire_small room net to hops fits net_fits to_fits few)

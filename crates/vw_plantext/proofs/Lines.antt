@@ -18,8 +18,8 @@ use Rattle.vw_plantext.specs.Steps.Cuts.{IsOneLine}
 use Rattle.vw_plantext.proofs.LineEnds.{AreLines}
 
 -- at most 64 bits
-abbrev pub IsSmall : ℕ → Type 0
-IsSmall number = number < 2 ^ 64
+abbrev pub Fits64Bits : ℕ → Type 0
+Fits64Bits number = number < 2 ^ 64
 
 no_end : (number : ℕ) → number < 2 ^ 64 → IsOneLine (decimal number)
 no_end number small = list_any_none (λ b. b == 10) (decimal number) (λ place default within. let above : 48 ≤ get_or (decimal number) place default = decimal_above number small place default within in ne_eqb (get_or (decimal number) place default) 10 (λ same. omega arith))
@@ -36,13 +36,13 @@ one_line word numbers line small = append_one_line word (numbers_text numbers) l
 
 -- the numbers of each line have no more than 64 bits
 pub small_hop : (hop : Hop) → IsHopInRange hop → AreSmall (hop.from ∷ hop.to ∷ hop.pin ∷ hop.at ∷ [])
-small_hop hop fits = All-cons IsSmall hop.from (hop.to ∷ hop.pin ∷ hop.at ∷ []) (omega (arith, fits.from)) (All-cons IsSmall hop.to (hop.pin ∷ hop.at ∷ []) (omega (arith, fits.to)) (All-cons IsSmall hop.pin (hop.at ∷ []) (omega (arith, fits.pin)) (All-cons IsSmall hop.at [] (omega (arith, fits.at)) (All-nil IsSmall))))
+small_hop hop fits = All-cons Fits64Bits hop.from (hop.to ∷ hop.pin ∷ hop.at ∷ []) (omega (arith, fits.from)) (All-cons Fits64Bits hop.to (hop.pin ∷ hop.at ∷ []) (omega (arith, fits.to)) (All-cons Fits64Bits hop.pin (hop.at ∷ []) (omega (arith, fits.pin)) (All-cons Fits64Bits hop.at [] (omega (arith, fits.at)) (All-nil Fits64Bits))))
 
 pub small_wire : (wire : Wire) → IsWireInRange wire → length wire.hops < 2 ^ 30 → AreSmall (wire.net ∷ wire.to ∷ length wire.hops ∷ [])
-small_wire wire fits few = All-cons IsSmall wire.net (wire.to ∷ length wire.hops ∷ []) (omega (arith, fits.net)) (All-cons IsSmall wire.to (length wire.hops ∷ []) (omega (arith, fits.to)) (All-cons IsSmall (length wire.hops) [] (omega arith) (All-nil IsSmall)))
+small_wire wire fits few = All-cons Fits64Bits wire.net (wire.to ∷ length wire.hops ∷ []) (omega (arith, fits.net)) (All-cons Fits64Bits wire.to (length wire.hops ∷ []) (omega (arith, fits.to)) (All-cons Fits64Bits (length wire.hops) [] (omega arith) (All-nil Fits64Bits)))
 
 pub small_head : (cells wires period : ℕ) → cells < 2 ^ 32 → wires < 2 ^ 32 → period ≤ 2 ^ 62 → AreSmall (1 ∷ cells ∷ wires ∷ period ∷ [])
-small_head cells wires period few_cells few_wires short = All-cons IsSmall 1 (cells ∷ wires ∷ period ∷ []) (omega arith) (All-cons IsSmall cells (wires ∷ period ∷ []) (omega arith) (All-cons IsSmall wires (period ∷ []) (omega arith) (All-cons IsSmall period [] (omega arith) (All-nil IsSmall))))
+small_head cells wires period few_cells few_wires short = All-cons Fits64Bits 1 (cells ∷ wires ∷ period ∷ []) (omega arith) (All-cons Fits64Bits cells (wires ∷ period ∷ []) (omega arith) (All-cons Fits64Bits wires (period ∷ []) (omega arith) (All-cons Fits64Bits period [] (omega arith) (All-nil Fits64Bits))))
 
 pub small_chips : (chips : List ℕ) → All (λ chip. chip < 2 ^ 32) chips → AreSmall chips
 small_chips chips fit = All-weaker (λ chip. chip < 2 ^ 32) (λ chip. chip < 2 ^ 64) (λ chip small. omega arith) chips fit

@@ -12,7 +12,7 @@ use Rattle.vw_plantext.specs.Content.{Content, hop_count, IsHopInRange, IsWireIn
 use Rattle.vw_plantext.specs.Grammar.{number_line, head_line, chips_line, hop_line, wire_lines, body_lines, plan_lines}
 use Rattle.vw_plantext.specs.CanStand.{CanStand, IsFirstBadLine}
 use Rattle.vw_plantext.specs.Steps.Cuts.{IsOneLine, IsLineCut}
-use Rattle.vw_plantext.specs.Steps.Bodies.{UnfinishedWire, BodyState, FollowsWires, FollowsHops, FollowsPart, IsLeft, part_hops, part_count, IsPartInRange, FitsPart, Fits, HasRead, TakesPlanLine, RefusesLine, ClosesWire}
+use Rattle.vw_plantext.specs.Steps.Bodies.{UnfinishedWire, BodyState, FollowsWires, FollowsHops, FollowsPart, IsRestOfPlan, part_hops, part_count, IsPartInRange, FitsPart, Fits, HasRead, TakesPlanLine, RefusesLine, ClosesWire}
 use Rattle.vw_plantext.specs.Steps.Starts.{head_numbers, IsReadTo, IsHeadLine, IsNoHeadLine, IsChipsLine, IsNoChipsLine}
 use Rattle.vw_plantext.specs.declared.start.Head.{Head}
 use Rattle.vw_plantext.proofs.NumberLines.{number_line_injective}
@@ -122,10 +122,10 @@ module _ (lines : List (List ℕ)) (state : BodyState) (read : HasRead lines sta
   -- one line more
   pub read_more : (line : List ℕ) (mid new : BodyState) → TakesPlanLine state line mid → ClosesWire mid new → HasRead (lines ++ line ∷ []) new
   read_more line mid new takes closes = record { fits = closes.fits; some_left = closes.some_left; tells = tells; makes = makes } where
-    tells : (content : Content) (more : List (List ℕ)) → IsInRange content → (lines ++ line ∷ []) ++ more ≡ plan_lines content → IsLeft new content more
+    tells : (content : Content) (more : List (List ℕ)) → IsInRange content → (lines ++ line ∷ []) ++ more ≡ plan_lines content → IsRestOfPlan new content more
     tells content more fits same = closes.tells content more (takes.tells content more fits (read.tells content (line ∷ more) fits (sym (append_assoc lines (line ∷ []) more) ∙ same)))
 
-    makes : (content : Content) (more : List (List ℕ)) → IsLeft new content more → (lines ++ line ∷ []) ++ more ≡ plan_lines content
+    makes : (content : Content) (more : List (List ℕ)) → IsRestOfPlan new content more → (lines ++ line ∷ []) ++ more ≡ plan_lines content
     makes content more left = append_assoc lines (line ∷ []) more ∙ read.makes content (line ∷ more) (takes.makes content more (closes.makes content more left))
 
 -- ---- the first two lines
@@ -150,7 +150,7 @@ module _ (cells wires period : ℕ) (few_cells : cells < 2 ^ 32) (few_wires : wi
       begun_fits : Fits begun
       begun_fits = record { few_cells = omega arith; chips = chips_fit; short = short; wires = All-nil IsWireInRange; part = tt; few_wires = omega arith; hops = let none : hop_count [] ≡ 0 = refl in omega arith }
 
-      tells : (content : Content) (more : List (List ℕ)) → IsInRange content → (first_line ∷ second_line ∷ []) ++ more ≡ plan_lines content → IsLeft begun content more
+      tells : (content : Content) (more : List (List ℕ)) → IsInRange content → (first_line ∷ second_line ∷ []) ++ more ≡ plan_lines content → IsRestOfPlan begun content more
       tells content more fits same =
           let head : first_line ≡ head_line content = cc in
           let second : second_line ≡ chips_line content.chip_of = cc in
@@ -160,7 +160,7 @@ module _ (cells wires period : ℕ) (few_cells : cells < 2 ^ 32) (few_wires : wi
           let size : wires ≡ length content.wires = ap (λ (list : List ℕ). slice_index list 2) numbers in
           record { chip_of = sym chip_of; period = sym (ap (λ (list : List ℕ). slice_index list 3) numbers); wires = record { rest = content.wires; count = sym size; are = refl; lines_are = body } }
 
-      makes : (content : Content) (more : List (List ℕ)) → IsLeft begun content more → (first_line ∷ second_line ∷ []) ++ more ≡ plan_lines content
+      makes : (content : Content) (more : List (List ℕ)) → IsRestOfPlan begun content more → (first_line ∷ second_line ∷ []) ++ more ≡ plan_lines content
       makes content more is_left =
           let chip_count : cells ≡ length content.chip_of = sym each ∙ ap length (sym is_left.chip_of) in
           let wire_count : wires ≡ length content.wires = sym is_left.wires.count ∙ ap length (sym is_left.wires.are) in

@@ -227,10 +227,10 @@ module _ (design board plan : List ℕ) (before after : Outside) (status : ℕ) 
 
   -- ---- what is written is of the one plan of the texts
 
-  abbrev Written : List ℕ → Type 0
-  Written text = WhatWritten design board plan told text
+  abbrev CheckWritten : List ℕ → Type 0
+  CheckWritten text = WhatWritten design board plan told text
 
-  here : (d b p text : List ℕ) → HoldTexts design board plan before d b p → (w : Written text) → IsSoundPlan d b p w.content
+  here : (d b p text : List ℕ) → HoldTexts design board plan before d b p → (w : CheckWritten text) → IsSoundPlan d b p w.content
   here d b p text held_all w = record {
     ordered = w.its_sound.ordered;
     board = w.its_sound.board;
@@ -238,7 +238,7 @@ module _ (design board plan : List ℕ) (before after : Outside) (status : ℕ) 
     sound = w.its_sound.sound;
   }
 
-  text_here : (d b p text : List ℕ) (its : Plan) → HoldTexts design board plan before d b p → IsSoundPlan d b p its → (w : Written text) → text ≡ sound_text its
+  text_here : (d b p text : List ℕ) (its : Plan) → HoldTexts design board plan before d b p → IsSoundPlan d b p its → (w : CheckWritten text) → text ≡ sound_text its
   text_here d b p text its held_all is w = w.text_is ∙ ap sound_text (spelled_once p w.content its (here d b p text held_all w).are.plan_is is.are.plan_is)
 
   pub check_table : CheckStatuses design board plan before after status

@@ -81,12 +81,12 @@ module _ (ordered : Ordered) where
         ⊎_elim if_here if_other (cases_eq net (here place))
 
     -- what a table keeps: its length, small depths, and that what is ready is right
-    pub record IsKept (done table : List ℕ) : Type 0 where
+    pub record KeepsDepths (done table : List ℕ) : Type 0 where
       pub long : length table ≡ inputs + length cells
       pub low : All (λ own. own ≤ 65537) table
       pub right : AreRight done table
 
-    pub more_kept : (place : ℕ) (table : List ℕ) (net value : ℕ) → place < length order → ((at : ℕ) → depth flat chip_of at ≤ length cells + 1) → net ≡ here place → value ≡ gate_depth place table → IsKept (take place order) table → IsKept (take (place + 1) order) (set table net value)
+    pub more_kept : (place : ℕ) (table : List ℕ) (net value : ℕ) → place < length order → ((at : ℕ) → depth flat chip_of at ≤ length cells + 1) → net ≡ here place → value ≡ gate_depth place table → KeepsDepths (take place order) table → KeepsDepths (take (place + 1) order) (set table net value)
     more_kept place table net value within small same_net same_value kept =
         let right_value : value ≡ depth flat chip_of (here place) = same_value ∙ gate_right place table within kept.right in
         let low_value : value ≤ 65537 = omega (arith, right_value, small (here place), flat.few_cells) in

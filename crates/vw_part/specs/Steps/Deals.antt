@@ -65,5 +65,5 @@ pub record IsGain (board : Board) (pins : Pins) (chip_of : List ℕ) (cell chip 
   pub helps : Helps pins chip_of cell chip
 
 -- no move of a cell lowers the spread
-abbrev pub IsSettled : Board → Pins → List ℕ → ℕ → Type 0
-IsSettled board pins chip_of cell = (chip : ℕ) → IsTarget board chip_of cell chip → ¬ (Helps pins chip_of cell chip)
+abbrev pub IsSettledCell : Board → Pins → List ℕ → ℕ → Type 0
+IsSettledCell board pins chip_of cell = (chip : ℕ) → IsTarget board chip_of cell chip → ¬ (Helps pins chip_of cell chip)

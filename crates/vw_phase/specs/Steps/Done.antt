@@ -22,7 +22,7 @@ use Rattle.vw_phase.specs.Steps.Drafts.{IsFit}
 use Rattle.vw_phase.specs.Steps.Leads.{usable_by, wires_of}
 
 -- a plan has these chips, and wires with these hops
-pub record Has (chip_of : List ℕ) (routes : List Route) (hops : List (List Hop)) (plan : Plan) : Type 0 where
+pub record IsMadeOf (chip_of : List ℕ) (routes : List Route) (hops : List (List Hop)) (plan : Plan) : Type 0 where
   pub chips : plan.chip_of ≡ chip_of
   pub wires : plan.wires ≡ wires_of routes hops
 
@@ -51,8 +51,8 @@ pub record IsTasksDone (ordered : Ordered) (board : Board) (chip_of : List ℕ) 
   pub fit : IsFit ordered board routes draft
   pub along : AllZip (IsAlong board) routes draft.hops.items
   pub once : (hop : Hop) → uses hop (all_hops draft.hops.items) ≤ 1
-  pub sent_well : (plan : Plan) → Has chip_of routes draft.hops.items plan → All (IsSentWell (setting_of ordered board plan)) plan.wires
-  pub leads : (plan : Plan) → Has chip_of routes draft.hops.items plan → (net : ℕ) → net < ordered.flat.inputs + length ordered.flat.cells
+  pub sent_well : (plan : Plan) → IsMadeOf chip_of routes draft.hops.items plan → All (IsSentWell (setting_of ordered board plan)) plan.wires
+  pub leads : (plan : Plan) → IsMadeOf chip_of routes draft.hops.items plan → (net : ℕ) → net < ordered.flat.inputs + length ordered.flat.cells
       → let setting = setting_of ordered board plan in lead setting (home setting net) net ≡ slice_index draft.leads.items net
   pub last : draft.after ≡ greatest (map after_last draft.hops.items)
 

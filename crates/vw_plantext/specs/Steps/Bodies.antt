@@ -57,7 +57,7 @@ FollowsPart None left done all lines = FollowsWires left done all lines
 FollowsPart (Some part) left done all lines = FollowsHops part left done all lines
 
 -- a plan that was read up to here, and the lines that are left of it
-pub record IsLeft (state : BodyState) (content : Content) (lines : List (List ℕ)) : Type 0 where
+pub record IsRestOfPlan (state : BodyState) (content : Content) (lines : List (List ℕ)) : Type 0 where
   pub chip_of : content.chip_of ≡ state.chip_of
   pub period : content.period ≡ state.period
   pub wires : FollowsPart state.part state.left state.wires content.wires lines
@@ -107,22 +107,22 @@ is_complete state = is_complete_but state.part state.left
 pub record HasRead (lines : List (List ℕ)) (state : BodyState) : Type 0 where
   pub fits : Fits state
   pub some_left : HasSomeLeft state.part
-  pub tells : (content : Content) (more : List (List ℕ)) → IsInRange content → lines ++ more ≡ plan_lines content → IsLeft state content more
-  pub makes : (content : Content) (more : List (List ℕ)) → IsLeft state content more → lines ++ more ≡ plan_lines content
+  pub tells : (content : Content) (more : List (List ℕ)) → IsInRange content → lines ++ more ≡ plan_lines content → IsRestOfPlan state content more
+  pub makes : (content : Content) (more : List (List ℕ)) → IsRestOfPlan state content more → lines ++ more ≡ plan_lines content
 
 -- a line was taken
 pub record TakesPlanLine (old : BodyState) (line : List ℕ) (new : BodyState) : Type 0 where
   pub fits : Fits new
-  pub tells : (content : Content) (more : List (List ℕ)) → IsInRange content → IsLeft old content (line ∷ more) → IsLeft new content more
-  pub makes : (content : Content) (more : List (List ℕ)) → IsLeft new content more → IsLeft old content (line ∷ more)
+  pub tells : (content : Content) (more : List (List ℕ)) → IsInRange content → IsRestOfPlan old content (line ∷ more) → IsRestOfPlan new content more
+  pub makes : (content : Content) (more : List (List ℕ)) → IsRestOfPlan new content more → IsRestOfPlan old content (line ∷ more)
 
 -- a line can't stand there
 abbrev pub RefusesLine : BodyState → List ℕ → Type 0
-RefusesLine old line = (content : Content) (more : List (List ℕ)) → IsInRange content → ¬ (IsLeft old content (line ∷ more))
+RefusesLine old line = (content : Content) (more : List (List ℕ)) → IsInRange content → ¬ (IsRestOfPlan old content (line ∷ more))
 
 -- a wire that has all its hops is put to the others
 pub record ClosesWire (old new : BodyState) : Type 0 where
   pub fits : Fits new
   pub some_left : HasSomeLeft new.part
-  pub tells : (content : Content) (more : List (List ℕ)) → IsLeft old content more → IsLeft new content more
-  pub makes : (content : Content) (more : List (List ℕ)) → IsLeft new content more → IsLeft old content more
+  pub tells : (content : Content) (more : List (List ℕ)) → IsRestOfPlan old content more → IsRestOfPlan new content more
+  pub makes : (content : Content) (more : List (List ℕ)) → IsRestOfPlan new content more → IsRestOfPlan old content more

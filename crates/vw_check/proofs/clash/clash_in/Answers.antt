@@ -1,7 +1,7 @@
 use Rattle.std.proofs.Common.{◌<◌, ◌∙◌, sym, ap, get_or, length, List, arith}
 use Rattle.std.proofs.lemmas.Option.{none-some}
 use Rattle.vw_plan.specs.declared.wire.Hop.{Hop}
-use Rattle.vw_check.proofs.Clashes.{IsLeft, left_clash, left_end, left_first, left_next, no_hop}
+use Rattle.vw_check.proofs.Clashes.{IsRestOfHops, left_clash, left_end, left_first, left_next, no_hop}
 use Rattle.vw_check.proofs.clash.clash_in.Goals as goal
 
 -- all hops are left at first
@@ -16,7 +16,7 @@ loop-place-preserved c = λ placed has.
     let hop = get_or c.hops-hop-items.result.now place no_hop in
     let is = ap (λ (list : List Hop). get_or list place no_hop) c.hops-hop-items.ensures in
     let within : place < length hops = omega (arith, ap length c.hops-hop-items.ensures) in
-    let now : IsLeft placed c.args.number place hops c.loop-place.pins.users = c.loop-place.invariant placed has in
+    let now : IsRestOfHops placed c.args.number place hops c.loop-place.pins.users = c.loop-place.invariant placed has in
     left_next placed c.args.number place hops c.loop-place.pins.users now hop within no_hop is c.give.new.self.users (sym c.in_ok-first_wire.ensures.0 ∙ c.in_default.is) (c.in_ok-first_wire.ensures.1 c.in_default.is now.before)
 
 -- the first clash of the rest is the first of all
