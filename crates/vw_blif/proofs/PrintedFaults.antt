@@ -34,7 +34,7 @@ use Rattle.vw_blif.proofs.Binds.{same_bytes}
 use Rattle.vw_design.proofs.Names.{name_same}
 use Rattle.vw_blif.proofs.PrintedWords.{plain_parts}
 use Rattle.vw_blif.proofs.PrintedGroups.{numbered-append, row_kind, row_last, rows_at, formal_back, actual_back}
-use Rattle.vw_blif.proofs.PrintedModels.{item_first, body_lines, first_line, end_line, model_cut}
+use Rattle.vw_blif.proofs.PrintedModels.{item_first, lines_between, model_line, end_line, model_cut}
 
 -- the lines before stand in a model, and these are the names of the models so far
 record Inside (names : List Word) (before : List Line) : Type 0 where
@@ -42,8 +42,8 @@ record Inside (names : List Word) (before : List Line) : Type 0 where
   names_ : model_names before ≡ names
 
 -- further lines have no fault behind lines that stand in a model
-abbrev GoesOn : List Word → List Line → Type 0
-GoesOn names rest = (before : List Line) → Inside names before → first_fault before rest ≡ None
+abbrev IsFineInside : List Word → List Line → Type 0
+IsFineInside names rest = (before : List Line) → Inside names before → first_fault before rest ≡ None
 
 fine_then : (before : List Line) (line : Line) (rest : List Line) → fault_at before line ≡ None → first_fault (line ∷ before) rest ≡ None → first_fault before (line ∷ rest) ≡ None
 fine_then before line rest fine further = ap (λ (o : Option TextFault). option_or o (first_fault (line ∷ before) rest)) fine ∙ further
@@ -91,7 +91,7 @@ same_digit : (value : Option Word) (word digit : Word) → word ≡ digit → di
 same_digit None word digit is same = ap (λ (w : Word). not (bytes_eq w digit)) is ∙ ap not (name_same digit)
 same_digit (Some first) word digit is same = same
 
-rows_fine : (names : List Word) (width n : ℕ) (on : Bool) (rows : List (List Mark)) (rest : List Line) → list_all (λ row. eqb (length row) width) rows ≡ true → GoesOn names rest
+rows_fine : (names : List Word) (width n : ℕ) (on : Bool) (rows : List (List Mark)) (rest : List Line) → list_all (λ row. eqb (length row) width) rows ≡ true → IsFineInside names rest
     → (before : List Line) → Inside names before → (value : Option Word) → open_table before ≡ Some (record { width = width; value = value }) → differs_from value (value_word on) ≡ false
     → first_fault before (rows_at n on rows ++ rest) ≡ None
 rows_fine names width n on [] rest even further before inside value is same = further before inside
@@ -153,7 +153,7 @@ place_fine model binds plain once =
 kept : (names : List Word) (before : List Line) (line : Line) → Inside names before → is_open (line ∷ before) ≡ is_open before → model_names (line ∷ before) ≡ model_names before → Inside names (line ∷ before)
 kept names before line inside stays same = record { open_ = stays ∙ inside.open_; names_ = same ∙ inside.names_ }
 
-item_fine : (names : List Word) (n : ℕ) (item : SpelledItem) (rest : List Line) → is_plain_item item ≡ true → GoesOn names rest → GoesOn names (numbered_lines n (item_lines item) ++ rest)
+item_fine : (names : List Word) (n : ℕ) (item : SpelledItem) (rest : List Line) → is_plain_item item ≡ true → IsFineInside names rest → IsFineInside names (numbered_lines n (item_lines item) ++ rest)
 item_fine names n (table line ins out on rows) rest plain further before inside =
     let first : Line = record { number = n; words = codes ".names" ∷ (ins ++ out ∷ []) } in
     let a = and_parts (list_all is_plain ins) _ plain in
@@ -182,14 +182,14 @@ item_fine names n (place line model binds) rest plain further before inside =
     let parts = and_parts (list_all is_plain_bind binds) (are_distinct (map (λ (b : Binding). b.formal) binds)) (and_parts (is_plain model) _ plain).1 in
     fine_then before first rest (rw (inside.open_, not_none model (map bind_word binds), place_fine model binds parts.0 parts.1) refl) (further (first ∷ before) (kept names before first inside refl refl))
 
-items_fine : (names : List Word) (n : ℕ) (items : List SpelledItem) (rest : List Line) → list_all is_plain_item items ≡ true → GoesOn names rest
-    → GoesOn names (numbered_lines n (flat_map item_lines items) ++ rest)
+items_fine : (names : List Word) (n : ℕ) (items : List SpelledItem) (rest : List Line) → list_all is_plain_item items ≡ true → IsFineInside names rest
+    → IsFineInside names (numbered_lines n (flat_map item_lines items) ++ rest)
 items_fine names n [] rest plain further = further
 items_fine names n (item ∷ items) rest plain further =
     let parts = and_parts (is_plain_item item) (list_all is_plain_item items) plain in
     let first = numbered_lines n (item_lines item) in
     let others = numbered_lines (n + length (item_lines item)) (flat_map item_lines items) in
-    subst (GoesOn names) (sym (ap (λ (ls : List Line). ls ++ rest) (item_first n item items) ∙ append_assoc first others rest))
+    subst (IsFineInside names) (sym (ap (λ (ls : List Line). ls ++ rest) (item_first n item items) ∙ append_assoc first others rest))
     (item_fine names n item (others ++ rest) parts.0 (items_fine names (n + length (item_lines item)) items rest parts.1 further))
 
 -- ---- ports
@@ -197,7 +197,7 @@ items_fine names n (item ∷ items) rest plain further =
 ports_once : (ports : List Word) → are_plain_ports ports ≡ true → repeats [] ports ≡ false
 ports_once ports plain = repeats_none [] ports (and_parts (list_all is_plain ports) (are_distinct ports) plain).1
 
-clocks_fine : (names : List Word) (n : ℕ) (ports : List Word) (rest : List Line) → are_plain_ports ports ≡ true → GoesOn names rest
+clocks_fine : (names : List Word) (n : ℕ) (ports : List Word) (rest : List Line) → are_plain_ports ports ≡ true → IsFineInside names rest
     → (before : List Line) → Inside names before → ports_before clocked before ≡ []
     → first_fault before (numbered_lines n (port_lines (codes ".clock") ports) ++ rest) ≡ None
 clocks_fine names n [] rest plain further before inside none = further before inside
@@ -230,9 +230,9 @@ apart_lines : (n : ℕ) (lines others : List (List Word)) (rest : List Line) →
 apart_lines n lines others rest =
     ap (λ (ls : List Line). ls ++ rest) (numbered-append n lines others) ∙ append_assoc (numbered_lines n lines) (numbered_lines (n + length lines) others) rest
 
-body_fine : (names : List Word) (n : ℕ) (model : SpelledModel) (rest : List Line) → is_plain_model model ≡ true → GoesOn names rest
+body_fine : (names : List Word) (n : ℕ) (model : SpelledModel) (rest : List Line) → is_plain_model model ≡ true → IsFineInside names rest
     → (before : List Line) → Inside names before → ports_before input before ≡ [] → ports_before output before ≡ [] → ports_before clocked before ≡ []
-    → first_fault before (numbered_lines n (body_lines model) ++ rest) ≡ None
+    → first_fault before (numbered_lines n (lines_between model) ++ rest) ≡ None
 body_fine names n model rest plain further before inside i o c =
     let is = plain_parts model plain in
     let ins = port_lines (codes ".inputs") model.inputs in
@@ -241,7 +241,7 @@ body_fine names n model rest plain further before inside i o c =
     let items = flat_map item_lines model.items in
     let m = n + length ins in
     let k = m + length outs in
-    let fine : GoesOn names (numbered_lines (k + length clks) items ++ rest) = items_fine names (k + length clks) model.items rest is.items further in
+    let fine : IsFineInside names (numbered_lines (k + length clks) items ++ rest) = items_fine names (k + length clks) model.items rest is.items further in
     let NoFault : List Line → List Line → Type 0 = λ b ls. first_fault b ls ≡ None in
     subst (NoFault before) (sym (apart_lines n ins (outs ++ (clks ++ items)) rest))
     (inputs_fine names n model.inputs (numbered_lines m (outs ++ (clks ++ items)) ++ rest) is.inputs
@@ -255,7 +255,7 @@ body_fine names n model rest plain further before inside i o c =
 -- ---- designs
 
 -- the end of a model, behind which its names are all that counts
-end_fine : (names : List Word) (number : ℕ) (rest : List Line) → ((before : List Line) → model_names before ≡ names → first_fault before rest ≡ None) → GoesOn names (end_line number ∷ rest)
+end_fine : (names : List Word) (number : ℕ) (rest : List Line) → ((before : List Line) → model_names before ≡ names → first_fault before rest ≡ None) → IsFineInside names (end_line number ∷ rest)
 end_fine names number rest further before inside =
     fine_then before (end_line number) rest (rw inside.open_ refl) (further (end_line number ∷ before) inside.names_)
 
@@ -265,9 +265,9 @@ design_fine names n [] plain new before are = refl
 design_fine names n (model ∷ design) plain new before are =
     let parts = and_parts (is_plain_model model) (list_all is_plain_model design) plain in
     let fresh = or_parts (has_name names model.name) (repeats (names ++ model.name ∷ []) (map (λ (m : SpelledModel). m.name) design)) new in
-    let first = first_line n model in
-    let body = numbered_lines (n + 1) (body_lines model) in
-    let last = end_line (n + 1 + length (body_lines model)) in
+    let first = model_line n model in
+    let body = numbered_lines (n + 1) (lines_between model) in
+    let last = end_line (n + 1 + length (lines_between model)) in
     let next = n + length (model_lines model) in
     let rest = numbered_lines next (design_lines design) in
     let whole : numbered_lines n (design_lines (model ∷ design)) ≡ first ∷ (body ++ last ∷ rest) =
@@ -279,5 +279,5 @@ design_fine names n (model ∷ design) plain new before are =
     ap (first_fault before) whole
     ∙ fine_then before first (body ++ last ∷ rest) (rw unseen refl)
     (body_fine (names ++ model.name ∷ []) (n + 1) model (last ∷ rest) parts.0
-    (end_fine (names ++ model.name ∷ []) (n + 1 + length (body_lines model)) rest (design_fine (names ++ model.name ∷ []) next design parts.1 fresh.1))
+    (end_fine (names ++ model.name ∷ []) (n + 1 + length (lines_between model)) rest (design_fine (names ++ model.name ∷ []) next design parts.1 fresh.1))
     (first ∷ before) begun refl refl refl)

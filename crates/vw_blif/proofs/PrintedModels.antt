@@ -134,13 +134,13 @@ clocks_first n (port ∷ ports) items rest adds =
 -- ---- models
 
 -- the lines of a model between its first and its `.end`
-abbrev pub body_lines : SpelledModel → List (List Word)
-body_lines model =
+abbrev pub lines_between : SpelledModel → List (List Word)
+lines_between model =
     port_lines (codes ".inputs") model.inputs ++ (port_lines (codes ".outputs") model.outputs
     ++ (port_lines (codes ".clock") model.clocks ++ flat_map item_lines model.items))
 
 body_adds : (n : ℕ) (model : SpelledModel) → is_plain_model model ≡ true → are_numbered (n + length (head_lines model)) model.items ≡ true
-    → Adds (numbered_lines (n + 1) (body_lines model)) model.inputs model.outputs model.clocks model.items
+    → Adds (numbered_lines (n + 1) (lines_between model)) model.inputs model.outputs model.clocks model.items
 body_adds n model plain at =
     let a = port_lines (codes ".inputs") model.inputs in
     let b = port_lines (codes ".outputs") model.outputs in
@@ -159,8 +159,8 @@ body_adds n model plain at =
     let outputs = subst B (sym (numbered-append (n + 1 + length a) b (c ++ i))) (outputs_first (n + 1 + length a) model.outputs model.clocks model.items (numbered_lines (n + 1 + length a + length b) (c ++ i)) clocks) in
     subst C (sym (numbered-append (n + 1) a (b ++ (c ++ i)))) (inputs_first (n + 1) model.inputs model.outputs model.clocks model.items (numbered_lines (n + 1 + length a) (b ++ (c ++ i))) outputs)
 
-abbrev pub first_line : ℕ → SpelledModel → Line
-first_line n model = record { number = n; words = codes ".model" ∷ model.name ∷ [] }
+abbrev pub model_line : ℕ → SpelledModel → Line
+model_line n model = record { number = n; words = codes ".model" ∷ model.name ∷ [] }
 
 abbrev pub end_line : ℕ → Line
 end_line n = record { number = n; words = codes ".end" ∷ [] }
@@ -170,11 +170,11 @@ end_last a b c d e = simp append_assoc
 
 -- the first line of a model, its body, and its `.end`
 pub model_cut : (n : ℕ) (model : SpelledModel)
-    → numbered_lines n (model_lines model) ≡ first_line n model ∷ (numbered_lines (n + 1) (body_lines model) ++ end_line (n + 1 + length (body_lines model)) ∷ [])
+    → numbered_lines n (model_lines model) ≡ model_line n model ∷ (numbered_lines (n + 1) (lines_between model) ++ end_line (n + 1 + length (lines_between model)) ∷ [])
 model_cut n model =
-    ap (λ (ls : List (List Word)). first_line n model ∷ numbered_lines (n + 1) ls)
+    ap (λ (ls : List (List Word)). model_line n model ∷ numbered_lines (n + 1) ls)
     (end_last (port_lines (codes ".inputs") model.inputs) (port_lines (codes ".outputs") model.outputs) (port_lines (codes ".clock") model.clocks) (flat_map item_lines model.items) ((codes ".end" ∷ []) ∷ []))
-    ∙ ap (λ (ls : List Line). first_line n model ∷ ls) (numbered-append (n + 1) (body_lines model) ((codes ".end" ∷ []) ∷ []))
+    ∙ ap (λ (ls : List Line). model_line n model ∷ ls) (numbered-append (n + 1) (lines_between model) ((codes ".end" ∷ []) ∷ []))
 
 -- lines none of which leaves the model, in parts
 neither : (lines : List Line) → list_any leaves lines ≡ false → (list_any (λ line. is_model (kind line)) lines ≡ false) × (list_any (λ line. is_end (kind line)) lines ≡ false)
@@ -200,7 +200,7 @@ same_model a b name inputs outputs clocks items =
     ∙ ap (λ (is : List SpelledItem). record { name = b.name; inputs = b.inputs; outputs = b.outputs; clocks = b.clocks; items = is }) items
 
 model_back : (n : ℕ) (model : SpelledModel) (body : List Line) (last : Line) → is_end (kind last) ≡ true → Adds body model.inputs model.outputs model.clocks model.items
-    → model_of (record { head = first_line n model; tail = body ++ last ∷ [] }) ≡ model
+    → model_of (record { head = model_line n model; tail = body ++ last ∷ [] }) ≡ model
 model_back n model body last is adds =
     ap (λ (ls : List Line). model_by model.name ((cut_before begins_group ls).parts)) (until_end (λ line. is_end (kind line)) body last (neither body adds.stay).1 is)
     ∙ same_model (model_by model.name ((cut_before begins_group body).parts)) model refl adds.inputs_ adds.outputs_ adds.clocks_ adds.items_
@@ -214,9 +214,9 @@ record AreModels (lines : List Line) (design : List SpelledModel) : Type 0 where
 model_first : (n : ℕ) (model : SpelledModel) (rest : List Line) (design : List SpelledModel) → is_plain_model model ≡ true → are_numbered (n + length (head_lines model)) model.items ≡ true
     → AreModels rest design → AreModels (numbered_lines n (model_lines model) ++ rest) (model ∷ design)
 model_first n model rest design plain at are =
-    let first = first_line n model in
-    let body = numbered_lines (n + 1) (body_lines model) in
-    let last = end_line (n + 1 + length (body_lines model)) in
+    let first = model_line n model in
+    let body = numbered_lines (n + 1) (lines_between model) in
+    let last = end_line (n + 1 + length (lines_between model)) in
     let adds = body_adds n model plain at in
     let none : list_any (λ line. is_model (kind line)) (body ++ last ∷ []) ≡ false =
     list_any-append (λ line. is_model (kind line)) body (last ∷ []) ∙ ap (λ (b : Bool). b || false) (neither body adds.stay).0 in

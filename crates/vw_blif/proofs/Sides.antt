@@ -1,13 +1,10 @@
 -- The two sides of a binding.
-use Rattle.std.proofs.Common.{◌≡◌, ◌<◌, ◌≤◌, ◌+◌, ◌-◌, ℕ, Bool, true, false, ◌||◌, length, take, drop, eqb, refl, sym, ◌∙◌, ap, ap₂, arith, length-drop, eq-eqb, ne_eqb}
+use Rattle.std.proofs.Common.{◌≡◌, ◌<◌, ◌≤◌, ◌+◌, ◌-◌, ℕ, Bool, true, false, ◌||◌, length, take, drop, eqb, sym, ◌∙◌, ap, ap₂, arith, length-drop, eq-eqb, ne_eqb}
 use Rattle.std.specs.List.{position_or_len}
 use Rattle.std.proofs.lemmas.List.{length-take-le}
+use Rattle.std.proofs.Math.Bool.{or-true}
 use Rattle.vw_design.specs.Paths.{Word}
 use Rattle.vw_blif.specs.Bindings.{formal_of, actual_part, is_no_bind}
-
-or_true : (b : Bool) → (b || true) ≡ true
-or_true true = refl
-or_true false = refl
 
 module _ (word : Word) (cut : ℕ) (at : position_or_len (λ b. eqb b 61) word ≡ cut) where
   pub formal_is : take cut word ≡ formal_of word
@@ -27,7 +24,7 @@ module _ (word : Word) (cut : ℕ) (at : position_or_len (λ b. eqb b 61) word �
   none_before within none = ap (λ b. b || eqb (length (actual_part word)) 0) (eq-eqb (length (formal_of word)) 0 (formal_length within ∙ none))
 
   pub none_behind : length word ≤ cut + 1 → is_no_bind word ≡ true
-  none_behind past = ap (λ b. eqb (length (formal_of word)) 0 || b) (eq-eqb (length (actual_part word)) 0 (actual_length ∙ (let e : length word - (cut + 1) ≡ 0 = omega arith in e))) ∙ or_true (eqb (length (formal_of word)) 0)
+  none_behind past = ap (λ b. eqb (length (formal_of word)) 0 || b) (eq-eqb (length (actual_part word)) 0 (actual_length ∙ (let e : length word - (cut + 1) ≡ 0 = omega arith in e))) ∙ or-true (eqb (length (formal_of word)) 0)
 
   pub both_there : 0 < cut → cut + 1 < length word → is_no_bind word ≡ false
   both_there some more = ap₂ (λ (a b : Bool). a || b)

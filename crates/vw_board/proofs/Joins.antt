@@ -4,13 +4,12 @@ use Rattle.std.specs.Prelude.{IsSome}
 use Rattle.std.proofs.lemmas.Bool.{both_ways}
 use Rattle.std.proofs.lemmas.List.{get_or_default}
 use Rattle.vw_plan.specs.declared.link.Link.{Link}
-use Rattle.vw_plan.specs.Links.{AreLinks}
 use Rattle.vw_plan.specs.Walks.{IsWalk, IsJoined}
 use Rattle.vw_plan.specs.Distance.{has_walk}
 use Rattle.vw_plan.proofs.Walking.{Walked, walk-has_walk}
 use Rattle.vw_plan.proofs.Shortest.{IsShort, short_walk}
 use Rattle.vw_board.specs.BoardText.{IsFirstApart, ComesBefore}
-use Rattle.vw_board.specs.Steps.Separate.{AreSeparate}
+use Rattle.vw_plan.specs.Links.{AreLinks, AreSeparate}
 use Rattle.vw_board.specs.Steps.Tables.{AreLeast, first_below}
 use Rattle.vw_board.specs.Steps.Apart.{noted, AreAllThere, IsFirstPair}
 use Rattle.vw_board.proofs.Noted.{IsFirstPassing, first_passing}
@@ -46,7 +45,7 @@ module _ (chips : ℕ) (few : chips ≤ 32) (links : List Link) (separate : AreS
 
     -- where all is noted, these are the links of a board
     pub links_of_board : AreAllThere lists (length lists) → AreLinks chips links
-    links_of_board all = record { ends = separate.ends; apart = separate.apart; once = separate.once; wide = separate.wide; joined = joined } where
+    links_of_board all = record { separate = separate; joined = joined } where
       joined : (from to : ℕ) → from ≤ chips → to ≤ chips → IsJoined links from to
       joined from to from_node to_node = let size : length lists ≡ chips + 1 = least.each in joined_where_noted from to from_node to_node (all from (omega arith) to (omega arith))
 

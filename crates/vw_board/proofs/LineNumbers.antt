@@ -1,25 +1,12 @@
 -- The lines of a text have no greater numbers than the text has bytes.
-use Rattle.std.proofs.Common.{◌<◌, ◌≤◌, ◌+◌, ◌^◌, ◌==◌, not, ℕ, suc, List, [], ◌∷◌, ◌++◌, length, map, Option, Some, None, All, arith}
-use Rattle.std.specs.List.{onto_first}
-use Rattle.std.proofs.lemmas.Bool.{cond_both}
+use Rattle.std.proofs.Common.{◌<◌, ◌≤◌, ◌+◌, ◌^◌, not, ℕ, List, [], ◌∷◌, ◌++◌, length, map, Option, Some, None, All, arith}
 use Rattle.std.proofs.lemmas.List.{length-map}
 use Rattle.std.proofs.lemmas.List.Elements.{All-nil, All-cons, All-tail, All-map, All-filter}
+use Rattle.vw_text.proofs.LineCounts.{length-text_lines}
 use Rattle.vw_text.specs.Physical.{text_lines}
 use Rattle.vw_text.specs.Bare.{bare}
 use Rattle.vw_text.specs.Logical.{Logical, before_backslash, continued, with_line, joined_lines, logical_lines}
 use Rattle.vw_text.specs.WordLines.{is_empty, word_line, word_lines}
-
--- a byte makes at most one line more
-length-onto_first : (b : ℕ) (lines : List (List ℕ)) → length (onto_first b lines) ≤ suc (length lines)
-length-onto_first b [] = omega arith
-length-onto_first b (line ∷ lines) = omega arith
-
--- so there are no more lines than bytes
-length-text_lines : (text : List ℕ) → length (text_lines text) ≤ length text
-length-text_lines [] = omega arith
-length-text_lines (b ∷ bs) =
-    let rest : length (text_lines bs) ≤ length bs = length-text_lines bs in
-    cond_both (b == 10) ([] ∷ text_lines bs) (onto_first b (text_lines bs)) (λ (lines : List (List ℕ)). length lines ≤ suc (length bs)) (λ end. omega arith) (λ amid. omega (arith, length-onto_first b (text_lines bs)))
 
 -- a line that is joined has the number of its first part
 continued_below : (bound number : ℕ) (front : List ℕ) (lines : List Logical) → number < bound → All (λ line. line.number < bound) lines → All (λ line. line.number < bound) (continued number front lines)

@@ -11,12 +11,11 @@ use Rattle.std.proofs.lemmas.List.Quantifiers.{all_pairs_push}
 use Rattle.vw_text.specs.declared.line.Line.{Line}
 use Rattle.vw_text.specs.Number.{spelled_number}
 use Rattle.vw_plan.specs.declared.link.Link.{Link}
-use Rattle.vw_plan.specs.Links.{HaveSameEnds}
 use Rattle.vw_plan.specs.Walks.{has_link}
 use Rattle.vw_board.specs.declared.fault.BoardFault.{BoardFault}
 use Rattle.vw_board.specs.Words.{word_at, within, number_within, has_words}
 use Rattle.vw_board.specs.LinkLines.{link_of, link_fault, first_link_fault}
-use Rattle.vw_board.specs.Steps.Separate.{AreSeparate}
+use Rattle.vw_plan.specs.Links.{AreSeparate, HaveSameEnds}
 use Rattle.vw_board.specs.Steps.Links.{ReadsLink, ReadsSoFar}
 
 -- a number that was found in a range

@@ -6,7 +6,7 @@ use Rattle.std.proofs.lemmas.List.{get_or_default}
 use Rattle.vw_plan.specs.declared.board.Board.{Board}
 use Rattle.vw_plan.specs.Walks.{has_link}
 use Rattle.vw_plan.specs.Distance.{distance}
-use Rattle.vw_plan.proofs.Shortest.{IsNext, next_is_nearer, distance-le, reached}
+use Rattle.vw_plan.proofs.Shortest.{IsNextNode, next_is_nearer, distance-le, reached}
 use Rattle.vw_board.specs.FirstStep.{IsFirstStep}
 use Rattle.vw_board.specs.Steps.Tables.{AreDistances}
 use Rattle.vw_board.specs.Steps.Nearer.{HasNoneNearer, IsFirstNearer}
@@ -20,7 +20,7 @@ module _ (board : Board) (to : ℕ) (distances : List ℕ) (are : AreDistances b
   pub some_nearer : (from : ℕ) → from ≤ board.chips → to ≤ board.chips → from ≢ to → (found : Option ℕ) → IfNone found (HasNoneNearer board.links distances from (length distances)) → IsSome found
   some_nearer from from_node to_node apart (Some node) none = refl
   some_nearer from from_node to_node apart None none =
-      let next : IsNext board from to = next_is_nearer board from to from_node to_node apart in
+      let next : IsNextNode board from to = next_is_nearer board from to from_node to_node apart in
       let size : length distances ≡ board.chips + 1 = are.each in
       let within : next.node < length distances = omega (arith, next.on_board) in
       absurd (none next.node within (next.linked, nearer_by_list from next.node from_node next.on_board next.nearer))
@@ -38,7 +38,7 @@ module _ (board : Board) (to : ℕ) (distances : List ℕ) (are : AreDistances b
 
     least : (other : ℕ) → has_link board.links from other ≡ true → distance board other to + 1 ≡ distance board from to → node ≤ other
     least other linked one_less =
-        let on_board : other ≤ board.chips = reached board.chips board.links board.linked.ends from other linked in
+        let on_board : other ≤ board.chips = reached board.chips board.links board.linked.separate.ends from other linked in
         let if_before = λ (before : other < node). let whole : node ≤ other = absurd (first.first other before (linked, nearer_by_list from other from_node on_board one_less)) in whole in
         ⊎_elim if_before (λ past. past) (cases_lt other node)
 

@@ -4,5 +4,4 @@ pub mod Nearer
 pub mod Tables
 pub mod Faults
 pub mod Heads
-pub mod Separate
 pub mod Links

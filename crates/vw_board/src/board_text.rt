@@ -4,7 +4,7 @@ ghost use Rattle.std.specs.List.{All};
 ghost use Rattle.vw_board.specs.Pins.{AreEnoughPins};
 ghost use Rattle.vw_board.specs.BoardText.{Spells, Refuses, RefusesLines, RefusesLinks, IsBoardOfLines};
 ghost use Rattle.vw_board.specs.Steps.Heads.{IsHeadInRange};
-ghost use Rattle.vw_board.specs.Steps.Separate.{AreSeparate};
+ghost use Rattle.vw_plan.specs.Links.{AreSeparate};
 
 use crate::apart::first_apart;
 use crate::fault::BoardFault;

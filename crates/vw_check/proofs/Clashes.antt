@@ -7,6 +7,7 @@ use Rattle.std.proofs.Math.Seq.{take-append_seam}
 use Rattle.std.proofs.lemmas.List.{drop_all}
 use Rattle.std.proofs.lemmas.Option.{some_pair_parts}
 use Rattle.std.proofs.lemmas.List.Folds.{find-append}
+use Rattle.vw_net.proofs.FirstOptions.{or_assoc}
 use Rattle.vw_plan.specs.declared.wire.Hop.{Hop}
 use Rattle.vw_plan.specs.declared.wire.Wire.{Wire}
 use Rattle.vw_plan.specs.declared.plan.Plan.{Plan}
@@ -109,10 +110,6 @@ left_end placed wire number hops users now past =
     (rw none at now.left, subst (λ (list : List PlacedHop). HasPins list users) (sym (append-nil now.before) ∙ all) now.pins)
 
 -- ---- wire by wire
-
-or_assoc : (one two three : Option PlanFault) → option_or (option_or one two) three ≡ option_or one (option_or two three)
-or_assoc None two three = refl
-or_assoc (Some fault) two three = refl
 
 abbrev clash_of : Option PlacedHop → PlacedHop → Option PlanFault
 clash_of found later = option_map (λ (earlier : PlacedHop). PinClash earlier.wire earlier.number later.wire later.number) found

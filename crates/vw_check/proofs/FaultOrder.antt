@@ -1,6 +1,7 @@
 -- The faults of a plan in their order: the first that is there is the plan's.
 use Rattle.std.proofs.Common.{◌≡◌, true, false, Option, Some, None, is_some, ap, refl, sym, ◌∙◌, true≢false}
 use Rattle.std.specs.Option.{option_or}
+use Rattle.vw_net.proofs.FirstOptions.{or_nothing}
 use Rattle.vw_plan.specs.Setting.{Setting}
 use Rattle.vw_check.specs.declared.fault.PlanFault.{PlanFault}
 use Rattle.vw_check.specs.Faults.{cell_fault, wire_fault, hop_fault, moment_fault, plan_fault}
@@ -12,10 +13,6 @@ some_or (Some fault) rest there = refl
 pub no_fault : (found : Option PlanFault) → false ≡ is_some found → found ≡ None
 no_fault None none = refl
 no_fault (Some fault) none = absurd (true≢false (sym none))
-
-or_end : (found : Option PlanFault) → option_or found None ≡ found
-or_end None = refl
-or_end (Some fault) = refl
 
 module _ (setting : Setting) where
   abbrev pub cells : Option PlanFault
@@ -47,4 +44,4 @@ module _ (setting : Setting) where
   by_hops none no_wire there = sym (past_wires none no_wire ∙ some_or (hop_fault setting) (option_or (moment_fault setting) None) there)
 
   pub by_moments : cells ≡ None → wires ≡ None → hop_fault setting ≡ None → moment_fault setting ≡ plan_fault setting
-  by_moments none no_wire no_hop = sym (past_wires none no_wire ∙ ap (λ (found : Option PlanFault). option_or found (option_or (moment_fault setting) None)) no_hop ∙ or_end (moment_fault setting))
+  by_moments none no_wire no_hop = sym (past_wires none no_wire ∙ ap (λ (found : Option PlanFault). option_or found (option_or (moment_fault setting) None)) no_hop ∙ or_nothing (moment_fault setting))

@@ -1,6 +1,7 @@
 -- Tables of pairs, filled pair by pair.
-use Rattle.std.proofs.Common.{◌≡◌, ◌<◌, ◌≤◌, ◌-◌, ◌&&◌, ℕ, suc, Bool, true, false, List, length, drop, get_or, eqb, cond, Option, Some, ap, ap₂, refl, sym, ◌∙◌, drop-cons, eqb-true, eq-eqb, arith}
+use Rattle.std.proofs.Common.{◌≡◌, ◌<◌, ◌≤◌, ◌-◌, ◌&&◌, ℕ, suc, Bool, true, false, List, length, drop, get_or, eqb, cond, Option, Some, ap, ap₂, refl, sym, ◌∙◌, drop-cons, arith}
 use Rattle.std.specs.Option.{option_or}
+use Rattle.vw_net.proofs.Orders.{eqb_comm}
 use Rattle.vw_check.specs.Firsts.{found_if}
 use Rattle.vw_check.specs.Pairs.{first_pair, is_number_pair}
 
@@ -8,9 +9,6 @@ use Rattle.vw_check.specs.Pairs.{first_pair, is_number_pair}
 put_by : (same : Bool) (place : ℕ) (rest : Option ℕ) → cond same (Some place) rest ≡ option_or (found_if same place) rest
 put_by true place rest = refl
 put_by false place rest = refl
-
-pub turned_eqb : (a b : ℕ) → eqb a b ≡ eqb b a
-turned_eqb a b = grind (arith, eqb-true, eq-eqb)
 
 -- a pair in front of the others
 pub pair_put : (pairs : List (ℕ × ℕ)) (left : ℕ) → 0 < left → left ≤ length pairs → (one other : ℕ) (old new : Option ℕ) → old ≡ first_pair left (drop left pairs) one other
@@ -21,6 +19,6 @@ pair_put pairs left some within one other old new has is =
     let here = get_or pairs place (0, 0) in
     let later : suc place ≡ left = omega arith in
     let step : first_pair place (drop place pairs) one other ≡ option_or (found_if (is_number_pair one other here) place) (first_pair (suc place) (drop (suc place) pairs) one other) = rw (drop-cons pairs place (0, 0) (omega arith)) refl in
-    let turned : (eqb here.0 one && eqb here.1 other) ≡ is_number_pair one other here = ap₂ (λ (first second : Bool). first && second) (turned_eqb here.0 one) (turned_eqb here.1 other) in
+    let turned : (eqb here.0 one && eqb here.1 other) ≡ is_number_pair one other here = ap₂ (λ (first second : Bool). first && second) (eqb_comm here.0 one) (eqb_comm here.1 other) in
     is ∙ ap₂ (λ (same : Bool) (rest : Option ℕ). cond same (Some place) rest) turned (has ∙ ap (λ (number : ℕ). first_pair number (drop number pairs) one other) (sym later))
     ∙ put_by (is_number_pair one other here) place (first_pair (suc place) (drop (suc place) pairs) one other) ∙ sym step

@@ -11,14 +11,15 @@ use Rattle.vw_net.specs.declared.cell.Cell.TheVariants.{Gate, Latch}
 use Rattle.vw_net.specs.Order.{is_latch, is_ready, read_nets_at}
 use Rattle.vw_net.proofs.Ready.{order_within, ready_before, all_ready}
 use Rattle.vw_plan.proofs.AlongOrder.{All-gate_reads}
-use Rattle.vw_plan.proofs.LeadLevels.{Settles, driven_lead_agree}
-use Rattle.vw_plan.specs.Lead.{brought_at, driven_lead, lead}
-use Rattle.vw_plan.specs.Nets.{driving_cell}
+use Rattle.vw_plan.proofs.LeadLevels.{LeadsFollowDrivers}
+use Rattle.vw_plan.proofs.GreatestReads.{greatest_read-agree}
+use Rattle.vw_plan.specs.Lead.{brought_at, lead}
+use Rattle.vw_plan.specs.Nets.{driving_cell, greatest_read}
 use Rattle.vw_plan.specs.Setting.{Setting, home}
 use Rattle.vw_check.specs.Steps.Moments.{AreLeads, lead_by}
 
 -- a latch has lead 0
-driven_latch : (lead_at : ℕ → ℕ) (cell : Option Cell) → is_latch cell ≡ true → driven_lead lead_at cell ≡ 0
+driven_latch : (lead_at : ℕ → ℕ) (cell : Option Cell) → is_latch cell ≡ true → greatest_read lead_at cell ≡ 0
 driven_latch lead_at None latch = refl
 driven_latch lead_at (Some (Gate ins cover)) latch = absurd (true≢false (sym latch))
 driven_latch lead_at (Some (Latch d init)) latch = refl
@@ -28,8 +29,8 @@ zero_at : (count net : ℕ) → slice_index (replicate count 0) net ≡ 0
 zero_at count net = ⊎_elim (λ within. get_or-replicate count net 0 0 within) (λ past. get_or_past (replicate count 0) net 0 (let long : length (replicate {A = ℕ} count 0) ≡ count = length-replicate {A = ℕ} count 0 in omega arith)) (cases_lt net count)
 
 -- the lead of a cell, by a list of leads
-pub same_lead : (setting : Setting) (items leads : List ℕ) (other number : ℕ) → items ≡ leads → other ≡ number → driven_lead (lead_by setting items (slice_index setting.plan.chip_of other)) (slice_get setting.ordered.flat.cells other) ≡ driven_lead (lead_by setting leads (slice_index setting.plan.chip_of number)) (slice_get setting.ordered.flat.cells number)
-same_lead setting items leads other number same_items same_number = ap₂ (λ (list : List ℕ) (at : ℕ). driven_lead (lead_by setting list (slice_index setting.plan.chip_of at)) (slice_get setting.ordered.flat.cells at)) same_items same_number
+pub same_lead : (setting : Setting) (items leads : List ℕ) (other number : ℕ) → items ≡ leads → other ≡ number → greatest_read (lead_by setting items (slice_index setting.plan.chip_of other)) (slice_get setting.ordered.flat.cells other) ≡ greatest_read (lead_by setting leads (slice_index setting.plan.chip_of number)) (slice_get setting.ordered.flat.cells number)
+same_lead setting items leads other number same_items same_number = ap₂ (λ (list : List ℕ) (at : ℕ). greatest_read (lead_by setting list (slice_index setting.plan.chip_of at)) (slice_get setting.ordered.flat.cells at)) same_items same_number
 
 module _ (setting : Setting) where
   abbrev inputs : ℕ
@@ -41,17 +42,17 @@ module _ (setting : Setting) where
   abbrev order : List ℕ
   order = setting.ordered.order
 
-  module _ (settles : Settles setting) where
+  module _ (settles : LeadsFollowDrivers setting) where
     abbrev home_lead : ℕ → ℕ
     home_lead net = lead setting (home setting net) net
 
     -- at its own node a net has the lead of what drives it
-    own_lead : (net : ℕ) → home_lead net ≡ driven_lead (lead setting (home setting net)) (driving_cell setting.ordered.flat net)
-    own_lead net = settles (home setting net) net ∙ ap (λ (own : Bool). if own then driven_lead (lead setting (home setting net)) (driving_cell setting.ordered.flat net) else brought_at setting (home setting net) net) (eq-eqb (home setting net) (home setting net) refl)
+    own_lead : (net : ℕ) → home_lead net ≡ greatest_read (lead setting (home setting net)) (driving_cell setting.ordered.flat net)
+    own_lead net = settles (home setting net) net ∙ ap (λ (own : Bool). if own then greatest_read (lead setting (home setting net)) (driving_cell setting.ordered.flat net) else brought_at setting (home setting net) net) (eq-eqb (home setting net) (home setting net) refl)
 
     -- the nets that are ready have their leads in the list
-    abbrev pub AreRight : List ℕ → List ℕ → Type 0
-    AreRight done leads = (net : ℕ) → is_ready inputs cells done net ≡ true → slice_index_or leads net 0 ≡ home_lead net
+    abbrev pub AreLeadsRight : List ℕ → List ℕ → Type 0
+    AreLeadsRight done leads = (net : ℕ) → is_ready inputs cells done net ≡ true → slice_index_or leads net 0 ≡ home_lead net
 
     -- before any gate, those of inputs and latches: they have lead 0
     start_lead : (net : ℕ) → is_ready inputs cells [] net ≡ true → home_lead net ≡ 0
@@ -59,8 +60,8 @@ module _ (setting : Setting) where
         let number = net - inputs in
         let cell = slice_get cells number in
         let lead_at = lead setting (home setting net) in
-        let if_input = λ (input : nat_lt net inputs ≡ true). own_lead net ∙ ap (λ (is : Bool). driven_lead lead_at (if is then None else cell)) input in
-        let if_latch = λ (latch : is_latch cell ≡ true). own_lead net ∙ (elim (nat_lt net inputs) as (λ is. driven_lead lead_at (if is then None else cell) ≡ 0) [ true ↦ refl | false ↦ driven_latch lead_at cell latch ]) in
+        let if_input = λ (input : nat_lt net inputs ≡ true). own_lead net ∙ ap (λ (is : Bool). greatest_read lead_at (if is then None else cell)) input in
+        let if_latch = λ (latch : is_latch cell ≡ true). own_lead net ∙ (elim (nat_lt net inputs) as (λ is. greatest_read lead_at (if is then None else cell) ≡ 0) [ true ↦ refl | false ↦ driven_latch lead_at cell latch ]) in
         let if_driven = λ (drives : (is_latch cell || false) ≡ true). if_latch (sym (or-false (is_latch cell)) ∙ drives) in
         ⊎_elim if_input if_driven (or_cases (nat_lt net inputs) (is_latch cell || false) ready)
 
@@ -72,17 +73,17 @@ module _ (setting : Setting) where
         ap (λ (own : Bool). if own then slice_index_or leads net 0 else brought_at setting node net) is ∙ right ∙ ap (λ (at : ℕ). lead setting at net) here in
         let if_away = λ (is : eqb (home setting net) node ≡ false).
         ap (λ (own : Bool). if own then slice_index_or leads net 0 else brought_at setting node net) is
-        ∙ sym (settles node net ∙ ap (λ (own : Bool). if own then driven_lead (lead setting node) (driving_cell setting.ordered.flat net) else brought_at setting node net) is) in
+        ∙ sym (settles node net ∙ ap (λ (own : Bool). if own then greatest_read (lead setting node) (driving_cell setting.ordered.flat net) else brought_at setting node net) is) in
         ⊎_elim if_home if_away (cases_Bool (eqb (home setting net) node))
 
     -- the lead of the gate at a place, by the list
     abbrev here : ℕ → ℕ
     here place = inputs + get_or order place 0
 
-    abbrev pub lead_at_place : ℕ → List ℕ → ℕ
-    lead_at_place place leads = driven_lead (lead_by setting leads (slice_index setting.plan.chip_of (get_or order place 0))) (slice_get cells (get_or order place 0))
+    abbrev pub home_lead_at : ℕ → List ℕ → ℕ
+    home_lead_at place leads = greatest_read (lead_by setting leads (slice_index setting.plan.chip_of (get_or order place 0))) (slice_get cells (get_or order place 0))
 
-    gate_right : (place : ℕ) (leads : List ℕ) → place < length order → AreRight (take place order) leads → lead_at_place place leads ≡ home_lead (here place)
+    gate_right : (place : ℕ) (leads : List ℕ) → place < length order → AreLeadsRight (take place order) leads → home_lead_at place leads ≡ home_lead (here place)
     gate_right place leads within right =
         let number = get_or order place 0 in
         let node = slice_index setting.plan.chip_of number in
@@ -95,25 +96,25 @@ module _ (setting : Setting) where
         let its_number : net - inputs ≡ number = omega arith in
         let its_driver : driving_cell setting.ordered.flat net ≡ cell = ap (λ (input : Bool). if input then None else slice_get cells (net - inputs)) no_input ∙ ap (λ (at : ℕ). slice_get cells at) its_number in
         let its_home : home setting net ≡ node = ap (λ (input : Bool). if input then 0 else slice_index setting.plan.chip_of (net - inputs)) no_input ∙ ap (λ (at : ℕ). slice_index setting.plan.chip_of at) its_number in
-        driven_lead_agree (lead_by setting leads node) (lead setting node) cell (All-gate_reads (λ read. lead_by setting leads node read ≡ lead setting node read) cell agree)
-        ∙ ap₂ (λ (at : ℕ) (drives : Option Cell). driven_lead (lead setting at) drives) (sym its_home) (sym its_driver)
+        greatest_read-agree (lead_by setting leads node) (lead setting node) cell (All-gate_reads (λ read. lead_by setting leads node read ≡ lead setting node read) cell agree)
+        ∙ ap₂ (λ (at : ℕ) (drives : Option Cell). greatest_read (lead setting at) drives) (sym its_home) (sym its_driver)
         ∙ sym (own_lead net)
 
-    more_right : (place : ℕ) (leads : List ℕ) → place < length order → inputs + length cells ≤ length leads → AreRight (take place order) leads → AreRight (take (place + 1) order) (set leads (here place) (lead_at_place place leads))
+    more_right : (place : ℕ) (leads : List ℕ) → place < length order → inputs + length cells ≤ length leads → AreLeadsRight (take place order) leads → AreLeadsRight (take (place + 1) order) (set leads (here place) (home_lead_at place leads))
     more_right place leads within long right net ready =
-        let value = lead_at_place place leads in
+        let value = home_lead_at place leads in
         let inside : here place < length leads = omega (arith, order_within setting.ordered.is_order place within) in
         let if_here = λ (same : net ≡ here place). get_or-set_at leads (here place) net value 0 same inside ∙ gate_right place leads within right ∙ ap home_lead (sym same) in
         let if_other = λ (other : net ≡ here place → ⊥). get_or-set_other leads (here place) net value 0 other ∙ right net (ready_before setting.ordered.is_order place net within other ready) in
         ⊎_elim if_here if_other (cases_eq net (here place))
 
     -- what the list keeps: its length, that leads are low, and that what is ready is right
-    pub record AreKept (done leads : List ℕ) : Type 0 where
+    pub record AreHomeLeads (done leads : List ℕ) : Type 0 where
       pub long : length leads ≡ inputs + length cells
       pub low : All (λ number. number ≤ 2 ^ 62 + 1) leads
-      pub right : AreRight done leads
+      pub right : AreLeadsRight done leads
 
-    pub more_kept : (place : ℕ) (leads : List ℕ) (net value : ℕ) → place < length order → net ≡ here place → value ≡ lead_at_place place leads → value ≤ 2 ^ 62 + 1 → AreKept (take place order) leads → AreKept (take (place + 1) order) (set leads net value)
+    pub more_kept : (place : ℕ) (leads : List ℕ) (net value : ℕ) → place < length order → net ≡ here place → value ≡ home_lead_at place leads → value ≤ 2 ^ 62 + 1 → AreHomeLeads (take place order) leads → AreHomeLeads (take (place + 1) order) (set leads net value)
     more_kept place leads net value within same_net same_value low_value kept = record {
       long = length-set leads net value ∙ kept.long;
       low = All-set (λ number. number ≤ 2 ^ 62 + 1) leads net value low_value kept.low;
@@ -121,7 +122,7 @@ module _ (setting : Setting) where
     }
 
     -- in the end all nets are right
-    pub all_leads : (place : ℕ) (leads : List ℕ) → length order ≤ place → AreKept (take place order) leads → AreLeads setting leads
+    pub all_leads : (place : ℕ) (leads : List ℕ) → length order ≤ place → AreHomeLeads (take place order) leads → AreLeads setting leads
     all_leads place leads whole kept = record {
       nets = kept.long;
       low = kept.low;
@@ -129,7 +130,7 @@ module _ (setting : Setting) where
     }
 
     -- a list of zeros is right before any gate
-    pub start_kept : (leads : List ℕ) (count : ℕ) → leads ≡ replicate count 0 → count ≡ inputs + length cells → AreKept [] leads
+    pub start_kept : (leads : List ℕ) (count : ℕ) → leads ≡ replicate count 0 → count ≡ inputs + length cells → AreHomeLeads [] leads
     start_kept leads count zeros all = record {
       long = ap length zeros ∙ length-replicate count 0 ∙ all;
       low = subst (All (λ number. number ≤ 2 ^ 62 + 1)) (sym zeros) (All-replicate (λ number. number ≤ 2 ^ 62 + 1) count 0 (omega arith));

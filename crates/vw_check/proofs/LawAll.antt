@@ -60,13 +60,13 @@ module _ (setting : Setting) where
   abbrev moments : List (Option PlanFault)
   moments = too_early setting ∷ late_latch setting ∷ []
 
-  abbrev groups : List (Option PlanFault)
-  groups = first_some cells ∷ first_some wires ∷ first_some hops ∷ first_some moments ∷ []
+  abbrev groups_of_faults : List (Option PlanFault)
+  groups_of_faults = first_some cells ∷ first_some wires ∷ first_some hops ∷ first_some moments ∷ []
 
   pub sound : plan_fault setting ≡ None → IsSound setting
   unfolding plan_fault
   sound none =
-      let each = each_search groups none in
+      let each = each_search groups_of_faults none in
       let no_cell = each_search cells each.0 in
       let no_wire = each_search wires each.1.0 in
       let no_hop = each_search hops each.1.1.0 in
@@ -88,12 +88,12 @@ module _ (setting : Setting) where
       let no_wire = no_search wires (no_missing_wire setting needs_are is.one_wire_for_each_need, (no_extra_wire setting needs_are is.one_wire_for_each_need, tt)) in
       let no_hop = no_search hops (no_broken_route setting is.routes, (no_bad_pin setting is.routes, (no_out_of_order setting is.rising_microcycles, (no_past_period setting is.rising_microcycles, (no_pin_clash setting.plan is.one_hop_a_pin, tt))))) in
       let no_moment = no_search moments (no_too_early setting is.sent_when_usable, (no_late_latch setting is.latches_in_time, tt)) in
-      no_search groups (no_cell, (no_wire, (no_hop, (no_moment, tt))))
+      no_search groups_of_faults (no_cell, (no_wire, (no_hop, (no_moment, tt))))
 
   pub breaks : (fault : PlanFault) → plan_fault setting ≡ Some fault → Breaks setting fault
   unfolding plan_fault
   breaks fault is =
-      some_search (Breaks setting) groups fault (
+      some_search (Breaks setting) groups_of_faults fault (
         (λ one its. some_search (Breaks setting) cells one (wrong_cells_break setting, (zero_period_breaks setting, (bad_chip_breaks setting, (overfull_breaks setting, tt)))) its),
         (
           (λ one its. some_search (Breaks setting) wires one (missing_wire_breaks setting needs_are, (extra_wire_breaks setting needs_are, tt)) its),

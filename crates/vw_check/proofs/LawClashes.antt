@@ -35,35 +35,35 @@ hops_of_wires number (wire ∷ wires) =
 
 -- ---- none of some hops shares a pin
 
-abbrev Apart : PlacedHop → PlacedHop → Type 0
-Apart one other = share_pin one.hop other.hop ≡ false
+abbrev ShareNoPin : PlacedHop → PlacedHop → Type 0
+ShareNoPin one other = share_pin one.hop other.hop ≡ false
 
-abbrev clash_of : PlacedHop → PlacedHop → PlanFault
-clash_of later earlier = PinClash earlier.wire earlier.number later.wire later.number
+abbrev clash_with : PlacedHop → PlacedHop → PlanFault
+clash_with later earlier = PinClash earlier.wire earlier.number later.wire later.number
 
-none_step : (shares : Bool) (earlier later : PlacedHop) (rest : Option PlacedHop) → option_map (clash_of later) (cond shares (Some earlier) rest) ≡ None → (shares ≡ false) × (option_map (clash_of later) rest ≡ None)
-none_step true earlier later rest none = absurd (none-some (clash_of later earlier) (sym none))
+none_step : (shares : Bool) (earlier later : PlacedHop) (rest : Option PlacedHop) → option_map (clash_with later) (cond shares (Some earlier) rest) ≡ None → (shares ≡ false) × (option_map (clash_with later) rest ≡ None)
+none_step true earlier later rest none = absurd (none-some (clash_with later earlier) (sym none))
 none_step false earlier later rest none = (refl, none)
 
-none_found : (placed : List PlacedHop) (later : PlacedHop) → option_map (clash_of later) (first_sharing placed later.hop) ≡ None → All (λ earlier. Apart earlier later) placed
-none_found [] later none = All-nil (λ earlier. Apart earlier later)
+none_found : (placed : List PlacedHop) (later : PlacedHop) → option_map (clash_with later) (first_sharing placed later.hop) ≡ None → All (λ earlier. ShareNoPin earlier later) placed
+none_found [] later none = All-nil (λ earlier. ShareNoPin earlier later)
 none_found (earlier ∷ placed) later none =
     let step = none_step (share_pin earlier.hop later.hop) earlier later (first_sharing placed later.hop) none in
-    All-cons (λ one. Apart one later) earlier placed step.0 (none_found placed later step.1)
+    All-cons (λ one. ShareNoPin one later) earlier placed step.0 (none_found placed later step.1)
 
-found_step : (shares : Bool) (earlier later : PlacedHop) (rest : Option PlacedHop) → shares ≡ false → option_map (clash_of later) rest ≡ None → option_map (clash_of later) (cond shares (Some earlier) rest) ≡ None
+found_step : (shares : Bool) (earlier later : PlacedHop) (rest : Option PlacedHop) → shares ≡ false → option_map (clash_with later) rest ≡ None → option_map (clash_with later) (cond shares (Some earlier) rest) ≡ None
 found_step true earlier later rest here none = absurd (true≢false here)
 found_step false earlier later rest here none = none
 
-found_none : (placed : List PlacedHop) (later : PlacedHop) → All (λ earlier. Apart earlier later) placed → option_map (clash_of later) (first_sharing placed later.hop) ≡ None
+found_none : (placed : List PlacedHop) (later : PlacedHop) → All (λ earlier. ShareNoPin earlier later) placed → option_map (clash_with later) (first_sharing placed later.hop) ≡ None
 found_none [] later all = refl
 found_none (earlier ∷ placed) later all =
-    found_step (share_pin earlier.hop later.hop) earlier later (first_sharing placed later.hop) (All-head (λ one. Apart one later) earlier placed all) (found_none placed later (All-tail (λ one. Apart one later) earlier placed all))
+    found_step (share_pin earlier.hop later.hop) earlier later (first_sharing placed later.hop) (All-head (λ one. ShareNoPin one later) earlier placed all) (found_none placed later (All-tail (λ one. ShareNoPin one later) earlier placed all))
 
 -- ---- pairs, and each hop with those before it
 
 abbrev BeforeNone : List PlacedHop → ℕ → PlacedHop → Type 0
-BeforeNone placed place later = option_map (clash_of later) (first_sharing (take place placed) later.hop) ≡ None
+BeforeNone placed place later = option_map (clash_with later) (first_sharing (take place placed) later.hop) ≡ None
 
 taken : {X : Type 0} (xs : List X) (i n : ℕ) (default : X) → i < n → n ≤ length xs → (get_or (take n xs) i default ≡ get_or xs i default) × (i < length (take n xs))
 taken xs i n default below within = (get_or-take n xs i default below, omega (arith, length-take-le n xs within))
@@ -77,13 +77,13 @@ module _ (plan : Plan) where
   abbrev placed : List PlacedHop
   placed = wires_placed 0 plan.wires
 
-  pairs_of_each : EachAt (BeforeNone placed) 0 placed → AllPairs Apart placed
+  pairs_of_each : EachAt (BeforeNone placed) 0 placed → AllPairs ShareNoPin placed
   pairs_of_each each i j default before below =
       let late = none_found (take j placed) (get_or placed j default) (each_or-zero (BeforeNone placed) placed each j default below) in
       let at = taken placed i j default before (omega arith) in
-      subst (λ (one : PlacedHop). Apart one (get_or placed j default)) at.0 (late i default at.1)
+      subst (λ (one : PlacedHop). ShareNoPin one (get_or placed j default)) at.0 (late i default at.1)
 
-  each_of_pairs : AllPairs Apart placed → EachAt (BeforeNone placed) 0 placed
+  each_of_pairs : AllPairs ShareNoPin placed → EachAt (BeforeNone placed) 0 placed
   each_of_pairs all =
       or_each-zero (BeforeNone placed) placed
       (λ j default below.
@@ -91,49 +91,49 @@ module _ (plan : Plan) where
       (λ i other within.
       let size = length-take-le j placed (omega arith) in
       let at = taken placed i j other (omega (arith, within, size)) (omega arith) in
-      subst (λ (one : PlacedHop). Apart one (get_or placed j default)) (sym at.0)
-      (subst (λ (one : PlacedHop). Apart (get_or placed i other) one) (same_default placed j other default below) (all i j other (omega (arith, within, size)) below))))
+      subst (λ (one : PlacedHop). ShareNoPin one (get_or placed j default)) (sym at.0)
+      (subst (λ (one : PlacedHop). ShareNoPin (get_or placed i other) one) (same_default placed j other default below) (all i j other (omega (arith, within, size)) below))))
 
   abbrev no_place : Hop → PlacedHop
   no_place hop = record { wire = 0; number = 0; hop = hop }
 
-  abbrev IsApart : Hop → Hop → Type 0
-  IsApart one other = IsTrue (not (share_pin one other))
+  abbrev HopsShareNoPin : Hop → Hop → Type 0
+  HopsShareNoPin one other = IsTrue (not (share_pin one other))
 
   hops_same : map (λ one. one.hop) placed ≡ hops_of plan
   hops_same = hops_of_wires 0 plan.wires
 
-  pub none_shared : pin_clash plan ≡ None → AllPairs IsApart (hops_of plan)
+  pub none_shared : pin_clash plan ≡ None → AllPairs HopsShareNoPin (hops_of plan)
   none_shared none =
-      let pairs = pairs_of_each (each_none (λ place later. option_map (clash_of later) (first_sharing (take place placed) later.hop)) 0 placed none) in
-      subst (AllPairs IsApart) hops_same
+      let pairs = pairs_of_each (each_none (λ place later. option_map (clash_with later) (first_sharing (take place placed) later.hop)) 0 placed none) in
+      subst (AllPairs HopsShareNoPin) hops_same
       (λ i j hop before below.
       let inside : j < length placed = omega (arith, below, length-map placed (λ one. one.hop)) in
       let here = get_or-map (λ one. one.hop) placed i (no_place hop) in
       let there = get_or-map (λ one. one.hop) placed j (no_place hop) in
       rw (here, there) (not_from_false (share_pin (get_or placed i (no_place hop)).hop (get_or placed j (no_place hop)).hop) (pairs i j (no_place hop) before inside)))
 
-  pub no_pin_clash : AllPairs IsApart (hops_of plan) → pin_clash plan ≡ None
+  pub no_pin_clash : AllPairs HopsShareNoPin (hops_of plan) → pin_clash plan ≡ None
   no_pin_clash all =
-      none_each (λ place later. option_map (clash_of later) (first_sharing (take place placed) later.hop)) 0 placed
+      none_each (λ place later. option_map (clash_with later) (first_sharing (take place placed) later.hop)) 0 placed
       (each_of_pairs
       (λ i j default before below.
-      let moved = subst (AllPairs IsApart) (sym hops_same) all in
+      let moved = subst (AllPairs HopsShareNoPin) (sym hops_same) all in
       let inside : j < length (map (λ one. one.hop) placed) = omega (arith, below, length-map placed (λ one. one.hop)) in
       let here = get_or-map (λ one. one.hop) placed i default in
       let there = get_or-map (λ one. one.hop) placed j default in
       let apart = moved i j default.hop before inside in
       not-true (share_pin (get_or placed i default).hop (get_or placed j default).hop)
-      (subst (λ (one : Hop). IsApart (get_or placed i default).hop one) there (subst (λ (one : Hop). IsApart one (get_or (map (λ one. one.hop) placed) j default.hop)) here apart))))
+      (subst (λ (one : Hop). HopsShareNoPin (get_or placed i default).hop one) there (subst (λ (one : Hop). HopsShareNoPin one (get_or (map (λ one. one.hop) placed) j default.hop)) here apart))))
 
-  clash_is : (setting : Setting) → (P : PlanFault → Type 0) → ((wire number other clash : ℕ) → P (PinClash wire number other clash)) → (later : PlacedHop) (found : Option PlacedHop) (fault : PlanFault) → option_map (clash_of later) found ≡ Some fault → P fault
+  clash_is : (setting : Setting) → (P : PlanFault → Type 0) → ((wire number other clash : ℕ) → P (PinClash wire number other clash)) → (later : PlacedHop) (found : Option PlacedHop) (fault : PlanFault) → option_map (clash_with later) found ≡ Some fault → P fault
   clash_is setting P each later None fault is = absurd (none-some fault is)
   clash_is setting P each later (Some earlier) fault is =
-      let same : clash_of later earlier ≡ fault = cc in
+      let same : clash_with later earlier ≡ fault = cc in
       subst P same (each earlier.wire earlier.number later.wire later.number)
 
 pub pin_clash_breaks : (setting : Setting) (fault : PlanFault) → pin_clash setting.plan ≡ Some fault → Breaks setting fault
 pin_clash_breaks setting fault is =
-    first_is (λ place later. option_map (clash_of later) (first_sharing (take place (placed setting.plan)) later.hop)) (Breaks setting)
+    first_is (λ place later. option_map (clash_with later) (first_sharing (take place (placed setting.plan)) later.hop)) (Breaks setting)
     (λ place later found its. clash_is setting.plan setting (Breaks setting) (λ wire number other clash sound. none-some fault (sym (no_pin_clash setting.plan sound) ∙ is)) later (first_sharing (take place (placed setting.plan)) later.hop) found its)
     0 (placed setting.plan) fault is

@@ -46,15 +46,15 @@ begins_later : (from : ℕ) (hop : Hop) (hops : List Hop) (number : ℕ) → num
 begins_later from hop hops zero within = refl
 begins_later from hop hops (suc number) within = end_of hops number from hop.to (omega arith)
 
-abbrev pub goes : List Link → ℕ → List Hop → ℕ → ℕ → Hop → Bool
-goes links from hops to number hop =
+abbrev pub hop_goes_on : List Link → ℕ → List Hop → ℕ → ℕ → Hop → Bool
+hop_goes_on links from hops to number hop =
     (hop.from == begins_at from hops number && has_link links hop.from hop.to) && (nat_lt (suc number) (length hops) || hop.to == to)
 
-goes_later : (links : List Link) (from to : ℕ) (first : Hop) (hops : List Hop) (number : ℕ) (hop : Hop) → number < length hops → goes links from (first ∷ hops) to (suc number) hop ≡ goes links first.to hops to number hop
+goes_later : (links : List Link) (from to : ℕ) (first : Hop) (hops : List Hop) (number : ℕ) (hop : Hop) → number < length hops → hop_goes_on links from (first ∷ hops) to (suc number) hop ≡ hop_goes_on links first.to hops to number hop
 goes_later links from to first hops number hop within =
     ap₂ (λ (start : ℕ) (more : Bool). (hop.from == start && has_link links hop.from hop.to) && (more || hop.to == to)) (begins_later from first hops number within) (lt_suc (suc number) (length hops))
 
-pub leads_from_goes : (links : List Link) (from to : ℕ) (hops : List Hop) → 0 < length hops → EachAt (λ number hop. goes links from hops to number hop ≡ true) 0 hops → leads_to from hops to ≡ true
+pub leads_from_goes : (links : List Link) (from to : ℕ) (hops : List Hop) → 0 < length hops → EachAt (λ number hop. hop_goes_on links from hops to number hop ≡ true) 0 hops → leads_to from hops to ≡ true
 leads_from_goes links from to [] some each = absurd (omega arith)
 leads_from_goes links from to (hop ∷ []) some each =
     let parts = and_parts (hop.from == from && has_link links hop.from hop.to) (hop.to == to) each.0 in
@@ -63,10 +63,10 @@ leads_from_goes links from to (hop ∷ next ∷ hops) some each =
     let parts = and_parts (hop.from == from && has_link links hop.from hop.to) (nat_lt 1 (length (hop ∷ next ∷ hops)) || hop.to == to) each.0 in
     and_from (hop.from == from) (leads_to hop.to (next ∷ hops) to) (and_parts (hop.from == from) (has_link links hop.from hop.to) parts.0).0
     (leads_from_goes links hop.to to (next ∷ hops) (omega arith)
-    (each_shift (λ number one. goes links from (hop ∷ next ∷ hops) to number one ≡ true) (λ number one. goes links hop.to (next ∷ hops) to number one ≡ true) 0 (next ∷ hops)
+    (each_shift (λ number one. hop_goes_on links from (hop ∷ next ∷ hops) to number one ≡ true) (λ number one. hop_goes_on links hop.to (next ∷ hops) to number one ≡ true) 0 (next ∷ hops)
     (λ number one below is. sym (goes_later links from to hop (next ∷ hops) number one (omega arith)) ∙ is) each.1))
 
-pub goes_from_leads : (links : List Link) (from to : ℕ) (hops : List Hop) → leads_to from hops to ≡ true → All (λ hop. has_link links hop.from hop.to ≡ true) hops → EachAt (λ number hop. goes links from hops to number hop ≡ true) 0 hops
+pub goes_from_leads : (links : List Link) (from to : ℕ) (hops : List Hop) → leads_to from hops to ≡ true → All (λ hop. has_link links hop.from hop.to ≡ true) hops → EachAt (λ number hop. hop_goes_on links from hops to number hop ≡ true) 0 hops
 goes_from_leads links from to [] leads all = tt
 goes_from_leads links from to (hop ∷ []) leads all =
     let parts = and_parts (hop.from == from) (hop.to == to) leads in
@@ -77,7 +77,7 @@ goes_from_leads links from to (hop ∷ next ∷ hops) leads all =
     let linked : has_link links hop.from hop.to ≡ true = All-head (λ one. has_link links one.from one.to ≡ true) hop (next ∷ hops) all in
     let further : nat_lt 1 (length (hop ∷ next ∷ hops)) ≡ true = lt-ltb 1 (length (hop ∷ next ∷ hops)) (omega arith) in (
       and_from (hop.from == from && has_link links hop.from hop.to) (nat_lt 1 (length (hop ∷ next ∷ hops)) || hop.to == to) (and_from (hop.from == from) (has_link links hop.from hop.to) parts.0 linked) (or_left (nat_lt 1 (length (hop ∷ next ∷ hops))) (hop.to == to) further),
-      each_unshift (λ number one. goes links from (hop ∷ next ∷ hops) to number one ≡ true) (λ number one. goes links hop.to (next ∷ hops) to number one ≡ true) 0 (next ∷ hops)
+      each_unshift (λ number one. hop_goes_on links from (hop ∷ next ∷ hops) to number one ≡ true) (λ number one. hop_goes_on links hop.to (next ∷ hops) to number one ≡ true) 0 (next ∷ hops)
           (λ number one above below is. goes_later links from to hop (next ∷ hops) number one (omega arith) ∙ is)
           (goes_from_leads links hop.to to (next ∷ hops) parts.1 (All-tail (λ one. has_link links one.from one.to ≡ true) hop (next ∷ hops) all)),
     )

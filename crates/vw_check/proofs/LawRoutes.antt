@@ -19,7 +19,7 @@ use Rattle.vw_check.specs.Firsts.{first_at, found_unless}
 use Rattle.vw_check.specs.HopFaults.{broken_wire, broken_route, bad_pin, is_later, out_of_order, past_period}
 use Rattle.vw_check.specs.Answers.{Breaks}
 use Rattle.vw_check.proofs.LawFirsts.{EachAt, each_none, none_each, each_to, each_all, all_each, unless_none, none_unless, first_is, unless_is}
-use Rattle.vw_check.proofs.LawHops.{goes, leads_from_goes, goes_from_leads, rises_from_later, later_from_rises, Passes, each_passes, passes_none, search_is}
+use Rattle.vw_check.proofs.LawHops.{hop_goes_on, leads_from_goes, goes_from_leads, rises_from_later, later_from_rises, Passes, each_passes, passes_none, search_is}
 
 any_weaker : {X : Type 0} (p q : X → Bool) → ((x : X) → p x ≡ true → q x ≡ true) → (xs : List X) → list_any p xs ≡ true → list_any q xs ≡ true
 any_weaker p q step [] is = absurd (true≢false (sym is))
@@ -41,16 +41,16 @@ module _ (setting : Setting) where
 
   record Goes (wire : Wire) : Type 0 where
     some : 0 < length wire.hops
-    each : EachAt (λ place hop. goes board.links (home setting wire.net) wire.hops wire.to place hop ≡ true) 0 wire.hops
+    each : EachAt (λ place hop. hop_goes_on board.links (home setting wire.net) wire.hops wire.to place hop ≡ true) 0 wire.hops
 
   wire_goes : (number : ℕ) (wire : Wire) → (empty : Bool) → (length wire.hops == 0) ≡ empty
-      → (if empty then Some (BrokenRoute number 0) else first_at (λ place hop. found_unless (goes board.links (home setting wire.net) wire.hops wire.to place hop) (BrokenRoute number place)) 0 wire.hops) ≡ None → Goes wire
+      → (if empty then Some (BrokenRoute number 0) else first_at (λ place hop. found_unless (hop_goes_on board.links (home setting wire.net) wire.hops wire.to place hop) (BrokenRoute number place)) 0 wire.hops) ≡ None → Goes wire
   wire_goes number wire true is none = absurd (none-some (BrokenRoute number 0) (sym none))
   wire_goes number wire false is none = record {
     some = some_hops (length wire.hops) is;
-    each = each_to (λ place hop. found_unless (goes board.links (home setting wire.net) wire.hops wire.to place hop) (BrokenRoute number place) ≡ None) (λ place hop. goes board.links (home setting wire.net) wire.hops wire.to place hop ≡ true)
-        (λ place hop got. unless_none (goes board.links (home setting wire.net) wire.hops wire.to place hop) (BrokenRoute number place) got) 0 wire.hops
-        (each_none (λ place hop. found_unless (goes board.links (home setting wire.net) wire.hops wire.to place hop) (BrokenRoute number place)) 0 wire.hops none);
+    each = each_to (λ place hop. found_unless (hop_goes_on board.links (home setting wire.net) wire.hops wire.to place hop) (BrokenRoute number place) ≡ None) (λ place hop. hop_goes_on board.links (home setting wire.net) wire.hops wire.to place hop ≡ true)
+        (λ place hop got. unless_none (hop_goes_on board.links (home setting wire.net) wire.hops wire.to place hop) (BrokenRoute number place) got) 0 wire.hops
+        (each_none (λ place hop. found_unless (hop_goes_on board.links (home setting wire.net) wire.hops wire.to place hop) (BrokenRoute number place)) 0 wire.hops none);
   } where
     some_hops : (n : ℕ) → (n == 0) ≡ false → 0 < n
     some_hops zero its = absurd (true≢false its)
@@ -59,9 +59,9 @@ module _ (setting : Setting) where
   goes_wire : (number : ℕ) (wire : Wire) → Goes wire → broken_wire setting number wire ≡ None
   goes_wire number wire goes_on =
       let some : (length wire.hops == 0) ≡ false = ne_eqb (length wire.hops) 0 (λ is. let wrong : 0 < 0 = subst (λ (n : ℕ). 0 < n) is goes_on.some in omega (arith, wrong)) in
-      rw some (none_each (λ place hop. found_unless (goes board.links (home setting wire.net) wire.hops wire.to place hop) (BrokenRoute number place)) 0 wire.hops
-      (each_to (λ place hop. goes board.links (home setting wire.net) wire.hops wire.to place hop ≡ true) (λ place hop. found_unless (goes board.links (home setting wire.net) wire.hops wire.to place hop) (BrokenRoute number place) ≡ None)
-      (λ place hop got. none_unless (goes board.links (home setting wire.net) wire.hops wire.to place hop) (BrokenRoute number place) got) 0 wire.hops goes_on.each))
+      rw some (none_each (λ place hop. found_unless (hop_goes_on board.links (home setting wire.net) wire.hops wire.to place hop) (BrokenRoute number place)) 0 wire.hops
+      (each_to (λ place hop. hop_goes_on board.links (home setting wire.net) wire.hops wire.to place hop ≡ true) (λ place hop. found_unless (hop_goes_on board.links (home setting wire.net) wire.hops wire.to place hop) (BrokenRoute number place) ≡ None)
+      (λ place hop got. none_unless (hop_goes_on board.links (home setting wire.net) wire.hops wire.to place hop) (BrokenRoute number place) got) 0 wire.hops goes_on.each))
 
   all_go : broken_route setting ≡ None → All Goes plan.wires
   all_go none =
@@ -120,11 +120,11 @@ module _ (setting : Setting) where
   -- ---- what the faults break
 
   broken_is : (P : PlanFault → Type 0) → ((number place : ℕ) → P (BrokenRoute number place)) → (number : ℕ) (wire : Wire) (found : PlanFault) → (empty : Bool)
-      → (if empty then Some (BrokenRoute number 0) else first_at (λ place hop. found_unless (goes board.links (home setting wire.net) wire.hops wire.to place hop) (BrokenRoute number place)) 0 wire.hops) ≡ Some found → P found
+      → (if empty then Some (BrokenRoute number 0) else first_at (λ place hop. found_unless (hop_goes_on board.links (home setting wire.net) wire.hops wire.to place hop) (BrokenRoute number place)) 0 wire.hops) ≡ Some found → P found
   broken_is P each number wire found true is = let same : BrokenRoute number 0 ≡ found = cc in subst P same (each number 0)
   broken_is P each number wire found false is =
-      first_is (λ place hop. found_unless (goes board.links (home setting wire.net) wire.hops wire.to place hop) (BrokenRoute number place)) P
-      (λ place hop other its. subst P (unless_is (goes board.links (home setting wire.net) wire.hops wire.to place hop) (BrokenRoute number place) other its) (each number place)) 0 wire.hops found is
+      first_is (λ place hop. found_unless (hop_goes_on board.links (home setting wire.net) wire.hops wire.to place hop) (BrokenRoute number place)) P
+      (λ place hop other its. subst P (unless_is (hop_goes_on board.links (home setting wire.net) wire.hops wire.to place hop) (BrokenRoute number place) other its) (each number place)) 0 wire.hops found is
 
   pub broken_route_breaks : (fault : PlanFault) → broken_route setting ≡ Some fault → Breaks setting fault
   broken_route_breaks fault is =

@@ -63,29 +63,29 @@ brings_own wire = and_from (wire.net == wire.net) (wire.to == wire.to) (eq-eqb w
 
 -- ---- the wires up to a place
 
-abbrev counted : List Wire → ℕ → ℕ → ℕ → ℕ
-counted wires net node i = count_by (brings net node) (take i wires)
+abbrev brought_so_far : List Wire → ℕ → ℕ → ℕ → ℕ
+brought_so_far wires net node i = count_by (brings net node) (take i wires)
 
 -- where the wire at a place is the first of its pair, there are no others before it
-first_here : (wires : List Wire) → HaveNoEarlier wires → (net node i : ℕ) (default : Wire) → i < length wires → brings net node (get_or wires i default) ≡ true → counted wires net node i ≡ 0
+first_here : (wires : List Wire) → HaveNoEarlier wires → (net node i : ℕ) (default : Wire) → i < length wires → brings net node (get_or wires i default) ≡ true → brought_so_far wires net node i ≡ 0
 first_here wires once net node i default below is =
     let wire = get_or wires i default in
     let its = brings_is net node wire is in
     let none = each_or-zero (λ number one. is_brought (take number wires) one.net one.to ≡ false) wires once i default below in
     count_none net node (take i wires) (subst (λ (n : ℕ). is_brought (take i wires) net n ≡ false) its.1 (subst (λ (n : ℕ). is_brought (take i wires) n wire.to ≡ false) its.0 none))
 
-one_step : (wires : List Wire) → HaveNoEarlier wires → (net node i : ℕ) (default : Wire) → i < length wires → counted wires net node i ≤ 1 → (here : Bool) → brings net node (get_or wires i default) ≡ here → counted wires net node (suc i) ≤ 1
+one_step : (wires : List Wire) → HaveNoEarlier wires → (net node i : ℕ) (default : Wire) → i < length wires → brought_so_far wires net node i ≤ 1 → (here : Bool) → brings net node (get_or wires i default) ≡ here → brought_so_far wires net node (suc i) ≤ 1
 one_step wires once net node i default below few true is =
     let more : i + 1 ≡ suc i = omega arith in
     let none = first_here wires once net node i default below is in
     let one = count_by_more_yes (brings net node) wires i default below is in
-    subst (λ (n : ℕ). counted wires net node n ≤ 1) more (omega (arith, none, one))
+    subst (λ (n : ℕ). brought_so_far wires net node n ≤ 1) more (omega (arith, none, one))
 one_step wires once net node i default below few false is =
     let more : i + 1 ≡ suc i = omega arith in
     let same = count_by_more_no (brings net node) wires i default below is in
-    subst (λ (n : ℕ). counted wires net node n ≤ 1) more (omega (arith, same))
+    subst (λ (n : ℕ). brought_so_far wires net node n ≤ 1) more (omega (arith, same))
 
-one_at_most : (wires : List Wire) → HaveNoEarlier wires → (net node : ℕ) (default : Wire) (i : ℕ) → i ≤ length wires → counted wires net node i ≤ 1
+one_at_most : (wires : List Wire) → HaveNoEarlier wires → (net node : ℕ) (default : Wire) (i : ℕ) → i ≤ length wires → brought_so_far wires net node i ≤ 1
 one_at_most wires once net node default zero within = omega arith
 one_at_most wires once net node default (suc i) within =
     one_step wires once net node i default (omega arith) (one_at_most wires once net node default i (omega arith)) (brings net node (get_or wires i default)) refl
@@ -99,7 +99,7 @@ one_of_pair (first ∷ rest) once net node =
 
 -- ---- and back
 
-count_taken : (wires : List Wire) (net node i : ℕ) → counted wires net node i ≤ count_by (brings net node) wires
+count_taken : (wires : List Wire) (net node i : ℕ) → brought_so_far wires net node i ≤ count_by (brings net node) wires
 count_taken wires net node i =
     let parts = sum_by-append (λ wire. cond (brings net node wire) 1 0) (take i wires) (drop i wires) in
     let whole : count_by (brings net node) (take i wires ++ drop i wires) ≡ count_by (brings net node) wires = ap (count_by (brings net node)) (take-append-drop i wires) in

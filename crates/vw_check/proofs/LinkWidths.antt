@@ -15,7 +15,7 @@ use Rattle.vw_plan.specs.Walks.{has_link}
 use Rattle.vw_check.specs.Steps.Rules.{width_between}
 use Rattle.vw_check.specs.Pairs.{HasPairs, is_number_pair, pair_in}
 use Rattle.vw_check.specs.Steps.Tables.{link_pairs}
-use Rattle.vw_check.proofs.FirstPairs.{turned_eqb}
+use Rattle.vw_net.proofs.Orders.{eqb_comm}
 use Rattle.vw_check.proofs.FirstPlaces.{LeadsTo, leads}
 
 module _ (from to : ℕ) where
@@ -23,7 +23,7 @@ module _ (from to : ℕ) where
   joins link = eqb link.from from && eqb link.to to
 
   pub turned : (link : Link) → joins link ≡ is_number_pair from to (link.from, link.to)
-  turned link = ap₂ (λ (first second : Bool). first && second) (turned_eqb link.from from) (turned_eqb link.to to)
+  turned link = ap₂ (λ (first second : Bool). first && second) (eqb_comm link.from from) (eqb_comm link.to to)
 
 -- what a table of the links finds
 pub link_leads : {S : Type 0} (links : List Link) (table : HashMap (ℕ × ℕ) ℕ S) → HasPairs (link_pairs links) table → (from to : ℕ) → LeadsTo (joins from to) links (pair_in table from to)

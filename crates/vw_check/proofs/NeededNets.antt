@@ -1,10 +1,11 @@
 -- Which nets are needed at all, and what a plan without some faults has.
-use Rattle.std.proofs.Common.{◌≡◌, ◌<◌, ◌≤◌, ◌+◌, ◌&&◌, ◌||◌, ℕ, zero, suc, Bool, true, false, not, List, [], ◌∷◌, length, take, get_or, eqb, Option, Some, None, refl, sym, subst, ⊎_elim, true≢false, eqb-true, All, arith}
+use Rattle.std.proofs.Common.{◌≡◌, ◌<◌, ◌≤◌, ◌+◌, ◌&&◌, ◌||◌, ℕ, zero, suc, Bool, true, false, not, List, [], ◌∷◌, length, take, get_or, eqb, Option, None, refl, sym, subst, ⊎_elim, true≢false, eqb-true, All, arith}
 use Rattle.std.specs.Prelude.{nat_le}
 use Rattle.std.specs.List.{list_any, zip}
 use Rattle.std.specs.Option.{option_or}
 use Rattle.std.proofs.lemmas.Bool.{and_parts, or_cases, not-true}
 use Rattle.std.proofs.lemmas.List.Elements.{All-head, All-tail}
+use Rattle.vw_net.proofs.FirstOptions.{or_none}
 use Rattle.vw_net.specs.declared.cell.Cell.{Cell}
 use Rattle.vw_net.specs.declared.flat.Flat.{Flat}
 use Rattle.vw_net.specs.Cells.{IsWellFormed, read_nets}
@@ -22,18 +23,14 @@ use Rattle.vw_check.specs.Faults.{cell_fault, wire_fault}
 
 -- ---- searches that find nothing
 
-or_parts : {Y : Type 0} (one other : Option Y) → option_or one other ≡ None → (one ≡ None) × (other ≡ None)
-or_parts None other none = (refl, none)
-or_parts (Some thing) other none = cc
-
 none_at : {X Y : Type 0} (found : ℕ → X → Option Y) (from : ℕ) (xs : List X) → first_at found from xs ≡ None → (place : ℕ) (default : X) → place < length xs → found (from + place) (get_or xs place default) ≡ None
 none_at found from [] none place default within = absurd (omega arith)
 none_at found from (x ∷ xs) none zero default within =
     let here : from ≡ from + 0 = omega arith in
-    subst (λ (number : ℕ). found number x ≡ None) here (or_parts (found from x) (first_at found (suc from) xs) none).0
+    subst (λ (number : ℕ). found number x ≡ None) here (or_none (found from x) (first_at found (suc from) xs) none).0
 none_at found from (x ∷ xs) none (suc place) default within =
     let later : suc from + place ≡ from + suc place = omega arith in
-    subst (λ (number : ℕ). found number (get_or xs place default) ≡ None) later (none_at found (suc from) xs (or_parts (found from x) (first_at found (suc from) xs) none).1 place default (omega arith))
+    subst (λ (number : ℕ). found number (get_or xs place default) ≡ None) later (none_at found (suc from) xs (or_none (found from x) (first_at found (suc from) xs) none).1 place default (omega arith))
 
 passed : (test : Bool) (fault : PlanFault) → found_unless test fault ≡ None → test ≡ true
 passed true fault none = refl
@@ -71,9 +68,9 @@ needed_net flat chip_of net node needed =
 -- without a fault of the cells, each cell has a chip
 pub chips_fine : (flat : Flat) (board : Board) (plan : Plan) → cell_fault flat board plan ≡ None → (length plan.chip_of ≡ length flat.cells) × All (λ chip. 1 ≤ chip) plan.chip_of
 chips_fine flat board plan none =
-    let counted = or_parts (wrong_cells flat plan) (option_or (zero_period plan) (option_or (bad_chip board plan) (option_or (overfull board plan) None))) none in
-    let timed = or_parts (zero_period plan) (option_or (bad_chip board plan) (option_or (overfull board plan) None)) counted.1 in
-    let placed = or_parts (bad_chip board plan) (option_or (overfull board plan) None) timed.1 in
+    let counted = or_none (wrong_cells flat plan) (option_or (zero_period plan) (option_or (bad_chip board plan) (option_or (overfull board plan) None))) none in
+    let timed = or_none (zero_period plan) (option_or (bad_chip board plan) (option_or (overfull board plan) None)) counted.1 in
+    let placed = or_none (bad_chip board plan) (option_or (overfull board plan) None) timed.1 in
     let same = passed (eqb (length plan.chip_of) (length flat.cells)) (WrongCells (length plan.chip_of) (length flat.cells)) counted.0 in (
       eqb-true (length plan.chip_of) (length flat.cells) same,
       λ place default within.
@@ -89,8 +86,8 @@ chips_fine flat board plan none =
 -- without a fault of the wires, each wire brings one of the nets
 pub wires_fine : (flat : Flat) (plan : Plan) → wire_fault flat plan ≡ None → All (λ wire. wire.net < flat.inputs + length flat.cells) plan.wires
 wires_fine flat plan none = λ place default within.
-    let wires = or_parts (missing_wire flat plan) (option_or (extra_wire flat plan) None) none in
-    let extra = or_parts (extra_wire flat plan) None wires.1 in
+    let wires = or_none (missing_wire flat plan) (option_or (extra_wire flat plan) None) none in
+    let extra = or_none (extra_wire flat plan) None wires.1 in
     let found = λ (number : ℕ) (wire : Wire). found_unless (is_needed flat plan.chip_of wire.net wire.to && not (is_brought (take number plan.wires) wire.net wire.to)) (ExtraWire number) in
     let wire = get_or plan.wires place default in
     let needed = passed (is_needed flat plan.chip_of wire.net wire.to && not (is_brought (take (0 + place) plan.wires) wire.net wire.to)) (ExtraWire (0 + place)) (none_at found 0 plan.wires extra.0 place default within) in

@@ -9,9 +9,9 @@ use Rattle.vw_net.specs.declared.ordered.Ordered.{Ordered}
 use Rattle.vw_net.specs.Order.{is_gate}
 use Rattle.vw_plan.specs.declared.board.Board.{Board}
 use Rattle.vw_plan.specs.declared.plan.Plan.{Plan}
-use Rattle.vw_plan.specs.Nets.{driving_cell, node_of}
+use Rattle.vw_plan.specs.Nets.{driving_cell, greatest_read, node_of}
 use Rattle.vw_plan.specs.Setting.{Setting, setting_of, home}
-use Rattle.vw_plan.specs.Lead.{brought_at, driven_lead, level_lead, lead, usable}
+use Rattle.vw_plan.specs.Lead.{brought_at, level_lead, lead, usable}
 use Rattle.vw_check.specs.declared.fault.PlanFault.{PlanFault}
 use Rattle.vw_check.specs.declared.fault.PlanFault.TheVariants.{BrokenRoute, TooEarly, LateLatch}
 use Rattle.vw_check.specs.Firsts.{first_at, first_some, found_unless}
@@ -29,7 +29,7 @@ module _ (board : Board) (plan : Plan) (one other : Ordered) (same : one.flat �
   level_same : (level node net : ℕ) → level_lead level here node net ≡ level_lead level there node net
   level_same zero node net = refl
   level_same (suc level) node net =
-      ap₂ (λ (flat : Flat) (leads : ℕ → ℕ). if node_of flat plan.chip_of net == node then driven_lead leads (driving_cell flat net) else brought_at here node net) same (fun_ext (level_same level node))
+      ap₂ (λ (flat : Flat) (leads : ℕ → ℕ). if node_of flat plan.chip_of net == node then greatest_read leads (driving_cell flat net) else brought_at here node net) same (fun_ext (level_same level node))
 
   lead_same : (node net : ℕ) → lead here node net ≡ lead there node net
   unfolding lead

@@ -20,7 +20,7 @@ use Rattle.vw_check.specs.WireFaults.{extra_wire, is_brought, missing_wire}
 use Rattle.vw_check.specs.Pairs.{HasPairs, first_pair, is_number_pair, pair_in}
 use Rattle.vw_check.specs.Steps.Tables.{need_pairs, wire_pairs}
 use Rattle.vw_check.specs.Steps.Wires.{first_extra, first_missing, is_extra, is_given_number}
-use Rattle.vw_check.proofs.FirstPairs.{turned_eqb}
+use Rattle.vw_net.proofs.Orders.{eqb_comm}
 use Rattle.vw_check.proofs.FirstPlaces.{LeadsTo, leads}
 use Rattle.vw_check.proofs.WiresBrought.{turned, wire_leads}
 
@@ -48,24 +48,24 @@ any_leads test (x ∷ xs) (Some place) leads_to = ap is_some (sym (slice_get-get
 
 -- ---- whether a place is the first
 
-abbrev first_place : {X : Type 0} → (X → Bool) → ℕ → List X → Option ℕ
-first_place test from xs = first_at (λ place x. found_if (test x) place) from xs
+abbrev first_place_from : {X : Type 0} → (X → Bool) → ℕ → List X → Option ℕ
+first_place_from test from xs = first_at (λ place x. found_if (test x) place) from xs
 
-first_pair-place : {X : Type 0} (pair_of : X → ℕ × ℕ) (test : X → Bool) (one other : ℕ) → ((x : X) → test x ≡ is_number_pair one other (pair_of x)) → (from : ℕ) (xs : List X) → first_pair from (map pair_of xs) one other ≡ first_place test from xs
+first_pair-place : {X : Type 0} (pair_of : X → ℕ × ℕ) (test : X → Bool) (one other : ℕ) → ((x : X) → test x ≡ is_number_pair one other (pair_of x)) → (from : ℕ) (xs : List X) → first_pair from (map pair_of xs) one other ≡ first_place_from test from xs
 first_pair-place pair_of test one other same from [] = refl
 first_pair-place pair_of test one other same from (x ∷ xs) = ap₂ (λ (here : Bool) (rest : Option ℕ). option_or (found_if here from) rest) (sym (same x)) (first_pair-place pair_of test one other same (suc from) xs)
 
-place_first : {X : Type 0} (test : X → Bool) (from place : ℕ) (x : X) (xs : List X) → slice_get xs place ≡ Some x → test x ≡ true → is_given_number (from + place) (first_place test from xs) ≡ not (list_any test (take place xs))
+place_first : {X : Type 0} (test : X → Bool) (from place : ℕ) (x : X) (xs : List X) → slice_get xs place ≡ Some x → test x ≡ true → is_given_number (from + place) (first_place_from test from xs) ≡ not (list_any test (take place xs))
 place_first test from place x [] is passes = cc
 place_first test from zero x (y ∷ ys) is passes =
     let same : y ≡ x = cc in
     let here : test y ≡ true = ap test same ∙ passes in
     rw here (eq-eqb from (from + 0) (omega arith))
 place_first test from (suc place) x (y ∷ ys) is passes =
-    let if_here = λ (here : test y ≡ true). let whole : is_given_number (from + suc place) (first_place test from (y ∷ ys)) ≡ not (list_any test (take (suc place) (y ∷ ys))) = rw here (ne_eqb from (from + suc place) (λ same. omega arith)) in whole in
+    let if_here = λ (here : test y ≡ true). let whole : is_given_number (from + suc place) (first_place_from test from (y ∷ ys)) ≡ not (list_any test (take (suc place) (y ∷ ys))) = rw here (ne_eqb from (from + suc place) (λ same. omega arith)) in whole in
     let if_later = λ (later : test y ≡ false).
     let next : from + suc place ≡ suc from + place = omega arith in
-    let whole : is_given_number (from + suc place) (first_place test from (y ∷ ys)) ≡ not (list_any test (take (suc place) (y ∷ ys))) = rw (later, next) (place_first test (suc from) place x ys is passes) in whole in
+    let whole : is_given_number (from + suc place) (first_place_from test from (y ∷ ys)) ≡ not (list_any test (take (suc place) (y ∷ ys))) = rw (later, next) (place_first test (suc from) place x ys is passes) in whole in
     ⊎_elim if_here if_later (cases_Bool (test y))
 
 -- ---- the faults
@@ -76,7 +76,7 @@ found_by true false fault = refl
 found_by false first fault = refl
 
 need_turned : (net node : ℕ) (need : Need) → needs.is_pair net node need ≡ is_number_pair net node (need.net, need.to)
-need_turned net node need = ap₂ (λ (first second : Bool). first && second) (turned_eqb need.net net) (turned_eqb need.to node)
+need_turned net node need = ap₂ (λ (first second : Bool). first && second) (eqb_comm need.net net) (eqb_comm need.to node)
 
 module _ {S : Type 0} (flat : Flat) (plan : Plan) (wires : HashMap (ℕ × ℕ) ℕ S) (has : HasPairs (wire_pairs plan.wires) wires) where
   pub missing_by : (list : List Need) → list ≡ needed_pairs flat plan.chip_of → first_missing wires list ≡ missing_wire flat plan
@@ -91,7 +91,7 @@ module _ {S : Type 0} (flat : Flat) (plan : Plan) (wires : HashMap (ℕ × ℕ) 
       let place = has wire.net wire.to ∙ first_pair-place (λ (one : Wire). (one.net, one.to)) test wire.net wire.to (turned wire.net wire.to) 0 plan.wires in
       let from_first : 0 + number ≡ number = omega arith in
       let own : test wire ≡ true = rw (eq-eqb wire.net wire.net refl, eq-eqb wire.to wire.to refl) refl in
-      ap (is_given_number number) place ∙ subst (λ (count : ℕ). is_given_number count (first_place test 0 plan.wires) ≡ not (list_any test (take number plan.wires))) from_first (place_first test 0 number wire plan.wires is own)
+      ap (is_given_number number) place ∙ subst (λ (count : ℕ). is_given_number count (first_place_from test 0 plan.wires) ≡ not (list_any test (take number plan.wires))) from_first (place_first test 0 number wire plan.wires is own)
 
   pub extra_by : (list : List Need) (table : HashMap (ℕ × ℕ) ℕ S) → list ≡ needed_pairs flat plan.chip_of → HasPairs (need_pairs list) table → ((net node : ℕ) → list_any (needs.is_pair net node) (needed_pairs flat plan.chip_of) ≡ is_needed flat plan.chip_of net node) → first_extra table wires plan.wires ≡ extra_wire flat plan
   extra_by list table is has_needs listed =
@@ -103,7 +103,3 @@ module _ {S : Type 0} (flat : Flat) (plan : Plan) (wires : HashMap (ℕ × ℕ) 
       ap₂ (λ (one other : Bool). found_if (not one || not other) (ExtraWire number)) needed (first_wire number wire at)
       ∙ found_by (is_needed flat plan.chip_of wire.net wire.to) (not (is_brought (take number plan.wires) wire.net wire.to)) (ExtraWire number) in
       subst (λ (count : ℕ). found_if (is_extra table wires count wire) (ExtraWire count) ≡ found_unless (is_needed flat plan.chip_of wire.net wire.to && not (is_brought (take count plan.wires) wire.net wire.to)) (ExtraWire count)) from_first whole)
-
-pub or_none : (found : Option PlanFault) → option_or found None ≡ found
-or_none None = refl
-or_none (Some fault) = refl

@@ -7,11 +7,11 @@ use Rattle.vw_plan.specs.Lead.{after_last, brings, brought_at}
 use Rattle.vw_plan.specs.Setting.{Setting}
 use Rattle.vw_check.specs.Pairs.{HasPairs, is_number_pair, pair_in}
 use Rattle.vw_check.specs.Steps.Tables.{wire_pairs}
-use Rattle.vw_check.proofs.FirstPairs.{turned_eqb}
+use Rattle.vw_net.proofs.Orders.{eqb_comm}
 use Rattle.vw_check.proofs.FirstPlaces.{LeadsTo, leads}
 
 pub turned : (net node : ℕ) (wire : Wire) → brings net node wire ≡ is_number_pair net node (wire.net, wire.to)
-turned net node wire = ap₂ (λ (first second : Bool). first && second) (turned_eqb wire.net net) (turned_eqb wire.to node)
+turned net node wire = ap₂ (λ (first second : Bool). first && second) (eqb_comm wire.net net) (eqb_comm wire.to node)
 
 -- what a table of the wires finds
 pub wire_leads : {S : Type 0} (wires : List Wire) (table : HashMap (ℕ × ℕ) ℕ S) → HasPairs (wire_pairs wires) table → (net node : ℕ) → LeadsTo (brings net node) wires (pair_in table net node)

@@ -1,7 +1,8 @@
 //! The moments at which nets are usable.
 ghost use Rattle.std.specs.Prelude.{◌≡◌, ◌≤◌, ◌<◌, ◌+◌, ◌^◌, length, map, slice_get, slice_index, IfOk};
 ghost use Rattle.std.specs.List.{All};
-ghost use Rattle.vw_plan.specs.Lead.{after_last, brought_at, driven_lead, is_gate_at, usable};
+ghost use Rattle.vw_plan.specs.Nets.{greatest_read};
+ghost use Rattle.vw_plan.specs.Lead.{after_last, brought_at, is_gate_at, usable};
 ghost use Rattle.vw_net.specs.Lists.{greatest};
 ghost use Rattle.vw_plan.specs.Setting.{setting_of};
 ghost use Rattle.vw_check.specs.MomentFaults.{late_latch, too_early};
@@ -115,7 +116,7 @@ fn lead_of_cell(
     requires nets { length leads.now ≡ ordered.now.flat.inputs + length ordered.now.flat.cells }
     requires low { All (λ lead. lead ≤ 2 ^ 62 + 1) leads.now }
     requires wires { HasPairs (wire_pairs plan.now.wires) wires.now.places }
-    ensures value { result ≡ driven_lead
+    ensures value { result ≡ greatest_read
         (lead_by (setting_of ordered.now board.now plan.now) leads.now
         (slice_index plan.now.chip_of number))
         (slice_get ordered.now.flat.cells number) }

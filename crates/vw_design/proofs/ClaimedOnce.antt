@@ -24,30 +24,30 @@ use Rattle.vw_design.proofs.Sites.{site_item}
 use Rattle.vw_design.proofs.Names.{same_name, name_same}
 use Rattle.vw_design.proofs.PlacedInstances.{faultless_site}
 use Rattle.vw_design.proofs.ListPlaces.{behind}
-use Rattle.vw_net.specs.Steps.{one_if}
+use Rattle.vw_net.specs.Steps.Bits.{one_if}
 
 -- how often a name stands among names
-abbrev times : Word → List Word → ℕ
-times name [] = 0
-times name (other ∷ names) = one_if (bytes_eq other name) + times name names
+abbrev times_named : Word → List Word → ℕ
+times_named name [] = 0
+times_named name (other ∷ names) = one_if (bytes_eq other name) + times_named name names
 
-times_append : (name : Word) (one other : List Word) → times name (one ++ other) ≡ times name one + times name other
+times_append : (name : Word) (one other : List Word) → times_named name (one ++ other) ≡ times_named name one + times_named name other
 times_append name [] other = omega arith
 times_append name (first ∷ one) other = omega (arith, times_append name one other)
 
 -- an item has as many claims on a name as it claims it
-bind_times : (design : Design) (outputs : List Word) (place : ℕ) (name : Word) (binds : List Bind) → length (filter_map (bind_claim outputs place name) binds) ≡ times name (filter_map (bound_actual outputs) binds)
+bind_times : (design : Design) (outputs : List Word) (place : ℕ) (name : Word) (binds : List Bind) → length (filter_map (bind_claim outputs place name) binds) ≡ times_named name (filter_map (bound_actual outputs) binds)
 bind_times design outputs place name [] = refl
 bind_times design outputs place name (bind ∷ binds) = by (bytes_eq bind.actual name) refl (has_name outputs bind.formal) (bind_times design outputs place name binds) where
-  by : (same : Bool) → bytes_eq bind.actual name ≡ same → (output : Bool) → length (filter_map (bind_claim outputs place name) binds) ≡ times name (filter_map (bound_actual outputs) binds)
+  by : (same : Bool) → bytes_eq bind.actual name ≡ same → (output : Bool) → length (filter_map (bind_claim outputs place name) binds) ≡ times_named name (filter_map (bound_actual outputs) binds)
       → length (cons_option (if same && output then Some (bound place bind.formal) else None) (filter_map (bind_claim outputs place name) binds))
-      ≡ times name (cons_option (if output then Some bind.actual else None) (filter_map (bound_actual outputs) binds))
+      ≡ times_named name (cons_option (if output then Some bind.actual else None) (filter_map (bound_actual outputs) binds))
   by true is true rest = omega (arith, rest, ap one_if is)
   by true is false rest = rest
   by false is true rest = omega (arith, rest, ap one_if is)
   by false is false rest = rest
 
-item_times : (design : Design) (name : Word) (number before : ℕ) (item : Item) → length (item_claims design name number before item) ≡ times name (claimed_by design item)
+item_times : (design : Design) (name : Word) (number before : ℕ) (item : Item) → length (item_claims design name number before item) ≡ times_named name (claimed_by design item)
 item_times design name number before (Names line ins out cover) = by (bytes_eq out name) where
   by : (b : Bool) → length (if b then driven number ∷ [] else []) ≡ one_if b + 0
   by true = omega arith
@@ -60,7 +60,7 @@ item_times design name number before (Sub line model binds) = bind_times design 
 
 -- all items claim it as often
 items_times : (design : Design) (name : Word) (number before : ℕ) (items : List Item)
-    → length (flat_map (λ entry. item_claims design name entry.number entry.before entry.item) (numbered number before items)) ≡ times name (flat_map (claimed_by design) items)
+    → length (flat_map (λ entry. item_claims design name entry.number entry.before entry.item) (numbered number before items)) ≡ times_named name (flat_map (claimed_by design) items)
 items_times design name number before [] = refl
 items_times design name number before (item ∷ items) =
     let of_entry = λ (entry : Numbered). item_claims design name entry.number entry.before entry.item in
@@ -74,49 +74,49 @@ items_times design name number before (item ∷ items) =
     )
 
 -- a name that stands among names stands there at least once, and else not at all
-has_times : (name : Word) (names : List Word) → one_if (has_name names name) ≤ times name names
+has_times : (name : Word) (names : List Word) → one_if (has_name names name) ≤ times_named name names
 has_times name [] = omega arith
 has_times name (other ∷ names) = by (bytes_eq other name) (has_name names name) (has_times name names) where
-  by : (here there : Bool) → one_if there ≤ times name names → one_if (here || there) ≤ one_if here + times name names
+  by : (here there : Bool) → one_if there ≤ times_named name names → one_if (here || there) ≤ one_if here + times_named name names
   by true there rest = omega arith
   by false there rest = omega (arith, rest)
 
-times_has : (name : Word) (names : List Word) → has_name names name ≡ false → times name names ≡ 0
+times_has : (name : Word) (names : List Word) → has_name names name ≡ false → times_named name names ≡ 0
 times_has name [] none = refl
 times_has name (other ∷ names) none =
     let parts = or_parts (bytes_eq other name) (has_name names name) none in
     omega (arith, ap one_if parts.0, times_has name names parts.1)
 
 -- where no name stands before or twice
-none_again : (name : Word) (before names : List Word) → first_again before names ≡ None → one_if (has_name before name) + times name names ≤ 1
+none_again : (name : Word) (before names : List Word) → first_again before names ≡ None → one_if (has_name before name) + times_named name names ≤ 1
 none_again name before [] none = by (has_name before name) where
   by : (b : Bool) → one_if b + 0 ≤ 1
   by true = omega arith
   by false = omega arith
 none_again name before (first ∷ names) none = by (has_name before first) refl none (none_again name (first ∷ before) names) where
-  further : (same had : Bool) → bytes_eq first name ≡ same → (same ≡ true → had ≡ false) → one_if (same || had) + times name names ≤ 1 → one_if had + (one_if same + times name names) ≤ 1
+  further : (same had : Bool) → bytes_eq first name ≡ same → (same ≡ true → had ≡ false) → one_if (same || had) + times_named name names ≤ 1 → one_if had + (one_if same + times_named name names) ≤ 1
   further true true is fresh rest = absurd (true≢false (fresh refl))
   further true false is fresh rest = omega (arith, rest)
   further false had is fresh rest = omega (arith, rest)
 
   by : (b : Bool) → has_name before first ≡ b → (if b then Some first else first_again (first ∷ before) names) ≡ None
-      → (first_again (first ∷ before) names ≡ None → one_if (bytes_eq first name || has_name before name) + times name names ≤ 1)
-      → one_if (has_name before name) + (one_if (bytes_eq first name) + times name names) ≤ 1
+      → (first_again (first ∷ before) names ≡ None → one_if (bytes_eq first name || has_name before name) + times_named name names ≤ 1)
+      → one_if (has_name before name) + (one_if (bytes_eq first name) + times_named name names) ≤ 1
   by true is none rest = absurd (none-some first (sym none))
   by false is none rest =
       further (bytes_eq first name) (has_name before name) refl (λ same. ap (has_name before) (sym (same_name first name same)) ∙ is) (rest none)
 
 -- a name that does stands there twice
-some_again : (name : Word) (before names : List Word) → first_again before names ≡ Some name → 2 ≤ one_if (has_name before name) + times name names
+some_again : (name : Word) (before names : List Word) → first_again before names ≡ Some name → 2 ≤ one_if (has_name before name) + times_named name names
 some_again name before [] some = absurd (none-some name some)
 some_again name before (first ∷ names) some = by (has_name before first) refl some (some_again name (first ∷ before) names) where
-  further : (same had : Bool) → 2 ≤ one_if (same || had) + times name names → 2 ≤ one_if had + (one_if same + times name names)
+  further : (same had : Bool) → 2 ≤ one_if (same || had) + times_named name names → 2 ≤ one_if had + (one_if same + times_named name names)
   further true had rest = omega (arith, rest)
   further false had rest = omega (arith, rest)
 
   by : (b : Bool) → has_name before first ≡ b → (if b then Some first else first_again (first ∷ before) names) ≡ Some name
-      → (first_again (first ∷ before) names ≡ Some name → 2 ≤ one_if (bytes_eq first name || has_name before name) + times name names)
-      → 2 ≤ one_if (has_name before name) + (one_if (bytes_eq first name) + times name names)
+      → (first_again (first ∷ before) names ≡ Some name → 2 ≤ one_if (bytes_eq first name || has_name before name) + times_named name names)
+      → 2 ≤ one_if (has_name before name) + (one_if (bytes_eq first name) + times_named name names)
   by true is some rest =
       let same : first ≡ name = same_Some first name some in
       omega (arith, ap one_if (ap (has_name before) (sym same) ∙ is), ap one_if (ap (λ (w : Word). bytes_eq w name) same ∙ name_same name))
@@ -130,7 +130,7 @@ port_times model name = by (is_port model name) ∙ ap one_if (sym (list_any-app
   by false = refl
 
 -- as many claims as a port, and what the items claim
-pub claims_times : (design : Design) (model : Model) (name : Word) → length (claims design model name) ≡ one_if (has_name (model.inputs ++ model.clocks) name) + times name (flat_map (claimed_by design) model.items)
+pub claims_times : (design : Design) (model : Model) (name : Word) → length (claims design model name) ≡ one_if (has_name (model.inputs ++ model.clocks) name) + times_named name (flat_map (claimed_by design) model.items)
 claims_times design model name =
     let ports = if is_port model name then port ∷ [] else [] in
     let rest = flat_map (λ (entry : Numbered). item_claims design name entry.number entry.before entry.item) (numbered 0 0 model.items) in
@@ -143,7 +143,7 @@ module _ (design : Design) (name : Word) where
   -- items behind a front, none of which claims again: what the ports and the front claim counts once
   few : (ports : List Word) (front items : List Item)
       → ((k : ℕ) (item : Item) → slice_get (front ++ items) k ≡ Some item → first_again (ports ++ flat_map (claimed_by design) (take k (front ++ items))) (claimed_by design item) ≡ None)
-      → one_if (has_name (ports ++ flat_map (claimed_by design) front) name) + times name (flat_map (claimed_by design) items) ≤ 1
+      → one_if (has_name (ports ++ flat_map (claimed_by design) front) name) + times_named name (flat_map (claimed_by design) items) ≤ 1
   few ports front [] none = by (has_name (ports ++ flat_map (claimed_by design) front) name) where
     by : (b : Bool) → one_if b + 0 ≤ 1
     by true = omega arith
@@ -162,10 +162,10 @@ module _ (design : Design) (name : Word) where
       let had : has_name (ports ++ flat_map (claimed_by design) (front ++ item ∷ [])) name ≡ (has_name done name || has_name (claimed_by design item) name) =
       ap (λ (list : List Word). has_name list name) more ∙ has_append done (claimed_by design item) name in
       by (has_name done name) (has_name (claimed_by design item) name) refl
-      (none_again name done (claimed_by design item) here) (subst (λ (b : Bool). one_if b + times name (flat_map (claimed_by design) items) ≤ 1) had rest)
+      (none_again name done (claimed_by design item) here) (subst (λ (b : Bool). one_if b + times_named name (flat_map (claimed_by design) items) ≤ 1) had rest)
     where
-      by : (before now : Bool) → has_name (claimed_by design item) name ≡ now → one_if before + times name (claimed_by design item) ≤ 1 → one_if (before || now) + times name (flat_map (claimed_by design) items) ≤ 1
-          → one_if before + times name (flat_map (claimed_by design) (item ∷ items)) ≤ 1
+      by : (before now : Bool) → has_name (claimed_by design item) name ≡ now → one_if before + times_named name (claimed_by design item) ≤ 1 → one_if (before || now) + times_named name (flat_map (claimed_by design) items) ≤ 1
+          → one_if before + times_named name (flat_map (claimed_by design) (item ∷ items)) ≤ 1
       by true now is here rest = omega (arith, here, rest, times_append name (claimed_by design item) (flat_map (claimed_by design) items))
       by false true is here rest = omega (arith, here, rest, times_append name (claimed_by design item) (flat_map (claimed_by design) items))
       by false false is here rest =
@@ -213,7 +213,7 @@ twice design model k item at name again =
     omega (
       arith,
       claims_times design model name,
-      ap (times name) counted,
+      ap (times_named name) counted,
       times_append name front (claimed_by design item ++ rest),
       times_append name (claimed_by design item) rest,
       two,
@@ -221,8 +221,8 @@ twice design model k item at name again =
     )
   where
     by : (left right : Bool) → has_name ((model.inputs ++ model.clocks) ++ flat_map (claimed_by design) (take k model.items)) name ≡ (left || right)
-        → one_if right ≤ times name (flat_map (claimed_by design) (take k model.items))
-        → one_if (has_name ((model.inputs ++ model.clocks) ++ flat_map (claimed_by design) (take k model.items)) name) ≤ one_if left + times name (flat_map (claimed_by design) (take k model.items))
+        → one_if right ≤ times_named name (flat_map (claimed_by design) (take k model.items))
+        → one_if (has_name ((model.inputs ++ model.clocks) ++ flat_map (claimed_by design) (take k model.items)) name) ≤ one_if left + times_named name (flat_map (claimed_by design) (take k model.items))
     by true right is at_least = omega (arith, ap one_if is)
     by false right is at_least = omega (arith, ap one_if is, at_least)
 

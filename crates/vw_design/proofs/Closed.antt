@@ -51,9 +51,9 @@ module _ (design : Design) where
   model_is_named path model stands = named_model model design.models design.named (model_in_file design path model stands)
 
   -- the number of a model in the file
-  abbrev number_in : Option Model → ℕ
-  number_in None = 0
-  number_in (Some model) = unwrap_or (first_place (λ (m : Model). bytes_eq m.name model.name) design.models) 0
+  abbrev number_in_file : Option Model → ℕ
+  number_in_file None = 0
+  number_in_file (Some model) = unwrap_or (first_place (λ (m : Model). bytes_eq m.name model.name) design.models) 0
 
   number_below : (path : Path) (model : Model) → model_at design path ≡ Some model → (place : ℕ) × (first_place (λ (m : Model). bytes_eq m.name model.name) design.models ≡ Some place) × (place < length design.models)
   number_below path model stands =
@@ -78,8 +78,8 @@ module _ (design : Design) where
 
   -- the numbers of the models along a path
   abbrev trail : Path → List ℕ
-  trail [] = number_in (model_at design []) ∷ []
-  trail (place ∷ path) = number_in (model_at design (place ∷ path)) ∷ trail path
+  trail [] = number_in_file (model_at design []) ∷ []
+  trail (place ∷ path) = number_in_file (model_at design (place ∷ path)) ∷ trail path
 
   length-trail : (path : Path) → length (trail path) ≡ length path + 1
   length-trail [] = omega arith
@@ -95,14 +95,14 @@ module _ (design : Design) where
     same : model_at design (place ∷ middle ++ back) ≡ model_at design back
 
   -- the end of a path at a number that stands along it
-  end_at : (number : ℕ) (path : Path) → list_any (eqb number) (trail path) ≡ true → (middle : Path) × (back : Path) × (path ≡ middle ++ back) × (number_in (model_at design back) ≡ number)
+  end_at : (number : ℕ) (path : Path) → list_any (eqb number) (trail path) ≡ true → (middle : Path) × (back : Path) × (path ≡ middle ++ back) × (number_in_file (model_at design back) ≡ number)
   end_at number [] any =
-      ⊎_elim (λ here. ([], [], refl, sym (eqb-true number (number_in (model_at design [])) here))) (λ none. absurd (true≢false (sym none)))
-      (or_cases (eqb number (number_in (model_at design []))) false any)
+      ⊎_elim (λ here. ([], [], refl, sym (eqb-true number (number_in_file (model_at design [])) here))) (λ none. absurd (true≢false (sym none)))
+      (or_cases (eqb number (number_in_file (model_at design []))) false any)
   end_at number (place ∷ path) any =
-      ⊎_elim (λ here. ([], place ∷ path, refl, sym (eqb-true number (number_in (model_at design (place ∷ path))) here)))
+      ⊎_elim (λ here. ([], place ∷ path, refl, sym (eqb-true number (number_in_file (model_at design (place ∷ path))) here)))
       (λ later. let end = end_at number path later in (place ∷ end.0, end.1, ap (λ (p : Path). place ∷ p) end.2, end.3))
-      (or_cases (eqb number (number_in (model_at design (place ∷ path)))) (list_any (eqb number) (trail path)) any)
+      (or_cases (eqb number (number_in_file (model_at design (place ∷ path)))) (list_any (eqb number) (trail path)) any)
 
   -- each end of an instance is an instance
   end_stands : (front path : Path) (model : Model) → model_at design (front ++ path) ≡ Some model → (found : Model) × (model_at design path ≡ Some found)
@@ -110,13 +110,13 @@ module _ (design : Design) where
   end_stands (place ∷ front) path model stands = let above = placer design place (front ++ path) model stands in end_stands front path above.0 above.1
 
   -- instances whose models have one number have one model
-  same_model : (path other : Path) (one two : Model) → model_at design path ≡ Some one → model_at design other ≡ Some two → number_in (model_at design path) ≡ number_in (model_at design other)
+  same_model : (path other : Path) (one two : Model) → model_at design path ≡ Some one → model_at design other ≡ Some two → number_in_file (model_at design path) ≡ number_in_file (model_at design other)
       → model_at design path ≡ model_at design other
   same_model path other one two at_one at_two same =
       let a = number_below path one at_one in
       let b = number_below other two at_two in
-      let number_one : number_in (model_at design path) ≡ a.0 = ap number_in at_one ∙ ap (λ (o : Option ℕ). unwrap_or o 0) a.1 in
-      let number_two : number_in (model_at design other) ≡ b.0 = ap number_in at_two ∙ ap (λ (o : Option ℕ). unwrap_or o 0) b.1 in
+      let number_one : number_in_file (model_at design path) ≡ a.0 = ap number_in_file at_one ∙ ap (λ (o : Option ℕ). unwrap_or o 0) a.1 in
+      let number_two : number_in_file (model_at design other) ≡ b.0 = ap number_in_file at_two ∙ ap (λ (o : Option ℕ). unwrap_or o 0) b.1 in
       let places : b.0 ≡ a.0 = sym number_two ∙ sym same ∙ number_one in
       let models = same_number path other one two at_one at_two a.0 a.1 (b.1 ∙ ap (λ (n : ℕ). Some n) places) in
       at_one ∙ ap (λ (m : Model). Some m) models ∙ sym at_two
@@ -127,10 +127,10 @@ module _ (design : Design) where
 
   -- the models along a path differ, or one comes twice
   distinct_or_round : (path : Path) (model : Model) → model_at design path ≡ Some model → IsDistinct eqb (trail path) ⊎ IsRound path
-  distinct_or_round [] model stands = inl (one_distinct (number_in (model_at design [])))
+  distinct_or_round [] model stands = inl (one_distinct (number_in_file (model_at design [])))
   distinct_or_round (place ∷ path) model stands =
       let above = placer design place path model stands in
-      let number = number_in (model_at design (place ∷ path)) in
+      let number = number_in_file (model_at design (place ∷ path)) in
       let here = λ (distinct : IsDistinct eqb (trail path)).
       let again = λ (any : list_any (eqb number) (trail path) ≡ true).
       let end = end_at number path any in
@@ -164,7 +164,7 @@ module _ (design : Design) where
       let end = end_at number path any in
       let lower = end_stands end.0 end.1 model (ap (model_at design) (sym end.2) ∙ stands) in
       let below = number_below end.1 lower.0 lower.1 in
-      let is : number_in (model_at design end.1) ≡ below.0 = ap number_in lower.1 ∙ ap (λ (o : Option ℕ). unwrap_or o 0) below.1 in
+      let is : number_in_file (model_at design end.1) ≡ below.0 = ap number_in_file lower.1 ∙ ap (λ (o : Option ℕ). unwrap_or o 0) below.1 in
       subst (λ (n : ℕ). n < length design.models) (sym is ∙ end.3) below.2
 
   -- each model of an instance stands at one that is no deeper than there are models

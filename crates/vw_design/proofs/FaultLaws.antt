@@ -9,15 +9,15 @@ use Rattle.vw_design.specs.Limits.{Counted, too_big}
 use Rattle.vw_design.specs.NetFaults.{Unlike, Edged, undriven, two_drivers, gated_clock, several_clocks, several_edges, clock_as_data}
 use Rattle.vw_design.specs.Accepted.{IsAccepted, Fault, model_unknown, recursive, formal_unknown, input_unbound, output_both_ways, over_limit, net_undriven, driven_twice, clock_gated, clocks_differ, edges_differ, clock_read, further_fault, IsFurtherFault, IsFaultOf}
 use Rattle.vw_design.proofs.Sizes.{small_of, small_fits}
-use Rattle.vw_design.proofs.FirstOptions.{or_none}
+use Rattle.vw_net.proofs.FirstOptions.{or_none}
 
 nothing_made : {A B : Type 0} (make : A → B) (found : Option A) → option_map make found ≡ None → found ≡ None
 nothing_made make None none = refl
 nothing_made make (Some x) none = absurd (none-some (make x) (sym none))
 
 -- the first of ten
-abbrev first_of : Option NameAt → Option NameAt → Option NameOf → Option Counted → Option Net → Option Net → Option Net → Option (Unlike Word) → Option (Unlike Edged) → Option Net → Option Fault
-first_of a b c d e f g h i j =
+abbrev first_of_ten : Option NameAt → Option NameAt → Option NameOf → Option Counted → Option Net → Option Net → Option Net → Option (Unlike Word) → Option (Unlike Edged) → Option Net → Option Fault
+first_of_ten a b c d e f g h i j =
     option_or
     (option_or (option_map (λ x. formal_unknown x) a) (option_or (option_map (λ x. input_unbound x) b) (option_or (option_map (λ x. output_both_ways x) c) (option_map (λ x. over_limit x) d))))
     (option_or (option_map (λ x. net_undriven x) e) (option_or (option_map (λ x. driven_twice x) f) (option_or (option_map (λ x. clock_gated x) g)
@@ -37,11 +37,11 @@ record AreNoFaults (a b : Option NameAt) (c : Option NameOf) (d : Option Counted
 
 -- there is no first where none is there, and none is there where there is no first
 no_first : (a b : Option NameAt) (c : Option NameOf) (d : Option Counted) (e f g : Option Net) (h : Option (Unlike Word)) (i : Option (Unlike Edged)) (j : Option Net)
-    → AreNoFaults a b c d e f g h i j → first_of a b c d e f g h i j ≡ None
+    → AreNoFaults a b c d e f g h i j → first_of_ten a b c d e f g h i j ≡ None
 no_first a b c d e f g h i j are = rw (are.a_none, are.b_none, are.c_none, are.d_none, are.e_none, are.f_none, are.g_none, are.h_none, are.i_none, are.j_none) refl
 
 none_first : (a b : Option NameAt) (c : Option NameOf) (d : Option Counted) (e f g : Option Net) (h : Option (Unlike Word)) (i : Option (Unlike Edged)) (j : Option Net)
-    → first_of a b c d e f g h i j ≡ None → AreNoFaults a b c d e f g h i j
+    → first_of_ten a b c d e f g h i j ≡ None → AreNoFaults a b c d e f g h i j
 none_first a b c d e f g h i j none =
     let nets_j = option_map (λ (x : Net). clock_read x) j in
     let nets_i = option_or (option_map (λ (x : Unlike Edged). edges_differ x) i) nets_j in
@@ -104,7 +104,7 @@ either None other fault first second is = second is
 either (Some x) other fault first second is = first is
 
 first_further : (a b : Option NameAt) (c : Option NameOf) (d : Option Counted) (e f g : Option Net) (h : Option (Unlike Word)) (i : Option (Unlike Edged)) (j : Option Net) (fault : Fault)
-    → first_of a b c d e f g h i j ≡ Some fault → is_further fault ≡ true
+    → first_of_ten a b c d e f g h i j ≡ Some fault → is_further fault ≡ true
 unfolding is_further
 first_further a b c d e f g h i j fault is =
     let nets_j = option_map (λ (x : Net). clock_read x) j in

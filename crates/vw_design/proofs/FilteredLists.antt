@@ -1,9 +1,10 @@
 -- Lists that are filtered, values by numbers, and a number more.
 use Rattle.std.proofs.Common.{eqb, find, ◌≡◌, ℕ, zero, suc, Bool, true, false, cond, List, [], ◌∷◌, length, map, take, Option, Some, None, slice_get, option_map, filter, refl, sym, ◌∙◌, ap, ap₂, true≢false}
-use Rattle.std.specs.List.{AllByRecursion, IsDistinct, list_any}
-use Rattle.std.proofs.lemmas.Bool.{cond-false, or_parts}
+use Rattle.std.specs.List.{IsDistinct, list_any}
+use Rattle.std.proofs.lemmas.Bool.{cond-false}
 use Rattle.std.proofs.lemmas.Option.{same_Some, none-some}
 use Rattle.std.proofs.Math.Nat.{suc_inj}
+use Rattle.vw_net.proofs.Lists.{differs}
 use Rattle.vw_design.specs.Lists.{first_place}
 
 module _ {A : Type 0} where
@@ -74,12 +75,7 @@ pub find_same : {A : Type 0} (one other : A → Bool) → ((x : A) → one x ≡
 find_same one other same [] = refl
 find_same one other same (x ∷ xs) = ap₂ (λ (b : Bool) (rest : Option _). cond b (Some x) rest) (same x) (find_same one other same xs)
 
--- a number that is none of some isn't any one of them
-none_alike : (number : ℕ) (numbers : List ℕ) → list_any (eqb number) numbers ≡ false → AllByRecursion (λ other. eqb number other ≡ false) numbers
-none_alike number [] none = tt
-none_alike number (first ∷ numbers) none = let parts = or_parts (eqb number first) (list_any (eqb number) numbers) none in (parts.0, none_alike number numbers parts.1)
-
 -- one number more, where none stands twice
 pub distinct_more : (number : ℕ) (numbers : List ℕ) → list_any (eqb number) numbers ≡ false → IsDistinct eqb numbers → IsDistinct eqb (number ∷ numbers)
 unfolding IsDistinct
-distinct_more number numbers none distinct = (none_alike number numbers none, distinct)
+distinct_more number numbers none distinct = (differs number numbers none, distinct)

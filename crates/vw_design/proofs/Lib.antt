@@ -2,7 +2,6 @@ pub mod WorkedParts
 pub mod Worked
 pub mod WorkedRows
 pub mod WorkedFaults
-pub mod FirstOptions
 pub mod ListElements
 pub mod Names
 pub mod ModelNumbers

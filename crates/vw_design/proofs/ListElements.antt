@@ -5,7 +5,7 @@ use Rattle.std.specs.Option.{option_or}
 use Rattle.std.proofs.lemmas.Bool.{or_cases, or_left, or_right, and_parts, and_from}
 use Rattle.std.proofs.lemmas.Option.{same_Some, none-some}
 use Rattle.vw_design.specs.Lists.{first_found, first_place}
-use Rattle.vw_design.proofs.FirstOptions.{or_none}
+use Rattle.vw_net.proofs.FirstOptions.{or_none}
 
 -- x is an element of a list
 abbrev pub Has : {A : Type 0} → A → List A → Type 0

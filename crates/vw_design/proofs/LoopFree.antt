@@ -5,6 +5,7 @@ use Rattle.std.specs.Str.{bytes_eq}
 use Rattle.std.proofs.lemmas.Bool.{and_from, eq-eqb, eqb-true, cases_Bool}
 use Rattle.std.proofs.lemmas.Map.Steps.{length-le_from_distinct_below}
 use Rattle.std.proofs.lemmas.Option.{same_Some, slice_get_within}
+use Rattle.vw_net.proofs.Lists.{once_none}
 use Rattle.vw_net.specs.declared.cover.Cover.{Cover}
 use Rattle.vw_net.specs.Cover.{cover_value}
 use Rattle.vw_design.specs.declared.item.Item.{Item}
@@ -76,10 +77,6 @@ module _ (design : Design) where
       let b = site_of_place (cells design) other.path other.number number at_other in
       let same : a.0 ≡ b.0 = same_Some a.0 b.0 (sym a.1 ∙ b.1) in
       ap₂ (λ (p : Path) (n : ℕ). record { path = p; number = n }) (sym a.2 ∙ ap (λ (s : Site). s.path) same ∙ b.2) (sym a.3 ∙ ap (λ (s : Site). s.number) same ∙ b.3)
-
-  none_distinct : IsDistinct eqb []
-  unfolding IsDistinct
-  none_distinct = tt
 
   -- one gate more
   met_more : (gates : List Gate) (numbers : List ℕ) (gate : Gate) (number : ℕ) → IsMet gates numbers → place_of_site (cells design) gate.path gate.number ≡ Some number
@@ -174,7 +171,7 @@ module _ (design : Design) (accepted : IsAccepted design) (free : IsLoopFree des
   pub level_settles : (level : ℕ) (path : Path) (name : Word) → length (cells design) + 1 ≤ level → path_level level design row state path name ≡ path_value design row state path name
   unfolding path_value
   level_settles level path name late =
-      let none : IsMet design [] [] = record { distinct = none_distinct design; within = λ n has. absurd has; gate_of = λ n has. absurd has } in
+      let none : IsMet design [] [] = record { distinct = once_none; within = λ n has. absurd has; gate_of = λ n has. absurd has } in
       settles (length (cells design)) [] [] none (omega arith) path name (λ gate drives. tt) level (length (cells design) + 1) late (omega arith)
 
   -- a net that a gate drives has its table's value of the values of the gate's inputs

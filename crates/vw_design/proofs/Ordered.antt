@@ -4,6 +4,7 @@ use Rattle.std.specs.List.{list_any, list_all, AllZip}
 use Rattle.std.proofs.lemmas.Bool.{or_cases, eqb-true, le-ltb}
 use Rattle.std.proofs.lemmas.List.{length-take, get_or-take, take_all}
 use Rattle.std.proofs.lemmas.Option.{same_Some, slice_get_within, get_or_from_slice_get}
+use Rattle.vw_net.proofs.Levels.{is_gate-latch}
 use Rattle.vw_net.specs.declared.cell.Cell.{Cell}
 use Rattle.vw_net.specs.declared.cell.Cell.TheVariants.{Gate as FlatGate, Latch}
 use Rattle.vw_net.specs.declared.flat.Flat.{Flat}
@@ -27,7 +28,7 @@ use Rattle.vw_design.proofs.PairedLists.{AllZip-at}
 
 module _ (design : Design) (accepted : IsAccepted design) (flat : Flat) (made : IsFlatOf design flat) (order : List ℕ) (is_order : IsOrder flat.inputs flat.cells order) where
   -- a gate of the design, as it stands among the cells
-  record IsGateAt (gate : Gate) : Type 0 where
+  record IsListedGate (gate : Gate) : Type 0 where
     line : ℕ
     ins : List Word
     out : Word
@@ -40,7 +41,7 @@ module _ (design : Design) (accepted : IsAccepted design) (flat : Flat) (made : 
     cell_gate : is_gate (slice_get flat.cells place) ≡ true
 
   -- what reads is a gate
-  reader_by : (gate next : Gate) (item : Option Item) → item_at design gate.path gate.number ≡ item → reads_from design gate.path next item ≡ true → IsGateAt gate
+  reader_by : (gate next : Gate) (item : Option Item) → item_at design gate.path gate.number ≡ item → reads_from design gate.path next item ≡ true → IsListedGate gate
   reader_by gate next None is reads = absurd (true≢false (sym reads))
   reader_by gate next (Some (LatchItem line d q edge control init)) is reads = absurd (true≢false (sym reads))
   reader_by gate next (Some (Sub line model binds)) is reads = absurd (true≢false (sym reads))
@@ -71,7 +72,7 @@ module _ (design : Design) (accepted : IsAccepted design) (flat : Flat) (made : 
       of_cell path (FlatGate nets table) is = refl
       of_cell path (Latch net start) is = absurd is
 
-  reader : (gate next : Gate) → gate_reads design gate next ≡ true → IsGateAt gate
+  reader : (gate next : Gate) → gate_reads design gate next ≡ true → IsListedGate gate
   reader gate next reads = reader_by gate next (item_at design gate.path gate.number) refl reads
 
   -- a place in the order
@@ -95,13 +96,8 @@ module _ (design : Design) (accepted : IsAccepted design) (flat : Flat) (made : 
         is = sym (get_or-take limit order at.0 0 below) ∙ get_or_from_slice_get (take limit order) at.0 found.0 0 at.1 ∙ eqb-true found.0 cell found.2;
       }
 
-  no_latch : (cell : Option Cell) → is_gate cell ≡ true → is_latch cell ≡ true → ⊥
-  no_latch None gate latch = true≢false (sym gate)
-  no_latch (Some (FlatGate nets table)) gate latch = true≢false (sym latch)
-  no_latch (Some (Latch net start)) gate latch = true≢false (sym gate)
-
   -- a gate stands behind the gates that it reads
-  earlier : (gate next : Gate) (a : IsGateAt gate) (b : IsGateAt next) → gate_reads design gate next ≡ true → (index : ℕ) → index < length order → slice_index order index ≡ a.place → StandsInOrder b.place index
+  earlier : (gate next : Gate) (a : IsListedGate gate) (b : IsListedGate next) → gate_reads design gate next ≡ true → (index : ℕ) → index < length order → slice_index order index ≡ a.place → StandsInOrder b.place index
   earlier gate next a b reads index within is =
       let nets = read_nets_at (slice_get flat.cells a.place) in
       let agree = reads_agree design flat made a.place b.place a.site b.site a.at b.at a.line a.ins a.out a.cover a.item in
@@ -116,18 +112,18 @@ module _ (design : Design) (accepted : IsAccepted design) (flat : Flat) (made : 
       let behind = or_cases (nat_lt found.0 flat.inputs) (is_latch (slice_get flat.cells (found.0 - flat.inputs)) || is_among (take index order) (found.0 - flat.inputs)) ready in
       let driven = ⊎_elim (λ input. absurd (true≢false (sym input ∙ no_input))) (λ driven. driven) behind in
       let among = ⊎_elim
-      (λ latch. absurd (no_latch (slice_get flat.cells b.place) b.cell_gate (ap (λ (n : ℕ). is_latch (slice_get flat.cells n)) (sym place) ∙ latch)))
+      (λ latch. absurd (true≢false (sym b.cell_gate ∙ is_gate-latch (slice_get flat.cells b.place) (ap (λ (n : ℕ). is_latch (slice_get flat.cells n)) (sym place) ∙ latch))))
       (λ among. ap (is_among (take index order)) (sym place) ∙ among)
       (or_cases (is_latch (slice_get flat.cells (found.0 - flat.inputs))) (is_among (take index order) (found.0 - flat.inputs)) driven) in
       placed_among b.place index (omega arith) among
 
   -- the first gate of some that lead to another is one
-  first_gate : (gate : Gate) (gates : List Gate) (last : Gate) → AllZip (λ one next. gate_reads design one next ≡ true) (gate ∷ gates) (gates ++ last ∷ []) → IsGateAt gate
+  first_gate : (gate : Gate) (gates : List Gate) (last : Gate) → AllZip (λ one next. gate_reads design one next ≡ true) (gate ∷ gates) (gates ++ last ∷ []) → IsListedGate gate
   first_gate gate [] last leads = reader gate last leads.0
   first_gate gate (next ∷ gates) last leads = reader gate next leads.0
 
   -- along gates of which each reads the next, places in the order fall
-  falls : (gate : Gate) (gates : List Gate) (last : Gate) → AllZip (λ one next. gate_reads design one next ≡ true) (gate ∷ gates) (gates ++ last ∷ []) → (a : IsGateAt gate) (b : IsGateAt last)
+  falls : (gate : Gate) (gates : List Gate) (last : Gate) → AllZip (λ one next. gate_reads design one next ≡ true) (gate ∷ gates) (gates ++ last ∷ []) → (a : IsListedGate gate) (b : IsListedGate last)
       → (index : ℕ) → index < length order → slice_index order index ≡ a.place → StandsInOrder b.place index
   falls gate [] last leads a b index within is = earlier gate last a b leads.0 index within is
   falls gate (next ∷ gates) last leads a b index within is =

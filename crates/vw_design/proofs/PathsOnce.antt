@@ -17,11 +17,11 @@ use Rattle.vw_design.proofs.ListedInstances.{is_below}
 use Rattle.vw_design.proofs.SitesOnce.{entry_from, same_ends, head_same}
 
 -- no path of a list is listed twice
-abbrev Apart : List Path → Type 0
-Apart [] = Unit {0}
-Apart (path ∷ list) = ((other : Path) → Has other list → path ≡ other → ⊥) × Apart list
+abbrev ArePathsOnce : List Path → Type 0
+ArePathsOnce [] = Unit {0}
+ArePathsOnce (path ∷ list) = ((other : Path) → Has other list → path ≡ other → ⊥) × ArePathsOnce list
 
-apart_append : (one other : List Path) → Apart one → Apart other → ((a b : Path) → Has a one → Has b other → a ≡ b → ⊥) → Apart (one ++ other)
+apart_append : (one other : List Path) → ArePathsOnce one → ArePathsOnce other → ((a b : Path) → Has a one → Has b other → a ≡ b → ⊥) → ArePathsOnce (one ++ other)
 apart_append [] other first second across = second
 apart_append (path ∷ one) other first second across =
     let from = λ (b : Path) (has : Has b (one ++ other)). ⊎_elim (λ left. first.0 b left) (λ right. across path b (inl refl) right) (Has-append b one other has) in
@@ -58,8 +58,8 @@ module _ (design : Design) where
   ends_differ base before front path other is behind same =
       omega (arith, head_same (same_ends front behind.0 (suc before ∷ base) (suc behind.1 ∷ base) (sym is ∙ same ∙ behind.3) refl), behind.2)
 
-  apart_items : (depth : ℕ) (base : Path) → ((path : Path) → Apart (paths_of (sites_below design depth path))) → (number before : ℕ) (items : List Item)
-      → Apart (paths_of (flat_map (with_inside (sites_below design depth) base) (numbered number before items)))
+  apart_items : (depth : ℕ) (base : Path) → ((path : Path) → ArePathsOnce (paths_of (sites_below design depth path))) → (number before : ℕ) (items : List Item)
+      → ArePathsOnce (paths_of (flat_map (with_inside (sites_below design depth) base) (numbered number before items)))
   apart_items depth base deeper number before [] = tt
   apart_items depth base deeper number before (Names line ins out cover ∷ items) = apart_items depth base deeper (suc number) before items
   apart_items depth base deeper number before (Latch line d q edge control init ∷ items) = apart_items depth base deeper (suc number) before items
@@ -78,13 +78,13 @@ module _ (design : Design) where
       ends_differ base before (ends.0 ++ (suc ends.1 ∷ [])) a b (ends.3 ∙ sym (append_assoc ends.0 (suc ends.1 ∷ []) here)) (ends_behind depth base (suc number) (suc before) items b in_rest) in
       let from = λ (other : Path) (has : Has other (paths_of below ++ paths_of rest)). ⊎_elim (of_below other) (of_rest other) (Has-append other (paths_of below) (paths_of rest) has) in
       let all = apart_append (paths_of below) (paths_of rest) (deeper here) (apart_items depth base deeper (suc number) (suc before) items) across in
-      subst (λ (list : List Path). Apart (here ∷ list)) (sym split) (from, all)
+      subst (λ (list : List Path). ArePathsOnce (here ∷ list)) (sym split) (from, all)
 
-  apart_below : (depth : ℕ) (base : Path) → Apart (paths_of (sites_below design depth base))
+  apart_below : (depth : ℕ) (base : Path) → ArePathsOnce (paths_of (sites_below design depth base))
   apart_below zero base = tt
   apart_below (suc depth) base = apart_items depth base (apart_below depth) 0 0 (items_of (model_at design base))
 
-  instances_apart : Apart (instances design)
+  instances_apart : ArePathsOnce (instances design)
   unfolding sites
   instances_apart =
       let depth = 65 + length design.models in (
@@ -95,7 +95,7 @@ module _ (design : Design) where
       )
 
 -- so the first place of a path is its place
-first_of : (list : List Path) → Apart list → (place : ℕ) (path : Path) → slice_get list place ≡ Some path → first_place (λ other. bytes_eq other path) list ≡ Some place
+first_of : (list : List Path) → ArePathsOnce list → (place : ℕ) (path : Path) → slice_get list place ≡ Some path → first_place (λ other. bytes_eq other path) list ≡ Some place
 first_of [] apart place path at = absurd (none-some path at)
 first_of (first ∷ list) apart zero path at =
     ap (λ (b : Bool). cond b (Some 0) (option_map (λ (n : ℕ). suc n) (first_place (λ (other : Path). bytes_eq other path) list))) (equal_names first path (same_Some first path at))

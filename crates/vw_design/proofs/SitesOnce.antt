@@ -19,20 +19,20 @@ abbrev Differ : Site → Site → Type 0
 Differ one other = one.path ≡ other.path → one.number ≡ other.number → ⊥
 
 -- no two sites of a list are
-abbrev Apart : List Site → Type 0
-Apart [] = Unit {0}
-Apart (site ∷ list) = ((other : Site) → Has other list → Differ site other) × Apart list
+abbrev AreSitesOnce : List Site → Type 0
+AreSitesOnce [] = Unit {0}
+AreSitesOnce (site ∷ list) = ((other : Site) → Has other list → Differ site other) × AreSitesOnce list
 
-apart_append : (one other : List Site) → Apart one → Apart other → ((a b : Site) → Has a one → Has b other → Differ a b) → Apart (one ++ other)
+apart_append : (one other : List Site) → AreSitesOnce one → AreSitesOnce other → ((a b : Site) → Has a one → Has b other → Differ a b) → AreSitesOnce (one ++ other)
 apart_append [] other first second across = second
 apart_append (site ∷ one) other first second across =
     let from = λ (b : Site) (has : Has b (one ++ other)). ⊎_elim (λ left. first.0 b left) (λ right. across site b (inl refl) right) (Has-append b one other has) in
     (from, apart_append one other first.1 second (λ a b in_one in_other. across a b (inr in_one) in_other))
 
-apart_filter : (keep : Site → Bool) (list : List Site) → Apart list → Apart (filter keep list)
+apart_filter : (keep : Site → Bool) (list : List Site) → AreSitesOnce list → AreSitesOnce (filter keep list)
 apart_filter keep [] apart = tt
 apart_filter keep (site ∷ list) apart = by (keep site) (apart_filter keep list apart.1) where
-  by : (b : Bool) → Apart (filter keep list) → Apart (cond b (site ∷ filter keep list) (filter keep list))
+  by : (b : Bool) → AreSitesOnce (filter keep list) → AreSitesOnce (cond b (site ∷ filter keep list) (filter keep list))
   by true rest = (λ other has. apart.0 other (from-filter keep other list has).0, rest)
   by false rest = rest
 
@@ -111,8 +111,8 @@ own_behind base number before one other path is behind same_path same_number =
     (λ under. omega (arith, ap (λ (p : Path). length p) (sym path ∙ same_path ∙ under.3), length-append under.0 (suc under.1 ∷ base))) behind
 
 module _ (design : Design) where
-  apart_items : (depth : ℕ) (base : Path) → ((path : Path) → Apart (sites_below design depth path)) → (number before : ℕ) (items : List Item)
-      → Apart (flat_map (with_inside (sites_below design depth) base) (numbered number before items))
+  apart_items : (depth : ℕ) (base : Path) → ((path : Path) → AreSitesOnce (sites_below design depth path)) → (number before : ℕ) (items : List Item)
+      → AreSitesOnce (flat_map (with_inside (sites_below design depth) base) (numbered number before items))
   apart_items depth base deeper number before [] = tt
   apart_items depth base deeper number before (Names line ins out cover ∷ items) =
       let site = site_at base (record { number = number; before = before; item = Names line ins out cover }) in
@@ -135,17 +135,17 @@ module _ (design : Design) where
         apart_append (below (suc before ∷ base)) rest (deeper (suc before ∷ base)) (apart_items depth base deeper (suc number) (suc before) items) across,
       )
 
-  apart_below : (depth : ℕ) (base : Path) → Apart (sites_below design depth base)
+  apart_below : (depth : ℕ) (base : Path) → AreSitesOnce (sites_below design depth base)
   apart_below zero base = tt
   apart_below (suc depth) base = apart_items depth base (apart_below depth) 0 0 (items_of (model_at design base))
 
   -- no two sites of the design are of one item
-  sites_apart : Apart (sites design)
+  sites_apart : AreSitesOnce (sites design)
   unfolding sites
   sites_apart = apart_below (65 + length design.models) []
 
 -- where no two are, the first place of an item is its place
-first_of : (list : List Site) → Apart list → (place : ℕ) (site : Site) → slice_get list place ≡ Some site → first_place (is_site_of site.path site.number) list ≡ Some place
+first_of : (list : List Site) → AreSitesOnce list → (place : ℕ) (site : Site) → slice_get list place ≡ Some site → first_place (is_site_of site.path site.number) list ≡ Some place
 first_of [] apart place site at = absurd (none-some site at)
 first_of (first ∷ list) apart zero site at =
     let same : first ≡ site = same_Some first site at in

@@ -6,7 +6,7 @@ use Rattle.std.proofs.lemmas.List.Elements.{All-cons, All-nil}
 use Rattle.vw_net.specs.declared.cover.Mark.{Mark}
 use Rattle.vw_net.specs.declared.cover.Row.{Row}
 use Rattle.vw_net.specs.declared.cover.Cover.{Cover}
-use Rattle.vw_net.specs.Word.{table_word}
+use Rattle.vw_net.specs.Steps.TableWord.{table_word}
 use Rattle.vw_design.specs.declared.item.Bind.{Bind}
 use Rattle.vw_design.specs.declared.model.Model.{Model}
 use Rattle.vw_design.specs.declared.design.Design.{Design}

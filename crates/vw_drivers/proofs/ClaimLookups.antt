@@ -7,7 +7,7 @@ use Rattle.std.proofs.lemmas.Option.{same_Some}
 use Rattle.vw_design.specs.Distinct.{has_name}
 use Rattle.vw_design.specs.Paths.{Word}
 use Rattle.vw_design.proofs.Names.{same_name}
-use Rattle.vw_design.proofs.FirstOptions.{or_some, or_nothing, or_assoc}
+use Rattle.vw_net.proofs.FirstOptions.{or_some, or_nothing, or_assoc}
 use Rattle.vw_design.proofs.ListElements.{at-place}
 use Rattle.vw_drivers.specs.declared.claim.Claim.{Claim}
 use Rattle.vw_drivers.specs.Firsts.{First, number_named, claim_at, claim_named}

@@ -48,8 +48,8 @@ pub record IsPlacing (design : Design) (tables : Tables) (number place : ℕ) (p
   pub ways : ways_of tables entry ≡ map (way_of (instance_firsts tables entry.parent) (instance_firsts tables number)) placing.binds
 
 -- a formal that isn't bound
-abbrev fault_at : ℕ → Word → NameAt
-fault_at line name = record { line = line; name = name }
+abbrev name_at_line : ℕ → Word → NameAt
+name_at_line line name = record { line = line; name = name }
 
 module _ (design : Design) (faultless : HasNoModelFault design) (tables : Tables) (are : AreTables design tables) where
   pub placing_of : (number place : ℕ) (path : Path) → slice_get (instances design) number ≡ Some (place ∷ path) → IsPlacing design tables number place path
@@ -94,20 +94,20 @@ module _ (design : Design) (faultless : HasNoModelFault design) (tables : Tables
   bound_port number place path is name port =
       let binds = is.placing.binds in
       let formals = map (λ (bind : Bind). bind.formal) binds in
-      let search = λ (line : ℕ) (placed : Word) (bs : List Bind). option_map (fault_at line) (at_model design (λ (m : Model). unbound_input_in m bs) placed) in
+      let search = λ (line : ℕ) (placed : Word) (bs : List Bind). option_map (name_at_line line) (at_model design (λ (m : Model). unbound_input_in m bs) placed) in
       let nothing = nothing_placed design (faultless_shallow design faultless) search faultless.inputs_bound path is.parent is.parent_stands is.line is.placing.model binds is.item_has in
       let none : unbound_input_in is.model binds ≡ None =
       no_name is.line (unbound_input_in is.model binds)
-      (ap (λ (m : Option Model). option_map (fault_at is.line) (option_and_then (λ (m : Model). unbound_input_in m binds) m)) (sym is.model_is) ∙ nothing) in
+      (ap (λ (m : Option Model). option_map (name_at_line is.line) (option_and_then (λ (m : Model). unbound_input_in m binds) m)) (sym is.model_is) ∙ nothing) in
       let among : Has name (is.model.inputs ++ is.model.clocks) =
       ⊎_elim (λ input. Has-left name is.model.inputs is.model.clocks (Has-has_name is.model.inputs name input))
       (λ clock. Has-right name is.model.inputs is.model.clocks (Has-has_name is.model.clocks name clock)) (or_cases (has_name is.model.inputs name) (has_name is.model.clocks name) port) in
       let bound : has_name formals name ≡ true = not-false (has_name formals name) (none-find (λ (formal : Word). not (has_name formals formal)) name (is.model.inputs ++ is.model.clocks) none among) in
       from-map (λ (bind : Bind). bind.formal) name binds (Has-has_name formals name bound)
     where
-      no_name : (line : ℕ) (found : Option Word) → option_map (fault_at line) found ≡ None → found ≡ None
+      no_name : (line : ℕ) (found : Option Word) → option_map (name_at_line line) found ≡ None → found ≡ None
       no_name line None is = refl
-      no_name line (Some formal) is = absurd (none-some (fault_at line formal) (sym is))
+      no_name line (Some formal) is = absurd (none-some (name_at_line line formal) (sym is))
 
 -- where formals differ, the actual of a formal is that of its binding
 pub actual_is : (binds : List Bind) (bind : Bind) (name : Word) → are_distinct (map (λ b. b.formal) binds) ≡ true → Has bind binds → bind.formal ≡ name → actual_among binds name ≡ Some bind.actual

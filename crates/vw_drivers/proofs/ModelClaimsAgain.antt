@@ -14,7 +14,7 @@ use Rattle.vw_design.specs.Distinct.{has_name}
 use Rattle.vw_design.specs.Paths.{Word, model_named, model_outputs}
 use Rattle.vw_design.specs.Claims.{and_behind}
 use Rattle.vw_design.specs.NetFaults.{bound_actual, claimed_by, first_again}
-use Rattle.vw_design.proofs.FirstOptions.{or_assoc, or_nothing}
+use Rattle.vw_net.proofs.FirstOptions.{or_assoc, or_nothing}
 use Rattle.vw_drivers.specs.declared.claim.Again.{Again}
 use Rattle.vw_drivers.specs.declared.claim.Claim.TheVariants.{Bound}
 use Rattle.vw_drivers.specs.declared.model_claims.ModelClaims.{ModelClaims}

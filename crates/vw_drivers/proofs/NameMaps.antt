@@ -47,28 +47,28 @@ one_more names i word within is name x old new put had =
     ∙ ap (λ (ws : List Word). has_name ws name) (sym (take_more names i word within))
 
 -- the entries of a map as claims
-abbrev pub firsts_of : {K : Type 0} → (K → Word) → List (K × Claim) → List First
-firsts_of bytes entries = map (λ entry. record { name = bytes entry.0; claim = entry.1 }) entries
+abbrev pub entries_as_firsts : {K : Type 0} → (K → Word) → List (K × Claim) → List First
+entries_as_firsts bytes entries = map (λ entry. record { name = bytes entry.0; claim = entry.1 }) entries
 
 pub has_first : {K : Type 0} (entries : List (K × Claim)) (bytes : K → Word) (name : Word)
-    → is_some (lookup (λ key. bytes_eq name (bytes key)) entries) ≡ has_claim (firsts_of bytes entries) name
+    → is_some (lookup (λ key. bytes_eq name (bytes key)) entries) ≡ has_claim (entries_as_firsts bytes entries) name
 has_first [] bytes name = refl
 has_first (entry ∷ entries) bytes name =
-    found_step (bytes_eq name (bytes entry.0)) (bytes_eq (bytes entry.0) name) (has_claim (firsts_of bytes entries) name) entry.1
+    found_step (bytes_eq name (bytes entry.0)) (bytes_eq (bytes entry.0) name) (has_claim (entries_as_firsts bytes entries) name) entry.1
     (lookup (λ key. bytes_eq name (bytes key)) entries) (names_sym name (bytes entry.0)) (has_first entries bytes name)
 
 -- a new key goes last
 insert_step : {K : Type 0} (here there : Bool) (entry : K × Claim) (entries inserted : List (K × Claim)) (bytes : K → Word) (key : K) (claim : Claim) → here ≡ there
-    → (there || has_claim (firsts_of bytes entries) (bytes key)) ≡ false
-    → (has_claim (firsts_of bytes entries) (bytes key) ≡ false → firsts_of bytes inserted ≡ firsts_of bytes entries ++ record { name = bytes key; claim = claim } ∷ [])
-    → firsts_of bytes (if here then (entry.0, claim) ∷ entries else entry ∷ inserted) ≡ firsts_of bytes (entry ∷ entries) ++ record { name = bytes key; claim = claim } ∷ []
+    → (there || has_claim (entries_as_firsts bytes entries) (bytes key)) ≡ false
+    → (has_claim (entries_as_firsts bytes entries) (bytes key) ≡ false → entries_as_firsts bytes inserted ≡ entries_as_firsts bytes entries ++ record { name = bytes key; claim = claim } ∷ [])
+    → entries_as_firsts bytes (if here then (entry.0, claim) ∷ entries else entry ∷ inserted) ≡ entries_as_firsts bytes (entry ∷ entries) ++ record { name = bytes key; claim = claim } ∷ []
 insert_step true true entry entries inserted bytes key claim same none rest = cc
 insert_step true false entry entries inserted bytes key claim same none rest = cc
 insert_step false true entry entries inserted bytes key claim same none rest = cc
 insert_step false false entry entries inserted bytes key claim same none rest = ap (λ (firsts : List First). record { name = bytes entry.0; claim = entry.1 } ∷ firsts) (rest none)
 
-pub new_first : {K : Type 0} (entries : List (K × Claim)) (bytes : K → Word) (key : K) (claim : Claim) → has_claim (firsts_of bytes entries) (bytes key) ≡ false
-    → firsts_of bytes (insert_entry (λ one other. bytes_eq (bytes one) (bytes other)) entries key claim) ≡ firsts_of bytes entries ++ record { name = bytes key; claim = claim } ∷ []
+pub new_first : {K : Type 0} (entries : List (K × Claim)) (bytes : K → Word) (key : K) (claim : Claim) → has_claim (entries_as_firsts bytes entries) (bytes key) ≡ false
+    → entries_as_firsts bytes (insert_entry (λ one other. bytes_eq (bytes one) (bytes other)) entries key claim) ≡ entries_as_firsts bytes entries ++ record { name = bytes key; claim = claim } ∷ []
 new_first [] bytes key claim none = refl
 new_first (entry ∷ entries) bytes key claim none =
     insert_step (bytes_eq (bytes key) (bytes entry.0)) (bytes_eq (bytes entry.0) (bytes key)) entry entries
@@ -87,8 +87,8 @@ place_step false true len count rest same is = cc
 place_step false false len count rest same is = further_place len count ∙ ap (option_map (λ at. suc at)) is
 
 pub number_first : {K : Type 0} (entries : List (K × Claim)) (bytes : K → Word) (name : Word)
-    → position (λ key. bytes_eq name (bytes key)) (keys_of entries) ≡ number_named (firsts_of bytes entries) name
+    → position (λ key. bytes_eq name (bytes key)) (keys_of entries) ≡ number_named (entries_as_firsts bytes entries) name
 number_first [] bytes name = refl
 number_first (entry ∷ entries) bytes name =
     place_step (bytes_eq name (bytes entry.0)) (bytes_eq (bytes entry.0) name) (prefix_len (λ key. not (bytes_eq name (bytes key))) (keys_of entries)) (length (keys_of entries))
-    (number_named (firsts_of bytes entries) name) (names_sym name (bytes entry.0)) (number_first entries bytes name)
+    (number_named (entries_as_firsts bytes entries) name) (names_sym name (bytes entry.0)) (number_first entries bytes name)

@@ -64,8 +64,8 @@ module _ (design : Design) (faultless : HasNoModelFault design) (tables : Tables
       (listed : slice_get (instances design) number ≡ Some (place ∷ path)) (is : IsPlacing design tables number place path)
       (name : Word) (claim : ℕ) (named : number_named (instance_firsts tables number) name ≡ Some claim)
       (first : first_claim design (model_at design (place ∷ path)) name ≡ Some port) where
-    abbrev way : Bind → Way
-    way = way_of (instance_firsts tables is.entry.parent) (instance_firsts tables number)
+    abbrev way_of_bind : Bind → Way
+    way_of_bind = way_of (instance_firsts tables is.entry.parent) (instance_firsts tables number)
 
     -- the actual of the port has the driver of the port
     bind_leads : (bind : Bind) → Has bind is.placing.binds → bind.formal ≡ name
@@ -84,16 +84,16 @@ module _ (design : Design) (faultless : HasNoModelFault design) (tables : Tables
         ∙ ap (source_of design (root_firsts tables)) (sym up)
 
     -- each way to the port leads there
-    way_leads : (actual : Option ℕ) → Has (ways.Port claim actual) (map way is.placing.binds) → led tables outputs ports is.entry.parent actual ≡ driver_by_numbers design tables (place ∷ path) name
+    way_leads : (actual : Option ℕ) → Has (ways.Port claim actual) (map way_of_bind is.placing.binds) → led tables outputs ports is.entry.parent actual ≡ driver_by_numbers design tables (place ∷ path) name
     way_leads actual has =
-        let bind = from-map way (ways.Port claim actual) is.placing.binds has in
+        let bind = from-map way_of_bind (ways.Port claim actual) is.placing.binds has in
         let to = port_way (number_named (instance_firsts tables number) bind.0.formal) (claim_named (instance_firsts tables number) bind.0.formal)
         (number_named (instance_firsts tables is.entry.parent) bind.0.actual) claim actual bind.2 in
         ap (led tables outputs ports is.entry.parent) (sym to.1)
         ∙ bind_leads bind.0 bind.1 (one_name (instance_firsts tables number) bind.0.formal name claim to.0 named)
 
     -- and there is one
-    some_way : (actual : Option ℕ) × Has (ways.Port claim actual) (map way is.placing.binds)
+    some_way : (actual : Option ℕ) × Has (ways.Port claim actual) (map way_of_bind is.placing.binds)
     some_way =
         let here = instance_of design faultless tables are number (place ∷ path) listed in
         let of_model = claim_of design name port (model_at design (place ∷ path)) first in
@@ -104,10 +104,10 @@ module _ (design : Design) (faultless : HasNoModelFault design) (tables : Tables
         let kind : claim_named (instance_firsts tables number) name ≡ Some claims.Port =
         meant_port here.is.model.items (claim_named (instance_firsts tables number) name)
         (named_first design faultless tables are number (place ∷ path) listed outputs ports (λ other less. outputs_are other) name ∙ ap (option_map (λ (c : NamedClaim). Some c)) first) in
-        let to : way bind.0 ≡ ways.Port claim actual =
+        let to : way_of_bind bind.0 ≡ ways.Port claim actual =
         ap₂ (λ (n : Option ℕ) (k : Option Claim). way_by n k actual)
         (ap (number_named (instance_firsts tables number)) bind.2 ∙ named) (ap (claim_named (instance_firsts tables number)) bind.2 ∙ kind) in
-        (actual, subst (λ (w : Way). Has w (map way is.placing.binds)) to (Has-map way bind.0 is.placing.binds bind.1))
+        (actual, subst (λ (w : Way). Has w (map way_of_bind is.placing.binds)) to (Has-map way_of_bind bind.0 is.placing.binds bind.1))
 
   pub ports_right : (number : ℕ) → ((other : ℕ) → other < number → HasPorts design tables ports other) → (entry : Placed) → slice_get tables.instances number ≡ Some entry → (rows : DriverRows)
       → ((at : ℕ) → at_rows rows number at ≡ at_row (ports_made tables outputs ports entry) at) → HasPorts design tables rows number

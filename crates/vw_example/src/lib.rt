@@ -6,7 +6,7 @@ ghost use Rattle.vw_example.specs.Outcome.{IsOutcome};
 
 use std::alloc::{AllocError, Global};
 use vw_outside::{Held, MemShelf, MemSink, Name};
-use vw_top::{sim_statuses, virtual_wires};
+use vw_top::{call_statuses, sim_statuses, virtual_wires};
 
 /// How a call ended, and what it wrote.
 #[derive(Drop)]
@@ -42,6 +42,7 @@ pub fn simulate(alloc: Global, design: Vec<u8>, stimulus: Vec<u8>) -> Result<Sim
     let mut out = MemSink::new(alloc, 65_536, Vec::new(alloc));
     let mut err = MemSink::new(alloc, 65_536, Vec::new(alloc));
     let status = virtual_wires(alloc, &words, &mut shelf, &mut out, &mut err);
+    call_statuses();
     sim_statuses();
     Ok(Simulated {
         status,

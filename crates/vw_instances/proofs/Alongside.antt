@@ -39,19 +39,19 @@ module _ (design : Design) (counts : List ℕ) (each : length counts ≡ length 
       ap (λ (n : ℕ). get_or counts n 0) (sym (place_of_model design number model.0 model.1) ∙ ap (place_in_file design) named)
 
   -- an item's number, its count, and those of the other items
-  pub record IsNext (items : List Item) (targets : List (Option ℕ)) (i place : ℕ) (item : Item) : Type 0 where
+  pub record IsNextItem (items : List Item) (targets : List (Option ℕ)) (i place : ℕ) (item : Item) : Type 0 where
     pub inside : place + placed_one item ≤ length targets
     pub within : IsWithinModels (length counts) (target_in targets place item)
     pub below : count_at counts (target_in targets place item) ≡ placed_weight (count_in design counts) item
     pub rest : AreAlong design (drop (i + 1) items) (drop (place + placed_one item) targets)
 
-  pub next : (items : List Item) (targets : List (Option ℕ)) (i place : ℕ) (item : Item) → i < length items → item ≡ get_or items i item → place ≤ length targets → AreAlong design (drop i items) (drop place targets) → IsNext items targets i place item
+  pub next : (items : List Item) (targets : List (Option ℕ)) (i place : ℕ) (item : Item) → i < length items → item ≡ get_or items i item → place ≤ length targets → AreAlong design (drop i items) (drop place targets) → IsNextItem items targets i place item
   next items targets i place item within at short along =
       by item (subst (λ (l : List Item). AreAlong design l (drop place targets)) (drop_more items i item within ∙ ap (λ (x : Item). x ∷ drop (i + 1) items) (sym at)) along) where
         stays : (x : ℕ) → x ≡ place → AreAlong design (drop (i + 1) items) (drop place targets) → AreAlong design (drop (i + 1) items) (drop x targets)
         stays x is there = subst (λ (n : ℕ). AreAlong design (drop (i + 1) items) (drop n targets)) (sym is) there
 
-        by : (x : Item) → AreAlong design (x ∷ drop (i + 1) items) (drop place targets) → IsNext items targets i place x
+        by : (x : Item) → AreAlong design (x ∷ drop (i + 1) items) (drop place targets) → IsNextItem items targets i place x
         by (Names line ins out cover) there = record { inside = omega (arith, short); within = tt; below = refl; rest = stays (place + 0) (omega arith) there }
         by (Latch line d q edge control init) there = record { inside = omega (arith, short); within = tt; below = refl; rest = stays (place + 0) (omega arith) there }
         by (Sub line name binds) there = ⊎_elim

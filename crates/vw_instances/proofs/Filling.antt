@@ -14,10 +14,11 @@ use Rattle.vw_design.specs.ModelNumbers.{is_reached_model, has_number_among, IsM
 use Rattle.vw_design.proofs.Closed.{at_reached, model_is_named}
 use Rattle.vw_design.proofs.ListElements.{Has, at-Has, all-Has, from-any, any-Has}
 use Rattle.vw_design.proofs.Names.{equal_names}
-use Rattle.vw_order.proofs.Among.{among_at, at_among, front_position, once_short}
+use Rattle.vw_net.proofs.Orders.{among_at}
+use Rattle.vw_order.proofs.Among.{at_among, front_position, once_short}
 use Rattle.vw_models.proofs.NumbersInLists.{among_Has}
 use Rattle.vw_design.proofs.ModelNumbers.{place_of_model, model_of_place, name_of_named, named_by}
-use Rattle.vw_models.proofs.OrderedModels.{rank, ranking}
+use Rattle.vw_models.proofs.OrderedModels.{place_in_order, ranking}
 use Rattle.vw_models.proofs.NumberedModels.{reached_within}
 use Rattle.vw_instances.specs.declared.measure.Measure.{Measure}
 use Rattle.vw_instances.specs.Steps.Counting.{most, amount, count_in, AreCounts, IsRanked}
@@ -71,15 +72,15 @@ module _ (design : Design) (order : List ℕ) (is_order : IsModelOrder design or
       record { model = at.1; k = place.0; inside = place.1; number = place.2; named = named; at = stands }
 
   pub is_ranked : IsRanked design
-  is_ranked = record { rank = rank design order is_order; ranking = ranking design order is_order; low = low } where
-    low : (name : Word) → is_reached design name ≡ true → rank design order is_order name < length design.models
+  is_ranked = record { rank = place_in_order design order is_order; ranking = ranking design order is_order; low = low } where
+    low : (name : Word) → is_reached design name ≡ true → place_in_order design order is_order name < length design.models
     low name reached =
         let place = ordered name reached in
         let among = at_among order place.k place.inside in
         let passes : has_model_name name (slice_get design.models (get_or order place.k 0)) ≡ true =
         ap (λ (n : ℕ). has_model_name name (slice_get design.models n)) place.number ∙ ap (has_model_name name) place.at ∙ equal_names place.model.name name (name_of_named design name place.model place.named) in
         let any = any-Has (λ (n : ℕ). has_model_name name (slice_get design.models n)) (get_or order place.k 0) order (among_Has order (get_or order place.k 0) among) passes in
-        let first : rank design order is_order name < length order = front_position (λ (n : ℕ). has_model_name name (slice_get design.models n)) order (length order)
+        let first : place_in_order design order is_order name < length order = front_position (λ (n : ℕ). has_model_name name (slice_get design.models n)) order (length order)
         (ap (λ (l : List ℕ). list_any (λ (n : ℕ). has_model_name name (slice_get design.models n)) l) (take_all (length order) order (omega arith)) ∙ any) in
         omega (arith, first, order_short)
 

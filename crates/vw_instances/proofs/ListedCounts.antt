@@ -66,13 +66,13 @@ module _ (design : Design) where
       by (level ∷ levels) all along = record { level = level; levels = levels; all = all; top = along.0; below = along.1 }
 
   -- the numbers of a walk are small
-  pub record AreSmall (table : List Placed) (made : List CellSite) (frame : Frame) : Type 0 where
+  pub record IsSmallWalk (table : List Placed) (made : List CellSite) (frame : Frame) : Type 0 where
     pub item : frame.item + 1 < 2 ^ 32
     pub before : frame.before + 1 < 2 ^ 32
     pub instances : length table < 2 ^ 32
     pub cells : length made < 2 ^ 32
 
-  pub are_small : IsSmall design → (table : List Placed) (made : List CellSite) (frames : List Frame) (frame : Frame) → IsUnderWay design table made (frames ++ (frame ∷ [])) → AreSmall table made frame
+  pub are_small : IsSmall design → (table : List Placed) (made : List CellSite) (frames : List Frame) (frame : Frame) → IsUnderWay design table made (frames ++ (frame ∷ [])) → IsSmallWalk table made frame
   are_small small table made frames frame walk =
       let top = top_of table made frames frame walk in
       let within = walk_within table made (frames ++ (frame ∷ [])) walk in

@@ -18,7 +18,8 @@ use Rattle.vw_design.proofs.Names.{Has-has_name}
 use Rattle.vw_models.specs.Steps.Reach.{Targets}
 use Rattle.vw_order.specs.Graphs.{Reads}
 use Rattle.vw_order.specs.Circles.{IsNumberCircle, BeginsWithLeast}
-use Rattle.vw_order.proofs.Among.{among_right, among_at, at_among, once_apart}
+use Rattle.vw_net.proofs.Orders.{among_at}
+use Rattle.vw_order.proofs.Among.{among_right, at_among, once_apart}
 use Rattle.vw_models.specs.Steps.ModelGraphs.{graph_of_models}
 use Rattle.vw_models.specs.Steps.ModelNames.{name_of, numbered_names}
 use Rattle.vw_models.proofs.NumbersInLists.{Has_among}

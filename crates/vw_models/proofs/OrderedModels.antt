@@ -24,7 +24,8 @@ use Rattle.vw_design.proofs.Names.{equal_names}
 use Rattle.vw_models.specs.Steps.Reach.{Targets, IsClosed, PlacesAt}
 use Rattle.vw_models.specs.Steps.Unknown.{unknown_of}
 use Rattle.vw_order.specs.Orders.{IsNumberOrder}
-use Rattle.vw_order.proofs.Among.{among_at, at_among, front_among, front_position, once_apart}
+use Rattle.vw_net.proofs.Orders.{among_at}
+use Rattle.vw_order.proofs.Among.{at_among, front_among, front_position, once_apart}
 use Rattle.vw_models.specs.Steps.ModelGraphs.{graph_of_models}
 use Rattle.vw_models.proofs.NumbersInLists.{among_Has, Has_among}
 use Rattle.vw_models.proofs.FirstUnknown.{unknown_is}
@@ -93,11 +94,11 @@ module _ (design : Design) where
 
   module _ (order : List ℕ) (is_order : IsModelOrder design order) where
     -- the place of a name in the order
-    abbrev pub rank : Word → ℕ
-    rank name = position_or_len (λ number. has_model_name name (slice_get design.models number)) order
+    abbrev pub place_in_order : Word → ℕ
+    place_in_order name = position_or_len (λ number. has_model_name name (slice_get design.models number)) order
 
     -- what an item places stands before a place
-    item_below : (p : ℕ) (item : Item) → ((placing : Placing) → placing_of item ≡ Some placing → has_number_among design (take p order) placing.model ≡ true) → is_below (is_reached design) rank p item ≡ true
+    item_below : (p : ℕ) (item : Item) → ((placing : Placing) → placing_of item ≡ Some placing → has_number_among design (take p order) placing.model ≡ true) → is_below (is_reached design) place_in_order p item ≡ true
     item_below p (Names line ins out cover) before = refl
     item_below p (Latch line d q edge control init) before = refl
     item_below p (Sub line name binds) before =
@@ -106,11 +107,11 @@ module _ (design : Design) where
         let model = named_by name (slice_get design.models found.0) found.2 in
         let among = front_among order p found.0 (Has_among (take p order) found.0 found.1) in
         let reached : is_reached design name ≡ true = ap (is_reached design) (sym model.2) ∙ sym (ap (is_reached_model design) model.1) ∙ sym (is_order.each found.0) ∙ among in
-        and_from (is_reached design name) (nat_lt (rank name) p) reached (lt-ltb (rank name) p (front_position (λ (n : ℕ). has_model_name name (slice_get design.models n)) order p has))
+        and_from (is_reached design name) (nat_lt (place_in_order name) p) reached (lt-ltb (place_in_order name) p (front_position (λ (n : ℕ). has_model_name name (slice_get design.models n)) order p has))
 
-    pub ranking : IsRanking design (is_reached design) rank
+    pub ranking : IsRanking design (is_reached design) place_in_order
     ranking = record { falls = λ name reached. by name reached (model_named design.models name) refl } where
-      by : (name : Word) → is_reached design name ≡ true → (found : Option Model) → model_named design.models name ≡ found → list_all (is_below (is_reached design) rank (rank name)) (items_of found) ≡ true
+      by : (name : Word) → is_reached design name ≡ true → (found : Option Model) → model_named design.models name ≡ found → list_all (is_below (is_reached design) place_in_order (place_in_order name)) (items_of found) ≡ true
       by name reached None is = refl
       by name reached (Some model) is =
           let number = place_in_file design name in
@@ -119,7 +120,7 @@ module _ (design : Design) where
           let among : is_among order number ≡ true = is_order.each number ∙ ap (is_reached_model design) at ∙ ap (is_reached design) named ∙ reached in
           let passes : has_model_name name (slice_get design.models number) ≡ true = ap (has_model_name name) at ∙ equal_names model.name name named in
           let any : list_any (λ (n : ℕ). has_model_name name (slice_get design.models n)) order ≡ true = any-Has (λ (n : ℕ). has_model_name name (slice_get design.models n)) number order (among_Has order number among) passes in
-          let p = rank name in
+          let p = place_in_order name in
           let whole : take (length order) order ≡ order = take_all (length order) order (omega arith) in
           let within : p < length order = front_position (λ (n : ℕ). has_model_name name (slice_get design.models n)) order (length order) (ap (list_any (λ (n : ℕ). has_model_name name (slice_get design.models n))) whole ∙ any) in
           let here = passes_at_first (λ (n : ℕ). has_model_name name (slice_get design.models n)) order 0 within in
@@ -127,8 +128,8 @@ module _ (design : Design) where
           let same : get_or order p 0 ≡ number = same_number design (get_or order p 0) number there.0 model there.1 at (there.2 ∙ sym named) in
           let before : list_all (λ placing. has_number_among design (take p order) placing.model) (placings model.items) ≡ true =
           ap (λ (m : Option Model). list_all (λ (placing : Placing). has_number_among design (take p order) placing.model) (placings (items_of m))) (sym (ap (slice_get design.models) same ∙ at)) ∙ is_order.behind p within in
-          all_pass (is_below (is_reached design) rank p) model.items
+          all_pass (is_below (is_reached design) place_in_order p) model.items
           (λ item has. item_below p item (λ placing is_placing. all-Has (λ (q : Placing). has_number_among design (take p order) q.model) placing (placings model.items) before (Has-filter_map placing_of placing item model.items has is_placing)))
 
     pub ordered_no_circle : (names : List Word) → IsModelCircle design names → ⊥
-    ordered_no_circle names circle = no_circle design rank ranking names circle
+    ordered_no_circle names circle = no_circle design place_in_order ranking names circle

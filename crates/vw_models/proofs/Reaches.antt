@@ -4,9 +4,11 @@ use Rattle.std.specs.List.{IsDistinct}
 use Rattle.std.proofs.lemmas.Bool.{cases_lt}
 use Rattle.std.proofs.lemmas.List.{get_or_append_left}
 use Rattle.std.proofs.lemmas.Option.{none-some, same_Some}
+use Rattle.vw_net.proofs.Orders.{among_at}
+use Rattle.vw_net.proofs.Lists.{once_none}
 use Rattle.vw_net.specs.Order.{is_among}
 use Rattle.vw_models.specs.Steps.Reach.{Targets, PlacesAt, AreWithin, IsClosed, AreReached, with_number, with_targets, AreMarked, AreReachMarks}
-use Rattle.vw_order.proofs.Among.{among_left, among_either, among_one, among_last, among_at, at_among, once_none, once_push, once_short}
+use Rattle.vw_order.proofs.Among.{among_left, among_either, among_one, among_last, at_among, once_push, once_short}
 
 -- numbers grow at their end
 pub record Grows (old new : List ℕ) : Type 0 where

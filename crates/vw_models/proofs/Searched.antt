@@ -14,7 +14,7 @@ use Rattle.vw_design.specs.Paths.{Word, model_named, is_port}
 use Rattle.vw_design.specs.ModelFaults.{NameAt, NameOf, by_placing, first_placing, reached, unknown_formal_in, unknown_formal, unbound_input_in, unbound_input, both_ways, at_model}
 use Rattle.vw_design.proofs.ModelNumbers.{name_of_named}
 use Rattle.vw_design.proofs.PairedLists.{AllZip-back}
-use Rattle.vw_design.proofs.FirstOptions.{or_assoc}
+use Rattle.vw_net.proofs.FirstOptions.{or_assoc}
 use Rattle.vw_models.specs.declared.placement.Placement.{Placement}
 use Rattle.vw_models.specs.Steps.PlacedModels.{PlacedModel, placed_by, placed_models, IsPlacement, at_placement}
 use Rattle.vw_models.specs.Steps.FoundAtPlaced.{unknown_formal_at, unbound_input_at, both_ways_at}

@@ -16,12 +16,12 @@ use Rattle.vw_net.specs.Value.{driven_value, level_value, net_value}
 use Rattle.vw_net.proofs.Orders.{length-order}
 
 -- two ways to give nets values that agree on each of these nets give one list
-pub map_agree : (value other : ℕ → Bool) (nets : List ℕ) → All (λ net. value net ≡ other net) nets → map value nets ≡ map other nets
+pub map_agree : {B : Type 0} (value other : ℕ → B) (nets : List ℕ) → All (λ net. value net ≡ other net) nets → map value nets ≡ map other nets
 map_agree value other [] agree = refl
 map_agree value other (net ∷ nets) agree =
     let here : value net ≡ other net = All-head (λ at. value at ≡ other at) net nets agree in
     let rest : All (λ at. value at ≡ other at) nets = All-tail (λ at. value at ≡ other at) net nets agree in
-    ap₂ (λ (bit : Bool) (bits : List Bool). bit ∷ bits) here (map_agree value other nets rest)
+    ap₂ (λ first more. first ∷ more) here (map_agree value other nets rest)
 
 -- what a cell gives its net depends on the nets that it reads, and on no other
 driven_value_agree : (value other : ℕ → Bool) (state : List Bool) (number : ℕ) (cell : Option Cell) → All (λ net. value net ≡ other net) (read_nets_at cell) → driven_value value state number cell ≡ driven_value other state number cell
@@ -42,12 +42,12 @@ is_gate-latch (Some (Gate ins cover)) latch = absurd (true≢false (sym latch))
 is_gate-latch (Some (Latch d init)) latch = refl
 
 -- from a level on, a net has one value
-record IsSettled (flat : Flat) (row state : List Bool) (from net : ℕ) : Type 0 where
+record HasOneValue (flat : Flat) (row state : List Bool) (from net : ℕ) : Type 0 where
   same : (one other : ℕ) → from ≤ one → from ≤ other → level_value one flat row state net ≡ level_value other flat row state net
 
 -- each net whose driver is among these cell numbers has one value from a level on
 record AreSettled (flat : Flat) (row state : List Bool) (from : ℕ) (done : List ℕ) : Type 0 where
-  settled : (net : ℕ) → is_among done (net - flat.inputs) ≡ true → IsSettled flat row state from net
+  settled : (net : ℕ) → is_among done (net - flat.inputs) ≡ true → HasOneValue flat row state from net
 
 module _ (flat : Flat) (row state : List Bool) where
   -- what drives a net, where it is no input's
@@ -63,11 +63,11 @@ module _ (flat : Flat) (row state : List Bool) where
   driven level net = driven_value (level_value level flat row state) state (latch_number net) (driver net)
 
   -- a net that is settled stays so
-  settled_later : (from later net : ℕ) → from ≤ later → IsSettled flat row state from net → IsSettled flat row state later net
+  settled_later : (from later net : ℕ) → from ≤ later → HasOneValue flat row state from net → HasOneValue flat row state later net
   settled_later from later net after settled = record { same = λ one other one_late other_late. settled.same one other (omega arith) (omega arith) }
 
   -- a net is settled one level up if its value one level up is the same from a level on
-  next_settled : (from net : ℕ) → ((one other : ℕ) → from ≤ one → from ≤ other → level_value (suc one) flat row state net ≡ level_value (suc other) flat row state net) → IsSettled flat row state (suc from) net
+  next_settled : (from net : ℕ) → ((one other : ℕ) → from ≤ one → from ≤ other → level_value (suc one) flat row state net ≡ level_value (suc other) flat row state net) → HasOneValue flat row state (suc from) net
   next_settled from net same = record { same = same_above } where
     same_above : (one other : ℕ) → suc from ≤ one → suc from ≤ other → level_value one flat row state net ≡ level_value other flat row state net
     same_above zero other one_late other_late = absurd (omega arith)
@@ -75,23 +75,23 @@ module _ (flat : Flat) (row state : List Bool) where
     same_above (suc one) (suc other) one_late other_late = same one other (omega arith) (omega arith)
 
   -- a net is settled one level up if what its driver gives it is the same from a level on
-  driven_settled : (from net : ℕ) → ((one other : ℕ) → from ≤ one → from ≤ other → driven one net ≡ driven other net) → IsSettled flat row state (suc from) net
+  driven_settled : (from net : ℕ) → ((one other : ℕ) → from ≤ one → from ≤ other → driven one net ≡ driven other net) → HasOneValue flat row state (suc from) net
   driven_settled from net same =
       let value = λ (bit : Bool). if nat_lt net flat.inputs then slice_index_or row net false else bit in
       next_settled from net (λ one other one_late other_late. ap value (same one other one_late other_late))
 
   -- an input's net is settled after one level
-  input_settled : (net : ℕ) → nat_lt net flat.inputs ≡ true → IsSettled flat row state 1 net
+  input_settled : (net : ℕ) → nat_lt net flat.inputs ≡ true → HasOneValue flat row state 1 net
   input_settled net input = next_settled 0 net (λ one other one_late other_late. rw input refl)
 
   -- a net that no gate drives is settled after one level
-  no_gate_settled : (net : ℕ) → is_gate (driver net) ≡ false → IsSettled flat row state 1 net
+  no_gate_settled : (net : ℕ) → is_gate (driver net) ≡ false → HasOneValue flat row state 1 net
   no_gate_settled net no_gate = driven_settled 0 net same where
     same : (one other : ℕ) → 0 ≤ one → 0 ≤ other → driven one net ≡ driven other net
     same one other one_late other_late = driven_value-no_gate (level_value one flat row state) (level_value other flat row state) state (latch_number net) (driver net) no_gate
 
   -- a net is settled one level up if the nets that its driver reads are settled
-  reads_settled : (from net : ℕ) → All (IsSettled flat row state from) (read_nets_at (driver net)) → IsSettled flat row state (suc from) net
+  reads_settled : (from net : ℕ) → All (HasOneValue flat row state from) (read_nets_at (driver net)) → HasOneValue flat row state (suc from) net
   reads_settled from net settled = driven_settled from net same where
     same : (one other : ℕ) → from ≤ one → from ≤ other → driven one net ≡ driven other net
     same one other one_late other_late =
@@ -99,7 +99,7 @@ module _ (flat : Flat) (row state : List Bool) where
         driven_value_agree (level_value one flat row state) (level_value other flat row state) state (latch_number net) (driver net) agree
 
   -- a net that is ready is settled if the nets of the gates that are done are
-  ready_settled : (done : List ℕ) (from : ℕ) → 1 ≤ from → AreSettled flat row state from done → (net : ℕ) → is_ready flat.inputs flat.cells done net ≡ true → IsSettled flat row state from net
+  ready_settled : (done : List ℕ) (from : ℕ) → 1 ≤ from → AreSettled flat row state from done → (net : ℕ) → is_ready flat.inputs flat.cells done net ≡ true → HasOneValue flat row state from net
   ready_settled done from late gates net ready =
       let if_input = λ (input : nat_lt net flat.inputs ≡ true). settled_later 1 from net late (input_settled net input) in
       let if_latch = λ (latch : is_latch (driver net) ≡ true). settled_later 1 from net late (no_gate_settled net (is_gate-latch (driver net) latch)) in
@@ -115,18 +115,18 @@ module _ (flat : Flat) (row state : List Bool) where
 
 module _ (flat : Flat) (order : List ℕ) (is_order : IsOrder flat.inputs flat.cells order) (row state : List Bool) where
   -- the gate at a place of the order is settled one level after the gates before it
-  place_settled : (place : ℕ) → place < length order → AreSettled flat row state (suc place) (take place order) → (net : ℕ) → get_or order place 0 ≡ net - flat.inputs → IsSettled flat row state (suc (suc place)) net
+  place_settled : (place : ℕ) → place < length order → AreSettled flat row state (suc place) (take place order) → (net : ℕ) → get_or order place 0 ≡ net - flat.inputs → HasOneValue flat row state (suc (suc place)) net
   place_settled place within before net here =
       let is_done = is_ready flat.inputs flat.cells (take place order) in
       let reads = read_nets_at (slice_get flat.cells (net - flat.inputs)) in
       let done : All (λ other. is_done other ≡ true) reads = AllPass-from_list_all is_done reads (rw here at (is_order.after place within)) in
-      let settled = All-weaker (λ other. is_done other ≡ true) (IsSettled flat row state (suc place)) (ready_settled flat row state (take place order) (suc place) (omega arith) before) reads done in
+      let settled = All-weaker (λ other. is_done other ≡ true) (HasOneValue flat row state (suc place)) (ready_settled flat row state (take place order) (suc place) (omega arith) before) reads done in
       reads_settled flat row state (suc place) net settled
 
   -- and so are all the gates up to it
   more_settled : (place : ℕ) → place < length order → AreSettled flat row state (suc place) (take place order) → AreSettled flat row state (suc (suc place)) (take (suc place) order)
   more_settled place within before = record { settled = one_settled } where
-    one_settled : (net : ℕ) → is_among (take (suc place) order) (net - flat.inputs) ≡ true → IsSettled flat row state (suc (suc place)) net
+    one_settled : (net : ℕ) → is_among (take (suc place) order) (net - flat.inputs) ≡ true → HasOneValue flat row state (suc (suc place)) net
     one_settled net among =
         let number = net - flat.inputs in
         let one_more = rw add-one at (list_any_more (λ other. eqb other number) order place 0 within) in
@@ -140,7 +140,7 @@ module _ (flat : Flat) (order : List ℕ) (is_order : IsOrder flat.inputs flat.c
   taken_settled (suc place) within = more_settled place (omega arith) (taken_settled place (omega arith))
 
   -- every net is settled after one level more than there are gates
-  net_settled : (net : ℕ) → IsSettled flat row state (suc (length order)) net
+  net_settled : (net : ℕ) → HasOneValue flat row state (suc (length order)) net
   net_settled net =
       let gates : AreSettled flat row state (suc (length order)) order = rw (take_all (length order) order (omega arith)) at (taken_settled (length order) (omega arith)) in
       let if_gate = λ (gate : is_gate (slice_get flat.cells (net - flat.inputs)) ≡ true). gates.settled net (sym (is_order.each (net - flat.inputs)) ∙ gate) in

@@ -1,4 +1,5 @@
 pub mod Lists
+pub mod FirstOptions
 pub mod Counts
 pub mod Histories
 pub mod Orders

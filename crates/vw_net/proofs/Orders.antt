@@ -1,7 +1,7 @@
--- Which cells are gates, and how long an order of gates is.
-use Rattle.std.proofs.Common.{◌≡◌, ◌<◌, ◌≤◌, ◌||◌, ℕ, zero, suc, Bool, true, false, List, [], ◌∷◌, length, get_or, slice_get, eqb, ap, ap₂, refl, sym, ◌∙◌, ⊎_elim, ne_eqb, true≢false, arith}
+-- Numbers among others, which cells are gates, and how long an order of gates is.
+use Rattle.std.proofs.Common.{◌≡◌, ◌<◌, ◌≤◌, ◌||◌, ◌==◌, ℕ, zero, suc, Bool, true, false, List, [], ◌∷◌, length, get_or, slice_get, eqb, ap, ap₂, refl, sym, ◌∙◌, ⊎_elim, ne_eqb, true≢false, arith}
 use Rattle.std.specs.List.{list_any, IsDistinct}
-use Rattle.std.proofs.lemmas.Bool.{cases_lt}
+use Rattle.std.proofs.lemmas.Bool.{cases_lt, eqb-true, or_cases}
 use Rattle.std.proofs.lemmas.Grind.{common_steps}
 use Rattle.std.proofs.lemmas.List.{get_or_default}
 use Rattle.std.proofs.lemmas.Map.Keys.{IsDistinct-from_apart}
@@ -19,6 +19,15 @@ eqb_comm a b = grind (arith, common_steps)
 pub is_among-flip : (number : ℕ) (numbers : List ℕ) → is_among numbers number ≡ list_any (eqb number) numbers
 is_among-flip number [] = refl
 is_among-flip number (other ∷ others) = ap₂ (λ (first rest : Bool). first || rest) (eqb_comm other number) (is_among-flip number others)
+
+-- a number that is among others stands at a place
+pub among_at : (numbers : List ℕ) (number : ℕ) → is_among numbers number ≡ true → (i : ℕ) × (i < length numbers) × (get_or numbers i 0 ≡ number)
+among_at [] number among = absurd (true≢false (sym among))
+among_at (first ∷ numbers) number among =
+    ⊎_elim
+    (λ here. (0, omega arith, eqb-true first number here))
+    (λ there. let at = among_at numbers number there in (suc at.0, omega (arith, at.1), at.2))
+    (or_cases (first == number) (is_among numbers number) among)
 
 -- a gate's number is below the number of cells
 pub gate_within : (cells : List Cell) (number : ℕ) → is_gate (slice_get cells number) ≡ true → number < length cells

@@ -6,7 +6,7 @@ use Rattle.std.proofs.Math.Nat.{ℕ_set}
 use mathlib.Core.HLevel.{is_prop→PathP}
 use Rattle.vw_net.specs.declared.cover.Cover.{Cover}
 use Rattle.vw_net.specs.declared.cover.Row.{Row}
-use Rattle.vw_net.specs.Word.{table_word}
+use Rattle.vw_net.specs.Steps.TableWord.{table_word}
 
 pub cover_same : (one other : Cover) → one.inputs ≡ other.inputs → one.on ≡ other.on → one.rows ≡ other.rows → one ≡ other
 cover_same one other inputs on rows =

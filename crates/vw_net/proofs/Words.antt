@@ -1,4 +1,5 @@
 -- The word of a table's values, bit by bit.
+use mir.Val.{bool_byte}
 use Rattle.std.proofs.Common.{◌≡◌, ◌≤◌, ◌<◌, ◌+◌, ◌-◌, ◌*◌, ◌/◌, ◌%◌, ◌^◌, ◌&&◌, ◌||◌, not, ℕ, zero, suc, min, max, Bool, true, false, List, [], ◌∷◌, length, get_or, nat_le, nat_eq, bit_and, bit_or, if◌then◌else◌, w64, ap, sym, refl, ◌∙◌, ⊎_elim, All, le-leb, eqb-true, leb-true, subst, arith}
 use Rattle.std.specs.List.{list_any}
 use Rattle.std.specs.Int.{bit_at}
@@ -14,9 +15,15 @@ use Rattle.vw_net.specs.declared.cover.Row.{Row}
 use Rattle.vw_net.specs.declared.cover.Cover.{Cover}
 use Rattle.vw_net.specs.Mark.{mark_matches, row_matches}
 use Rattle.vw_net.specs.Cover.{cover_value}
-use Rattle.vw_net.specs.Word.{place_of, bit_of, input_words, mark_word, row_word, rows_word, table_word}
+use Rattle.vw_net.specs.Word.{place_of, bit_of}
+use Rattle.vw_net.specs.Steps.TableWord.{input_words, mark_word, row_word, rows_word, table_word}
 
 -- ---- places
+
+-- a truth value as a byte
+pub byte-le : (value : Bool) → bool_byte value ≤ 1
+byte-le true = omega arith
+byte-le false = omega arith
 
 place_of-lt : (bits : List Bool) → place_of bits < 2 ^ length bits
 place_of-lt [] = omega arith
@@ -202,7 +209,7 @@ test-bit true = refl
 test-bit false = refl
 
 -- the word of a table of at most six inputs has its value at the place of any values
-pub word_tells : (cover : Cover) (bits : List Bool) → cover.inputs ≤ 6 → length bits ≡ cover.inputs → bit_of (table_word cover.inputs cover.on cover.rows) (place_of bits) ≡ cover_value cover bits
+pub word_tells : (cover : Cover) (bits : List Bool) → cover.inputs ≤ 6 → length bits ≡ cover.inputs → bit_of cover.word (place_of bits) ≡ cover_value cover bits
 word_tells cover bits few size =
     let its = table_bit cover.inputs cover.on cover.rows bits few size cover.even in
-    ap (λ (n : ℕ). nat_eq n 1) (shr_and_one (table_word cover.inputs cover.on cover.rows) (place_of bits) ∙ its) ∙ test-bit (cover_value cover bits)
+    ap (λ (word : ℕ). bit_of word (place_of bits)) cover.word_is ∙ ap (λ (n : ℕ). nat_eq n 1) (shr_and_one (table_word cover.inputs cover.on cover.rows) (place_of bits) ∙ its) ∙ test-bit (cover_value cover bits)

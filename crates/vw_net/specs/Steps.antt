@@ -1,6 +1,3 @@
--- Bits as numbers, for sums over tests.
-use Rattle.std.specs.Prelude.{ℕ, Bool, if◌then◌else◌}
-
--- 1 where a bit is true, and 0 where it is false
-abbrev pub one_if : Bool → ℕ
-one_if bit = if bit then 1 else 0
+-- What functions of this crate compute, step by step, and helpers that lemmas of several crates share. No public clause cites it.
+pub mod Bits
+pub mod TableWord

@@ -1,8 +1,5 @@
--- The values of a table of at most six inputs, as one number of 64 bits.
-use Rattle.std.specs.Prelude.{ℕ, ◌+◌, ◌-◌, ◌*◌, ◌/◌, ◌^◌, ◌==◌, Bool, List, [], ◌∷◌, bit_and, bit_or, slice_index_or, nat_le, if◌then◌else◌}
-use Rattle.vw_net.specs.declared.cover.Mark.{Mark}
-use Rattle.vw_net.specs.declared.cover.Mark.TheVariants.{Zero, One, Any}
-use Rattle.vw_net.specs.declared.cover.Row.{Row}
+-- How the values of a table of at most six inputs stand in one number of 64 bits: each at its place.
+use Rattle.std.specs.Prelude.{ℕ, ◌+◌, ◌*◌, ◌/◌, ◌^◌, ◌==◌, Bool, List, [], ◌∷◌, bit_and, if◌then◌else◌}
 
 -- the place of some values: the number whose bit i is the value of input i
 abbrev pub place_of : List Bool → ℕ
@@ -12,36 +9,3 @@ place_of (bit ∷ bits) = (if bit then 1 else 0) + 2 * place_of bits
 -- whether a word has the bit of a place
 abbrev pub bit_of : ℕ → ℕ → Bool
 bit_of word place = bit_and (word / 2 ^ place) 1 == 1
-
--- the words of six inputs: bit k of word i is bit i of k
-abbrev pub input_words : List ℕ
-input_words =
-    12297829382473034410
-    ∷ 14757395258967641292
-    ∷ 17361641481138401520
-    ∷ 18374966859414961920
-    ∷ 18446462603027742720
-    ∷ 18446744069414584320
-    ∷ []
-
--- the places at which an input with this column has a value that a mark asks for
-abbrev pub mark_word : ℕ → Mark → ℕ
-mark_word column Zero = 2 ^ 64 - 1 - column
-mark_word column One = column
-mark_word column Any = 2 ^ 64 - 1
-
--- of these places, those at which each mark from an input on matches
-abbrev pub row_word : ℕ → ℕ → List Mark → ℕ
-row_word word input [] = word
-row_word word input (mark ∷ marks) = row_word (bit_and word (mark_word (slice_index_or input_words input 0) mark)) (input + 1) marks
-
--- these places, and those at which some row matches
-abbrev pub rows_word : ℕ → List Row → ℕ
-rows_word word [] = word
-rows_word word (row ∷ rows) = rows_word (bit_or word (row_word (2 ^ 64 - 1) 0 row.marks)) rows
-
--- the places at which a table has the value 1, where it has at most six inputs
-abbrev pub table_word : ℕ → Bool → List Row → ℕ
-table_word inputs on rows =
-    let matched = rows_word 0 rows in
-    if nat_le inputs 6 then (if on then matched else 2 ^ 64 - 1 - matched) else 0

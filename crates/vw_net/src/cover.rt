@@ -1,7 +1,7 @@
 ghost use Rattle.std.specs.Prelude.{◌≡◌, ◌≤◌, length, IfOk};
 ghost use Rattle.std.specs.List.{All};
 ghost use Rattle.vw_net.specs.Mark.{mark_matches, row_matches};
-ghost use Rattle.vw_net.specs.Word.{table_word};
+ghost use Rattle.vw_net.specs.Steps.TableWord.{table_word};
 
 use crate::sequence::{Bits, Sequence};
 use crate::word::{WORD_INPUTS, bit_of, place_of, table_word};
@@ -81,8 +81,8 @@ pub struct Cover {
     pub inputs: u32,
     pub on: bool,
     pub rows: Sequence<Row>,
-    /// Where there are at most six inputs: bit k is the value where input i has bit i of k.
-    word: u64,
+    /// Where there are at most six inputs: bit k is the value where input i has bit i of k. The law `words_tell` says so.
+    pub word: u64,
     ghost narrow: { inputs ≤ 128 },
     ghost even: { All (λ row. length row.marks ≡ inputs) rows },
     ghost word_is: { word ≡ table_word inputs on rows },
@@ -131,7 +131,7 @@ impl Cover {
 
     /// The word of its values, where it has at most six inputs: bit k is the value where input i has bit i of k.
     pub fn word(&self) -> u64
-        ensures { result ≡ table_word self.now.inputs self.now.on self.now.rows }
+        ensures { result ≡ self.now.word }
     {
         self.word
     }

@@ -1,7 +1,8 @@
 //! The values of a table of at most six inputs as one word of 64 bits.
 ghost use Rattle.std.specs.Prelude.{◌≡◌, ◌≤◌, ◌<◌, length};
 ghost use Rattle.std.specs.List.{All};
-ghost use Rattle.vw_net.specs.Word.{bit_of, mark_word, place_of, row_word, rows_word, table_word};
+ghost use Rattle.vw_net.specs.Word.{bit_of, place_of};
+ghost use Rattle.vw_net.specs.Steps.TableWord.{mark_word, row_word, rows_word, table_word};
 
 use crate::cover::{Mark, Row};
 

@@ -14,7 +14,7 @@ use Rattle.vw_design.specs.Claims.{Claim, port, item_claims, first_claim, number
 use Rattle.vw_design.specs.Clocks.{inputs_of, clock_ports, columns}
 use Rattle.vw_design.proofs.ListElements.{Has}
 use Rattle.vw_design.proofs.Names.{same_name, equal_names, has_name-Has}
-use Rattle.vw_design.proofs.FirstOptions.{or_nothing}
+use Rattle.vw_net.proofs.FirstOptions.{or_nothing}
 use Rattle.vw_design.proofs.ListPlaces.{set_here, set_elsewhere}
 use Rattle.vw_drivers.specs.declared.claim.Claim.{Claim as NumberedClaim}
 use Rattle.vw_drivers.specs.declared.model_claims.ModelClaims.{ModelClaims}

@@ -34,23 +34,10 @@ among_first number numbers = or_left (number == number) (is_among numbers number
 pub among_last : (numbers : List ℕ) (number : ℕ) → is_among (numbers ++ number ∷ []) number ≡ true
 among_last numbers number = among_right numbers (number ∷ []) number (among_first number [])
 
--- by its place
-pub among_at : (numbers : List ℕ) (number : ℕ) → is_among numbers number ≡ true → (i : ℕ) × (i < length numbers) × (get_or numbers i 0 ≡ number)
-among_at [] number among = absurd (true≢false (sym among))
-among_at (first ∷ numbers) number among =
-    ⊎_elim
-    (λ here. (0, omega arith, eqb-true first number here))
-    (λ there. let at = among_at numbers number there in (suc at.0, omega (arith, at.1), at.2))
-    (or_cases (first == number) (is_among numbers number) among)
-
 pub at_among : (numbers : List ℕ) (i : ℕ) → i < length numbers → is_among numbers (get_or numbers i 0) ≡ true
 at_among numbers i within = list_any_at (λ (other : ℕ). other == get_or numbers i 0) numbers i 0 within (eq-eqb (get_or numbers i 0) (get_or numbers i 0) refl)
 
 -- numbers of which none stands twice
-pub once_none : IsDistinct eqb []
-unfolding IsDistinct
-once_none = tt
-
 pub once_part : (front back : List ℕ) → IsDistinct eqb (front ++ back) → IsDistinct eqb back
 once_part [] back once = once
 once_part (number ∷ front) back once = once_part front back (IsDistinct-tail eqb number (front ++ back) once)
@@ -86,11 +73,11 @@ front_position test (x ∷ xs) (suc end) any = by (test x) refl (⊎_elim (λ he
   by false is which = ⊎_elim (λ here. absurd (true≢false (sym here ∙ is))) (λ further. omega (arith, further)) which
 
 -- where a number stands first, and that it stands there
-abbrev pub place_of : List ℕ → ℕ → ℕ
-place_of numbers number = position_or_len (λ (other : ℕ). other == number) numbers
+abbrev pub place_among : List ℕ → ℕ → ℕ
+place_among numbers number = position_or_len (λ (other : ℕ). other == number) numbers
 
-pub at_place : (numbers : List ℕ) (number : ℕ) → is_among numbers number ≡ true → (place_of numbers number < length numbers) × (get_or numbers (place_of numbers number) 0 ≡ number)
+pub at_place : (numbers : List ℕ) (number : ℕ) → is_among numbers number ≡ true → (place_among numbers number < length numbers) × (get_or numbers (place_among numbers number) 0 ≡ number)
 at_place numbers number among =
     let whole : is_among (take (length numbers) numbers) number ≡ true = ap (λ (l : List ℕ). is_among l number) (take_all (length numbers) numbers (omega arith)) ∙ among in
-    let within : place_of numbers number < length numbers = front_position (λ (other : ℕ). other == number) numbers (length numbers) whole in
-    (within, eqb-true (get_or numbers (place_of numbers number) 0) number (passes_at_first (λ (other : ℕ). other == number) numbers 0 within))
+    let within : place_among numbers number < length numbers = front_position (λ (other : ℕ). other == number) numbers (length numbers) whole in
+    (within, eqb-true (get_or numbers (place_among numbers number) 0) number (passes_at_first (λ (other : ℕ). other == number) numbers 0 within))

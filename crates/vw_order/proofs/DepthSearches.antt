@@ -6,6 +6,7 @@ use Rattle.std.proofs.Math.Seq.{take-append_seam, get_or-append_seam}
 use Rattle.std.proofs.lemmas.List.{get_or_append_left, get_or-replicate, get_or_past, take-append-le, length-set, length-replicate}
 use Rattle.std.proofs.lemmas.List.Folds.{list_any-append}
 use Rattle.std.proofs.Math.Bool.{or-false}
+use Rattle.vw_net.proofs.Lists.{once_none}
 use Rattle.vw_net.specs.Order.{is_among}
 use Rattle.vw_order.specs.declared.mark.Progress.{Progress}
 use Rattle.vw_order.specs.declared.mark.Progress.TheVariants.{Fresh, Open, Done}
@@ -16,7 +17,7 @@ use Rattle.vw_order.specs.Graphs.{Graph, ReadsAt, IsWithin}
 use Rattle.vw_order.specs.Orders.{IsBehind, IsNumberOrder}
 use Rattle.vw_order.specs.Circles.{IsNumberCircle}
 use Rattle.vw_order.specs.Steps.Searches.{mark_of, IsSearch}
-use Rattle.vw_order.proofs.Among.{among_left, among_right, among_either, among_one, among_last, once_push, once_short, once_moved, once_none, once_part}
+use Rattle.vw_order.proofs.Among.{among_left, among_right, among_either, among_one, among_last, once_push, once_short, once_moved, once_part}
 use Rattle.vw_order.proofs.Rounds.{Leads-push, Leads-front, closes}
 
 -- what a mark says

@@ -3,13 +3,14 @@ use Rattle.std.proofs.Common.{◌≡◌, ◌<◌, ◌≤◌, ◌+◌, ◌&&◌, 
 use Rattle.std.specs.List.{IsDistinct}
 use Rattle.std.proofs.lemmas.Bool.{and_parts, cases_Bool, cases_lt, not-true}
 use Rattle.std.proofs.lemmas.Option.{none-some, same_Some}
+use Rattle.vw_net.proofs.Lists.{once_none}
 use Rattle.vw_net.specs.Order.{is_among}
 use Rattle.vw_order.specs.Steps.Rounds.{round_from}
 use Rattle.vw_order.specs.Graphs.{Graph, ReadsAt, Reads, IsWithin}
 use Rattle.vw_order.specs.Orders.{IsBehind, IsNumberOrder}
 use Rattle.vw_order.specs.Circles.{IsNumberCircle, BeginsWithLeast}
 use Rattle.vw_order.specs.Steps.Searches.{Leads}
-use Rattle.vw_order.proofs.Among.{among_either, among_one, among_last, once_none, once_push, once_short}
+use Rattle.vw_order.proofs.Among.{among_either, among_one, among_last, once_push, once_short}
 use Rattle.vw_order.proofs.Rounds.{Leads-push, closes}
 use Rattle.vw_order.proofs.LeastFirst.{has_least}
 use Rattle.vw_order.proofs.DepthSearches.{behind_more}

@@ -5,11 +5,12 @@ use Rattle.std.proofs.lemmas.Bool.{cases_lt}
 use Rattle.std.proofs.lemmas.List.{take-append-drop, length-take, get_or-drop, get_or_append_left}
 use Rattle.std.proofs.lemmas.List.Sorted.{IsPermutation-append_comm}
 use Rattle.std.proofs.lemmas.Map.Keys.{IsDistinct-IsPermutation}
+use Rattle.vw_net.proofs.Orders.{among_at}
 use Rattle.vw_net.specs.Order.{is_among}
 use Rattle.vw_order.specs.Graphs.{Graph, Reads}
 use Rattle.vw_order.specs.Circles.{IsNumberCircle, BeginsWithLeast}
 use Rattle.vw_order.specs.Steps.Rounds.{IsLeast}
-use Rattle.vw_order.proofs.Among.{among_left, among_right, among_either, among_at, at_among}
+use Rattle.vw_order.proofs.Among.{among_left, among_right, among_either, at_among}
 use Rattle.vw_net.proofs.Orders.{eqb_comm}
 use Rattle.vw_order.proofs.Rounds.{turns}
 

@@ -1,26 +1,27 @@
 -- Numbers that stand in an order don't read each other in a circle.
 use Rattle.std.proofs.Common.{◌≡◌, ◌<◌, ◌==◌, ℕ, true, List, [], ◌∷◌, ◌++◌, length, take, drop, get_or, sym, ◌∙◌, ap, subst, arith}
 use Rattle.std.specs.List.{AllZip}
+use Rattle.vw_net.proofs.Orders.{among_at}
 use Rattle.vw_net.specs.Lists.{turned}
 use Rattle.vw_net.specs.Order.{is_among}
 use Rattle.vw_order.specs.Graphs.{Graph, ReadsAt, Reads}
 use Rattle.vw_order.specs.Orders.{IsBehind}
 use Rattle.vw_order.specs.Circles.{IsNumberCircle}
-use Rattle.vw_order.proofs.Among.{place_of, at_place, among_at, front_among, front_position}
+use Rattle.vw_order.proofs.Among.{place_among, at_place, front_among, front_position}
 use Rattle.vw_order.proofs.Rounds.{turns}
 use Rattle.vw_order.proofs.LeastFirst.{round_long, round_first}
 
 module _ (graph : Graph) (order : List ℕ) (behind : IsBehind graph order) where
   -- what a number of the order reads is in it, before that number
-  before : (number other : ℕ) → is_among order number ≡ true → Reads graph number other → (is_among order other ≡ true) × (place_of order other < place_of order number)
+  before : (number other : ℕ) → is_among order number ≡ true → Reads graph number other → (is_among order other ≡ true) × (place_among order other < place_among order number)
   before number other among reads =
       let at = at_place order number among in
-      let front : is_among (take (place_of order number) order) other ≡ true =
-      behind (place_of order number) reads.0 other at.0 (subst (λ (n : ℕ). ReadsAt graph n reads.0 other) (sym at.1) reads.1) in
-      (front_among order (place_of order number) other front, front_position (λ (n : ℕ). n == other) order (place_of order number) front)
+      let front : is_among (take (place_among order number) order) other ≡ true =
+      behind (place_among order number) reads.0 other at.0 (subst (λ (n : ℕ). ReadsAt graph n reads.0 other) (sym at.1) reads.1) in
+      (front_among order (place_among order number) other front, front_position (λ (n : ℕ). n == other) order (place_among order number) front)
 
   -- along numbers of which each reads the next, places fall
-  falls : (number : ℕ) (numbers : List ℕ) (last : ℕ) → is_among order number ≡ true → AllZip (Reads graph) (number ∷ numbers) (numbers ++ last ∷ []) → place_of order last < place_of order number
+  falls : (number : ℕ) (numbers : List ℕ) (last : ℕ) → is_among order number ≡ true → AllZip (Reads graph) (number ∷ numbers) (numbers ++ last ∷ []) → place_among order last < place_among order number
   falls number [] last among along = (before number last among along.0).1
   falls number (next ∷ numbers) last among along =
       let step = before number next among along.0 in omega (arith, step.1, falls next numbers last step.0 along.1)

@@ -6,7 +6,7 @@ use Rattle.vw_net.specs.declared.cell.Cell.{Cell}
 use Rattle.vw_net.specs.declared.cell.Cell.TheVariants.{Gate, Latch}
 use Rattle.vw_net.specs.declared.flat.Flat.{Flat}
 use Rattle.vw_net.specs.Order.{IsOrder, is_gate, is_latch, is_among, is_ready, read_nets_at}
-use Rattle.vw_order.proofs.Among.{front_position, place_of, at_place}
+use Rattle.vw_order.proofs.Among.{front_position, place_among, at_place}
 use Rattle.vw_order.specs.Reads.{gate_reads}
 use Rattle.vw_order.specs.Loops.{IsGateCircle}
 
@@ -24,23 +24,23 @@ not_latch (Some (Latch d init)) gate = absurd (true≢false (sym gate))
 
 module _ (flat : Flat) (order : List ℕ) (is_order : IsOrder flat.inputs flat.cells order) where
   -- a gate whose net is read stands before the gate that reads it
-  before : (number other : ℕ) → gate_reads flat number other ≡ true → place_of order other < place_of order number
+  before : (number other : ℕ) → gate_reads flat number other ≡ true → place_among order other < place_among order number
   before number other reads =
       let parts = and_parts (is_gate (slice_get flat.cells number)) (is_gate (slice_get flat.cells other) && is_among (read_nets_at (slice_get flat.cells number)) (flat.inputs + other)) reads in
       let more = and_parts (is_gate (slice_get flat.cells other)) (is_among (read_nets_at (slice_get flat.cells number)) (flat.inputs + other)) parts.1 in
       let at = at_place order number (sym (is_order.each number) ∙ parts.0) in
-      let done = take (place_of order number) order in
+      let done = take (place_among order number) order in
       let all : list_all (is_ready flat.inputs flat.cells done) (read_nets_at (slice_get flat.cells number)) ≡ true =
-      subst (λ (n : ℕ). list_all (is_ready flat.inputs flat.cells done) (read_nets_at (slice_get flat.cells n)) ≡ true) at.1 (is_order.after (place_of order number) at.0) in
+      subst (λ (n : ℕ). list_all (is_ready flat.inputs flat.cells done) (read_nets_at (slice_get flat.cells n)) ≡ true) at.1 (is_order.after (place_among order number) at.0) in
       let ready : is_ready flat.inputs flat.cells done (flat.inputs + other) ≡ true = one_of (is_ready flat.inputs flat.cells done) (read_nets_at (slice_get flat.cells number)) (flat.inputs + other) all more.1 in
       let its_number : flat.inputs + other - flat.inputs ≡ other = omega arith in
       let no_input : nat_lt (flat.inputs + other) flat.inputs ≡ false = le-ltb (flat.inputs + other) flat.inputs (omega arith) in
       let there : (is_latch (slice_get flat.cells other) || is_among done other) ≡ true = rw (no_input, its_number) at ready in
       let gate_there : is_among done other ≡ true = rw (not_latch (slice_get flat.cells other) more.0) at there in
-      front_position (λ (n : ℕ). n == other) order (place_of order number) gate_there
+      front_position (λ (n : ℕ). n == other) order (place_among order number) gate_there
 
   -- along gates of which each reads the next, places fall
-  falls : (number : ℕ) (numbers : List ℕ) (last : ℕ) → AllZip (λ one next. gate_reads flat one next ≡ true) (number ∷ numbers) (numbers ++ last ∷ []) → place_of order last < place_of order number
+  falls : (number : ℕ) (numbers : List ℕ) (last : ℕ) → AllZip (λ one next. gate_reads flat one next ≡ true) (number ∷ numbers) (numbers ++ last ∷ []) → place_among order last < place_among order number
   falls number [] last along = before number last along.0
   falls number (next ∷ numbers) last along = omega (arith, before number next along.0, falls next numbers last along.1)
 

@@ -6,7 +6,7 @@ ghost use Rattle.vw_order.specs.Steps.Rounds.{IsLeast, round_from};
 use std::alloc::{AllocError, Global};
 
 /// The first place of a number; the length where it isn't there.
-fn place_of(numbers: &[u32], number: u32) -> usize
+fn place_among(numbers: &[u32], number: u32) -> usize
     ensures within { result ≤ length numbers.now }
     ensures first { result ≡ position_or_len (λ other. other == number) numbers.now }
 {
@@ -22,7 +22,7 @@ fn place_of(numbers: &[u32], number: u32) -> usize
 pub fn round(alloc: Global, stack: &[u32], last: u32, number: u32) -> Result<Vec<u32>, AllocError>
     ensures { IfOk result (λ circle. circle.items ≡ round_from number stack.now ++ last ∷ []) }
 {
-    let start = place_of(stack, number);
+    let start = place_among(stack, number);
     let mut circle = stack[start..].to_vec(alloc)?;
     circle.push(last)?;
     Ok(circle)

@@ -10,7 +10,7 @@ use Rattle.vw_part.specs.declared.load.Load.{Load}
 use Rattle.vw_part.specs.declared.pins.Pins.{Pins}
 use Rattle.vw_part.specs.Steps.Deals.{IsDeal, IsLoad, IsTarget, freed, held, met, cell_nets}
 use Rattle.vw_part.specs.Steps.Pins.{times_among, total}
-use Rattle.vw_net.specs.Steps.{one_if}
+use Rattle.vw_net.specs.Steps.Bits.{one_if}
 use Rattle.vw_part.proofs.Held.{all_full, held_push, held_set, on_all, on_push, on_set}
 use Rattle.vw_part.proofs.Totals.{at_other, at_same, total_same, total_tests-le}
 
@@ -20,7 +20,7 @@ not_all_full board chips real few full =
     omega (arith, few, on_all chips board.chips real, all_full (cells_on chips) board.cells 1 board.chips full)
 
 -- a load with one more cell, or one less
-pub record IsMore (own : List ℕ) (before after : Load) : Type 0 where
+pub record HasCellMore (own : List ℕ) (before after : Load) : Type 0 where
   pub cells : after.cells ≡ before.cells + 1
   pub long : length after.counts.items ≡ length before.counts.items
   pub counts : (net : ℕ) → get_or after.counts.items net 0 ≡ get_or before.counts.items net 0 + times_among own net
@@ -32,7 +32,7 @@ load_same pins chips others chip load cells counts is = record {
   counts = λ net. is.counts net ∙ sym (counts net);
 }
 
-pub dealt_more : (board : Board) (pins : Pins) (before after : Deal) (chip : ℕ) (load : Load) → IsDeal board pins before → length before.chip_of.items < length pins.of_cells.items → IsChip board chip → cells_on before.chip_of.items chip < board.cells → after.chip_of.items ≡ before.chip_of.items ++ chip ∷ [] → after.loads.items ≡ set before.loads.items chip load → IsMore (cell_nets pins (length before.chip_of.items)) (get_or before.loads.items chip load) load → IsDeal board pins after
+pub dealt_more : (board : Board) (pins : Pins) (before after : Deal) (chip : ℕ) (load : Load) → IsDeal board pins before → length before.chip_of.items < length pins.of_cells.items → IsChip board chip → cells_on before.chip_of.items chip < board.cells → after.chip_of.items ≡ before.chip_of.items ++ chip ∷ [] → after.loads.items ≡ set before.loads.items chip load → HasCellMore (cell_nets pins (length before.chip_of.items)) (get_or before.loads.items chip load) load → IsDeal board pins after
 dealt_more board pins before after chip load is next real room chip_of loads more =
     let chips = before.chip_of.items in
     let own = cell_nets pins (length chips) in
@@ -65,7 +65,7 @@ dealt_more board pins before after chip load is next real room chip_of loads mor
     }
 
 -- after a move
-pub dealt_moved : (board : Board) (pins : Pins) (before after : Deal) (cell chip : ℕ) (left come : Load) → IsDeal board pins before → cell < length before.chip_of.items → IsTarget board before.chip_of.items cell chip → after.chip_of.items ≡ set before.chip_of.items cell chip → after.loads.items ≡ set (set before.loads.items (get_or before.chip_of.items cell 0) left) chip come → IsMore (cell_nets pins cell) left (get_or before.loads.items (get_or before.chip_of.items cell 0) left) → IsMore (cell_nets pins cell) (get_or before.loads.items chip come) come → IsDeal board pins after
+pub dealt_moved : (board : Board) (pins : Pins) (before after : Deal) (cell chip : ℕ) (left come : Load) → IsDeal board pins before → cell < length before.chip_of.items → IsTarget board before.chip_of.items cell chip → after.chip_of.items ≡ set before.chip_of.items cell chip → after.loads.items ≡ set (set before.loads.items (get_or before.chip_of.items cell 0) left) chip come → HasCellMore (cell_nets pins cell) left (get_or before.loads.items (get_or before.chip_of.items cell 0) left) → HasCellMore (cell_nets pins cell) (get_or before.loads.items chip come) come → IsDeal board pins after
 dealt_moved board pins before after cell chip left come is within target chip_of loads less more =
     let chips = before.chip_of.items in
     let own = cell_nets pins cell in

@@ -9,7 +9,7 @@ use Rattle.vw_plan.specs.Good.{IsChip}
 use Rattle.vw_part.specs.declared.pins.Pins.{Pins}
 use Rattle.vw_part.specs.Steps.Deals.{freed, held, holders, met, cell_nets, spread}
 use Rattle.vw_part.specs.Steps.Pins.{times_among, total}
-use Rattle.vw_net.specs.Steps.{one_if}
+use Rattle.vw_net.specs.Steps.Bits.{one_if}
 use Rattle.vw_part.proofs.Held.{at_none, held_set}
 use Rattle.vw_part.proofs.Totals.{at, at_other, at_same, by_share, range_at, share, share_none, share_one, total_ones, total_plus, total_same}
 
@@ -36,8 +36,8 @@ module _ (chips : List ℕ) (pins : List (List ℕ)) (cell new most : ℕ) (with
   abbrev own : List ℕ
   own = get_or pins cell []
 
-  abbrev moved : List ℕ
-  moved = set chips cell new
+  abbrev chips_after : List ℕ
+  chips_after = set chips cell new
 
   abbrev leaves : ℕ → ℕ
   leaves net = one_if (eqb (held chips pins old net) 1)
@@ -46,17 +46,17 @@ module _ (chips : List ℕ) (pins : List (List ℕ)) (cell new most : ℕ) (with
   there net = one_if (nat_lt 0 (held chips pins new net))
 
   -- another net is held as before
-  others : (net : ℕ) → times_among own net ≡ 0 → holders most moved pins net ≡ holders most chips pins net
+  others : (net : ℕ) → times_among own net ≡ 0 → holders most chips_after pins net ≡ holders most chips pins net
   others net none =
       let each = λ (chip : ℕ).
       let left : at old (times_among own net) chip ≡ 0 = ap (λ (amount : ℕ). at old amount chip) none ∙ at_none old chip in
       let right : at new (times_among own net) chip ≡ 0 = ap (λ (amount : ℕ). at new amount chip) none ∙ at_none new chip in
-      let same : held moved pins chip net ≡ held chips pins chip net = omega (arith, left, right, held_set chips pins cell new chip net within) in
-      let bit : one_if (nat_lt 0 (held moved pins chip net)) ≡ one_if (nat_lt 0 (held chips pins chip net)) = ap (λ (amount : ℕ). one_if (nat_lt 0 amount)) same in bit in
-      total_same (λ chip. one_if (nat_lt 0 (held moved pins chip net))) (λ chip. one_if (nat_lt 0 (held chips pins chip net))) (range_with_len 1 most) each
+      let same : held chips_after pins chip net ≡ held chips pins chip net = omega (arith, left, right, held_set chips pins cell new chip net within) in
+      let bit : one_if (nat_lt 0 (held chips_after pins chip net)) ≡ one_if (nat_lt 0 (held chips pins chip net)) = ap (λ (amount : ℕ). one_if (nat_lt 0 amount)) same in bit in
+      total_same (λ chip. one_if (nat_lt 0 (held chips_after pins chip net))) (λ chip. one_if (nat_lt 0 (held chips pins chip net))) (range_with_len 1 most) each
 
   -- a net of the cell, chip by chip
-  by_chip : (net chip : ℕ) → times_among own net ≡ 1 → (old ≡ new → ⊥) → (one_if (nat_lt 0 (held moved pins chip net)) + at old (leaves net) chip) + at new (there net) chip ≡ one_if (nat_lt 0 (held chips pins chip net)) + at new 1 chip
+  by_chip : (net chip : ℕ) → times_among own net ≡ 1 → (old ≡ new → ⊥) → (one_if (nat_lt 0 (held chips_after pins chip net)) + at old (leaves net) chip) + at new (there net) chip ≡ one_if (nat_lt 0 (held chips pins chip net)) + at new 1 chip
   by_chip net chip one apart =
       let change = held_set chips pins cell new chip net within in
       let left : at old (times_among own net) chip ≡ at old 1 chip = ap (λ (amount : ℕ). at old amount chip) one in
@@ -66,29 +66,29 @@ module _ (chips : List ℕ) (pins : List (List ℕ)) (cell new most : ℕ) (with
       let unit : at old 1 chip ≡ 1 = subst (λ (x : ℕ). at old 1 x ≡ 1) here (at_same old 1) in
       let whole : at old (leaves net) chip ≡ leaves net = subst (λ (x : ℕ). at old (leaves net) x ≡ leaves net) here (at_same old (leaves net)) in
       let was : held chips pins old net ≡ held chips pins chip net = ap (λ (x : ℕ). held chips pins x net) here in
-      let step = fewer (held chips pins old net) (held moved pins chip net) (omega (arith, change, left, right, unit, at_other new 1 chip away, was)) in
+      let step = fewer (held chips pins old net) (held chips_after pins chip net) (omega (arith, change, left, right, unit, at_other new 1 chip away, was)) in
       let same : one_if (nat_lt 0 (held chips pins old net)) ≡ one_if (nat_lt 0 (held chips pins chip net)) = ap (λ (amount : ℕ). one_if (nat_lt 0 amount)) was in
-      let sum : (one_if (nat_lt 0 (held moved pins chip net)) + at old (leaves net) chip) + at new (there net) chip ≡ one_if (nat_lt 0 (held chips pins chip net)) + at new 1 chip = omega (arith, step, same, whole, at_other new 1 chip away, at_other new (there net) chip away) in sum in
+      let sum : (one_if (nat_lt 0 (held chips_after pins chip net)) + at old (leaves net) chip) + at new (there net) chip ≡ one_if (nat_lt 0 (held chips pins chip net)) + at new 1 chip = omega (arith, step, same, whole, at_other new 1 chip away, at_other new (there net) chip away) in sum in
       let if_else = λ (away : old ≡ chip → ⊥).
       let if_new = λ (here : new ≡ chip).
       let unit : at new 1 chip ≡ 1 = subst (λ (x : ℕ). at new 1 x ≡ 1) here (at_same new 1) in
       let whole : at new (there net) chip ≡ there net = subst (λ (x : ℕ). at new (there net) x ≡ there net) here (at_same new (there net)) in
       let was : held chips pins new net ≡ held chips pins chip net = ap (λ (x : ℕ). held chips pins x net) here in
-      let step = more (held chips pins new net) (held moved pins chip net) (omega (arith, change, left, right, unit, at_other old 1 chip away, was)) in
+      let step = more (held chips pins new net) (held chips_after pins chip net) (omega (arith, change, left, right, unit, at_other old 1 chip away, was)) in
       let same : there net ≡ one_if (nat_lt 0 (held chips pins chip net)) = ap (λ (amount : ℕ). one_if (nat_lt 0 amount)) was in
-      let sum : (one_if (nat_lt 0 (held moved pins chip net)) + at old (leaves net) chip) + at new (there net) chip ≡ one_if (nat_lt 0 (held chips pins chip net)) + at new 1 chip = omega (arith, step, same, whole, unit, at_other old (leaves net) chip away) in sum in
+      let sum : (one_if (nat_lt 0 (held chips_after pins chip net)) + at old (leaves net) chip) + at new (there net) chip ≡ one_if (nat_lt 0 (held chips pins chip net)) + at new 1 chip = omega (arith, step, same, whole, unit, at_other old (leaves net) chip away) in sum in
       let if_third = λ (apart_too : new ≡ chip → ⊥).
-      let keeps : held moved pins chip net ≡ held chips pins chip net = omega (arith, change, left, right, at_other old 1 chip away, at_other new 1 chip apart_too) in
-      let same : one_if (nat_lt 0 (held moved pins chip net)) ≡ one_if (nat_lt 0 (held chips pins chip net)) = ap (λ (amount : ℕ). one_if (nat_lt 0 amount)) keeps in
-      let sum : (one_if (nat_lt 0 (held moved pins chip net)) + at old (leaves net) chip) + at new (there net) chip ≡ one_if (nat_lt 0 (held chips pins chip net)) + at new 1 chip = omega (arith, same, at_other old (leaves net) chip away, at_other new (there net) chip apart_too, at_other new 1 chip apart_too) in sum in
+      let keeps : held chips_after pins chip net ≡ held chips pins chip net = omega (arith, change, left, right, at_other old 1 chip away, at_other new 1 chip apart_too) in
+      let same : one_if (nat_lt 0 (held chips_after pins chip net)) ≡ one_if (nat_lt 0 (held chips pins chip net)) = ap (λ (amount : ℕ). one_if (nat_lt 0 amount)) keeps in
+      let sum : (one_if (nat_lt 0 (held chips_after pins chip net)) + at old (leaves net) chip) + at new (there net) chip ≡ one_if (nat_lt 0 (held chips pins chip net)) + at new 1 chip = omega (arith, same, at_other old (leaves net) chip away, at_other new (there net) chip apart_too, at_other new 1 chip apart_too) in sum in
       ⊎_elim if_new if_third (cases_eq new chip) in
       ⊎_elim if_old if_else (cases_eq old chip)
 
   -- and all chips together
-  by_net : (net : ℕ) → times_among own net ≡ 1 → (old ≡ new → ⊥) → 1 ≤ old → old ≤ most → 1 ≤ new → new ≤ most → holders most moved pins net + (leaves net + there net) ≡ holders most chips pins net + 1
+  by_net : (net : ℕ) → times_among own net ≡ 1 → (old ≡ new → ⊥) → 1 ≤ old → old ≤ most → 1 ≤ new → new ≤ most → holders most chips_after pins net + (leaves net + there net) ≡ holders most chips pins net + 1
   by_net net one apart some_old few_old some_new few_new =
       let range = range_with_len 1 most in
-      let after = λ (chip : ℕ). one_if (nat_lt 0 (held moved pins chip net)) in
+      let after = λ (chip : ℕ). one_if (nat_lt 0 (held chips_after pins chip net)) in
       let before = λ (chip : ℕ). one_if (nat_lt 0 (held chips pins chip net)) in
       let first = total_plus after (at old (leaves net)) (λ chip. after chip + at old (leaves net) chip) range (λ chip. refl) in
       let second = total_plus (λ chip. after chip + at old (leaves net) chip) (at new (there net)) (λ chip. (after chip + at old (leaves net) chip) + at new (there net) chip) range (λ chip. refl) in
@@ -99,22 +99,22 @@ module _ (chips : List ℕ) (pins : List (List ℕ)) (cell new most : ℕ) (with
   abbrev gain : ℕ → ℕ
   gain net = leaves net + there net
 
-  each_net : (net : ℕ) → times_among own net ≤ 1 → (old ≡ new → ⊥) → 1 ≤ old → old ≤ most → 1 ≤ new → new ≤ most → holders most moved pins net + share gain own net ≡ holders most chips pins net + share (λ x. 1) own net
+  each_net : (net : ℕ) → times_among own net ≤ 1 → (old ≡ new → ⊥) → 1 ≤ old → old ≤ most → 1 ≤ new → new ≤ most → holders most chips_after pins net + share gain own net ≡ holders most chips pins net + share (λ x. 1) own net
   each_net net few apart some_old few_old some_new few_new =
       let if_none = λ (none : times_among own net < 1).
       let zero_of : times_among own net ≡ 0 = omega arith in
-      let sum : holders most moved pins net + share gain own net ≡ holders most chips pins net + share (λ x. 1) own net = omega (arith, others net zero_of, share_none gain own net zero_of, share_none (λ x. 1) own net zero_of) in sum in
+      let sum : holders most chips_after pins net + share gain own net ≡ holders most chips pins net + share (λ x. 1) own net = omega (arith, others net zero_of, share_none gain own net zero_of, share_none (λ x. 1) own net zero_of) in sum in
       let if_one = λ (some : 1 ≤ times_among own net).
       let one : times_among own net ≡ 1 = omega arith in
-      let sum : holders most moved pins net + share gain own net ≡ holders most chips pins net + share (λ x. 1) own net = omega (arith, by_net net one apart some_old few_old some_new few_new, share_one gain own net one, share_one (λ x. 1) own net one) in sum in
+      let sum : holders most chips_after pins net + share gain own net ≡ holders most chips pins net + share (λ x. 1) own net = omega (arith, by_net net one apart some_old few_old some_new few_new, share_one gain own net one, share_one (λ x. 1) own net one) in sum in
       ⊎_elim if_none if_one (cases_lt (times_among own net) 1)
 
-  pub all_nets : (nets : ℕ) → ((net : ℕ) → times_among own net ≤ 1) → All (λ net. net < nets) own → (old ≡ new → ⊥) → 1 ≤ old → old ≤ most → 1 ≤ new → new ≤ most → total (holders most moved pins) (range_with_len 0 nets) + (total leaves own + total there own) ≡ total (holders most chips pins) (range_with_len 0 nets) + length own
+  pub all_nets : (nets : ℕ) → ((net : ℕ) → times_among own net ≤ 1) → All (λ net. net < nets) own → (old ≡ new → ⊥) → 1 ≤ old → old ≤ most → 1 ≤ new → new ≤ most → total (holders most chips_after pins) (range_with_len 0 nets) + (total leaves own + total there own) ≡ total (holders most chips pins) (range_with_len 0 nets) + length own
   all_nets nets once below apart some_old few_old some_new few_new =
       let range = range_with_len 0 nets in
-      let first = total_plus (holders most moved pins) (share gain own) (λ net. holders most moved pins net + share gain own net) range (λ net. refl) in
+      let first = total_plus (holders most chips_after pins) (share gain own) (λ net. holders most chips_after pins net + share gain own net) range (λ net. refl) in
       let second = total_plus (holders most chips pins) (share (λ x. 1) own) (λ net. holders most chips pins net + share (λ x. 1) own net) range (λ net. refl) in
-      let same = total_same (λ net. holders most moved pins net + share gain own net) (λ net. holders most chips pins net + share (λ x. 1) own net) range (λ net. each_net net (once net) apart some_old few_old some_new few_new) in
+      let same = total_same (λ net. holders most chips_after pins net + share gain own net) (λ net. holders most chips pins net + share (λ x. 1) own net) range (λ net. each_net net (once net) apart some_old few_old some_new few_new) in
       omega (arith, first, second, same, by_share gain own nets below, by_share (λ x. 1) own nets below, total_plus leaves there gain own (λ net. refl), total_ones own)
 
 -- the spread after a move

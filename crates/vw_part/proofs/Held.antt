@@ -6,7 +6,7 @@ use Rattle.std.proofs.lemmas.List.Sums.{sum_by-cons}
 use Rattle.vw_plan.specs.Good.{cells_on}
 use Rattle.vw_part.specs.Steps.Deals.{held}
 use Rattle.vw_part.specs.Steps.Pins.{times_among, total}
-use Rattle.vw_net.specs.Steps.{one_if}
+use Rattle.vw_net.specs.Steps.Bits.{one_if}
 use Rattle.vw_part.proofs.Totals.{at, at_same, range_at, total_plus}
 
 pub at_none : (number other : ℕ) → at number 0 other ≡ 0

@@ -10,7 +10,7 @@ use Rattle.vw_plan.specs.Good.{IsChip, NoMoveHelps, pair_count}
 use Rattle.vw_part.specs.declared.pins.Pins.{Pins}
 use Rattle.vw_part.specs.Steps.Deals.{IsSettledCell, freed, holders, met, cell_nets, spread}
 use Rattle.vw_part.specs.Steps.Pins.{ArePins, total}
-use Rattle.vw_net.specs.Steps.{one_if}
+use Rattle.vw_net.specs.Steps.Bits.{one_if}
 use Rattle.vw_part.proofs.Gains.{spread_moved}
 use Rattle.vw_part.proofs.CellNets.{pins_long}
 use Rattle.vw_part.proofs.PairsAndSpread.{at_host, count_is}

@@ -11,7 +11,7 @@ use Rattle.vw_net.specs.Cells.{read_nets}
 use Rattle.vw_net.specs.Order.{is_among}
 use Rattle.vw_plan.specs.Good.{pair_count}
 use Rattle.vw_net.specs.Lists.{greatest}
-use Rattle.vw_net.specs.Steps.{one_if}
+use Rattle.vw_net.specs.Steps.Bits.{one_if}
 use Rattle.vw_plan.specs.Needs.{needed_nodes, needed_pairs}
 use Rattle.vw_plan.specs.Nets.{is_needed, node_of}
 use Rattle.vw_plan.proofs.NeededPairs.{need_of}
@@ -25,9 +25,9 @@ abbrev reads_at : ℕ → ℕ → ℕ × Cell → Bool
 reads_at net node placed = eqb placed.0 node && is_among (read_nets placed.1) net
 
 -- whether a node has the cell that drives a net, of cells of which the first drives the net `own`
-abbrev driven : ℕ → List ℕ → ℕ → ℕ → Bool
-driven own [] net node = false
-driven own (chip ∷ chips) net node = (eqb own net && eqb chip node) || driven (own + 1) chips net node
+abbrev drives_at : ℕ → List ℕ → ℕ → ℕ → Bool
+drives_at own [] net node = false
+drives_at own (chip ∷ chips) net node = (eqb own net && eqb chip node) || drives_at (own + 1) chips net node
 
 sides : (same own read later any : Bool) → ((same && (own || read)) || (later || any)) ≡ (((own && same) || later) || ((same && read) || any))
 sides false true read later any = refl
@@ -47,7 +47,7 @@ more_than first second =
     ⊎_elim if_none if_some (cases_lt first 1)
 
 -- a chip holds a net where it has the cell that drives it, or one that reads it
-held_where : (own : ℕ) (chips : List ℕ) (cells : List Cell) (pins : List (List ℕ)) (chip net : ℕ) → ArePins own cells pins → length chips ≡ length cells → nat_lt 0 (held chips pins chip net) ≡ (driven own chips net chip || list_any (reads_at net chip) (zip chips cells))
+held_where : (own : ℕ) (chips : List ℕ) (cells : List Cell) (pins : List (List ℕ)) (chip net : ℕ) → ArePins own cells pins → length chips ≡ length cells → nat_lt 0 (held chips pins chip net) ≡ (drives_at own chips net chip || list_any (reads_at net chip) (zip chips cells))
 held_where own [] [] [] chip net are same = refl
 held_where own [] [] (nets ∷ pins) chip net are same = absurd are
 held_where own [] (cell ∷ cells) pins chip net are same = absurd (omega (arith, same))
@@ -58,14 +58,14 @@ held_where own (first ∷ chips) (cell ∷ cells) (nets ∷ pins) chip net are s
     let head : nat_lt 0 (at first (times_among nets net) chip) ≡ (eqb first chip && (eqb own net || is_among (read_nets cell) net)) = by_bit (eqb first chip) in
     more_than (at first (times_among nets net) chip) (held chips pins chip net)
     ∙ ap₂ (λ (one other : Bool). one || other) head rest
-    ∙ sides (eqb first chip) (eqb own net) (is_among (read_nets cell) net) (driven (own + 1) chips net chip) (list_any (reads_at net chip) (zip chips cells))
+    ∙ sides (eqb first chip) (eqb own net) (is_among (read_nets cell) net) (drives_at (own + 1) chips net chip) (list_any (reads_at net chip) (zip chips cells))
   where
     by_bit : (bit : Bool) → nat_lt 0 (cond bit (times_among nets net) 0) ≡ (bit && (eqb own net || is_among (read_nets cell) net))
     by_bit true = among nets net ∙ are.0.same net
     by_bit false = refl
 
 -- no cell from here on drives an earlier net
-driven_later : (own : ℕ) (chips : List ℕ) (net chip : ℕ) → net < own → driven own chips net chip ≡ false
+driven_later : (own : ℕ) (chips : List ℕ) (net chip : ℕ) → net < own → drives_at own chips net chip ≡ false
 driven_later own [] net chip before = refl
 driven_later own (first ∷ chips) net chip before =
     or_from _ _ (and_left (eqb own net) (eqb first chip) (ne_eqb own net (λ is. omega arith))) (driven_later (own + 1) chips net chip (omega arith))
@@ -73,13 +73,13 @@ driven_later own (first ∷ chips) net chip before =
 abbrev chip_at : ℕ → List ℕ → ℕ → ℕ
 chip_at own chips net = if nat_lt net own then 0 else get_or chips (net - own) 0
 
-driven_is : (own : ℕ) (chips : List ℕ) (net chip : ℕ) → 1 ≤ chip → driven own chips net chip ≡ eqb (chip_at own chips net) chip
+driven_is : (own : ℕ) (chips : List ℕ) (net chip : ℕ) → 1 ≤ chip → drives_at own chips net chip ≡ eqb (chip_at own chips net) chip
 driven_is own [] net chip some = sym (none (nat_lt net own)) where
   none : (bit : Bool) → eqb (cond bit 0 0) chip ≡ false
   none true = ne_eqb 0 chip (λ is. omega arith)
   none false = ne_eqb 0 chip (λ is. omega arith)
 driven_is own (first ∷ chips) net chip some =
-    let whole = driven own (first ∷ chips) net chip in
+    let whole = drives_at own (first ∷ chips) net chip in
     let if_before = λ (before : net < own).
     let place : chip_at own (first ∷ chips) net ≡ 0 = rw (lt-ltb net own before) refl in
     let none : eqb (chip_at own (first ∷ chips) net) chip ≡ false = ne_eqb (chip_at own (first ∷ chips) net) chip (λ is. omega (arith, place)) in
@@ -87,11 +87,11 @@ driven_is own (first ∷ chips) net chip some =
     let if_from = λ (from : own ≤ net).
     let if_own = λ (is : own ≡ net).
     let here : chip_at own (first ∷ chips) net ≡ first = subst (λ (x : ℕ). chip_at own (first ∷ chips) x ≡ first) is (at_own own first chips) in
-    let left : whole ≡ (eqb first chip || driven (own + 1) chips net chip) = ap (λ (bit : Bool). (bit && eqb first chip) || driven (own + 1) chips net chip) (eq-eqb own net is) in
+    let left : whole ≡ (eqb first chip || drives_at (own + 1) chips net chip) = ap (λ (bit : Bool). (bit && eqb first chip) || drives_at (own + 1) chips net chip) (eq-eqb own net is) in
     left ∙ ap (λ (bit : Bool). eqb first chip || bit) (driven_later (own + 1) chips net chip (omega arith)) ∙ or-false (eqb first chip) ∙ ap (λ (x : ℕ). eqb x chip) (sym here) in
     let if_later = λ (apart : own ≡ net → ⊥).
     let shifted : chip_at own (first ∷ chips) net ≡ chip_at (own + 1) chips net = later own first chips net (omega arith) in
-    let left : whole ≡ driven (own + 1) chips net chip = ap (λ (bit : Bool). (bit && eqb first chip) || driven (own + 1) chips net chip) (ne_eqb own net apart) in
+    let left : whole ≡ drives_at (own + 1) chips net chip = ap (λ (bit : Bool). (bit && eqb first chip) || drives_at (own + 1) chips net chip) (ne_eqb own net apart) in
     left ∙ driven_is (own + 1) chips net chip some ∙ ap (λ (x : ℕ). eqb x chip) (sym shifted) in
     ⊎_elim if_own if_later (cases_eq own net) in
     ⊎_elim if_before if_from (cases_lt net own)
@@ -116,8 +116,8 @@ abbrev pub at_host : Flat → ℕ → Bool
 at_host flat net = nat_lt net flat.inputs || is_among flat.outputs net
 
 module _ (flat : Flat) (pins : List (List ℕ)) (most : ℕ) (are : ArePins flat.inputs flat.cells pins) (chip_of : List ℕ) (each : length chip_of ≡ length flat.cells) (real : All (λ chip. (1 ≤ chip) × (chip ≤ most)) chip_of) where
-  abbrev nets : ℕ
-  nets = flat.inputs + length flat.cells
+  abbrev net_total : ℕ
+  net_total = flat.inputs + length flat.cells
 
   abbrev reads : ℕ → ℕ → Bool
   reads net node = list_any (reads_at net node) (zip chip_of flat.cells) || (eqb node 0 && is_among flat.outputs net)
@@ -180,7 +180,7 @@ module _ (flat : Flat) (pins : List (List ℕ)) (most : ℕ) (are : ArePins flat
       either false true = refl
       either false false = refl
 
-  host : (net : ℕ) → net < nets → touched net 0 ≡ at_host flat net
+  host : (net : ℕ) → net < net_total → touched net 0 ≡ at_host flat net
   host net below =
       let none = nothing_there net 0 chip_of flat.cells (λ chip place within is. omega (arith, is, (All-get_or (λ chip. (1 ≤ chip) × (chip ≤ most)) chip_of place 0 within real).0)) in
       ap₂ (λ (home read : Bool). home || (read || is_among flat.outputs net)) by_home none
@@ -200,28 +200,28 @@ module _ (flat : Flat) (pins : List (List ℕ)) (most : ℕ) (are : ArePins flat
   chip_touched net chip some =
       let away : (eqb chip 0 && is_among flat.outputs net) ≡ false = and_left (eqb chip 0) _ (ne_eqb chip 0 (λ is. omega arith)) in
       ap₂ (λ (home rest : Bool). home || (list_any (reads_at net chip) (zip chip_of flat.cells) || rest)) (sym (driven_is flat.inputs chip_of net chip some)) away
-      ∙ ap (λ (rest : Bool). driven flat.inputs chip_of net chip || rest) (or-false (list_any (reads_at net chip) (zip chip_of flat.cells)))
+      ∙ ap (λ (rest : Bool). drives_at flat.inputs chip_of net chip || rest) (or-false (list_any (reads_at net chip) (zip chip_of flat.cells)))
       ∙ sym (held_where flat.inputs chip_of flat.cells pins chip net are each)
 
   -- net by net
-  of_net : (net : ℕ) → net < nets → length (needed_nodes flat chip_of net) + 1 ≡ one_if (at_host flat net) + holders most chip_of pins net
+  of_net : (net : ℕ) → net < net_total → length (needed_nodes flat chip_of net) + 1 ≡ one_if (at_host flat net) + holders most chip_of pins net
   of_net net below =
       let host_is : one_if (touched net 0) ≡ one_if (at_host flat net) = ap (λ (bit : Bool). one_if bit) (host net below) in
       let chips_are : total (λ node. one_if (touched net node)) (range_with_len 1 most) ≡ holders most chip_of pins net = range_same (λ node. one_if (touched net node)) (λ chip. one_if (nat_lt 0 (held chip_of pins chip net))) 1 most (λ chip above below. ap (λ (bit : Bool). one_if bit) (chip_touched net chip above)) in
       omega (arith, one_fewer net, host_is, chips_are)
 
   -- and all nets together
-  pub count_is : pair_count flat chip_of + nets ≡ total (λ net. one_if (at_host flat net)) (range_with_len 0 nets) + total (holders most chip_of pins) (range_with_len 0 nets)
+  pub count_is : pair_count flat chip_of + net_total ≡ total (λ net. one_if (at_host flat net)) (range_with_len 0 net_total) + total (holders most chip_of pins) (range_with_len 0 net_total)
   unfolding needed_pairs
   count_is =
-      let range = range_with_len 0 nets in
+      let range = range_with_len 0 net_total in
       let needed = λ (net : ℕ). length (needed_nodes flat chip_of net) in
       let hosted = λ (net : ℕ). one_if (at_host flat net) in
       let listed = length-flat_map (λ net. map (need_of net) (needed_nodes flat chip_of net)) range in
       let plain = total_same (λ net. length (map (need_of net) (needed_nodes flat chip_of net))) needed range (λ net. length-map (needed_nodes flat chip_of net) (need_of net)) in
-      let left = range_plus needed (λ net. 1) (λ net. hosted net + holders most chip_of pins net) 0 nets (λ net above below. of_net net (omega arith)) in
+      let left = range_plus needed (λ net. 1) (λ net. hosted net + holders most chip_of pins net) 0 net_total (λ net above below. of_net net (omega arith)) in
       let right = total_plus hosted (holders most chip_of pins) (λ net. hosted net + holders most chip_of pins net) range (λ net. refl) in
-      omega (arith, listed, plain, left, right, total_ones range, length_range 0 nets)
+      omega (arith, listed, plain, left, right, total_ones range, length_range 0 net_total)
     where
       length_range : (from many : ℕ) → length (range_with_len from many) ≡ many
       length_range from zero = refl

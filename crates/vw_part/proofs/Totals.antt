@@ -6,7 +6,7 @@ use Rattle.std.proofs.lemmas.List.Elements.{All-head, All-tail}
 use Rattle.vw_net.specs.Order.{is_among}
 use Rattle.vw_net.proofs.Lists.{one_if-le}
 use Rattle.vw_part.specs.Steps.Pins.{times_among, total}
-use Rattle.vw_net.specs.Steps.{one_if}
+use Rattle.vw_net.specs.Steps.Bits.{one_if}
 
 -- ---- sums term by term
 

@@ -3,7 +3,7 @@ ghost use Rattle.std.specs.Prelude.{◌≡◌, ◌+◌, ◌<◌, ◌≤◌, ◌^
 ghost use Rattle.std.specs.List.{All};
 ghost use Rattle.std.specs.Vec.{vec_len};
 ghost use Rattle.vw_part.specs.Steps.Pins.{times_among, total};
-ghost use Rattle.vw_net.specs.Steps.{one_if};
+ghost use Rattle.vw_net.specs.Steps.Bits.{one_if};
 
 use std::alloc::{AllocError, Global};
 

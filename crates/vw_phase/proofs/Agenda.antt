@@ -10,7 +10,7 @@ use Rattle.std.proofs.lemmas.List.{take_all}
 use Rattle.std.proofs.lemmas.List.Elements.{All-append, All-cons, All-nil}
 use Rattle.std.proofs.lemmas.List.Sums.{sum_by-append, sum_by-cons}
 use Rattle.vw_net.specs.declared.ordered.Ordered.{Ordered}
-use Rattle.vw_net.specs.Steps.{one_if}
+use Rattle.vw_net.specs.Steps.Bits.{one_if}
 use Rattle.vw_net.proofs.Lists.{one_if-le}
 use Rattle.vw_plan.specs.declared.need.Route.{Route}
 use Rattle.vw_plan.specs.Needs.{depth}
@@ -21,10 +21,10 @@ use Rattle.vw_phase.proofs.DoneTasks.{is_task-own, is_task-true}
 use Rattle.vw_phase.specs.Steps.Underway.{AreTasks, IsOfKind, is_done, is_task, no_task, task_at}
 
 -- how many of some tasks are this one
-abbrev times : Bool → ℕ → List Task → ℕ
-times sends place tasks = sum_by (λ task. one_if (is_task sends place task)) tasks
+abbrev times_listed : Bool → ℕ → List Task → ℕ
+times_listed sends place tasks = sum_by (λ task. one_if (is_task sends place task)) tasks
 
-times-cons : (sends : Bool) (place : ℕ) (task : Task) (tasks : List Task) → times sends place (task ∷ tasks) ≡ one_if (is_task sends place task) + times sends place tasks
+times-cons : (sends : Bool) (place : ℕ) (task : Task) (tasks : List Task) → times_listed sends place (task ∷ tasks) ≡ one_if (is_task sends place task) + times_listed sends place tasks
 times-cons sends place task tasks = sum_by-cons (λ (one : Task). one_if (is_task sends place one)) task tasks
 
 -- a task of another kind or place isn't this one
@@ -33,7 +33,7 @@ is_task-false sends place task differs = ⊎_elim (λ is. let its = is_task-true
 
 module _ {X : Type 0} (depth_of : X → ℕ) where
   -- a list of tasks has none of the other kind
-  none_of_other : (sends other : Bool) (place from : ℕ) (xs : List X) → ((task : Task) → task.sends ≡ sends → is_task other place task ≡ false) → times other place (tasks_from depth_of sends from xs) ≡ 0
+  none_of_other : (sends other : Bool) (place from : ℕ) (xs : List X) → ((task : Task) → task.sends ≡ sends → is_task other place task ≡ false) → times_listed other place (tasks_from depth_of sends from xs) ≡ 0
   none_of_other sends other place from [] apart = refl
   none_of_other sends other place from (x ∷ xs) apart =
       let first : Task = record { depth = depth_of x; sends = sends; place = from } in
@@ -41,7 +41,7 @@ module _ {X : Type 0} (depth_of : X → ℕ) where
       omega (arith, times-cons other place first (tasks_from depth_of sends (suc from) xs), none, none_of_other sends other place (suc from) xs apart)
 
   -- none of a lesser place
-  none_below : (sends : Bool) (place from : ℕ) (xs : List X) → place < from → times sends place (tasks_from depth_of sends from xs) ≡ 0
+  none_below : (sends : Bool) (place from : ℕ) (xs : List X) → place < from → times_listed sends place (tasks_from depth_of sends from xs) ≡ 0
   none_below sends place from [] below = refl
   none_below sends place from (x ∷ xs) below =
       let first : Task = record { depth = depth_of x; sends = sends; place = from } in
@@ -49,31 +49,31 @@ module _ {X : Type 0} (depth_of : X → ℕ) where
       omega (arith, times-cons sends place first (tasks_from depth_of sends (suc from) xs), none, none_below sends place (suc from) xs (omega (arith, below)))
 
   -- and one of each place
-  one_within : (sends : Bool) (place from : ℕ) (xs : List X) → from ≤ place → place < from + length xs → times sends place (tasks_from depth_of sends from xs) ≡ 1
+  one_within : (sends : Bool) (place from : ℕ) (xs : List X) → from ≤ place → place < from + length xs → times_listed sends place (tasks_from depth_of sends from xs) ≡ 1
   one_within sends place from [] late within = absurd (omega (arith, late, within))
   one_within sends place from (x ∷ xs) late within =
       let first : Task = record { depth = depth_of x; sends = sends; place = from } in
       let cons = times-cons sends place first (tasks_from depth_of sends (suc from) xs) in
       let if_here = λ (same : from ≡ place).
       let one : one_if (is_task sends place first) ≡ 1 = ap one_if (subst (λ (at : ℕ). is_task sends at first ≡ true) same (is_task-own first)) in
-      let whole : times sends place (tasks_from depth_of sends from (x ∷ xs)) ≡ 1 = omega (arith, cons, one, none_below sends place (suc from) xs (omega (arith, same))) in whole in
+      let whole : times_listed sends place (tasks_from depth_of sends from (x ∷ xs)) ≡ 1 = omega (arith, cons, one, none_below sends place (suc from) xs (omega (arith, same))) in whole in
       let if_later = λ (apart : from ≡ place → ⊥).
       let none : one_if (is_task sends place first) ≡ 0 = ap one_if (is_task-false sends place first (λ _ same. apart same)) in
       let past : suc from ≤ place = omega arith in
-      let whole : times sends place (tasks_from depth_of sends from (x ∷ xs)) ≡ 1 = omega (arith, cons, none, one_within sends place (suc from) xs past (omega (arith, within))) in whole in
+      let whole : times_listed sends place (tasks_from depth_of sends from (x ∷ xs)) ≡ 1 = omega (arith, cons, none, one_within sends place (suc from) xs past (omega (arith, within))) in whole in
       ⊎_elim if_here if_later (cases_eq from place)
 
-  at_most_one : (sends : Bool) (place from : ℕ) (xs : List X) → times sends place (tasks_from depth_of sends from xs) ≤ 1
+  at_most_one : (sends : Bool) (place from : ℕ) (xs : List X) → times_listed sends place (tasks_from depth_of sends from xs) ≤ 1
   at_most_one sends place from [] = omega arith
   at_most_one sends place from (x ∷ xs) =
       let first : Task = record { depth = depth_of x; sends = sends; place = from } in
       let cons = times-cons sends place first (tasks_from depth_of sends (suc from) xs) in
       let if_here = λ (same : from ≡ place).
       let low : one_if (is_task sends place first) ≤ 1 = one_if-le (is_task sends place first) in
-      let whole : times sends place (tasks_from depth_of sends from (x ∷ xs)) ≤ 1 = omega (arith, cons, low, none_below sends place (suc from) xs (omega (arith, same))) in whole in
+      let whole : times_listed sends place (tasks_from depth_of sends from (x ∷ xs)) ≤ 1 = omega (arith, cons, low, none_below sends place (suc from) xs (omega (arith, same))) in whole in
       let if_later = λ (apart : from ≡ place → ⊥).
       let none : one_if (is_task sends place first) ≡ 0 = ap one_if (is_task-false sends place first (λ _ same. apart same)) in
-      let whole : times sends place (tasks_from depth_of sends from (x ∷ xs)) ≤ 1 = omega (arith, cons, none, at_most_one sends place (suc from) xs) in whole in
+      let whole : times_listed sends place (tasks_from depth_of sends from (x ∷ xs)) ≤ 1 = omega (arith, cons, none, at_most_one sends place (suc from) xs) in whole in
       ⊎_elim if_here if_later (cases_eq from place)
 
   -- what holds of each task that is made
@@ -120,8 +120,8 @@ module _ (test : Task → Bool) where
       ⊎_elim if_here if_not (cases_Bool (test task))
 
 module _ (ordered : Ordered) (chip_of : List ℕ) (routes : List Route) where
-  abbrev gates : List Task
-  gates = tasks_from (λ number. depth ordered.flat chip_of (ordered.flat.inputs + number)) false 0 ordered.order
+  abbrev gate_tasks : List Task
+  gate_tasks = tasks_from (λ number. depth ordered.flat chip_of (ordered.flat.inputs + number)) false 0 ordered.order
 
   abbrev sendings : List Task
   sendings = tasks_from (λ (route : Route). depth ordered.flat chip_of route.net) true 0 routes
@@ -129,21 +129,21 @@ module _ (ordered : Ordered) (chip_of : List ℕ) (routes : List Route) where
   abbrev all : List Task
   all = all_tasks ordered chip_of routes
 
-  both : (sends : Bool) (place : ℕ) → times sends place all ≡ times sends place gates + times sends place sendings
-  both sends place = sum_by-append (λ (one : Task). one_if (is_task sends place one)) gates sendings
+  both : (sends : Bool) (place : ℕ) → times_listed sends place all ≡ times_listed sends place gate_tasks + times_listed sends place sendings
+  both sends place = sum_by-append (λ (one : Task). one_if (is_task sends place one)) gate_tasks sendings
 
-  no_gate : (place : ℕ) → times true place gates ≡ 0
+  no_gate : (place : ℕ) → times_listed true place gate_tasks ≡ 0
   no_gate place = none_of_other (λ (number : ℕ). depth ordered.flat chip_of (ordered.flat.inputs + number)) false true place 0 ordered.order (λ task is. is_task-false true place task (λ other _. true≢false (sym other ∙ is)))
 
-  no_sending : (place : ℕ) → times false place sendings ≡ 0
+  no_sending : (place : ℕ) → times_listed false place sendings ≡ 0
   no_sending place = none_of_other (λ (route : Route). depth ordered.flat chip_of route.net) true false place 0 routes (λ task is. is_task-false false place task (λ other _. true≢false (sym is ∙ other)))
 
-  few_all : (sends : Bool) (place : ℕ) → times sends place all ≤ 1
+  few_all : (sends : Bool) (place : ℕ) → times_listed sends place all ≤ 1
   few_all false place = omega (arith, both false place, no_sending place, at_most_one (λ (number : ℕ). depth ordered.flat chip_of (ordered.flat.inputs + number)) false place 0 ordered.order)
   few_all true place = omega (arith, both true place, no_gate place, at_most_one (λ (route : Route). depth ordered.flat chip_of route.net) true place 0 routes)
 
   kinds_all : All (λ task. IsOfKind ordered chip_of routes task.sends task) all
-  kinds_all = All-append (λ (task : Task). IsOfKind ordered chip_of routes task.sends task) gates sendings
+  kinds_all = All-append (λ (task : Task). IsOfKind ordered chip_of routes task.sends task) gate_tasks sendings
       (all_made (λ (number : ℕ). depth ordered.flat chip_of (ordered.flat.inputs + number)) (λ (task : Task). IsOfKind ordered chip_of routes task.sends task) false 0 ordered.order (λ at number is.
       let same : 0 + at ≡ at = omega arith in
       let inside : 0 + at < length ordered.order = omega (arith, slice_get_within ordered.order at number is) in
@@ -154,10 +154,10 @@ module _ (ordered : Ordered) (chip_of : List ℕ) (routes : List Route) where
       (inside, λ route found. let both_are : Some one ≡ Some route = sym is ∙ ap (slice_get routes) (sym same) ∙ found in ap (λ (r : Route). depth ordered.flat chip_of r.net) (same_Some one route both_are))))
 
   module _ (tasks : List Task) (same : IsPermutation all tasks) where
-    as_many : (sends : Bool) (place : ℕ) → times sends place tasks ≡ times sends place all
+    as_many : (sends : Bool) (place : ℕ) → times_listed sends place tasks ≡ times_listed sends place all
     as_many sends place = sum_by-IsPermutation (λ (one : Task). one_if (is_task sends place one)) all tasks same
 
-    is_there : (sends : Bool) (place : ℕ) → times sends place all ≡ 1 → is_done tasks (length tasks) sends place ≡ true
+    is_there : (sends : Bool) (place : ℕ) → times_listed sends place all ≡ 1 → is_done tasks (length tasks) sends place ≡ true
     is_there sends place one = ap (list_any (is_task sends place)) (take_all (length tasks) tasks (omega arith)) ∙ some_in (is_task sends place) tasks (omega (arith, one, as_many sends place))
 
     pub are_tasks : AreRising tasks → AreTasks ordered chip_of routes tasks

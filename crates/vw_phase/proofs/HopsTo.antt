@@ -6,7 +6,7 @@ use Rattle.vw_plan.specs.declared.need.Route.{Route}
 use Rattle.vw_plan.specs.declared.wire.Hop.{Hop}
 use Rattle.vw_check.specs.Firsts.{found_if}
 use Rattle.vw_check.specs.Pairs.{first_pair, is_number_pair, pair_in, HasPairs}
-use Rattle.vw_check.proofs.FirstPairs.{turned_eqb}
+use Rattle.vw_net.proofs.Orders.{eqb_comm}
 use Rattle.vw_phase.specs.Steps.Leads.{hops_to, route_pairs}
 
 module _ (node net : ℕ) where
@@ -28,7 +28,7 @@ module _ (node net : ℕ) where
       (omega arith, omega arith, rw (later, is) finds.2)
 
   turned_to : (route : Route) → is_to route ≡ is_number_pair net node (route.net, route.to)
-  turned_to route = ap₂ (λ (first second : Bool). first && second) (turned_eqb route.net net) (turned_eqb route.to node)
+  turned_to route = ap₂ (λ (first second : Bool). first && second) (eqb_comm route.net net) (eqb_comm route.to node)
 
   finds_from : (from : ℕ) (routes : List Route) (hops : List (List Hop)) → length hops ≡ length routes → FindsFrom from routes hops (first_pair from (route_pairs routes) net node)
   finds_from from [] hops long = refl

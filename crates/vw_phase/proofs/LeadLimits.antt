@@ -1,18 +1,17 @@
 -- How late leads can be.
-use Rattle.std.proofs.Common.{◌≡◌, ◌≤◌, ◌+◌, ◌∷◌, ℕ, true, false, List, [], length, map, eqb, if◌then◌else◌, slice_index, slice_index_or, Option, Some, None, sym, subst, ⊎_elim, arith}
+use Rattle.std.proofs.Common.{◌≡◌, ◌≤◌, ◌+◌, ◌∷◌, ℕ, true, false, List, [], length, eqb, if◌then◌else◌, slice_index, slice_index_or, Option, sym, subst, ⊎_elim, arith}
 use Rattle.std.specs.List.{All}
 use Rattle.std.proofs.lemmas.Bool.{cases_lt}
 use Rattle.std.proofs.lemmas.List.{get_or_past}
 use Rattle.std.proofs.lemmas.List.Elements.{All-head, All-nil, All-tail}
 use Rattle.vw_net.specs.declared.cell.Cell.{Cell}
-use Rattle.vw_net.specs.declared.cell.Cell.TheVariants.{Gate, Latch}
 use Rattle.vw_net.specs.declared.flat.Flat.{Flat}
 use Rattle.vw_plan.specs.declared.board.Board.{Board}
 use Rattle.vw_plan.specs.declared.need.Route.{Route}
 use Rattle.vw_plan.specs.declared.wire.Hop.{Hop}
-use Rattle.vw_plan.specs.Lead.{after_last, driven_lead}
-use Rattle.vw_net.specs.Lists.{greatest}
-use Rattle.vw_plan.specs.Nets.{node_of}
+use Rattle.vw_plan.specs.Lead.{after_last}
+use Rattle.vw_plan.specs.Nets.{greatest_read, node_of}
+use Rattle.vw_plan.proofs.GreatestReads.{greatest_read-small}
 use Rattle.vw_phase.specs.Steps.Leads.{hops_to, lead_by}
 use Rattle.vw_phase.proofs.UntouchedMoments.{hops_to-place, route_place}
 
@@ -34,11 +33,5 @@ module _ (flat : Flat) (board : Board) (chip_of : List ℕ) (routes : List Route
     | false ↦ last_low top (hops_to routes hops node net) (subst (All (λ hop. hop.at + 1 ≤ top)) (sym (hops_to-place routes hops node net long)) (hops_low top hops (route_place routes net node) hops_are))
   ]
 
-  greatest_low : (node : ℕ) (nets : List ℕ) → greatest (map (lead_by flat board chip_of routes hops leads node) nets) ≤ top
-  greatest_low node [] = omega arith
-  greatest_low node (net ∷ nets) = omega (arith, lead_low node net, greatest_low node nets)
-
-  pub driven_low : (node : ℕ) (cell : Option Cell) → driven_lead (lead_by flat board chip_of routes hops leads node) cell ≤ top
-  driven_low node None = omega arith
-  driven_low node (Some (Gate ins cover)) = greatest_low node ins
-  driven_low node (Some (Latch d init)) = omega arith
+  pub read_low : (node : ℕ) (cell : Option Cell) → greatest_read (lead_by flat board chip_of routes hops leads node) cell ≤ top
+  read_low node = greatest_read-small (lead_by flat board chip_of routes hops leads node) top (lead_low node)

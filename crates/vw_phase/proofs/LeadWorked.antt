@@ -18,8 +18,8 @@ use Rattle.vw_phase.specs.Steps.Along.{AreSent}
 use Rattle.vw_phase.specs.Steps.Drafts.{HasLead, hops_at, limit}
 use Rattle.vw_phase.specs.Steps.Underway.{AreTasks, IsSentOff, IsUnderway, is_done, is_task, lead_at_place, task_at}
 use Rattle.vw_phase.proofs.DoneTasks.{done_at, is_done-more, is_task-true, kind_at, not_done_before}
-use Rattle.vw_phase.proofs.UntouchedMoments.{AreKept, IsHomeDone, IsSettled, place_kept, ready_kept}
-use Rattle.vw_phase.proofs.LeadLimits.{driven_low}
+use Rattle.vw_phase.proofs.UntouchedMoments.{AreUntouched, IsHomeDone, RestsOnDone, place_kept, ready_kept}
+use Rattle.vw_phase.proofs.LeadLimits.{read_low}
 use Rattle.vw_net.proofs.Ready.{order_within}
 use Rattle.vw_phase.proofs.SettledReads.{done_by, home_before, home_later, settled_before, settled_later, shallow_before}
 use Rattle.vw_plan.specs.Needs.{depth}
@@ -61,7 +61,7 @@ module _ (ordered : Ordered) (board : Board) (chip_of : List ℕ) (routes : List
       done_by tasks found.0 count true other (omega (arith, found.1)) (omega (arith, within)) (shallow_before ordered board chip_of routes tasks each are are_routes found.0 inside other other_route other_is (omega (arith, less, deep)))
 
   -- what the gate of a done task reads is settled
-  pub reads_done : (place : ℕ) → is_done tasks count false place ≡ true → All (IsSettled ordered board chip_of routes tasks count (slice_index chip_of (slice_index ordered.order place))) (gate_inputs (slice_get ordered.flat.cells (slice_index ordered.order place)))
+  pub reads_done : (place : ℕ) → is_done tasks count false place ≡ true → All (RestsOnDone ordered board chip_of routes tasks count (slice_index chip_of (slice_index ordered.order place))) (gate_inputs (slice_get ordered.flat.cells (slice_index ordered.order place)))
   reads_done place done =
       let found = done_at tasks count false place (omega (arith, within)) done in
       let settled = settled_before ordered board chip_of routes tasks each are are_routes found.0 place (omega (arith, found.1, within)) found.2 found.3 in
@@ -94,7 +94,7 @@ module _ (ordered : Ordered) (board : Board) (chip_of : List ℕ) (routes : List
     no_sending : (number : ℕ) → is_done tasks (count + 1) true number ≡ true → is_done tasks count true number ≡ true
     no_sending number done = done_other tasks count true number within (λ sends _. true≢false (sym sends ∙ leads)) done
 
-    kept : AreKept ordered board chip_of routes tasks count draft.hops.items new.hops.items draft.leads.items new.leads.items
+    kept : AreUntouched ordered board chip_of routes tasks count draft.hops.items new.hops.items draft.leads.items new.leads.items
     kept = record {
       long = way.fit.long;
       long_more = ap (λ hops. length hops.items) has.hops ∙ way.fit.long;
@@ -106,7 +106,7 @@ module _ (ordered : Ordered) (board : Board) (chip_of : List ℕ) (routes : List
     }
 
     low : lead_at_place ordered board chip_of routes draft.hops.items draft.leads.items own ≤ limit (length draft.table.taken)
-    low = driven_low ordered.flat board chip_of routes draft.hops.items draft.leads.items (limit (length draft.table.taken)) way.fit.long way.fit.early.sent way.fit.early.soon (slice_index chip_of (slice_index ordered.order own)) (slice_get ordered.flat.cells (slice_index ordered.order own))
+    low = read_low ordered.flat board chip_of routes draft.hops.items draft.leads.items (limit (length draft.table.taken)) way.fit.long way.fit.early.sent way.fit.early.soon (slice_index chip_of (slice_index ordered.order own)) (slice_get ordered.flat.cells (slice_index ordered.order own))
 
     off : (number : ℕ) (route : Route) → slice_get routes number ≡ Some route → is_done tasks count true number ≡ true → IsSentOff ordered board chip_of routes draft route (hops_at draft number) → IsSentOff ordered board chip_of routes new route (hops_at new number)
     off number route is done sent = record {
@@ -116,7 +116,7 @@ module _ (ordered : Ordered) (board : Board) (chip_of : List ℕ) (routes : List
       stays = rw (has.hops, has.table) sent.stays;
     }
 
-    place_same : (place : ℕ) → All (IsSettled ordered board chip_of routes tasks count (slice_index chip_of (slice_index ordered.order place))) (gate_inputs (slice_get ordered.flat.cells (slice_index ordered.order place))) → lead_at_place ordered board chip_of routes new.hops.items new.leads.items place ≡ lead_at_place ordered board chip_of routes draft.hops.items draft.leads.items place
+    place_same : (place : ℕ) → All (RestsOnDone ordered board chip_of routes tasks count (slice_index chip_of (slice_index ordered.order place))) (gate_inputs (slice_get ordered.flat.cells (slice_index ordered.order place))) → lead_at_place ordered board chip_of routes new.hops.items new.leads.items place ≡ lead_at_place ordered board chip_of routes draft.hops.items draft.leads.items place
     place_same place settled = place_kept ordered board chip_of routes tasks count draft.hops.items new.hops.items draft.leads.items new.leads.items kept place settled
 
     worked_at : (place : ℕ) → place < length ordered.order → is_done tasks (count + 1) false place ≡ true → slice_index new.leads.items (ordered.flat.inputs + slice_index ordered.order place) ≡ lead_at_place ordered board chip_of routes new.hops.items new.leads.items place

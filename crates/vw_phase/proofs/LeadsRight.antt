@@ -12,15 +12,16 @@ use Rattle.vw_plan.specs.declared.need.Route.{Route}
 use Rattle.vw_plan.specs.declared.plan.Plan.{Plan}
 use Rattle.vw_plan.specs.declared.wire.Hop.{Hop}
 use Rattle.vw_plan.specs.declared.wire.Wire.{Wire}
-use Rattle.vw_plan.specs.Lead.{after_last, brings, brought_at, driven_lead, lead}
-use Rattle.vw_plan.specs.Nets.{driving_cell}
+use Rattle.vw_plan.specs.Lead.{after_last, brings, brought_at, lead}
+use Rattle.vw_plan.specs.Nets.{driving_cell, greatest_read}
 use Rattle.vw_plan.specs.Setting.{Setting, home, setting_of}
 use Rattle.vw_plan.proofs.AlongOrder.{every_net}
 use Rattle.vw_plan.proofs.LeadLevels.{lead-by_driver}
 use Rattle.vw_phase.specs.Steps.Leads.{hops_to, lead_by, wires_of}
 use Rattle.vw_phase.specs.Steps.Underway.{lead_at_place}
-use Rattle.vw_plan.proofs.LeadLevels.{driven_lead_agree}
-use Rattle.vw_phase.proofs.SettledReads.{among_at, gate_number}
+use Rattle.vw_plan.proofs.GreatestReads.{greatest_read-agree}
+use Rattle.vw_net.proofs.Orders.{among_at}
+use Rattle.vw_phase.proofs.SettledReads.{gate_number}
 
 -- the arrival of a net, by routes and hops
 pub brought_same : (routes : List Route) (hops : List (List Hop)) (node net : ℕ) → length hops ≡ length routes → option_map_or (λ wire. after_last wire.hops) (find (brings net node) (wires_of routes hops)) 0 ≡ after_last (hops_to routes hops node net)
@@ -35,7 +36,7 @@ brought_same (route ∷ routes) (sent ∷ hops) node net long =
     ]
 
 -- what no gate drives has lead 0
-no_gate_zero : (lead_at : ℕ → ℕ) (cell : Option Cell) → is_gate cell ≡ false → driven_lead lead_at cell ≡ 0
+no_gate_zero : (lead_at : ℕ → ℕ) (cell : Option Cell) → is_gate cell ≡ false → greatest_read lead_at cell ≡ 0
 no_gate_zero lead_at None none = refl
 no_gate_zero lead_at (Some (Gate ins cover)) none = absurd (true≢false none)
 no_gate_zero lead_at (Some (Latch d init)) none = refl
@@ -50,8 +51,8 @@ module _ (ordered : Ordered) (board : Board) (plan : Plan) (routes : List Route)
   IsRight from net = lead setting (home setting net) net ≡ slice_index leads net
 
   -- at its own node
-  own_lead : (net : ℕ) → lead setting (home setting net) net ≡ driven_lead (lead setting (home setting net)) (driving_cell ordered.flat net)
-  own_lead net = lead-by_driver setting (home setting net) net ∙ ap (λ (own : Bool). if own then driven_lead (lead setting (home setting net)) (driving_cell ordered.flat net) else brought_at setting (home setting net) net) (eq-eqb (home setting net) (home setting net) refl)
+  own_lead : (net : ℕ) → lead setting (home setting net) net ≡ greatest_read (lead setting (home setting net)) (driving_cell ordered.flat net)
+  own_lead net = lead-by_driver setting (home setting net) net ∙ ap (λ (own : Bool). if own then greatest_read (lead setting (home setting net)) (driving_cell ordered.flat net) else brought_at setting (home setting net) net) (eq-eqb (home setting net) (home setting net) refl)
 
   -- where a net is right at home, it is right at each node
   pub right_at : (node net : ℕ) → IsRight 0 net → lead setting node net ≡ lead_by ordered.flat board plan.chip_of routes hops leads node net
@@ -61,7 +62,7 @@ module _ (ordered : Ordered) (board : Board) (plan : Plan) (routes : List Route)
       ap (λ (at : ℕ). lead setting at net) (sym here) ∙ right ∙ sym (ap (λ (own : Bool). if own then slice_index leads net else after_last (hops_to routes hops node net)) is) in
       let if_away = λ (is : eqb (home setting net) node ≡ false).
       lead-by_driver setting node net
-      ∙ ap (λ (own : Bool). if own then driven_lead (lead setting node) (driving_cell ordered.flat net) else brought_at setting node net) is
+      ∙ ap (λ (own : Bool). if own then greatest_read (lead setting node) (driving_cell ordered.flat net) else brought_at setting node net) is
       ∙ ap (λ (list : List Wire). option_map_or (λ wire. after_last wire.hops) (find (brings net node) list) 0) wires
       ∙ brought_same routes hops node net long
       ∙ sym (ap (λ (own : Bool). if own then slice_index leads net else after_last (hops_to routes hops node net)) is) in
@@ -79,8 +80,8 @@ module _ (ordered : Ordered) (board : Board) (plan : Plan) (routes : List Route)
       let its_driver : driving_cell ordered.flat net ≡ slice_get ordered.flat.cells (slice_index ordered.order found.0) = ap (λ (bit : Bool). if bit then None else slice_get ordered.flat.cells (net - ordered.flat.inputs)) no_input ∙ ap (slice_get ordered.flat.cells) (sym number) in
       let its_node : home setting net ≡ slice_index plan.chip_of (slice_index ordered.order found.0) = ap (λ (bit : Bool). if bit then 0 else slice_index plan.chip_of (net - ordered.flat.inputs)) no_input ∙ ap (slice_index plan.chip_of) (sym number) in
       own_lead net
-      ∙ driven_lead_agree (lead setting (home setting net)) (lead_by ordered.flat board plan.chip_of routes hops leads (home setting net)) (driving_cell ordered.flat net) (λ place default within. right_at (home setting net) _ (reads place default within))
-      ∙ ap₂ (λ (at : ℕ) (cell : Option Cell). driven_lead (lead_by ordered.flat board plan.chip_of routes hops leads at) cell) its_node its_driver
+      ∙ greatest_read-agree (lead setting (home setting net)) (lead_by ordered.flat board plan.chip_of routes hops leads (home setting net)) (driving_cell ordered.flat net) (λ place default within. right_at (home setting net) _ (reads place default within))
+      ∙ ap₂ (λ (at : ℕ) (cell : Option Cell). greatest_read (lead_by ordered.flat board plan.chip_of routes hops leads at) cell) its_node its_driver
       ∙ sym (worked found.0 found.1) ∙ ap (slice_index leads) same in
       let if_not = λ (no : is_gate (driving_cell ordered.flat net) ≡ false). own_lead net ∙ no_gate_zero (lead setting (home setting net)) (driving_cell ordered.flat net) no ∙ sym (zero_at net no) in
       ⊎_elim if_gate if_not (cases_Bool (is_gate (driving_cell ordered.flat net)))

@@ -23,7 +23,7 @@ none_from links left numbers whole long = record {
 -- the ends of a link of a board are below 33
 pub ends_low : (board : Board) (place : ℕ) (default : Link) → place < length board.links → ((get_or board.links place default).from < 33) × ((get_or board.links place default).to < 33)
 ends_low board place default within =
-    let ends = board.linked.ends place default within in
+    let ends = board.linked.separate.ends place default within in
     (omega (arith, ends.0, board.few_chips), omega (arith, ends.1, board.few_chips))
 
 -- the link before the place
@@ -78,5 +78,5 @@ to_low chips (link ∷ links) ends from to is =
 pub all_numbers : (board : Board) (left : ℕ) (numbers : List ℕ) → left ≡ 0 → HasFrom board.links left numbers → HasNumbers board.links numbers
 all_numbers board left numbers none has = λ from to is.
     let from_first : HasFrom board.links 0 numbers = subst (λ (place : ℕ). HasFrom board.links place numbers) none has in
-    let low : to < 33 = omega (arith, to_low board.chips board.links board.linked.ends from to is, board.few_chips) in
+    let low : to < 33 = omega (arith, to_low board.chips board.links board.linked.separate.ends from to is, board.few_chips) in
     let at : get_or numbers (from * 33 + to) 0 ≡ link_place board.links from to = omega (arith, from_first.there from to low is) in at

@@ -27,7 +27,7 @@ use Rattle.vw_phase.specs.Steps.Drafts.{Does, IsSentMore, hops_at, limit}
 use Rattle.vw_phase.specs.Steps.Leads.{usable_by}
 use Rattle.vw_phase.specs.Steps.Underway.{AreTasks, IsOfKind, IsSentOff, IsUnderway, is_done, is_task, ready_by, start_by, task_at}
 use Rattle.vw_phase.proofs.DoneTasks.{is_done-more, is_task-own, is_task-true, kind_at, not_done_before}
-use Rattle.vw_phase.proofs.UntouchedMoments.{AreKept, place_kept, ready_kept, start_same}
+use Rattle.vw_phase.proofs.UntouchedMoments.{AreUntouched, place_kept, ready_kept, start_same}
 use Rattle.vw_phase.proofs.LeadLimits.{last_low, lead_low}
 use Rattle.vw_phase.proofs.TaskReady.{its_route, room, route_linked, sent_long}
 use Rattle.std.proofs.lemmas.Option.{same_Some}
@@ -108,7 +108,7 @@ module _ (ordered : Ordered) (board : Board) (chip_of : List ℕ) (routes : List
       long_new : length new.hops.items ≡ length routes
       long_new = ap length has.hops ∙ length-set draft.hops.items number sent_hops ∙ way.fit.long
 
-      kept : AreKept ordered board chip_of routes tasks count draft.hops.items new.hops.items draft.leads.items new.leads.items
+      kept : AreUntouched ordered board chip_of routes tasks count draft.hops.items new.hops.items draft.leads.items new.leads.items
       kept = record {
         long = way.fit.long;
         long_more = long_new;

@@ -31,10 +31,10 @@ use Rattle.vw_plan.specs.declared.wire.Wire.{Wire}
 use Rattle.vw_plan.specs.Earliest.{AreEarliest, phase_start, ready_in_phase, wire_depth}
 use Rattle.vw_phase.specs.declared.draft.Draft.{Draft}
 use Rattle.vw_phase.specs.Schedules.{IsSchedule}
-use Rattle.vw_phase.specs.Steps.Done.{IsMadeOf, IsAlong, IsTasksDone, IsSentWell, all_hops, latch_moment, latest}
+use Rattle.vw_phase.specs.Steps.Done.{IsMadeOf, IsAlong, IsTasksDone, IsSentWell, all_hops, cell_moment, latest}
 use Rattle.vw_phase.specs.Steps.Leads.{wires_of}
 use Rattle.vw_phase.proofs.WiresOfRoutes.{as_many, before_last, follows, leads_along, once_apart}
-use Rattle.vw_plan.proofs.LeadLevels.{Settles}
+use Rattle.vw_plan.proofs.LeadLevels.{LeadsFollowDrivers}
 use Rattle.vw_phase.proofs.BroughtLeads.{usable_is}
 use Rattle.vw_phase.proofs.WellSent.{hops_same}
 use Rattle.std.proofs.lemmas.Option.{same_Some}
@@ -135,9 +135,9 @@ module _ (ordered : Ordered) (board : Board) (plan : Plan) where
       let fits : IsWellFormed nets (Latch d init) = subst (IsWellFormed nets) same (flat.cells_fit number (Latch d init) within) in
       All-head (λ net. net < nets) d [] fits.1
 
-  module _ (chip_of : List ℕ) (routes : List Route) (draft : Draft) (done : IsTasksDone ordered board chip_of routes draft) (law : (one : Setting) → Settles one) (has : IsMadeOf chip_of routes draft.hops.items plan) where
+  module _ (chip_of : List ℕ) (routes : List Route) (draft : Draft) (done : IsTasksDone ordered board chip_of routes draft) (law : (one : Setting) → LeadsFollowDrivers one) (has : IsMadeOf chip_of routes draft.hops.items plan) where
     abbrev moment_of : ℕ → Cell → ℕ
-    moment_of = latch_moment flat board chip_of routes draft.hops.items draft.leads.items
+    moment_of = cell_moment flat board chip_of routes draft.hops.items draft.leads.items
 
     -- what a latch reads is usable at its moment
     latch_is : (number d : ℕ) (init : Init) → slice_get flat.cells number ≡ Some (Latch d init) → usable setting (home setting (flat.inputs + number)) d ≡ moment_of number (Latch d init)
@@ -148,7 +148,7 @@ module _ (ordered : Ordered) (board : Board) (plan : Plan) where
         let within : d < flat.inputs + length flat.cells = latch_within number d init is in
         ap (λ (node : ℕ). usable setting node d) its_home
         ∙ usable_is ordered board plan routes draft.hops.items draft.leads.items has.wires (law setting) (slice_index plan.chip_of number) d (done.leads plan has d within)
-        ∙ ap (λ (chips : List ℕ). latch_moment flat board chips routes draft.hops.items draft.leads.items number (Latch d init)) has.chips
+        ∙ ap (λ (chips : List ℕ). cell_moment flat board chips routes draft.hops.items draft.leads.items number (Latch d init)) has.chips
 
     -- so the greatest of the moments is within the period where latches are in time
     latest_within : ((number d : ℕ) (init : Init) → slice_get flat.cells number ≡ Some (Latch d init) → usable setting (home setting (flat.inputs + number)) d ≤ plan.period) → latest moment_of 0 flat.cells ≤ plan.period
@@ -171,10 +171,10 @@ module _ (ordered : Ordered) (board : Board) (plan : Plan) where
 
 -- ---- all of it
 
-module _ (ordered : Ordered) (board : Board) (plan : Plan) (routes : List Route) (draft : Draft) (law : (one : Setting) → Settles one) (listed : Listed) (once : Once)
+module _ (ordered : Ordered) (board : Board) (plan : Plan) (routes : List Route) (draft : Draft) (law : (one : Setting) → LeadsFollowDrivers one) (listed : Listed) (once : Once)
     (each : length plan.chip_of ≡ length ordered.flat.cells) (chips : All (IsChip board) plan.chip_of) (room : (chip : ℕ) → cells_on plan.chip_of chip ≤ board.cells)
     (are : AreRoutes ordered.flat board plan.chip_of routes) (done : IsTasksDone ordered board plan.chip_of routes draft) (wires : plan.wires ≡ wires_of routes draft.hops.items)
-    (period : plan.period ≡ max (max draft.after 1) (latest (latch_moment ordered.flat board plan.chip_of routes draft.hops.items draft.leads.items) 0 ordered.flat.cells)) where
+    (period : plan.period ≡ max (max draft.after 1) (latest (cell_moment ordered.flat board plan.chip_of routes draft.hops.items draft.leads.items) 0 ordered.flat.cells)) where
   abbrev its : Setting
   its = setting_of ordered board plan
 
@@ -188,7 +188,7 @@ module _ (ordered : Ordered) (board : Board) (plan : Plan) (routes : List Route)
   needed_all = All-weaker (λ route. list_any (is_pair route.net route.to) (map need_of_route routes) ≡ true) (λ route. is_needed ordered.flat plan.chip_of route.net route.to ≡ true)
       (λ route is. sym (listed ordered.flat plan.chip_of route.net route.to) ∙ ap (list_any (is_pair route.net route.to)) (sym are.pairs) ∙ is) routes (all_listed routes)
 
-  long_enough : max (max draft.after 1) (latest (latch_moment ordered.flat board plan.chip_of routes hops draft.leads.items) 0 ordered.flat.cells) ≤ plan.period
+  long_enough : max (max draft.after 1) (latest (cell_moment ordered.flat board plan.chip_of routes hops draft.leads.items) 0 ordered.flat.cells) ≤ plan.period
   long_enough = omega (arith, period)
 
   sound : IsSound its
@@ -214,18 +214,18 @@ module _ (ordered : Ordered) (board : Board) (plan : Plan) (routes : List Route)
     };
     least_period = λ other same_chips same_wires shorter sound_other.
         let other_has : IsMadeOf plan.chip_of routes hops other = record { chips = same_chips; wires = same_wires ∙ wires } in
-        let not_shorter : max (max draft.after 1) (latest (latch_moment ordered.flat board plan.chip_of routes hops draft.leads.items) 0 ordered.flat.cells) ≤ other.period = period_long ordered board other plan.chip_of routes draft done law other_has sound_other in
+        let not_shorter : max (max draft.after 1) (latest (cell_moment ordered.flat board plan.chip_of routes hops draft.leads.items) 0 ordered.flat.cells) ≤ other.period = period_long ordered board other plan.chip_of routes draft done law other_has sound_other in
         omega (arith, not_shorter, period, shorter);
   }
 
-pub scheduled_for : (ordered : Ordered) (board : Board) (plan : Plan) (routes : List Route) (draft : Draft) (chip_of : List ℕ) → plan.chip_of ≡ chip_of → ((one : Setting) → Settles one) → Listed → Once
+pub scheduled_for : (ordered : Ordered) (board : Board) (plan : Plan) (routes : List Route) (draft : Draft) (chip_of : List ℕ) → plan.chip_of ≡ chip_of → ((one : Setting) → LeadsFollowDrivers one) → Listed → Once
     → length chip_of ≡ length ordered.flat.cells → All (IsChip board) chip_of → ((chip : ℕ) → cells_on chip_of chip ≤ board.cells)
     → AreRoutes ordered.flat board chip_of routes → IsTasksDone ordered board chip_of routes draft → plan.wires ≡ wires_of routes draft.hops.items
-    → plan.period ≡ max (max draft.after 1) (latest (latch_moment ordered.flat board chip_of routes draft.hops.items draft.leads.items) 0 ordered.flat.cells)
+    → plan.period ≡ max (max draft.after 1) (latest (cell_moment ordered.flat board chip_of routes draft.hops.items draft.leads.items) 0 ordered.flat.cells)
     → IsSchedule ordered board chip_of routes plan
 scheduled_for ordered board plan routes draft chip_of same law listed once each chips room are done wires period =
     subst (λ (list : List ℕ). length list ≡ length ordered.flat.cells → All (IsChip board) list → ((chip : ℕ) → cells_on list chip ≤ board.cells) → AreRoutes ordered.flat board list routes → IsTasksDone ordered board list routes draft
-    → plan.period ≡ max (max draft.after 1) (latest (latch_moment ordered.flat board list routes draft.hops.items draft.leads.items) 0 ordered.flat.cells) → IsSchedule ordered board list routes plan)
+    → plan.period ≡ max (max draft.after 1) (latest (cell_moment ordered.flat board list routes draft.hops.items draft.leads.items) 0 ordered.flat.cells) → IsSchedule ordered board list routes plan)
     same (λ each_it chips_it room_it are_it done_it period_it. scheduled ordered board plan routes draft law listed once each_it chips_it room_it are_it done_it wires period_it) each chips room are done period
 
 -- ---- each route has a step, so there are few

@@ -5,6 +5,7 @@ use Rattle.std.proofs.lemmas.Bool.{and_from, and_parts, cases_Bool, cases_lt, le
 use Rattle.std.proofs.lemmas.List.Folds.{list_any_at}
 use Rattle.std.proofs.lemmas.List.Sums.{AllPass-from_list_all}
 use Rattle.std.proofs.lemmas.Option.{slice_get-get_or, slice_get_within}
+use Rattle.vw_net.proofs.Orders.{among_at}
 use Rattle.vw_net.specs.declared.cell.Cell.{Cell}
 use Rattle.vw_net.specs.declared.cell.Cell.TheVariants.{Gate, Latch}
 use Rattle.vw_net.specs.declared.flat.Flat.{Flat}
@@ -13,31 +14,18 @@ use Rattle.vw_net.specs.Cells.{read_nets}
 use Rattle.vw_net.specs.Order.{is_among, is_gate, is_latch, is_ready, read_nets_at, gate_inputs}
 use Rattle.vw_plan.specs.declared.board.Board.{Board}
 use Rattle.vw_plan.specs.declared.need.Route.{Route}
-use Rattle.vw_net.specs.Lists.{greatest}
-use Rattle.vw_plan.specs.Needs.{crossing, depth, driven_depth, is_pair}
-use Rattle.vw_plan.specs.Nets.{driving_cell, is_needed, is_read_at, node_of}
+use Rattle.vw_plan.specs.Needs.{crossing, depth, is_pair}
+use Rattle.vw_plan.specs.Nets.{driving_cell, greatest_read, is_needed, is_read_at, node_of}
 use Rattle.vw_plan.specs.Routes.{AreRoutes, need_of_route}
 use Rattle.vw_plan.proofs.AlongOrder.{All-gate_reads}
 use Rattle.vw_plan.proofs.Depths.{depth-by_driver}
+use Rattle.vw_plan.proofs.GreatestReads.{greatest_read-at}
 use Rattle.vw_plan.proofs.NeededPairs.{any-needed_pairs}
 use Rattle.vw_phase.specs.declared.task.Task.{Task}
 use Rattle.vw_phase.specs.Steps.Tasks.{rank}
 use Rattle.vw_phase.specs.Steps.Underway.{AreTasks, is_done, task_at}
 use Rattle.vw_phase.proofs.DoneTasks.{done_earlier, done_later, kind_at}
-use Rattle.vw_phase.proofs.UntouchedMoments.{IsHomeDone, IsSettled, route_place}
-
--- a number that is among some stands at a place
-pub among_at : (numbers : List ℕ) (number : ℕ) → is_among numbers number ≡ true → (place : ℕ) × (place < length numbers) × (get_or numbers place 0 ≡ number)
-among_at [] number among = absurd (true≢false (sym among))
-among_at (first ∷ numbers) number among =
-    let here = λ (is : eqb first number ≡ true).
-    let early : 0 < length (first ∷ numbers) = omega arith in
-    let whole : (place : ℕ) × (place < length (first ∷ numbers)) × (get_or (first ∷ numbers) place 0 ≡ number) = (0, early, eqb-true first number is) in whole in
-    let later = λ (rest : is_among numbers number ≡ true).
-    let found = among_at numbers number rest in
-    let early : suc found.0 < length (first ∷ numbers) = omega (arith, found.1) in
-    let whole : (place : ℕ) × (place < length (first ∷ numbers)) × (get_or (first ∷ numbers) place 0 ≡ number) = (suc found.0, early, found.2) in whole in
-    ⊎_elim here later (or_cases (eqb first number) (is_among numbers number) among)
+use Rattle.vw_phase.proofs.UntouchedMoments.{IsHomeDone, RestsOnDone, route_place}
 
 among_take : (count : ℕ) (numbers : List ℕ) (number : ℕ) → is_among (take count numbers) number ≡ true → (place : ℕ) × (place < length numbers) × (place < count) × (get_or numbers place 0 ≡ number)
 among_take zero numbers number among = absurd (true≢false (sym among))
@@ -65,16 +53,6 @@ gate_number flat net gate =
     let late : flat.inputs ≤ net = ⊎_elim (λ less. absurd (true≢false (sym (lt-ltb net flat.inputs less) ∙ past))) (λ no_less. no_less) (cases_lt net flat.inputs) in
     let whole : (flat.inputs ≤ net) × (is_gate (slice_get flat.cells (net - flat.inputs)) ≡ true) = (late, same) in whole in
     ⊎_elim if_input if_past (cases_Bool (nat_lt net flat.inputs))
-
-greatest_at : (f : ℕ → ℕ) (nets : List ℕ) (place default : ℕ) → place < length nets → f (get_or nets place default) ≤ greatest (map f nets)
-greatest_at f [] place default within = absurd (omega (arith, within))
-greatest_at f (net ∷ nets) zero default within = omega arith
-greatest_at f (net ∷ nets) (suc place) default within = omega (arith, greatest_at f nets place default (omega (arith, within)))
-
-driven_at : (f : ℕ → ℕ) (cell : Option Cell) (place default : ℕ) → place < length (gate_inputs cell) → f (get_or (gate_inputs cell) place default) ≤ driven_depth f cell
-driven_at f None place default within = absurd (omega (arith, within))
-driven_at f (Some (Gate ins cover)) place default within = greatest_at f ins place default within
-driven_at f (Some (Latch d init)) place default within = absurd (omega (arith, within))
 
 reads_among : (cell : Option Cell) (place default : ℕ) → place < length (gate_inputs cell) → is_among (read_nets_at cell) (get_or (gate_inputs cell) place default) ≡ true
 reads_among None place default within = absurd (omega (arith, within))
@@ -114,7 +92,7 @@ module _ (ordered : Ordered) (board : Board) (chip_of : List ℕ) (routes : List
   pub home_later : (from to net : ℕ) → from ≤ to → to ≤ length tasks → IsHomeDone ordered board chip_of routes tasks from net → IsHomeDone ordered board chip_of routes tasks to net
   home_later from to net before within home gate = let found = home gate in (found.0, found.1, found.2, done_by tasks from to false found.0 before within found.3)
 
-  pub settled_later : (from to node net : ℕ) → from ≤ to → to ≤ length tasks → IsSettled ordered board chip_of routes tasks from node net → IsSettled ordered board chip_of routes tasks to node net
+  pub settled_later : (from to node net : ℕ) → from ≤ to → to ≤ length tasks → RestsOnDone ordered board chip_of routes tasks from node net → RestsOnDone ordered board chip_of routes tasks to node net
   settled_later from to node net before within settled = (λ home. home_later from to net before within (settled.0 home), λ away. done_by tasks from to true (route_place routes net node) before within (settled.1 away))
 
   -- routes of lesser depth are sent before a task
@@ -147,7 +125,7 @@ module _ (ordered : Ordered) (board : Board) (chip_of : List ℕ) (routes : List
       (found.0, found.1, found.2, done)
 
   -- what a gate reads is settled before its lead is worked out
-  pub settled_before : (at place : ℕ) → at < length tasks → (task_at tasks at).sends ≡ false → (task_at tasks at).place ≡ place → All (IsSettled ordered board chip_of routes tasks at (slice_index chip_of (slice_index ordered.order place))) (gate_inputs (slice_get ordered.flat.cells (slice_index ordered.order place)))
+  pub settled_before : (at place : ℕ) → at < length tasks → (task_at tasks at).sends ≡ false → (task_at tasks at).place ≡ place → All (RestsOnDone ordered board chip_of routes tasks at (slice_index chip_of (slice_index ordered.order place))) (gate_inputs (slice_get ordered.flat.cells (slice_index ordered.order place)))
   settled_before at place within sends is = λ turn default inside. (at_home turn default inside, away turn default inside) where
     number : ℕ
     number = slice_index ordered.order place
@@ -182,7 +160,7 @@ module _ (ordered : Ordered) (board : Board) (chip_of : List ℕ) (routes : List
     lesser : (turn default : ℕ) → turn < length (gate_inputs (slice_get ordered.flat.cells (slice_index ordered.order place))) → depth ordered.flat chip_of (read turn default) + crossing ordered.flat chip_of own_net (read turn default) ≤ depth ordered.flat chip_of own_net
     lesser turn default inside =
         let f = λ (one : ℕ). depth ordered.flat chip_of one + crossing ordered.flat chip_of own_net one in
-        omega (arith, driven_at f (slice_get ordered.flat.cells (slice_index ordered.order place)) turn default inside, depth-by_driver ordered chip_of own_net, ap (driven_depth f) its_driver)
+        omega (arith, greatest_read-at f (slice_get ordered.flat.cells (slice_index ordered.order place)) turn default inside, depth-by_driver ordered chip_of own_net, ap (greatest_read f) its_driver)
 
     ready : (turn default : ℕ) → turn < length (gate_inputs (slice_get ordered.flat.cells (slice_index ordered.order place))) → is_ready ordered.flat.inputs ordered.flat.cells (take place ordered.order) (read turn default) ≡ true
     ready = All-gate_reads (λ net. is_ready ordered.flat.inputs ordered.flat.cells (take place ordered.order) net ≡ true) (slice_get ordered.flat.cells (slice_index ordered.order place)) (AllPass-from_list_all (is_ready ordered.flat.inputs ordered.flat.cells (take place ordered.order)) (read_nets_at (slice_get ordered.flat.cells (slice_index ordered.order place))) (ordered.is_order.after place place_within))

@@ -6,7 +6,7 @@ use Rattle.std.proofs.lemmas.List.{append_assoc, append-nil}
 use Rattle.std.proofs.lemmas.List.Concat.{flat_map-cons}
 use Rattle.std.proofs.lemmas.List.Folds.{list_any-append}
 use Rattle.std.proofs.Math.Bool.{or-false}
-use Rattle.vw_net.specs.Steps.{one_if}
+use Rattle.vw_net.specs.Steps.Bits.{one_if}
 use Rattle.vw_plan.specs.declared.board.Board.{Board}
 use Rattle.vw_plan.specs.declared.link.Link.{Link}
 use Rattle.vw_plan.specs.declared.wire.Hop.{Hop}
@@ -45,13 +45,13 @@ module _ (board : Board) where
   abbrev pub is_in : List Taken → Hop → Bool
   is_in taken hop = is_taken taken (hop_link board hop) hop.pin hop.at
 
-  abbrev takes : Hop → Hop → Bool
-  takes other hop = (eqb (hop_link board other) (hop_link board hop) && eqb other.at hop.at) && eqb other.pin hop.pin
+  abbrev takes_slot : Hop → Hop → Bool
+  takes_slot other hop = (eqb (hop_link board other) (hop_link board hop) && eqb other.at hop.at) && eqb other.pin hop.pin
 
   -- hops that share a pin take one slot
-  shares : (hop other : Hop) → has_link board.links other.from other.to ≡ true → share_pin hop other ≡ takes other hop
-  shares hop other there = both_ways (share_pin hop other) (takes other hop) to back where
-    to : share_pin hop other ≡ true → takes other hop ≡ true
+  shares : (hop other : Hop) → has_link board.links other.from other.to ≡ true → share_pin hop other ≡ takes_slot other hop
+  shares hop other there = both_ways (share_pin hop other) (takes_slot other hop) to back where
+    to : share_pin hop other ≡ true → takes_slot other hop ≡ true
     to is =
         let parts = and_parts (eqb hop.from other.from && eqb hop.to other.to) (eqb hop.pin other.pin && eqb hop.at other.at) is in
         let ends = and_parts (eqb hop.from other.from) (eqb hop.to other.to) parts.0 in
@@ -59,15 +59,15 @@ module _ (board : Board) where
         let place : hop_link board other ≡ hop_link board hop = sym (ap₂ (link_place board.links) (eqb-true hop.from other.from ends.0) (eqb-true hop.to other.to ends.1)) in
         and_from _ _ (and_from _ _ (eq-eqb (hop_link board other) (hop_link board hop) place) (eq-eqb other.at hop.at (sym (eqb-true hop.at other.at slot.1)))) (eq-eqb other.pin hop.pin (sym (eqb-true hop.pin other.pin slot.0)))
 
-    back : takes other hop ≡ true → share_pin hop other ≡ true
+    back : takes_slot other hop ≡ true → share_pin hop other ≡ true
     back is =
         let parts = and_parts (eqb (hop_link board other) (hop_link board hop) && eqb other.at hop.at) (eqb other.pin hop.pin) is in
         let slot = and_parts (eqb (hop_link board other) (hop_link board hop)) (eqb other.at hop.at) parts.0 in
         let ends = same_ends board.links other.from other.to hop.from hop.to there (eqb-true (hop_link board other) (hop_link board hop) slot.0) in
         and_from _ _ (and_from _ _ (eq-eqb hop.from other.from (sym ends.0)) (eq-eqb hop.to other.to (sym ends.1))) (and_from _ _ (eq-eqb hop.pin other.pin (sym (eqb-true other.pin hop.pin parts.1))) (eq-eqb hop.at other.at (sym (eqb-true other.at hop.at slot.1))))
 
-  in_more : (taken : List Taken) (hop other : Hop) → is_in (taken ++ taken_by board other ∷ []) hop ≡ (is_in taken hop || takes other hop)
-  in_more taken hop other = list_any-append (λ slot. (eqb slot.link (hop_link board hop) && eqb slot.at hop.at) && eqb slot.pin hop.pin) taken (taken_by board other ∷ []) ∙ ap (λ (bit : Bool). is_in taken hop || bit) (or-false (takes other hop))
+  in_more : (taken : List Taken) (hop other : Hop) → is_in (taken ++ taken_by board other ∷ []) hop ≡ (is_in taken hop || takes_slot other hop)
+  in_more taken hop other = list_any-append (λ slot. (eqb slot.link (hop_link board hop) && eqb slot.at hop.at) && eqb slot.pin hop.pin) taken (taken_by board other ∷ []) ∙ ap (λ (bit : Bool). is_in taken hop || bit) (or-false (takes_slot other hop))
 
   one_more : (before own : Bool) → (own ≡ true → before ≡ false) → one_if before + one_if own ≡ one_if (before || own)
   one_more true true apart = absurd (true≢false (apart refl))
@@ -78,13 +78,13 @@ module _ (board : Board) where
   -- one more hop is one more taken slot
   tally_one : (count : Hop → ℕ) (taken : List Taken) (other : Hop) → has_link board.links other.from other.to ≡ true → (is_in taken other ≡ true → ⊥) → ((hop : Hop) → count hop ≡ one_if (is_in taken hop)) → (hop : Hop) → count hop + one_if (share_pin hop other) ≡ one_if (is_in (taken ++ taken_by board other ∷ []) hop)
   tally_one count taken other there free tally hop =
-      let apart = λ (is : takes other hop ≡ true).
+      let apart = λ (is : takes_slot other hop ≡ true).
       let parts = and_parts (eqb (hop_link board other) (hop_link board hop) && eqb other.at hop.at) (eqb other.pin hop.pin) is in
       let slot = and_parts (eqb (hop_link board other) (hop_link board hop)) (eqb other.at hop.at) parts.0 in
       let same : is_in taken other ≡ is_in taken hop = ap₂ (λ (place at : ℕ). is_taken taken place other.pin at) (eqb-true (hop_link board other) (hop_link board hop) slot.0) (eqb-true other.at hop.at slot.1) ∙ ap (λ (pin : ℕ). is_taken taken (hop_link board hop) pin hop.at) (eqb-true other.pin hop.pin parts.1) in
       let not_before = λ (before : is_in taken hop ≡ true). free (same ∙ before) in
       let whole : is_in taken hop ≡ false = ⊎_elim (λ before. absurd (not_before before)) (λ none. none) (cases_Bool (is_in taken hop)) in whole in
-      ap₂ (λ (a : ℕ) (bit : Bool). a + one_if bit) (tally hop) (shares hop other there) ∙ one_more (is_in taken hop) (takes other hop) apart ∙ ap one_if (sym (in_more taken hop other))
+      ap₂ (λ (a : ℕ) (bit : Bool). a + one_if bit) (tally hop) (shares hop other there) ∙ one_more (is_in taken hop) (takes_slot other hop) apart ∙ ap one_if (sym (in_more taken hop other))
 
   pub tally_sent : (count : Hop → ℕ) (taken : List Taken) (ready from : ℕ) (further : List ℕ) (hops : List Hop) → AreLinked board.links from further → AreSent board taken ready (steps_of (from ∷ further)) hops → ((hop : Hop) → count hop ≡ one_if (is_in taken hop)) → (hop : Hop) → count hop + uses hop hops ≡ one_if (is_in (taken ++ map (taken_by board) hops) hop)
   tally_sent count taken ready from [] [] linked sent tally hop =

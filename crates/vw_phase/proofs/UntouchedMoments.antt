@@ -11,7 +11,7 @@ use Rattle.vw_plan.specs.declared.wire.Hop.{Hop}
 use Rattle.vw_plan.specs.Lead.{after_last}
 use Rattle.vw_plan.specs.Needs.{depth}
 use Rattle.vw_plan.specs.Nets.{driving_cell, node_of}
-use Rattle.vw_plan.proofs.LeadLevels.{driven_lead_agree}
+use Rattle.vw_plan.proofs.GreatestReads.{greatest_read-agree}
 use Rattle.vw_phase.specs.declared.task.Task.{Task}
 use Rattle.vw_phase.specs.Steps.Leads.{hops_to, lead_by, usable_by}
 use Rattle.vw_phase.specs.Steps.Underway.{is_done, lead_at_place, ready_by, start_by}
@@ -55,18 +55,18 @@ module _ (ordered : Ordered) (board : Board) (chip_of : List ℕ) (routes : List
   IsHomeDone net = is_gate (driving_cell ordered.flat net) ≡ true → (place : ℕ) × (place < length ordered.order) × (net ≡ ordered.flat.inputs + slice_index ordered.order place) × (is_done tasks count false place ≡ true)
 
   -- the lead of a net at a node rests on what is done
-  abbrev pub IsSettled : ℕ → ℕ → Type 0
-  IsSettled node net = (node_of ordered.flat chip_of net ≡ node → IsHomeDone net) × ((node_of ordered.flat chip_of net ≡ node → ⊥) → is_done tasks count true (route_place routes net node) ≡ true)
+  abbrev pub RestsOnDone : ℕ → ℕ → Type 0
+  RestsOnDone node net = (node_of ordered.flat chip_of net ≡ node → IsHomeDone net) × ((node_of ordered.flat chip_of net ≡ node → ⊥) → is_done tasks count true (route_place routes net node) ≡ true)
 
   -- hops and leads are the same where something is done
-  pub record AreKept (hops more : List (List Hop)) (leads later : List ℕ) : Type 0 where
+  pub record AreUntouched (hops more : List (List Hop)) (leads later : List ℕ) : Type 0 where
     pub long : length hops ≡ length routes
     pub long_more : length more ≡ length routes
     pub leads_same : (net : ℕ) → IsHomeDone net → slice_index later net ≡ slice_index leads net
     pub hops_same : (number : ℕ) → is_done tasks count true number ≡ true → slice_index_or more number [] ≡ slice_index_or hops number []
 
-  module _ (hops more : List (List Hop)) (leads later : List ℕ) (kept : AreKept hops more leads later) where
-    pub lead_kept : (node net : ℕ) → IsSettled node net → lead_by ordered.flat board chip_of routes more later node net ≡ lead_by ordered.flat board chip_of routes hops leads node net
+  module _ (hops more : List (List Hop)) (leads later : List ℕ) (kept : AreUntouched hops more leads later) where
+    pub lead_kept : (node net : ℕ) → RestsOnDone node net → lead_by ordered.flat board chip_of routes more later node net ≡ lead_by ordered.flat board chip_of routes hops leads node net
     lead_kept node net settled =
         let own = node_of ordered.flat chip_of net in
         let if_home = λ (is : eqb own node ≡ true).
@@ -81,11 +81,11 @@ module _ (ordered : Ordered) (board : Board) (chip_of : List ℕ) (routes : List
         ⊎_elim if_home if_away (cases_Bool (eqb own node))
 
     -- the lead of a gate that reads what is settled
-    pub place_kept : (place : ℕ) → All (IsSettled (slice_index chip_of (slice_index ordered.order place))) (gate_inputs (slice_get ordered.flat.cells (slice_index ordered.order place)))
+    pub place_kept : (place : ℕ) → All (RestsOnDone (slice_index chip_of (slice_index ordered.order place))) (gate_inputs (slice_get ordered.flat.cells (slice_index ordered.order place)))
         → lead_at_place ordered board chip_of routes more later place ≡ lead_at_place ordered board chip_of routes hops leads place
     place_kept place settled =
         let node = slice_index chip_of (slice_index ordered.order place) in
-        driven_lead_agree (lead_by ordered.flat board chip_of routes more later node) (lead_by ordered.flat board chip_of routes hops leads node) (slice_get ordered.flat.cells (slice_index ordered.order place)) (λ at default within. lead_kept node _ (settled at default within))
+        greatest_read-agree (lead_by ordered.flat board chip_of routes more later node) (lead_by ordered.flat board chip_of routes hops leads node) (slice_get ordered.flat.cells (slice_index ordered.order place)) (λ at default within. lead_kept node _ (settled at default within))
 
     -- when a net is usable at home
     pub usable_kept : (net : ℕ) → IsHomeDone net → usable_by ordered.flat board chip_of routes more later (node_of ordered.flat chip_of net) net ≡ usable_by ordered.flat board chip_of routes hops leads (node_of ordered.flat chip_of net) net

@@ -92,7 +92,7 @@ module _ (board : Board) (plan : Plan) (final : List Taken) (in_use : (hop : Hop
   early_from taken ready (step ∷ steps) (hop ∷ hops) sent stays =
       let first : IsEarliest board plan ready hop = λ at late before pin there.
       let other : Hop = record { from = hop.from; to = hop.to; pin = pin; at = at } in
-      let inside : pin < slice_index (map (λ link. link.width) board.links) (link_place board.links hop.from hop.to) = pin_within board.links other board.linked.once there in
+      let inside : pin < slice_index (map (λ link. link.width) board.links) (link_place board.links hop.from hop.to) = pin_within board.links other board.linked.separate.once there in
       let full : is_taken taken (hop_link board hop) pin at ≡ true = sent.1.full_before at late before pin inside in
       let stayed : is_taken final (hop_link board hop) pin at ≡ true = stays (hop_link board hop) pin at (list_any-append (λ slot. (eqb slot.link (hop_link board hop) && eqb slot.at at) && eqb slot.pin pin) taken (map (taken_by board) (hop ∷ hops)) ∙ or_left _ _ full) in
       in_use other stayed in

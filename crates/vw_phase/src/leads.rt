@@ -1,9 +1,9 @@
 //! The leads of nets, from the hops so far.
 ghost use Rattle.std.specs.Prelude.{◌≡◌, ◌≤◌, ◌<◌, ◌+◌, ◌^◌, length, map, slice_get, slice_index};
 ghost use Rattle.std.specs.List.{All};
-ghost use Rattle.vw_plan.specs.Lead.{after_last, driven_lead};
+ghost use Rattle.vw_plan.specs.Lead.{after_last};
 ghost use Rattle.vw_net.specs.Lists.{greatest};
-ghost use Rattle.vw_plan.specs.Nets.{driving_cell};
+ghost use Rattle.vw_plan.specs.Nets.{driving_cell, greatest_read};
 ghost use Rattle.vw_net.specs.Order.{is_gate};
 ghost use Rattle.vw_phase.specs.Steps.Given.{lead_for, net_count, usable_for};
 ghost use Rattle.vw_phase.specs.Steps.Leads.{hops_to};
@@ -80,7 +80,7 @@ pub fn lead_of_cell(given: &Given, hops: &[Sequence<Hop>], leads: &[u64], number
     requires nets { length leads.now ≡ net_count given.now }
     requires hops { length hops.now ≡ length given.now.routes.now }
     requires early { All (All (λ hop. hop.at ≤ 2 ^ 61)) hops.now }
-    ensures { result ≡ driven_lead
+    ensures { result ≡ greatest_read
         (lead_for given.now hops.now leads.now (slice_index given.now.chip_of.now number))
         (slice_get given.now.ordered.now.flat.cells number) }
 {

@@ -7,7 +7,7 @@ ghost use Rattle.vw_plan.specs.Routes.{AreRoutes};
 ghost use Rattle.vw_check.specs.Pairs.{HasPairs};
 ghost use Rattle.vw_phase.specs.Schedules.{IsSchedule};
 ghost use Rattle.vw_phase.specs.Steps.Done.{latest};
-ghost use Rattle.vw_phase.specs.Steps.Given.{IsFitFor, latch_moment_for, net_count};
+ghost use Rattle.vw_phase.specs.Steps.Given.{IsFitFor, cell_moment_for, net_count};
 ghost use Rattle.vw_net.specs.Cells.{read_nets};
 ghost use Rattle.vw_phase.specs.Steps.Leads.{route_pairs, wires_of};
 
@@ -34,11 +34,11 @@ fn route_table(alloc: Global, routes: &[Route]) -> Result<PairTable, AllocError>
 }
 
 /// The moment at which what a latch reads is usable on the latch's chip; 0 for a gate.
-fn latch_moment(given: &Given, draft: &Draft, number: usize, cell: &Cell) -> u64
+fn cell_moment(given: &Given, draft: &Draft, number: usize, cell: &Cell) -> u64
     requires number { number < length given.now.ordered.now.flat.cells }
     requires fits { All (λ net. net < net_count given.now) (read_nets cell.now) }
     requires fit { IsFitFor given.now draft.now }
-    ensures { result ≡ latch_moment_for given.now draft.now number cell.now }
+    ensures { result ≡ cell_moment_for given.now draft.now number cell.now }
 {
     match cell {
         Cell::Gate { .. } => 0,
@@ -56,11 +56,11 @@ fn latch_moment(given: &Given, draft: &Draft, number: usize, cell: &Cell) -> u64
 fn period_of(given: &Given, draft: &Draft) -> u64
     requires { IsFitFor given.now draft.now }
     ensures { result ≡ max (max draft.now.after 1)
-        (latest (latch_moment_for given.now draft.now) 0 given.now.ordered.now.flat.cells) }
+        (latest (cell_moment_for given.now draft.now) 0 given.now.ordered.now.flat.cells) }
 {
     let mut period = draft.after.max(1);
     for (number, cell) in given.ordered.flat().cells().iter().enumerate() {
-        let moment = latch_moment(given, draft, number, cell);
+        let moment = cell_moment(given, draft, number, cell);
         period = period.max(moment);
     }
     period

@@ -1,14 +1,15 @@
 -- The table of pairs, the way by it, and what the best exchange means for a placement.
-use Rattle.std.proofs.Common.{◌≡◌, ◌<◌, ◌≤◌, ◌+◌, ◌*◌, ℕ, zero, suc, Bool, true, false, List, [], ◌∷◌, map, cond, ap, ap₂, refl, sym, ◌∙◌, ⊎_elim, All, arith}
+use Rattle.std.proofs.Common.{◌≡◌, ◌<◌, ◌≤◌, ◌+◌, ◌*◌, ℕ, List, [], ◌∷◌, map, ap, ap₂, refl, sym, ◌∙◌, ⊎_elim, All, arith}
 use Rattle.std.specs.Prelude.{count_by, sum_by}
 use Rattle.std.specs.List.{range_with_len, swap}
 use Rattle.std.proofs.Math.Nat.{mul-le-mul}
 use Rattle.std.proofs.lemmas.Bool.{cases_order}
 use Rattle.std.proofs.lemmas.List.Elements.{All-weaker}
+use Rattle.vw_plan.proofs.Shortest.{least-le}
 use Rattle.vw_net.specs.declared.flat.Flat.{Flat}
 use Rattle.vw_plan.specs.declared.board.Board.{Board}
 use Rattle.vw_plan.specs.declared.need.Need.{Need}
-use Rattle.vw_plan.specs.Distance.{distance, has_walk, least}
+use Rattle.vw_plan.specs.Distance.{distance, has_walk}
 use Rattle.vw_plan.specs.Good.{IsChip, NoExchangeHelps, exchanged, travel}
 use Rattle.vw_plan.specs.Needs.{needed_pairs}
 use Rattle.vw_plan.specs.Nets.{node_of}
@@ -22,16 +23,9 @@ use Rattle.vw_place.proofs.PairTables.{IsPairWithin, home_low, pairs_within}
 
 -- ---- distances are small
 
-least_low : (test : ℕ → Bool) (limit : ℕ) → least test limit ≤ limit
-least_low test zero = omega arith
-least_low test (suc limit) =
-    let rest = least_low (λ number. test (suc number)) limit in
-    let by_test : (bit : Bool) → cond bit 0 (suc (least (λ number. test (suc number)) limit)) ≤ suc limit = λ bit. elim bit as (λ first. cond first 0 (suc (least (λ number. test (suc number)) limit)) ≤ suc limit) [ true ↦ omega arith | false ↦ omega arith ] in
-    by_test (test 0)
-
 pub distance_low : (board : Board) (from to : ℕ) → distance board from to ≤ 32
 unfolding distance
-distance_low board from to = omega (arith, least_low (λ count. has_walk board.links count from to) board.chips, board.few_chips)
+distance_low board from to = omega (arith, least-le (λ count. has_walk board.links count from to) board.chips, board.few_chips)
 
 -- ---- the way by a table is that of the needed pairs
 

@@ -1,8 +1,9 @@
 -- Depths at levels: how many drivers have to be followed until a depth stays; and the inlets that it comes from.
-use Rattle.std.proofs.Common.{◌≡◌, ◌<◌, ◌≤◌, ◌+◌, ◌||◌, ℕ, zero, suc, Bool, true, false, List, [], ◌∷◌, length, map, max, if◌then◌else◌, get_or, eqb, ap, refl, sym, ◌∙◌, ◌⊎◌, inl, inr, ⊎_elim, true≢false, eqb-true, eq-eqb, ne_eqb, Option, Some, None, All, arith}
+use Rattle.std.proofs.Common.{◌≡◌, ◌<◌, ◌≤◌, ◌+◌, ℕ, zero, suc, true, false, List, [], ◌∷◌, length, map, max, if◌then◌else◌, get_or, eqb, ap, refl, sym, ◌∙◌, ◌⊎◌, inl, inr, ⊎_elim, eq-eqb, ne_eqb, Option, Some, None, All, arith}
 use Rattle.std.proofs.Math.Path.{fun_ext}
-use Rattle.std.proofs.lemmas.Bool.{cases_eq, cases_lt, or_cases}
+use Rattle.std.proofs.lemmas.Bool.{cases_eq, cases_lt}
 use Rattle.std.proofs.lemmas.List.Elements.{All-head, All-tail}
+use Rattle.std.proofs.Math.Bool.{or-true}
 use Rattle.vw_net.specs.declared.cell.Cell.{Cell}
 use Rattle.vw_net.specs.declared.cell.Cell.TheVariants.{Gate, Latch}
 use Rattle.vw_net.specs.declared.flat.Flat.{Flat}
@@ -10,33 +11,14 @@ use Rattle.vw_net.specs.declared.ordered.Ordered.{Ordered}
 use Rattle.vw_net.specs.Order.{is_among, gate_inputs}
 use Rattle.vw_net.proofs.Orders.{length-order}
 use Rattle.vw_net.specs.Lists.{greatest}
-use Rattle.vw_plan.specs.Needs.{crossing, depth, driven_depth, level_depth}
-use Rattle.vw_plan.specs.Nets.{driving_cell, node_of}
+use Rattle.vw_plan.specs.Needs.{crossing, depth, level_depth}
+use Rattle.vw_plan.specs.Nets.{driving_cell, greatest_read, node_of}
 use Rattle.vw_plan.specs.Ways.{IsDeepest, IsInlet, IsWayBack, is_read_by}
 use Rattle.vw_plan.proofs.AlongOrder.{every_net}
 use Rattle.vw_plan.proofs.SettledLevels.{IsSettledFrom, settled_later}
-use Rattle.vw_plan.proofs.LeadLevels.{map_agree}
+use Rattle.vw_plan.proofs.GreatestReads.{greatest_read-agree, greatest_read-least, greatest_read-small}
 
 -- ---- what a cell gives its net
-
--- it depends on the nets that a gate reads, and on no other
-pub driven_depth_agree : (one other : ℕ → ℕ) (cell : Option Cell) → All (λ net. one net ≡ other net) (gate_inputs cell) → driven_depth one cell ≡ driven_depth other cell
-driven_depth_agree one other None agree = refl
-driven_depth_agree one other (Some (Gate ins cover)) agree = ap greatest (map_agree one other ins agree)
-driven_depth_agree one other (Some (Latch d init)) agree = refl
-
--- none of some numbers is above their greatest
-among_greatest : (f : ℕ → ℕ) (nets : List ℕ) (net : ℕ) → is_among nets net ≡ true → f net ≤ greatest (map f nets)
-among_greatest f [] net among = absurd (true≢false (sym among))
-among_greatest f (first ∷ nets) net among =
-    let if_first = λ (here : eqb first net ≡ true). let same : f first ≡ f net = ap f (eqb-true first net here) in let below : f net ≤ max (f first) (greatest (map f nets)) = omega (arith, same) in below in
-    let if_later = λ (there : is_among nets net ≡ true). let below : f net ≤ max (f first) (greatest (map f nets)) = omega (arith, among_greatest f nets net there) in below in
-    ⊎_elim if_first if_later (or_cases (eqb first net) (is_among nets net) among)
-
-driven_least : (f : ℕ → ℕ) (cell : Option Cell) (net : ℕ) → is_among (gate_inputs cell) net ≡ true → f net ≤ driven_depth f cell
-driven_least f None net among = absurd (true≢false (sym among))
-driven_least f (Some (Gate ins cover)) net among = among_greatest f ins net among
-driven_least f (Some (Latch d init)) net among = absurd (true≢false (sym among))
 
 -- one of some nets, of which something holds, gives this number
 record Attained (f : ℕ → ℕ) (P : ℕ → Type 0) (nets : List ℕ) (number : ℕ) : Type 0 where
@@ -56,25 +38,11 @@ greatest_attained f P (first ∷ nets) all =
     let if_none = λ (none : greatest (map f nets) ≡ 0). let got : Goal = inr (record { net = first; among = rw here refl; is = omega arith; holds = All-head P first nets all }) in got in
     let if_later = λ (less : f first < greatest (map f nets)). λ (found : Attained f P nets (greatest (map f nets))). let got : Goal = inr (record { net = found.net; among = rw found.among (or-true (eqb first found.net)); is = omega (arith, found.is); holds = found.holds }) in got in
     ⊎_elim (λ less. ⊎_elim if_none (if_later less) (greatest_attained f P nets (All-tail P first nets all))) if_first (cases_lt (f first) (greatest (map f nets)))
-  where
-    or-true : (bit : Bool) → (bit || true) ≡ true
-    or-true true = refl
-    or-true false = refl
 
-driven_attained : (f : ℕ → ℕ) (P : ℕ → Type 0) (cell : Option Cell) → All P (gate_inputs cell) → (driven_depth f cell ≡ 0) ⊎ Attained f P (gate_inputs cell) (driven_depth f cell)
-driven_attained f P None all = inl refl
-driven_attained f P (Some (Gate ins cover)) all = greatest_attained f P ins all
-driven_attained f P (Some (Latch d init)) all = inl refl
-
--- where each of some numbers is small, the greatest is
-greatest_small : (f : ℕ → ℕ) (most : ℕ) → ((net : ℕ) → f net ≤ most) → (nets : List ℕ) → greatest (map f nets) ≤ most
-greatest_small f most small [] = omega arith
-greatest_small f most small (net ∷ nets) = omega (arith, small net, greatest_small f most small nets)
-
-driven_small : (f : ℕ → ℕ) (most : ℕ) → ((net : ℕ) → f net ≤ most) → (cell : Option Cell) → driven_depth f cell ≤ most
-driven_small f most small None = omega arith
-driven_small f most small (Some (Gate ins cover)) = greatest_small f most small ins
-driven_small f most small (Some (Latch d init)) = omega arith
+attained_read : (f : ℕ → ℕ) (P : ℕ → Type 0) (cell : Option Cell) → All P (gate_inputs cell) → (greatest_read f cell ≡ 0) ⊎ Attained f P (gate_inputs cell) (greatest_read f cell)
+attained_read f P None all = inl refl
+attained_read f P (Some (Gate ins cover)) all = greatest_attained f P ins all
+attained_read f P (Some (Latch d init)) all = inl refl
 
 -- a depth is at most the number of drivers that are followed
 crossing_small : (flat : Flat) (chip_of : List ℕ) (net read : ℕ) → crossing flat chip_of net read ≤ 1
@@ -83,7 +51,7 @@ crossing_small flat chip_of net read = elim (eqb (node_of flat chip_of read) (no
 level_depth-small : (level : ℕ) (flat : Flat) (chip_of : List ℕ) (net : ℕ) → level_depth level flat chip_of net ≤ level
 level_depth-small zero flat chip_of net = omega arith
 level_depth-small (suc level) flat chip_of net =
-    driven_small (λ read. level_depth level flat chip_of read + crossing flat chip_of net read) (suc level) (λ read. omega (arith, level_depth-small level flat chip_of read, crossing_small flat chip_of net read)) (driving_cell flat net)
+    greatest_read-small (λ read. level_depth level flat chip_of read + crossing flat chip_of net read) (suc level) (λ read. omega (arith, level_depth-small level flat chip_of read, crossing_small flat chip_of net read)) (driving_cell flat net)
 
 pub depth-small : (flat : Flat) (chip_of : List ℕ) (net : ℕ) → depth flat chip_of net ≤ length flat.cells + 1
 unfolding depth
@@ -93,11 +61,11 @@ module _ (ordered : Ordered) (chip_of : List ℕ) where
   -- ---- levels
 
   -- from a level on, a net has one depth
-  abbrev IsSettled : ℕ → ℕ → Type 0
-  IsSettled from net = IsSettledFrom (λ level. level_depth level ordered.flat chip_of net) from
+  abbrev HasOneDepth : ℕ → ℕ → Type 0
+  HasOneDepth from net = IsSettledFrom (λ level. level_depth level ordered.flat chip_of net) from
 
   -- a net is settled one level up if the nets that its gate reads are settled
-  reads_settled : (from net : ℕ) → All (IsSettled from) (gate_inputs (driving_cell ordered.flat net)) → IsSettled (suc from) net
+  reads_settled : (from net : ℕ) → All (HasOneDepth from) (gate_inputs (driving_cell ordered.flat net)) → HasOneDepth (suc from) net
   reads_settled from net settled = record { same = same_above } where
     same_above : (one other : ℕ) → suc from ≤ one → suc from ≤ other → level_depth one ordered.flat chip_of net ≡ level_depth other ordered.flat chip_of net
     same_above zero other one_late other_late = absurd (omega arith)
@@ -105,31 +73,31 @@ module _ (ordered : Ordered) (chip_of : List ℕ) where
     same_above (suc one) (suc other) one_late other_late =
         let at = λ (level read : ℕ). level_depth level ordered.flat chip_of read + crossing ordered.flat chip_of net read in
         let reads = gate_inputs (driving_cell ordered.flat net) in
-        driven_depth_agree (at one) (at other) (driving_cell ordered.flat net) (λ place default within. ap (λ (number : ℕ). number + crossing ordered.flat chip_of net (get_or reads place default)) ((settled place default within).same one other (omega arith) (omega arith)))
+        greatest_read-agree (at one) (at other) (driving_cell ordered.flat net) (λ place default within. ap (λ (number : ℕ). number + crossing ordered.flat chip_of net (get_or reads place default)) ((settled place default within).same one other (omega arith) (omega arith)))
 
   -- following more drivers in a row than there are cells changes no depth
   level_depth-past_cells : (level net : ℕ) → length ordered.flat.cells + 1 ≤ level → level_depth level ordered.flat chip_of net ≡ depth ordered.flat chip_of net
   unfolding depth
   level_depth-past_cells level net past =
       let few_gates : length ordered.order ≤ length ordered.flat.cells = length-order ordered.flat.inputs ordered.flat.cells ordered.order ordered.is_order in
-      (every_net ordered IsSettled (λ from to net. settled_later (λ level. level_depth level ordered.flat chip_of net) from to) reads_settled net).same level (length ordered.flat.cells + 1) (omega arith) (omega arith)
+      (every_net ordered HasOneDepth (λ from to net. settled_later (λ level. level_depth level ordered.flat chip_of net) from to) reads_settled net).same level (length ordered.flat.cells + 1) (omega arith) (omega arith)
 
   -- the depth of a net that another one's driver reads, as it counts there
-  abbrev depth_at : ℕ → ℕ → ℕ
-  depth_at net read = depth ordered.flat chip_of read + crossing ordered.flat chip_of net read
+  abbrev depth_read : ℕ → ℕ → ℕ
+  depth_read net read = depth ordered.flat chip_of read + crossing ordered.flat chip_of net read
 
   -- the depth of a net is that of what drives it
-  pub depth-by_driver : (net : ℕ) → depth ordered.flat chip_of net ≡ driven_depth (depth_at net) (driving_cell ordered.flat net)
+  pub depth-by_driver : (net : ℕ) → depth ordered.flat chip_of net ≡ greatest_read (depth_read net) (driving_cell ordered.flat net)
   depth-by_driver net =
       let level = length ordered.flat.cells + 1 in
       let above = level_depth-past_cells (suc level) net (omega arith) in
-      sym above ∙ ap (λ (depth_of : ℕ → ℕ). driven_depth (λ read. depth_of read + crossing ordered.flat chip_of net read) (driving_cell ordered.flat net)) (fun_ext (λ other. level_depth-past_cells level other (omega arith)))
+      sym above ∙ ap (λ (depth_of : ℕ → ℕ). greatest_read (λ read. depth_of read + crossing ordered.flat chip_of net read) (driving_cell ordered.flat net)) (fun_ext (λ other. level_depth-past_cells level other (omega arith)))
 
   -- ---- inlets
 
   -- a gate's net is at least as deep as a net that it reads
-  read_below : (net read : ℕ) → is_read_by ordered.flat net read ≡ true → depth_at net read ≤ depth ordered.flat chip_of net
-  read_below net read is_read = omega (arith, depth-by_driver net, driven_least (depth_at net) (driving_cell ordered.flat net) read is_read)
+  read_below : (net read : ℕ) → is_read_by ordered.flat net read ≡ true → depth_read net read ≤ depth ordered.flat chip_of net
+  read_below net read is_read = omega (arith, depth-by_driver net, greatest_read-least (depth_read net) (driving_cell ordered.flat net) read is_read)
 
   -- so it is deeper than each inlet
   inlet_below : (net : ℕ) (nets : List ℕ) (end inlet : ℕ) → IsWayBack ordered.flat chip_of net nets end → is_read_by ordered.flat end inlet ≡ true → (node_of ordered.flat chip_of inlet ≡ node_of ordered.flat chip_of end → ⊥) → depth ordered.flat chip_of inlet + 1 ≤ depth ordered.flat chip_of net
@@ -144,10 +112,10 @@ module _ (ordered : Ordered) (chip_of : List ℕ) where
   Reached net = (depth ordered.flat chip_of net ≡ 0) ⊎ ((inlet : ℕ) × IsInlet ordered.flat chip_of net inlet × (depth ordered.flat chip_of net ≡ depth ordered.flat chip_of inlet + 1))
 
   -- as the net that gives the greatest depth comes from another node, or has an inlet itself
-  reached_by : (net : ℕ) → Attained (depth_at net) Reached (gate_inputs (driving_cell ordered.flat net)) (driven_depth (depth_at net) (driving_cell ordered.flat net)) → Reached net
+  reached_by : (net : ℕ) → Attained (depth_read net) Reached (gate_inputs (driving_cell ordered.flat net)) (greatest_read (depth_read net) (driving_cell ordered.flat net)) → Reached net
   reached_by net found =
       let read = found.net in
-      let is : depth ordered.flat chip_of net ≡ depth_at net read = depth-by_driver net ∙ found.is in
+      let is : depth ordered.flat chip_of net ≡ depth_read net read = depth-by_driver net ∙ found.is in
       let if_same = λ (same : node_of ordered.flat chip_of read ≡ node_of ordered.flat chip_of net).
       let none : crossing ordered.flat chip_of net read ≡ 0 = rw (eq-eqb _ _ same) refl in
       let if_flat = λ (no_depth : depth ordered.flat chip_of read ≡ 0). let got : Reached net = inl (omega (arith, is, none)) in got in
@@ -162,8 +130,8 @@ module _ (ordered : Ordered) (chip_of : List ℕ) where
 
   reached_step : (from net : ℕ) → All Reached (gate_inputs (driving_cell ordered.flat net)) → Reached net
   reached_step from net all =
-      let if_none = λ (none : driven_depth (depth_at net) (driving_cell ordered.flat net) ≡ 0). let got : Reached net = inl (depth-by_driver net ∙ none) in got in
-      ⊎_elim if_none (reached_by net) (driven_attained (depth_at net) Reached (driving_cell ordered.flat net) all)
+      let if_none = λ (none : greatest_read (depth_read net) (driving_cell ordered.flat net) ≡ 0). let got : Reached net = inl (depth-by_driver net ∙ none) in got in
+      ⊎_elim if_none (reached_by net) (attained_read (depth_read net) Reached (driving_cell ordered.flat net) all)
 
   -- the depth of a net is one more than the greatest of its inlets, or 0 where it has none
   pub depth_is_deepest : (net : ℕ) → IsDeepest ordered.flat chip_of net (depth ordered.flat chip_of net)

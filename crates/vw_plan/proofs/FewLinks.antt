@@ -45,4 +45,4 @@ module _ (chips : ℕ) (few : chips ≤ 32) (links : List Link)
   few_links = omega (arith, length-map links ends_number, length-le_from_distinct_below (map ends_number links) 1089 numbers_differ (numbers_small links ends))
 
 pub few_links_on : (board : Board) → length board.links ≤ 1089
-few_links_on board = few_links board.chips board.few_chips board.links board.linked.ends board.linked.once
+few_links_on board = few_links board.chips board.few_chips board.links board.linked.separate.ends board.linked.separate.once

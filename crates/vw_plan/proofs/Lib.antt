@@ -2,6 +2,7 @@ pub mod FewLinks
 pub mod ChipNumbers
 pub mod AlongOrder
 pub mod SettledLevels
+pub mod GreatestReads
 pub mod LeadLevels
 pub mod Depths
 pub mod NeededPairs

@@ -16,7 +16,7 @@ use Rattle.vw_net.specs.Cells.{IsWellFormed, read_nets}
 use Rattle.vw_net.specs.Order.{is_among}
 use Rattle.vw_plan.specs.declared.need.Need.{Need}
 use Rattle.vw_net.specs.Lists.{greatest}
-use Rattle.vw_net.specs.Steps.{one_if}
+use Rattle.vw_net.specs.Steps.Bits.{one_if}
 use Rattle.vw_plan.specs.Needs.{comes_before, is_pair, needed_nodes, needed_pairs}
 use Rattle.vw_plan.specs.Nets.{is_needed, node_of}
 
@@ -64,47 +64,47 @@ count_own net node (first ∷ nodes) =
     omega (arith, count_cons (is_pair net node) (need_of net first) (map (need_of net) nodes), count_cons (λ (other : ℕ). eqb other node) first nodes, one, count_own net node nodes)
 
 -- how often a number stands
-abbrev number_of : ℕ → List ℕ → ℕ
-number_of node nodes = count_by (λ other. eqb other node) nodes
+abbrev count_of_node : ℕ → List ℕ → ℕ
+count_of_node node nodes = count_by (λ other. eqb other node) nodes
 
 -- a test leaves a number, or takes it out
-count_kept : (test : ℕ → Bool) (node : ℕ) (nodes : List ℕ) → test node ≡ true → number_of node (filter test nodes) ≡ number_of node nodes
+count_kept : (test : ℕ → Bool) (node : ℕ) (nodes : List ℕ) → test node ≡ true → count_of_node node (filter test nodes) ≡ count_of_node node nodes
 count_kept test node [] passes = refl
 count_kept test node (first ∷ nodes) passes =
     let is = λ (other : ℕ). eqb other node in
     let rest = count_kept test node nodes passes in
     let if_kept = λ (kept : test first ≡ true).
-    let same : number_of node (first ∷ filter test nodes) ≡ number_of node (first ∷ nodes) = omega (arith, count_cons is first (filter test nodes), count_cons is first nodes, rest) in
-    let whole : number_of node (filter test (first ∷ nodes)) ≡ number_of node (first ∷ nodes) = rw kept same in whole in
+    let same : count_of_node node (first ∷ filter test nodes) ≡ count_of_node node (first ∷ nodes) = omega (arith, count_cons is first (filter test nodes), count_cons is first nodes, rest) in
+    let whole : count_of_node node (filter test (first ∷ nodes)) ≡ count_of_node node (first ∷ nodes) = rw kept same in whole in
     let if_out = λ (out : test first ≡ false).
     let apart : eqb first node ≡ false = ne_eqb first node (λ equal. true≢false (sym passes ∙ ap test (sym equal) ∙ out)) in
-    let same : number_of node (filter test nodes) ≡ number_of node (first ∷ nodes) = sym (count_no is first nodes (number_of node (filter test nodes)) apart (sym rest)) in
-    let whole : number_of node (filter test (first ∷ nodes)) ≡ number_of node (first ∷ nodes) = rw out same in whole in
+    let same : count_of_node node (filter test nodes) ≡ count_of_node node (first ∷ nodes) = sym (count_no is first nodes (count_of_node node (filter test nodes)) apart (sym rest)) in
+    let whole : count_of_node node (filter test (first ∷ nodes)) ≡ count_of_node node (first ∷ nodes) = rw out same in whole in
     ⊎_elim if_kept if_out (cases_Bool (test first))
 
-count_out : (test : ℕ → Bool) (node : ℕ) (nodes : List ℕ) → test node ≡ false → number_of node (filter test nodes) ≡ 0
+count_out : (test : ℕ → Bool) (node : ℕ) (nodes : List ℕ) → test node ≡ false → count_of_node node (filter test nodes) ≡ 0
 count_out test node [] fails = refl
 count_out test node (first ∷ nodes) fails =
     let rest = count_out test node nodes fails in
     let if_kept = λ (kept : test first ≡ true).
     let apart : eqb first node ≡ false = ne_eqb first node (λ equal. true≢false (sym kept ∙ ap test equal ∙ fails)) in
-    let none : number_of node (first ∷ filter test nodes) ≡ 0 = count_no (λ (other : ℕ). eqb other node) first (filter test nodes) 0 apart rest in
-    let whole : number_of node (filter test (first ∷ nodes)) ≡ 0 = rw kept none in whole in
-    let if_out = λ (out : test first ≡ false). let whole : number_of node (filter test (first ∷ nodes)) ≡ 0 = rw out rest in whole in
+    let none : count_of_node node (first ∷ filter test nodes) ≡ 0 = count_no (λ (other : ℕ). eqb other node) first (filter test nodes) 0 apart rest in
+    let whole : count_of_node node (filter test (first ∷ nodes)) ≡ 0 = rw kept none in whole in
+    let if_out = λ (out : test first ≡ false). let whole : count_of_node node (filter test (first ∷ nodes)) ≡ 0 = rw out rest in whole in
     ⊎_elim if_kept if_out (cases_Bool (test first))
 
 -- in a range a number stands once, and nowhere if it is below
-count_below : (node from many : ℕ) → node < from → number_of node (range_with_len from many) ≡ 0
+count_below : (node from many : ℕ) → node < from → count_of_node node (range_with_len from many) ≡ 0
 count_below node from zero below = refl
 count_below node from (suc many) below = count_no (λ (other : ℕ). eqb other node) from (range_with_len (from + 1) many) 0 (ne_eqb from node (λ equal. omega arith)) (count_below node (from + 1) many (omega arith))
 
-count_within : (node from many : ℕ) → from ≤ node → node < from + many → number_of node (range_with_len from many) ≡ 1
+count_within : (node from many : ℕ) → from ≤ node → node < from + many → count_of_node node (range_with_len from many) ≡ 1
 count_within node from zero above below = absurd (omega arith)
 count_within node from (suc many) above below =
     let is = λ (other : ℕ). eqb other node in
     let rest = range_with_len (from + 1) many in
-    let if_here = λ (here : from ≡ node). let once : number_of node (from ∷ rest) ≡ 1 = count_yes is from rest 0 (eq-eqb from node here) (count_below node (from + 1) many (omega arith)) in once in
-    let if_later = λ (later : from ≡ node → ⊥). let once : number_of node (from ∷ rest) ≡ 1 = count_no is from rest 1 (ne_eqb from node later) (count_within node (from + 1) many (omega arith) (omega arith)) in once in
+    let if_here = λ (here : from ≡ node). let once : count_of_node node (from ∷ rest) ≡ 1 = count_yes is from rest 0 (eq-eqb from node here) (count_below node (from + 1) many (omega arith)) in once in
+    let if_later = λ (later : from ≡ node → ⊥). let once : count_of_node node (from ∷ rest) ≡ 1 = count_no is from rest 1 (ne_eqb from node later) (count_within node (from + 1) many (omega arith) (omega arith)) in once in
     ⊎_elim if_here if_later (cases_eq from node)
 
 -- ---- what is needed nowhere
@@ -159,37 +159,37 @@ module _ (flat : Flat) (chip_of : List ℕ) (net node : ℕ) where
   abbrev pairs_of : ℕ → List Need
   pairs_of other = map (need_of other) (needed_nodes flat chip_of other)
 
-  abbrev number_in : List Need → ℕ
-  number_in needs = count_by (is_pair net node) needs
+  abbrev count_in_needs : List Need → ℕ
+  count_in_needs needs = count_by (is_pair net node) needs
 
-  number_append : (needs others : List Need) → number_in (needs ++ others) ≡ number_in needs + number_in others
+  number_append : (needs others : List Need) → count_in_needs (needs ++ others) ≡ count_in_needs needs + count_in_needs others
   number_append needs others = sum_by-append (λ need. one_if (is_pair net node need)) needs others
 
   -- among the pairs of a range of nets it stands nowhere if its net isn't in it
-  number_below : (from many : ℕ) → net < from → number_in (flat_map pairs_of (range_with_len from many)) ≡ 0
+  number_below : (from many : ℕ) → net < from → count_in_needs (flat_map pairs_of (range_with_len from many)) ≡ 0
   number_below from zero below = refl
   number_below from (suc many) below =
-      let here : number_in (pairs_of from) ≡ 0 = count_other net node from (needed_nodes flat chip_of from) (ne_eqb from net (λ is. omega arith)) in
+      let here : count_in_needs (pairs_of from) ≡ 0 = count_other net node from (needed_nodes flat chip_of from) (ne_eqb from net (λ is. omega arith)) in
       omega (arith, number_append (pairs_of from) (flat_map pairs_of (range_with_len (from + 1) many)), here, number_below (from + 1) many (omega arith))
 
-  number_past : (from many : ℕ) → from + many ≤ net → number_in (flat_map pairs_of (range_with_len from many)) ≡ 0
+  number_past : (from many : ℕ) → from + many ≤ net → count_in_needs (flat_map pairs_of (range_with_len from many)) ≡ 0
   number_past from zero past = refl
   number_past from (suc many) past =
-      let here : number_in (pairs_of from) ≡ 0 = count_other net node from (needed_nodes flat chip_of from) (ne_eqb from net (λ is. omega arith)) in
+      let here : count_in_needs (pairs_of from) ≡ 0 = count_other net node from (needed_nodes flat chip_of from) (ne_eqb from net (λ is. omega arith)) in
       omega (arith, number_append (pairs_of from) (flat_map pairs_of (range_with_len (from + 1) many)), here, number_past (from + 1) many (omega arith))
 
   -- and once if it is, and is needed
-  number_within : (from many : ℕ) → from ≤ net → net < from + many → number_in (flat_map pairs_of (range_with_len from many)) ≡ needed_once
+  number_within : (from many : ℕ) → from ≤ net → net < from + many → count_in_needs (flat_map pairs_of (range_with_len from many)) ≡ needed_once
   number_within from zero above below = absurd (omega arith)
   number_within from (suc many) above below =
       let rest = flat_map pairs_of (range_with_len (from + 1) many) in
       let whole = number_append (pairs_of from) rest in
       let if_here = λ (here : from ≡ net).
-      let own : number_in (pairs_of from) ≡ needed_once = subst (λ (other : ℕ). number_in (pairs_of other) ≡ needed_once) (sym here) (count_own net node (needed_nodes flat chip_of net) ∙ count_nodes) in
-      let once : number_in (pairs_of from ++ rest) ≡ needed_once = omega (arith, whole, own, number_below (from + 1) many (omega arith)) in once in
+      let own : count_in_needs (pairs_of from) ≡ needed_once = subst (λ (other : ℕ). count_in_needs (pairs_of other) ≡ needed_once) (sym here) (count_own net node (needed_nodes flat chip_of net) ∙ count_nodes) in
+      let once : count_in_needs (pairs_of from ++ rest) ≡ needed_once = omega (arith, whole, own, number_below (from + 1) many (omega arith)) in once in
       let if_later = λ (later : from ≡ net → ⊥).
-      let none : number_in (pairs_of from) ≡ 0 = count_other net node from (needed_nodes flat chip_of from) (ne_eqb from net later) in
-      let once : number_in (pairs_of from ++ rest) ≡ needed_once = omega (arith, whole, none, number_within (from + 1) many (omega arith) (omega arith)) in once in
+      let none : count_in_needs (pairs_of from) ≡ 0 = count_other net node from (needed_nodes flat chip_of from) (ne_eqb from net later) in
+      let once : count_in_needs (pairs_of from ++ rest) ≡ needed_once = omega (arith, whole, none, number_within (from + 1) many (omega arith) (omega arith)) in once in
       ⊎_elim if_here if_later (cases_eq from net)
 
   -- a pair stands once where it is needed, and else nowhere
@@ -198,7 +198,7 @@ module _ (flat : Flat) (chip_of : List ℕ) (net node : ℕ) where
   count-needed_pairs =
       let nets = flat.inputs + length flat.cells in
       let if_there = λ (there : net < nets). number_within 0 nets (omega arith) (omega arith) in
-      let if_past = λ (past : nets ≤ net). let none : number_in (flat_map pairs_of (range_with_len 0 nets)) ≡ needed_once = rw (past_net flat chip_of net node past) (number_past 0 nets (omega arith)) in none in
+      let if_past = λ (past : nets ≤ net). let none : count_in_needs (flat_map pairs_of (range_with_len 0 nets)) ≡ needed_once = rw (past_net flat chip_of net node past) (number_past 0 nets (omega arith)) in none in
       ⊎_elim if_there if_past (cases_lt net nets)
 
   -- so it is listed exactly where it is needed

@@ -1,10 +1,11 @@
 -- The shortest walks go through no node twice, so they have no more links than there are chips.
 use Rattle.std.proofs.Common.{◌≡◌, ◌<◌, ◌≤◌, ◌+◌, ℕ, zero, suc, Bool, true, false, List, [], ◌∷◌, length, eqb, ap, sym, subst, ◌∙◌, ⊎_elim, true≢false, eqb-true, All, arith}
-use Rattle.std.specs.List.{list_any, IsDistinct, AllByRecursion}
+use Rattle.std.specs.List.{list_any, IsDistinct}
 use Rattle.std.proofs.Math.Logic.{∥∥₁_elim}
 use Rattle.std.proofs.Math.Bool.{Bool-set}
-use Rattle.std.proofs.lemmas.Bool.{cases_Bool, cases_lt, cond_both, or_cases, or_parts}
+use Rattle.std.proofs.lemmas.Bool.{cases_Bool, cases_lt, cond_both, or_cases}
 use Rattle.std.proofs.lemmas.Map.Steps.{length-le_from_distinct_below}
+use Rattle.vw_net.proofs.Lists.{differs}
 use Rattle.vw_plan.specs.declared.link.Link.{Link}
 use Rattle.vw_plan.specs.declared.board.Board.{Board}
 use Rattle.vw_plan.specs.Walks.{has_link, IsWalk}
@@ -16,13 +17,6 @@ record Simple (links : List Link) (from to : ℕ) : Type 0 where
   nodes : List ℕ
   walk : IsWalk links from nodes to
   once : IsDistinct eqb (from ∷ nodes)
-
--- what isn't among numbers differs from each of them
-differs : (number : ℕ) (numbers : List ℕ) → list_any (eqb number) numbers ≡ false → AllByRecursion (λ other. eqb number other ≡ false) numbers
-differs number [] none = tt
-differs number (other ∷ numbers) none =
-    let parts : (eqb number other ≡ false) × (list_any (eqb number) numbers ≡ false) = or_parts (eqb number other) (list_any (eqb number) numbers) none in
-    (parts.0, differs number numbers parts.1)
 
 -- of a walk that goes through no node twice, the part from a node on that it goes through
 part_from : (links : List Link) (node from : ℕ) (nodes : List ℕ) (to : ℕ) → IsWalk links from nodes to → IsDistinct eqb (from ∷ nodes) → list_any (eqb node) (from ∷ nodes) ≡ true → Simple links node to
@@ -95,16 +89,16 @@ module _ (board : Board) where
   -- a walk of as many links as the distance says passes the test
   pub distance_passes : (from to : ℕ) → from ≤ board.chips → to ≤ board.chips → has_walk board.links (distance board from to) from to ≡ true
   unfolding distance
-  distance_passes from to from_node to_node = ∥∥₁_elim (board.linked.joined from to from_node to_node) (Bool-set _ _) (λ walk. (least_of_walk board.chips board.links board.linked.ends from walk.0 to from_node walk.1).passes)
+  distance_passes from to from_node to_node = ∥∥₁_elim (board.linked.joined from to from_node to_node) (Bool-set _ _) (λ walk. (least_of_walk board.chips board.links board.linked.separate.ends from walk.0 to from_node walk.1).passes)
 
   pub distance_is_least : (from to : ℕ) → from ≤ board.chips → to ≤ board.chips → IsDistance board.links from to (distance board from to)
   unfolding distance
   distance_is_least from to from_node to_node =
       let walked : Walked board.links (distance board from to) from to = walk-has_walk board.links (distance board from to) from to (distance_passes from to from_node to_node) in
-      record { nodes = walked.nodes; walk = walked.walk; count = walked.long; least = λ others other_walk. (least_of_walk board.chips board.links board.linked.ends from others to from_node other_walk).below }
+      record { nodes = walked.nodes; walk = walked.walk; count = walked.long; least = λ others other_walk. (least_of_walk board.chips board.links board.linked.separate.ends from others to from_node other_walk).below }
 
 -- the least number that passes is at most the limit
-least-le : (test : ℕ → Bool) (limit : ℕ) → least test limit ≤ limit
+pub least-le : (test : ℕ → Bool) (limit : ℕ) → least test limit ≤ limit
 least-le test zero = omega arith
 least-le test (suc limit) =
     let rest : least (λ number. test (suc number)) limit ≤ limit = least-le (λ number. test (suc number)) limit in
@@ -117,24 +111,24 @@ module _ (board : Board) where
   distance-le from to = least-le (λ count. has_walk board.links count from to) board.chips
 
   -- a link from a node, and the distance of the node that it leads to
-  pub record IsNext (from to : ℕ) : Type 0 where
+  pub record IsNextNode (from to : ℕ) : Type 0 where
     pub node : ℕ
     pub on_board : node ≤ board.chips
     pub linked : has_link board.links from node ≡ true
     pub nearer : distance board node to + 1 ≡ distance board from to
 
   -- from a node there is a link to one that is one link nearer to another node
-  pub next_is_nearer : (from to : ℕ) → from ≤ board.chips → to ≤ board.chips → (from ≡ to → ⊥) → IsNext from to
+  pub next_is_nearer : (from to : ℕ) → from ≤ board.chips → to ≤ board.chips → (from ≡ to → ⊥) → IsNextNode from to
   next_is_nearer from to from_node to_node apart = by_walk (distance_is_least board from to from_node to_node) where
-    by_nodes : (nodes : List ℕ) → IsWalk board.links from nodes to → length nodes ≡ distance board from to → IsNext from to
+    by_nodes : (nodes : List ℕ) → IsWalk board.links from nodes to → length nodes ≡ distance board from to → IsNextNode from to
     by_nodes [] walk count = absurd (apart walk)
     by_nodes (node ∷ nodes) walk count =
-        let node_on : node ≤ board.chips = reached board.chips board.links board.linked.ends from node walk.0 in
+        let node_on : node ≤ board.chips = reached board.chips board.links board.linked.separate.ends from node walk.0 in
         let far : IsDistance board.links from to (distance board from to) = distance_is_least board from to from_node to_node in
         let near : IsDistance board.links node to (distance board node to) = distance_is_least board node to node_on to_node in
         let above : distance board node to ≤ length nodes = near.least nodes walk.1 in
         let below : distance board from to ≤ length (node ∷ near.nodes) = far.least (node ∷ near.nodes) (walk.0, near.walk) in
         record { node = node; on_board = node_on; linked = walk.0; nearer = let same : length near.nodes ≡ distance board node to = near.count in omega arith }
 
-    by_walk : IsDistance board.links from to (distance board from to) → IsNext from to
+    by_walk : IsDistance board.links from to (distance board from to) → IsNextNode from to
     by_walk found = by_nodes found.nodes found.walk found.count

@@ -15,7 +15,6 @@ use Rattle.vw_net.specs.declared.cover.Cover.{Cover}
 use Rattle.vw_net.specs.declared.flat.Flat.{Flat}
 use Rattle.vw_net.specs.declared.ordered.Ordered.{Ordered}
 use Rattle.vw_net.specs.Cells.{IsWellFormed}
-use Rattle.vw_net.specs.Word.{table_word}
 use Rattle.vw_net.specs.Order.{is_gate, is_among, is_ready, read_nets_at}
 use Rattle.vw_plan.specs.declared.link.Link.{Link}
 use Rattle.vw_plan.specs.declared.board.Board.{Board}
@@ -55,7 +54,7 @@ xor = record {
   inputs = 2;
   on = true;
   rows = record { marks = one_mark ∷ zero_mark ∷ [] } ∷ record { marks = zero_mark ∷ one_mark ∷ [] } ∷ [];
-  word = table_word 2 true (record { marks = one_mark ∷ zero_mark ∷ [] } ∷ record { marks = zero_mark ∷ one_mark ∷ [] } ∷ []);
+  word = 7378697629483820646;
   narrow = omega arith;
   even = two (λ row. length row.marks ≡ 2) (record { marks = one_mark ∷ zero_mark ∷ [] }) (record { marks = zero_mark ∷ one_mark ∷ [] }) refl refl;
   word_is = refl;
@@ -136,10 +135,12 @@ board_with settle quick = record {
   few_cells = omega arith;
   quick = quick;
   linked = record {
-    ends = All-weaker (λ link. (nat_le link.from 2 && nat_le link.to 2) ≡ true) (λ link. (link.from ≤ 2) × (link.to ≤ 2)) has_ends links (AllPass-from_list_all (λ link. nat_le link.from 2 && nat_le link.to 2) links refl);
-    apart = All-weaker (λ link. not (link.from == link.to) ≡ true) (λ link. link.from ≢ link.to) is_apart links (AllPass-from_list_all (λ link. not (link.from == link.to)) links refl);
-    once = λ i j default before within. once (get_or links i default) (get_or links j default) (AllPairs-from_all_pairs (λ link other. not (same_ends link other)) links refl i j default before within);
-    wide = All-weaker (λ link. (nat_le 1 link.width && nat_le link.width 64) ≡ true) (λ link. (1 ≤ link.width) × (link.width ≤ 64)) is_wide links (AllPass-from_list_all (λ link. nat_le 1 link.width && nat_le link.width 64) links refl);
+    separate = record {
+      ends = All-weaker (λ link. (nat_le link.from 2 && nat_le link.to 2) ≡ true) (λ link. (link.from ≤ 2) × (link.to ≤ 2)) has_ends links (AllPass-from_list_all (λ link. nat_le link.from 2 && nat_le link.to 2) links refl);
+      apart = All-weaker (λ link. not (link.from == link.to) ≡ true) (λ link. link.from ≢ link.to) is_apart links (AllPass-from_list_all (λ link. not (link.from == link.to)) links refl);
+      once = λ i j default before within. once (get_or links i default) (get_or links j default) (AllPairs-from_all_pairs (λ link other. not (same_ends link other)) links refl i j default before within);
+      wide = All-weaker (λ link. (nat_le 1 link.width && nat_le link.width 64) ≡ true) (λ link. (1 ≤ link.width) × (link.width ≤ 64)) is_wide links (AllPass-from_list_all (λ link. nat_le 1 link.width && nat_le link.width 64) links refl);
+    };
     joined = walk_between;
   };
 }

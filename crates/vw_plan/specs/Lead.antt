@@ -1,15 +1,12 @@
 -- When a net has its value at a node. Source: the rules of a virtual wire (a wire may be sent only after the values that
 -- it depends on have arrived), as this project states them.
-use Rattle.std.specs.Prelude.{◌==◌, ◌+◌, ℕ, zero, suc, Bool, ◌&&◌, List, [], ◌∷◌, length, map, Option, Some, None, if◌then◌else◌}
+use Rattle.std.specs.Prelude.{◌==◌, ◌+◌, ℕ, zero, suc, Bool, ◌&&◌, List, [], ◌∷◌, length, if◌then◌else◌}
 use Rattle.std.specs.List.{find}
 use Rattle.std.specs.Option.{option_map_or}
-use Rattle.vw_net.specs.declared.cell.Cell.{Cell}
-use Rattle.vw_net.specs.declared.cell.Cell.TheVariants.{Gate, Latch}
 use Rattle.vw_net.specs.Order.{is_gate}
-use Rattle.vw_net.specs.Lists.{greatest}
 use Rattle.vw_plan.specs.declared.wire.Hop.{Hop}
 use Rattle.vw_plan.specs.declared.wire.Wire.{Wire}
-use Rattle.vw_plan.specs.Nets.{driving_cell}
+use Rattle.vw_plan.specs.Nets.{driving_cell, greatest_read}
 use Rattle.vw_plan.specs.Setting.{Setting, home}
 
 -- the microcycle in which the bit of a hop arrives: the one in which it is sent
@@ -30,17 +27,11 @@ brings net node wire = wire.net == net && wire.to == node
 abbrev pub brought_at : Setting → ℕ → ℕ → ℕ
 brought_at setting node net = option_map_or (λ wire. after_last wire.hops) (find (brings net node) setting.plan.wires) 0
 
--- the lead of what a node drives itself: 0 for an input or a latch, and for a gate the greatest lead of its inputs
-abbrev pub driven_lead : (ℕ → ℕ) → Option Cell → ℕ
-driven_lead lead_at None = 0
-driven_lead lead_at (Some (Gate ins cover)) = greatest (map lead_at ins)
-driven_lead lead_at (Some (Latch d init)) = 0
-
 -- the lead of a net at a node, where at most this many drivers are followed in a row
 abbrev pub level_lead : ℕ → Setting → ℕ → ℕ → ℕ
 level_lead zero setting node net = 0
 level_lead (suc level) setting node net =
-    if home setting net == node then driven_lead (level_lead level setting node) (driving_cell setting.ordered.flat net)
+    if home setting net == node then greatest_read (level_lead level setting node) (driving_cell setting.ordered.flat net)
     else brought_at setting node net
 
 -- the lead of a net at a node: the microcycle from which on what the net rests on is there. One level more than there

@@ -8,8 +8,8 @@ use Rattle.vw_plan.specs.Walks.{IsJoined}
 abbrev pub HaveSameEnds : Link → Link → Type 0
 HaveSameEnds link other = (link.from ≡ other.from) × (link.to ≡ other.to)
 
--- the nodes are 0, the host, and 1 to the number of chips
-pub record AreLinks (chips : ℕ) (links : List Link) : Type 0 where
+-- what links keep but for walks; the nodes are 0, the host, and 1 to the number of chips
+pub record AreSeparate (chips : ℕ) (links : List Link) : Type 0 where
   -- the ends of a link are nodes
   pub ends : All (λ link. (link.from ≤ chips) × (link.to ≤ chips)) links
   -- no link joins a node to itself
@@ -18,5 +18,8 @@ pub record AreLinks (chips : ℕ) (links : List Link) : Type 0 where
   pub once : AllPairs (λ link other. ¬ (HaveSameEnds link other)) links
   -- a link has 1 to 64 pins
   pub wide : All (λ link. (1 ≤ link.width) × (link.width ≤ 64)) links
-  -- each node has a walk to each other
+
+-- and each node has a walk to each other
+pub record AreLinks (chips : ℕ) (links : List Link) : Type 0 where
+  pub separate : AreSeparate chips links
   pub joined : (from to : ℕ) → from ≤ chips → to ≤ chips → IsJoined links from to

@@ -1,12 +1,10 @@
 -- The needed pairs of a placement, as a list, and how deep each of them is.
-use Rattle.std.specs.Prelude.{◌==◌, ◌+◌, ◌&&◌, ◌||◌, ℕ, zero, suc, Bool, List, length, map, nat_lt, Option, Some, None, if◌then◌else◌}
+use Rattle.std.specs.Prelude.{◌==◌, ◌+◌, ◌&&◌, ◌||◌, ℕ, zero, suc, Bool, List, length, map, nat_lt, if◌then◌else◌}
 use Rattle.std.specs.List.{filter, flat_map, range_with_len}
-use Rattle.vw_net.specs.declared.cell.Cell.{Cell}
-use Rattle.vw_net.specs.declared.cell.Cell.TheVariants.{Gate, Latch}
 use Rattle.vw_net.specs.declared.flat.Flat.{Flat}
 use Rattle.vw_plan.specs.declared.need.Need.{Need}
 use Rattle.vw_net.specs.Lists.{greatest}
-use Rattle.vw_plan.specs.Nets.{driving_cell, is_needed, node_of}
+use Rattle.vw_plan.specs.Nets.{driving_cell, is_needed, node_of, greatest_read}
 
 -- the nodes at which a net is needed, by their numbers; no node above the greatest chip has cells
 abbrev pub needed_nodes : Flat → List ℕ → ℕ → List ℕ
@@ -20,17 +18,12 @@ needed_pairs flat chip_of = flat_map (λ net. map (λ node. record { net = net; 
 abbrev pub crossing : Flat → List ℕ → ℕ → ℕ → ℕ
 crossing flat chip_of net read = if node_of flat chip_of read == node_of flat chip_of net then 0 else 1
 
--- the depth of what a cell drives, given the depth of what it reads: 0 for a latch, the greatest of them for a gate
-abbrev pub driven_depth : (ℕ → ℕ) → Option Cell → ℕ
-driven_depth depth_of None = 0
-driven_depth depth_of (Some (Gate ins cover)) = greatest (map depth_of ins)
-driven_depth depth_of (Some (Latch d init)) = 0
-
--- the depth of a net, where at most this many drivers are followed in a row
+-- the depth of a net, where at most this many drivers are followed in a row: 0 for an input or a latch, and for a gate the
+-- greatest of what it reads
 abbrev pub level_depth : ℕ → Flat → List ℕ → ℕ → ℕ
 level_depth zero flat chip_of net = 0
 level_depth (suc level) flat chip_of net =
-    driven_depth (λ read. level_depth level flat chip_of read + crossing flat chip_of net read) (driving_cell flat net)
+    greatest_read (λ read. level_depth level flat chip_of read + crossing flat chip_of net read) (driving_cell flat net)
 
 -- the depth of a net, and of each pair of it: how many wires must come one after the other, within one clock, before the
 -- net has its value. 0 for an input or a latch. One level more than there are cells is enough, since gates don't read in

@@ -1,11 +1,13 @@
 -- Where nets are, and where they are needed. Source: a virtual wire joins a logical output on one FPGA to a logical
 -- input on another.
-use Rattle.std.specs.Prelude.{◌==◌, ◌-◌, ℕ, Bool, not, ◌&&◌, ◌||◌, List, slice_get, slice_index, Option, None, nat_lt, if◌then◌else◌}
+use Rattle.std.specs.Prelude.{◌==◌, ◌-◌, ℕ, Bool, not, ◌&&◌, ◌||◌, List, map, slice_get, slice_index, Option, Some, None, nat_lt, if◌then◌else◌}
 use Rattle.std.specs.List.{list_any, zip}
 use Rattle.vw_net.specs.declared.cell.Cell.{Cell}
+use Rattle.vw_net.specs.declared.cell.Cell.TheVariants.{Gate, Latch}
 use Rattle.vw_net.specs.declared.flat.Flat.{Flat}
 use Rattle.vw_net.specs.Cells.{read_nets}
 use Rattle.vw_net.specs.Order.{is_among}
+use Rattle.vw_net.specs.Lists.{greatest}
 
 -- what drives a net: nothing where it is an input, else a cell
 abbrev pub driving_cell : Flat → ℕ → Option Cell
@@ -25,3 +27,9 @@ abbrev pub is_needed : Flat → List ℕ → ℕ → ℕ → Bool
 is_needed flat chip_of net node =
     not (node_of flat chip_of net == node)
     && (is_read_at flat chip_of net node || (node == 0 && is_among flat.outputs net))
+
+-- the greatest of the numbers of the nets that a gate reads; 0 for a latch, and for an input, which no cell drives
+abbrev pub greatest_read : (ℕ → ℕ) → Option Cell → ℕ
+greatest_read number_of_net None = 0
+greatest_read number_of_net (Some (Gate ins cover)) = greatest (map number_of_net ins)
+greatest_read number_of_net (Some (Latch d init)) = 0

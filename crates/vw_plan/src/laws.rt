@@ -4,10 +4,10 @@ ghost use Rattle.std.specs.List.{AllPairs, list_any};
 ghost use Rattle.vw_net.specs.declared.flat.Flat.{Flat};
 ghost use Rattle.vw_net.specs.declared.ordered.Ordered.{Ordered};
 ghost use Rattle.vw_plan.specs.declared.board.Board.{Board};
-ghost use Rattle.vw_plan.specs.Nets.{driving_cell, is_needed};
+ghost use Rattle.vw_plan.specs.Nets.{driving_cell, greatest_read, is_needed};
 ghost use Rattle.vw_plan.specs.Setting.{Setting, home};
-ghost use Rattle.vw_plan.specs.Lead.{brought_at, driven_lead, lead};
-ghost use Rattle.vw_plan.specs.Needs.{comes_before, crossing, depth, driven_depth, is_pair, needed_pairs};
+ghost use Rattle.vw_plan.specs.Lead.{brought_at, lead};
+ghost use Rattle.vw_plan.specs.Needs.{comes_before, crossing, depth, is_pair, needed_pairs};
 ghost use Rattle.vw_plan.specs.Ways.{IsDeepest};
 ghost use Rattle.vw_plan.specs.Distance.{IsDistance, distance};
 
@@ -17,7 +17,7 @@ pub fn leads_settle()
     ensures { (setting : Setting) (node net : ℕ)
         → lead setting node net
         ≡ (if home setting net == node
-        then driven_lead (lead setting node) (driving_cell setting.ordered.flat net)
+        then greatest_read (lead setting node) (driving_cell setting.ordered.flat net)
         else brought_at setting node net) }
 {}
 
@@ -32,7 +32,7 @@ pub fn distances_are_least()
 pub fn depths_settle()
     ensures { (ordered : Ordered) (chip_of : List ℕ) (net : ℕ)
         → depth ordered.flat chip_of net
-        ≡ driven_depth (λ read. depth ordered.flat chip_of read
+        ≡ greatest_read (λ read. depth ordered.flat chip_of read
         + crossing ordered.flat chip_of net read) (driving_cell ordered.flat net) }
 {}
 

@@ -131,11 +131,11 @@ module _ (lines : List (List ℕ)) (state : BodyState) (read : HasRead lines sta
 -- ---- the first two lines
 
 module _ (cells wires period : ℕ) (few_cells : cells < 2 ^ 32) (few_wires : wires < 2 ^ 32) (short : period ≤ 2 ^ 62) where
-  abbrev first_line : List ℕ
-  first_line = number_line (codes "plan") (head_numbers cells wires period)
+  abbrev plan_line : List ℕ
+  plan_line = number_line (codes "plan") (head_numbers cells wires period)
 
   -- a plan with this first line
-  head_tells : (content : Content) → IsInRange content → first_line ≡ head_line content → head_numbers cells wires period ≡ head_numbers (length content.chip_of) (length content.wires) content.period
+  head_tells : (content : Content) → IsInRange content → plan_line ≡ head_line content → head_numbers cells wires period ≡ head_numbers (length content.chip_of) (length content.wires) content.period
   head_tells content fits same = number_line_injective (codes "plan") (head_numbers cells wires period) (head_numbers (length content.chip_of) (length content.wires) content.period) plain_plan refl (small_head cells wires period few_cells few_wires short) (small_head (length content.chip_of) (length content.wires) content.period fits.few_cells fits.few_wires fits.short) same
 
   module _ (chips : List ℕ) (each : length chips ≡ cells) (chips_fit : All (λ chip. chip < 2 ^ 32) chips) (room : ℕ) (all_room : room + 1 ≡ 2 ^ 30) where
@@ -145,14 +145,14 @@ module _ (cells wires period : ℕ) (few_cells : cells < 2 ^ 32) (few_wires : wi
     abbrev begun : BodyState
     begun = record { chip_of = chips; period = period; wires = []; part = None; left = wires; room = room }
 
-    pub read_two : HasRead (first_line ∷ second_line ∷ []) begun
+    pub read_two : HasRead (plan_line ∷ second_line ∷ []) begun
     read_two = record { fits = begun_fits; some_left = tt; tells = tells; makes = makes } where
       begun_fits : Fits begun
       begun_fits = record { few_cells = omega arith; chips = chips_fit; short = short; wires = All-nil IsWireInRange; part = tt; few_wires = omega arith; hops = let none : hop_count [] ≡ 0 = refl in omega arith }
 
-      tells : (content : Content) (more : List (List ℕ)) → IsInRange content → (first_line ∷ second_line ∷ []) ++ more ≡ plan_lines content → IsRestOfPlan begun content more
+      tells : (content : Content) (more : List (List ℕ)) → IsInRange content → (plan_line ∷ second_line ∷ []) ++ more ≡ plan_lines content → IsRestOfPlan begun content more
       tells content more fits same =
-          let head : first_line ≡ head_line content = cc in
+          let head : plan_line ≡ head_line content = cc in
           let second : second_line ≡ chips_line content.chip_of = cc in
           let body : more ≡ body_lines content.wires = cc in
           let numbers = head_tells content fits head in
@@ -160,33 +160,33 @@ module _ (cells wires period : ℕ) (few_cells : cells < 2 ^ 32) (few_wires : wi
           let size : wires ≡ length content.wires = ap (λ (list : List ℕ). slice_index list 2) numbers in
           record { chip_of = sym chip_of; period = sym (ap (λ (list : List ℕ). slice_index list 3) numbers); wires = record { rest = content.wires; count = sym size; are = refl; lines_are = body } }
 
-      makes : (content : Content) (more : List (List ℕ)) → IsRestOfPlan begun content more → (first_line ∷ second_line ∷ []) ++ more ≡ plan_lines content
+      makes : (content : Content) (more : List (List ℕ)) → IsRestOfPlan begun content more → (plan_line ∷ second_line ∷ []) ++ more ≡ plan_lines content
       makes content more is_left =
           let chip_count : cells ≡ length content.chip_of = sym each ∙ ap length (sym is_left.chip_of) in
           let wire_count : wires ≡ length content.wires = sym is_left.wires.count ∙ ap length (sym is_left.wires.are) in
           let numbers : head_numbers cells wires period ≡ head_numbers (length content.chip_of) (length content.wires) content.period = cc (chip_count, wire_count, is_left.period) in
-          let head : first_line ≡ head_line content = ap (number_line (codes "plan")) numbers in
+          let head : plan_line ≡ head_line content = ap (number_line (codes "plan")) numbers in
           let second : second_line ≡ chips_line content.chip_of = ap (number_line (codes "chips")) (sym is_left.chip_of) in
           let body : more ≡ body_lines content.wires = is_left.wires.lines_are ∙ ap body_lines (sym is_left.wires.are) in
           ap₂ (λ (a : List ℕ) (rest : List (List ℕ)). a ∷ rest) head (ap₂ (λ (b : List ℕ) (rest : List (List ℕ)). b ∷ rest) second body)
 
   -- a first line can stand
-  pub first_can_stand : CanStand (first_line ∷ [])
-  first_can_stand = can_stand_front (first_line ∷ []) (number_line (codes "chips") (replicate cells 0) ∷ []) (can_stand_read (first_line ∷ number_line (codes "chips") (replicate cells 0) ∷ []) (begun (replicate cells 0) (length-replicate cells 0) zeros (2 ^ 30 - 1) (omega arith)) (read_two (replicate cells 0) (length-replicate cells 0) zeros (2 ^ 30 - 1) (omega arith))) where
+  pub first_can_stand : CanStand (plan_line ∷ [])
+  first_can_stand = can_stand_front (plan_line ∷ []) (number_line (codes "chips") (replicate cells 0) ∷ []) (can_stand_read (plan_line ∷ number_line (codes "chips") (replicate cells 0) ∷ []) (begun (replicate cells 0) (length-replicate cells 0) zeros (2 ^ 30 - 1) (omega arith)) (read_two (replicate cells 0) (length-replicate cells 0) zeros (2 ^ 30 - 1) (omega arith))) where
     zeros : All (λ chip. chip < 2 ^ 32) (replicate cells 0)
     zeros = All-replicate (λ chip. chip < 2 ^ 32) cells 0 (omega arith)
 
   -- and a line without the chips of its cells can't stand behind it
-  pub second_can_not : (line : List ℕ) → IsNoChipsLine cells line → ¬ (CanStand (first_line ∷ line ∷ []))
+  pub second_can_not : (line : List ℕ) → IsNoChipsLine cells line → ¬ (CanStand (plan_line ∷ line ∷ []))
   second_can_not line none can =
-      let begins : first_line ∷ line ∷ can.rest ≡ plan_lines can.content = can.begins in
-      let head : first_line ≡ head_line can.content = cc in
+      let begins : plan_line ∷ line ∷ can.rest ≡ plan_lines can.content = can.begins in
+      let head : plan_line ≡ head_line can.content = cc in
       let second : line ≡ chips_line can.content.chip_of = cc in
       let size : cells ≡ length can.content.chip_of = ap (λ (list : List ℕ). slice_index list 1) (head_tells can.content can.in_range head) in
       none can.content.chip_of (sym size) can.in_range.chips second
 
   -- a plan has a second line
-  pub not_alone : (content : Content) → IsInRange content → (first_line ∷ []) ≢ plan_lines content
+  pub not_alone : (content : Content) → IsInRange content → (plan_line ∷ []) ≢ plan_lines content
   not_alone content fits same = cc
 
 -- nothing can stand, and nothing is no plan

@@ -34,7 +34,7 @@ module _ (board : Board) (to : ℕ) where
     rest = way.rest ++ next ∷ [];
     begins = ap (λ (list : List ℕ). list ++ next ∷ []) way.begins;
     steps = one_more from way.rest node next way.steps step;
-    on_board = reached board.chips board.links board.linked.ends node next step.linked;
+    on_board = reached board.chips board.links board.linked.separate.ends node next step.linked;
   }
 
   -- the walk at its end

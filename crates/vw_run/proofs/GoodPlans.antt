@@ -34,10 +34,10 @@ pairs_followed (route ∷ routes) (wire ∷ wires) follows =
     let rest : map need_of_wire wires ≡ map need_of_route routes = pairs_followed routes wires follows.1 in
     λ i. same i ∷ rest i
 
-abbrev step_of : Hop → ℕ × ℕ
-step_of hop = (hop.from, hop.to)
+abbrev ends_of : Hop → ℕ × ℕ
+ends_of hop = (hop.from, hop.to)
 
-length_steps : (hops : List Hop) → length (map step_of hops) ≡ length hops
+length_steps : (hops : List Hop) → length (map ends_of hops) ≡ length hops
 length_steps [] = refl
 length_steps (hop ∷ hops) = ap suc (length_steps hops)
 

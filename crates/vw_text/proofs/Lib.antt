@@ -6,3 +6,4 @@ pub mod NumberWords
 pub mod LineWords
 pub mod LogicalLines
 pub mod PlainLines
+pub mod LineCounts

@@ -17,13 +17,13 @@ use Rattle.vw_text.proofs.FirstLine.{line_first}
 use Rattle.vw_text.proofs.LastByte.{no_backslash}
 
 -- the end of a line, a `#` or a `\`
-abbrev is_mark : ℕ → Bool
-is_mark b = b == 10 || (b == 35 || b == 92)
+abbrev is_line_mark : ℕ → Bool
+is_line_mark b = b == 10 || (b == 35 || b == 92)
 
 -- what a plain word is
 record IsWord (word : List ℕ) : Type 0 where
   some : 0 < length word
-  unmarked : HasNo is_mark word
+  unmarked : HasNo is_line_mark word
   unblank : HasNo is_blank word
 
 plain_word : (word : List ℕ) → is_plain word ≡ true → IsWord word
@@ -32,13 +32,13 @@ plain_word word plain =
     let empty = eqb-false _ _ (not-true _ parts.0) in
     let each : HasNo is_special word =
     λ k d inside. false_from_ne_true _ (λ special. both_ways _ (not-true _ parts.1) (list_any_at is_special word k d inside special)) in
-    let neither = has_neither is_blank is_mark word each in
+    let neither = has_neither is_blank is_line_mark word each in
     record { some = omega arith; unmarked = neither.1; unblank = neither.0 }
 
 -- what a line of plain words is
 record IsLine (line : List ℕ) : Type 0 where
   some : 0 < length line
-  unmarked : HasNo is_mark line
+  unmarked : HasNo is_line_mark line
   last : is_blank (get_or line (length line - 1) 0) ≡ false
 
 word_alone : (word : List ℕ) → IsWord word → IsLine word
@@ -58,7 +58,7 @@ last_kept front line some last =
 word_before : (word line : List ℕ) → IsWord word → IsLine line → IsLine (word ++ 32 ∷ line)
 word_before word line plain behind = record {
   some = omega (arith, length-append word (32 ∷ line));
-  unmarked = All-append (λ b. is_mark b ≡ false) word (32 ∷ line) plain.unmarked (All-cons (λ b. is_mark b ≡ false) 32 line refl behind.unmarked);
+  unmarked = All-append (λ b. is_line_mark b ≡ false) word (32 ∷ line) plain.unmarked (All-cons (λ b. is_line_mark b ≡ false) 32 line refl behind.unmarked);
   last = last_kept word (32 ∷ line) (omega arith) (last_kept (32 ∷ []) line behind.some behind.last);
 }
 
@@ -80,8 +80,8 @@ stays_bare line is =
 
 goes_not_on : (line : List ℕ) → IsLine line → before_backslash line ≡ None
 goes_not_on line is = no_backslash line (λ front same.
-    let unmarked = All-same (λ b. is_mark b ≡ false) (front ++ 92 ∷ []) line (sym same) is.unmarked in
-    both_ways _ (unmarked (length front) 0 (omega (arith, length-append front (92 ∷ [])))) (ap is_mark (get_or_at front 92 [] 0 (length front) refl)))
+    let unmarked = All-same (λ b. is_line_mark b ≡ false) (front ++ 92 ∷ []) line (sym same) is.unmarked in
+    both_ways _ (unmarked (length front) 0 (omega (arith, length-append front (92 ∷ [])))) (ap is_line_mark (get_or_at front 92 [] 0 (length front) refl)))
 
 -- its words are those that it was made of
 words_again : (word : List ℕ) (words : List (List ℕ)) → list_all is_plain (word ∷ words) ≡ true → slice_split is_blank (join_with_byte 32 (word ∷ words)) ≡ word ∷ words

@@ -12,6 +12,7 @@ use Rattle.vw_top.specs.declared.refusal.Refusal.{Refusal}
 use Rattle.vw_top.specs.declared.endings.Unfinished.TheVariants.{Stopped, Refused}
 use Rattle.vw_top.specs.Reasons.{reason_status}
 use Rattle.vw_top.specs.Course.{Course, writes, refuses, reads, makes, Outside, Answer, Follows, EndsWriting, EndsRefused, EndsReading, MayWrite, MayRefuse, AtFile, Outcome, writing, refusing, missing, ComesTo}
+use Rattle.vw_top.specs.Endings.{Ends, IsCallOf}
 use Rattle.vw_top.specs.Steps.Unfinished.{answer_status}
 use Rattle.vw_top.specs.Statuses.{IsDone, IsReadFault, IsWriteFault, IsWantOfMemory, LeavesPart, Statuses}
 
@@ -180,7 +181,7 @@ module _ (course : Course) (before after : Outside) where
       (λ (some : (text : List ℕ) × MayWrite course before.shelf.told text × WrotePart text before.out after.out). inr (some.0, some.1, inl some.2))
       want.part
 
-  pub statuses : (answer : Answer) → Follows course before after answer → Statuses course before after (answer_status answer)
+  statuses : (answer : Answer) → Follows course before after answer → Statuses course before after (answer_status answer)
   statuses (Ok done) follows =
       let is = done_by before after course follows in
       record {
@@ -252,3 +253,12 @@ module _ (course : Course) (before after : Outside) where
         rejected = λ comes. inl its;
         absent_file = λ comes. absurd (let wrong = outcome_agrees missing before after (Err (Refused refusal)) course comes follows in cc);
       }
+
+  -- the status of a call is that of its answer
+  status_is : (err_before err_after : SeenSink) (status : ℕ) (answer : Answer) → Ends answer err_before err_after status → status ≡ answer_status answer
+  status_is err_before err_after status (Ok done) ends = ends.0
+  status_is err_before err_after status (Err unfinished) ends = ends.0
+
+  pub call_table : (err_before err_after : SeenSink) (status : ℕ) → IsCallOf course before after err_before err_after status → Statuses course before after status
+  call_table err_before err_after status call =
+      subst (λ (n : ℕ). Statuses course before after n) (sym (status_is err_before err_after status call.answer call.ends)) (statuses call.answer call.follows)

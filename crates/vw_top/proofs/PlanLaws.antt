@@ -31,11 +31,8 @@ fit_status ordered board reason refused = ap reason_status refused.0
 
 -- the numbers of cells and of room are those of the texts
 module _ (d b : List ℕ) (ordered other : Ordered) (board its_board : Board) (are : AreSpelledOn d b ordered board) (its : AreSpelledOn d b other its_board) where
-  abbrev cell_count : Flat → ℕ
-  cell_count flat = length flat.cells
-
   cells_same : length ordered.flat.cells ≡ length other.flat.cells
-  cells_same = ap cell_count (netlist_same d ordered other are.netlist its.netlist)
+  cells_same = ap (λ (flat : Flat). length flat.cells) (netlist_same d ordered other are.netlist its.netlist)
 
   abbrev room_of : Board → ℕ
   room_of one = one.chips * one.cells

@@ -1,11 +1,11 @@
--- How a call ends: its status, and its message on err.
+-- How a call ends, its status and its message on err; and what a call of a course is.
 use Rattle.std.specs.Prelude.{◌≡◌, ◌⊎◌, ℕ, List, Ok, Err}
 use Rattle.vw_outside.specs.Writes.{SeenSink, appended, FailedAfterPart}
 use Rattle.vw_top.specs.declared.endings.Unfinished.{Unfinished}
 use Rattle.vw_top.specs.declared.endings.Unfinished.TheVariants.{Stopped, Refused}
 use Rattle.vw_top.specs.Reasons.{reason_status, reason_line}
 use Rattle.vw_top.specs.Stops.{stop_status, stop_line}
-use Rattle.vw_top.specs.Course.{Answer}
+use Rattle.vw_top.specs.Course.{Course, Outside, Answer, Follows}
 
 abbrev pub status_of : Unfinished → ℕ
 status_of (Stopped stop) = stop_status stop
@@ -24,3 +24,9 @@ abbrev pub Ends : Answer → SeenSink → SeenSink → ℕ → Type 0
 Ends (Ok done) before after status = (status ≡ 0) × (after ≡ before)
 Ends (Err unfinished) before after status =
     (status ≡ status_of unfinished) × IsReported (message_line unfinished) before after
+
+-- a call of a course: it follows the course, and ends with the status and the message of its answer
+pub record IsCallOf (course : Course) (before after : Outside) (err_before err_after : SeenSink) (status : ℕ) : Type 0 where
+  pub answer : Answer
+  pub follows : Follows course before after answer
+  pub ends : Ends answer err_before err_after status

@@ -1,10 +1,8 @@
-ghost use Rattle.std.specs.Prelude.{◌≡◌};
 ghost use Rattle.vw_top.specs.Words.{spelled_by};
 ghost use Rattle.vw_top.specs.Commands.{course_of};
-ghost use Rattle.vw_top.specs.Course.{Follows, Answer, outside};
-ghost use Rattle.vw_top.specs.Endings.{Ends};
+ghost use Rattle.vw_top.specs.Course.{Follows, outside};
+ghost use Rattle.vw_top.specs.Endings.{IsCallOf};
 ghost use Rattle.vw_top.specs.Steps.Unfinished.{EndsUnfinished};
-ghost use Rattle.vw_top.specs.Statuses.{Statuses};
 
 use crate::check::check;
 use crate::endings::Unfinished;
@@ -64,7 +62,8 @@ fn report<E: Sink>(alloc: Global, unfinished: &Unfinished, err: &mut E) -> u8
 }
 
 /// Carries out the command that the words after the program's name spell, and gives the exit status. After each
-/// status but 0 one message line goes to `err`.
+/// status but 0 one message line goes to `err`. What each status means, when it comes and what it leaves, the laws
+/// `call_statuses`, `sim_statuses`, `check_statuses`, `plan_statuses` and `usage_statuses` say.
 pub fn virtual_wires<S: Shelf, O: Sink, E: Sink>(
     alloc: Global,
     words: &[Name],
@@ -73,16 +72,9 @@ pub fn virtual_wires<S: Shelf, O: Sink, E: Sink>(
     err: &mut E,
 ) -> u8
     // It follows the course of the command, and ends with the status and the message of its answer.
-    ensures course { (answer : Answer)
-        × Follows (course_of (spelled_by words.now))
+    ensures { IsCallOf (course_of (spelled_by words.now))
         (outside (S.seen shelf.old) (O.seen out.old)) (outside (S.seen shelf.new) (O.seen
-        out.new)) answer
-        × Ends answer (E.seen err.old) (E.seen err.new) result }
-
-    // What the status means, when it comes, and what it leaves.
-    ensures statuses { Statuses (course_of (spelled_by words.now))
-        (outside (S.seen shelf.old) (O.seen out.old)) (outside (S.seen shelf.new) (O.seen
-        out.new)) result }
+        out.new)) (E.seen err.old) (E.seen err.new) result }
 {
     match carry_out(alloc, words, shelf, out) {
         Ok(()) => 0,

@@ -21,5 +21,5 @@ pub use commands::virtual_wires;
 pub use endings::Unfinished;
 pub use reason::Reason;
 pub use refusal::Refusal;
-pub use statuses::{check_statuses, plan_statuses, sim_statuses, usage_statuses};
+pub use statuses::{call_statuses, check_statuses, plan_statuses, sim_statuses, usage_statuses};
 pub use stop::{File, Stop};

@@ -11,22 +11,22 @@ use Rattle.vw_net.specs.declared.flat.Flat.{Flat}
 use Rattle.vw_net.specs.declared.ordered.Ordered.{Ordered}
 use Rattle.vw_net.specs.Order.{is_ready, read_nets_at}
 use Rattle.vw_net.proofs.Ready.{order_within, ready_before, all_ready}
-use Rattle.vw_plan.specs.Needs.{crossing, depth, driven_depth}
-use Rattle.vw_plan.specs.Nets.{driving_cell}
+use Rattle.vw_plan.specs.Needs.{crossing, depth}
+use Rattle.vw_plan.specs.Nets.{driving_cell, greatest_read}
 use Rattle.vw_plan.proofs.AlongOrder.{All-gate_reads}
-use Rattle.vw_plan.proofs.Depths.{driven_depth_agree}
+use Rattle.vw_plan.proofs.GreatestReads.{greatest_read-agree}
 
 -- the depth of a cell's net, by a table
 abbrev pub depth_by : Flat → List ℕ → List ℕ → ℕ → ℕ → ℕ
-depth_by flat chip_of table number net = driven_depth (λ read. slice_index table read + crossing flat chip_of net read) (slice_get flat.cells number)
+depth_by flat chip_of table number net = greatest_read (λ read. slice_index table read + crossing flat chip_of net read) (slice_get flat.cells number)
 
 pub same_depth : (own flat : Flat) (chip_of items table : List ℕ) (other number at net : ℕ) → own ≡ flat → items ≡ table → other ≡ number → at ≡ net → depth_by own chip_of items other at ≡ depth_by flat chip_of table number net
 same_depth own flat chip_of items table other number at net same_flat same_table same_number same_net =
     ap (λ (from : Flat). depth_by from chip_of items other at) same_flat ∙ ap (λ (from : List ℕ). depth_by flat chip_of from other at) same_table ∙ ap₂ (λ (from to : ℕ). depth_by flat chip_of table from to) same_number same_net
 
 -- the law of depths
-abbrev pub Settles : Flat → List ℕ → Type 0
-Settles flat chip_of = (net : ℕ) → depth flat chip_of net ≡ driven_depth (λ read. depth flat chip_of read + crossing flat chip_of net read) (driving_cell flat net)
+abbrev pub DepthsFollowDrivers : Flat → List ℕ → Type 0
+DepthsFollowDrivers flat chip_of = (net : ℕ) → depth flat chip_of net ≡ greatest_read (λ read. depth flat chip_of read + crossing flat chip_of net read) (driving_cell flat net)
 
 module _ (ordered : Ordered) where
   abbrev flat : Flat
@@ -41,14 +41,14 @@ module _ (ordered : Ordered) where
   abbrev order : List ℕ
   order = ordered.order
 
-  module _ (chip_of : List ℕ) (settles : Settles flat chip_of) where
+  module _ (chip_of : List ℕ) (settles : DepthsFollowDrivers flat chip_of) where
     -- the depth of a net of a table, as it counts where another one's driver reads it
     abbrev table_at : List ℕ → ℕ → ℕ → ℕ
     table_at table net read = slice_index table read + crossing flat chip_of net read
 
     -- the nets that are ready have their depths in the table
-    abbrev pub AreRight : List ℕ → List ℕ → Type 0
-    AreRight done table = (net : ℕ) → is_ready inputs cells done net ≡ true → slice_index table net ≡ depth flat chip_of net
+    abbrev pub AreDepthsRight : List ℕ → List ℕ → Type 0
+    AreDepthsRight done table = (net : ℕ) → is_ready inputs cells done net ≡ true → slice_index table net ≡ depth flat chip_of net
 
     -- the depth of the gate at a place, by the table
     abbrev here : ℕ → ℕ
@@ -57,7 +57,7 @@ module _ (ordered : Ordered) where
     abbrev gate_depth : ℕ → List ℕ → ℕ
     gate_depth place table = depth_by flat chip_of table (get_or order place 0) (here place)
 
-    pub gate_right : (place : ℕ) (table : List ℕ) → place < length order → AreRight (take place order) table → gate_depth place table ≡ depth flat chip_of (here place)
+    pub gate_right : (place : ℕ) (table : List ℕ) → place < length order → AreDepthsRight (take place order) table → gate_depth place table ≡ depth flat chip_of (here place)
     gate_right place table within right =
         let number = get_or order place 0 in
         let net = here place in
@@ -69,10 +69,10 @@ module _ (ordered : Ordered) where
         let no_input : nat_lt net inputs ≡ false = le-ltb net inputs (omega arith) in
         let its_number : net - inputs ≡ number = omega arith in
         let its_driver : driving_cell flat net ≡ cell = ap (λ (input : Bool). if input then None else slice_get cells (net - inputs)) no_input ∙ ap (λ (at_number : ℕ). slice_get cells at_number) its_number in
-        driven_depth_agree (table_at table net) at cell (All-gate_reads (λ read. table_at table net read ≡ at read) cell agree) ∙ ap (driven_depth at) (sym its_driver) ∙ sym (settles net)
+        greatest_read-agree (table_at table net) at cell (All-gate_reads (λ read. table_at table net read ≡ at read) cell agree) ∙ ap (greatest_read at) (sym its_driver) ∙ sym (settles net)
 
     -- so one more net is right when it is written
-    pub more_right : (place : ℕ) (table : List ℕ) → place < length order → inputs + length cells ≤ length table → AreRight (take place order) table → AreRight (take (place + 1) order) (set table (here place) (gate_depth place table))
+    pub more_right : (place : ℕ) (table : List ℕ) → place < length order → inputs + length cells ≤ length table → AreDepthsRight (take place order) table → AreDepthsRight (take (place + 1) order) (set table (here place) (gate_depth place table))
     more_right place table within long right net ready =
         let value = gate_depth place table in
         let inside : here place < length table = omega (arith, order_within ordered.is_order place within) in
@@ -84,7 +84,7 @@ module _ (ordered : Ordered) where
     pub record KeepsDepths (done table : List ℕ) : Type 0 where
       pub long : length table ≡ inputs + length cells
       pub low : All (λ own. own ≤ 65537) table
-      pub right : AreRight done table
+      pub right : AreDepthsRight done table
 
     pub more_kept : (place : ℕ) (table : List ℕ) (net value : ℕ) → place < length order → ((at : ℕ) → depth flat chip_of at ≤ length cells + 1) → net ≡ here place → value ≡ gate_depth place table → KeepsDepths (take place order) table → KeepsDepths (take (place + 1) order) (set table net value)
     more_kept place table net value within small same_net same_value kept =
@@ -97,11 +97,11 @@ module _ (ordered : Ordered) where
         }
 
     -- in the end all nets are right, and those past the last one too
-    pub all_right : (place : ℕ) (table : List ℕ) → length order ≤ place → length table ≡ inputs + length cells → AreRight (take place order) table → (net : ℕ) → slice_index table net ≡ depth flat chip_of net
+    pub all_right : (place : ℕ) (table : List ℕ) → length order ≤ place → length table ≡ inputs + length cells → AreDepthsRight (take place order) table → (net : ℕ) → slice_index table net ≡ depth flat chip_of net
     all_right place table whole long right net =
         let at = λ (read : ℕ). depth flat chip_of read + crossing flat chip_of net read in
         let if_past = λ (past : inputs + length cells ≤ net).
         let no_input : nat_lt net inputs ≡ false = le-ltb net inputs (omega arith) in
         let no_driver : driving_cell flat net ≡ None = ap (λ (input : Bool). if input then None else slice_get cells (net - inputs)) no_input ∙ slice_get_past cells (net - inputs) (omega arith) in
-        get_or_past table net 0 (omega arith) ∙ sym (settles net ∙ ap (driven_depth at) no_driver) in
+        get_or_past table net 0 (omega arith) ∙ sym (settles net ∙ ap (greatest_read at) no_driver) in
         ⊎_elim (λ there. right net (rw (take_all place order whole) (all_ready ordered.is_order net there))) if_past (cases_lt net (inputs + length cells))

@@ -73,23 +73,23 @@ module _ (flat : Flat) (chip_of : List ℕ) (net node : ℕ) where
   abbrev leaves : Bool
   leaves = not (eqb (node_of flat chip_of net) node)
 
-  abbrev is_listed : List Need → Bool
-  is_listed needs = list_any (is_pair net node) needs
+  abbrev has_pair : List Need → Bool
+  has_pair needs = list_any (is_pair net node) needs
 
   -- of the nets that a node reads, the net is listed at the node if it is among them and of another node
-  any_crossing : (at : ℕ) (nets : List ℕ) → is_listed (crossing_nets flat chip_of at nets) ≡ (leaves && (eqb at node && is_among nets net))
+  any_crossing : (at : ℕ) (nets : List ℕ) → has_pair (crossing_nets flat chip_of at nets) ≡ (leaves && (eqb at node && is_among nets net))
   any_crossing at nets =
       let test = λ (other : ℕ). not (eqb (node_of flat chip_of other) at) in
       let if_here = λ (here : at ≡ node).
-      let listed : is_listed (crossing_nets flat chip_of node nets) ≡ (leaves && is_among nets net) = any_here net node (filter (λ (other : ℕ). not (eqb (node_of flat chip_of other) node)) nets) ∙ any_kept (λ (other : ℕ). not (eqb (node_of flat chip_of other) node)) net nets in
+      let listed : has_pair (crossing_nets flat chip_of node nets) ≡ (leaves && is_among nets net) = any_here net node (filter (λ (other : ℕ). not (eqb (node_of flat chip_of other) node)) nets) ∙ any_kept (λ (other : ℕ). not (eqb (node_of flat chip_of other) node)) net nets in
       let skip : (leaves && (eqb at node && is_among nets net)) ≡ (leaves && is_among nets net) = ap (λ (bit : Bool). leaves && (bit && is_among nets net)) (eq-eqb at node here) in
-      ap (λ (place : ℕ). is_listed (crossing_nets flat chip_of place nets)) here ∙ listed ∙ sym skip in
+      ap (λ (place : ℕ). has_pair (crossing_nets flat chip_of place nets)) here ∙ listed ∙ sym skip in
       let if_away = λ (away : at ≡ node → ⊥).
       let apart : eqb at node ≡ false = ne_eqb at node away in
       any_elsewhere net node at (filter test nets) apart ∙ sym (and_right leaves (eqb at node && is_among nets net) (and_left (eqb at node) (is_among nets net) apart)) in
       ⊎_elim if_here if_away (cases_eq at node)
 
-  any_cells : (placed : List (ℕ × Cell)) → is_listed (cell_crossings flat chip_of placed) ≡ (leaves && list_any (λ (one : ℕ × Cell). eqb one.0 node && is_among (read_nets one.1) net) placed)
+  any_cells : (placed : List (ℕ × Cell)) → has_pair (cell_crossings flat chip_of placed) ≡ (leaves && list_any (λ (one : ℕ × Cell). eqb one.0 node && is_among (read_nets one.1) net) placed)
   any_cells [] = sym (and_right leaves false refl)
   any_cells (one ∷ placed) =
       list_any-append (is_pair net node) (crossing_nets flat chip_of one.0 (read_nets one.1)) (cell_crossings flat chip_of placed)
@@ -97,7 +97,7 @@ module _ (flat : Flat) (chip_of : List ℕ) (net node : ℕ) where
       ∙ and_over_or leaves _ _
 
   -- a pair crosses where it is needed
-  pub any_crossings : is_listed (crossings flat chip_of) ≡ is_needed flat chip_of net node
+  pub any_crossings : has_pair (crossings flat chip_of) ≡ is_needed flat chip_of net node
   any_crossings =
       list_any-append (is_pair net node) (cell_crossings flat chip_of (zip chip_of flat.cells)) (crossing_nets flat chip_of 0 flat.outputs)
       ∙ ap₂ (λ (first rest : Bool). first || rest) (any_cells (zip chip_of flat.cells)) (any_crossing 0 flat.outputs ∙ ap (λ (host : Bool). leaves && (host && is_among flat.outputs net)) (turned 0 node))

@@ -2,8 +2,8 @@
 ghost use Rattle.std.specs.Prelude.{◌≡◌, ◌≤◌, ◌==◌, ◌+◌, if◌then◌else◌, ℕ, length, map, slice_index, slice_get, IfOk};
 ghost use Rattle.std.specs.List.{All};
 ghost use Rattle.vw_net.specs.Lists.{greatest};
-ghost use Rattle.vw_plan.specs.Needs.{crossing, depth, driven_depth};
-ghost use Rattle.vw_plan.specs.Nets.{node_of};
+ghost use Rattle.vw_plan.specs.Needs.{crossing, depth};
+ghost use Rattle.vw_plan.specs.Nets.{greatest_read, node_of};
 
 use crate::crossing::node_of_net;
 use std::alloc::{AllocError, Global};
@@ -45,7 +45,7 @@ fn deepest(flat: &Flat, chip_of: &[u32], table: &[u32], net: u32, ins: &[u32]) -
 /// The depth of a net that a cell drives, given the depths of the nets that it reads.
 fn depth_of_cell(flat: &Flat, chip_of: &[u32], table: &[u32], number: u32, net: u32) -> u32
     requires { All (λ depth. depth ≤ 65537) table.now }
-    ensures { result ≡ driven_depth (λ read. slice_index table.now read
+    ensures { result ≡ greatest_read (λ read. slice_index table.now read
         + crossing flat.now chip_of.now net read) (slice_get flat.now.cells number) }
 {
     match flat.cells().get(number as usize) {

@@ -4,7 +4,7 @@ use Rattle.vw_text.specs.declared.line.Line.{Line}
 use Rattle.vw_plan.specs.declared.link.Link.{Link}
 use Rattle.vw_plan.specs.Walks.{has_link}
 use Rattle.vw_board.specs.LinkLines.{link_of, link_fault, first_link_fault}
-use Rattle.vw_board.specs.Steps.Separate.{AreSeparate}
+use Rattle.vw_plan.specs.Links.{AreSeparate}
 
 -- the link of a line that isn't at fault, behind these links
 pub record ReadsLink (chips : ℕ) (links : List Link) (line : Line) (link : Link) : Type 0 where

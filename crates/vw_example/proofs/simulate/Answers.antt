@@ -1,13 +1,15 @@
-use Rattle.std.proofs.Common.{◌≡◌, ℕ, Bool, false, List, [], ◌∷◌, ◌++◌, Some, sym, ◌∙◌, ap, subst, rules}
+use Rattle.std.proofs.Common.{◌≡◌, ℕ, Bool, false, List, [], ◌∷◌, ◌++◌, Some, refl, sym, ◌∙◌, ap, subst, rules}
 use Rattle.std.specs.Prelude.{codes, option_map}
 use Rattle.vw_outside.specs.declared.held.Held.{Held}
 use Rattle.vw_outside.specs.Told.{held}
 use Rattle.vw_outside.specs.Files.{told_in}
 use Rattle.vw_outside.specs.Memory.{seen_shelf, seen_sink}
 use Rattle.vw_outside.specs.Writes.{SeenSink, appended}
-use Rattle.vw_top.specs.Words.{spelled_by}
+use Rattle.vw_top.specs.Words.{Spelled, spelled_by}
+use Rattle.vw_top.specs.Words as words
 use Rattle.vw_top.specs.Course.{Outside, outside}
 use Rattle.vw_top.specs.Commands.{sim_course, course_of, trace_of}
+use Rattle.vw_top.specs.Endings.{IsCallOf}
 use Rattle.vw_top.specs.Statuses.{Statuses}
 use Rattle.vw_top.specs.SimStatuses.{SimStatuses}
 use Rattle.vw_example.specs.Outcome.{IsOutcome}
@@ -28,12 +30,26 @@ whole_text : (before after : SeenSink) (text out : List ℕ) → before.told ≡
 whole_text before after text out none some same =
     let told : Some out ≡ Some text = sym some ∙ ap (λ (sink : SeenSink). sink.told) same ∙ ap (option_map (λ so_far. so_far ++ text)) none in cc
 
-outcome : (words : List (List ℕ)) (before after : Outside) (status : ℕ) (design stimulus out : List ℕ) → words ≡ codes "sim" ∷ codes "design" ∷ codes "stimulus" ∷ []
-    → ((d s : List ℕ) (unknown : Bool) (b a : Outside) (n : ℕ) → Statuses (sim_course d s unknown) b a n → SimStatuses d s unknown b a n)
-    → Statuses (course_of (spelled_by words)) before after status → before.shelf.told (codes "design") ≡ held design → before.shelf.told (codes "stimulus") ≡ held stimulus
+-- what the words spell
+abbrev its_sim : Spelled
+its_sim = words.sim (codes "design") (codes "stimulus") false
+
+spells_sim : spelled_by (codes "sim" ∷ codes "design" ∷ codes "stimulus" ∷ []) ≡ its_sim
+spells_sim = refl
+
+-- what the two laws say, of every call and of those of `sim`
+abbrev CallLaw : Type 0
+CallLaw = (spelled : Spelled) (before after : Outside) (err_before err_after : SeenSink) (status : ℕ) → IsCallOf (course_of spelled) before after err_before err_after status → Statuses (course_of spelled) before after status
+
+abbrev SimLaw : Type 0
+SimLaw = (design stimulus : List ℕ) (unknown : Bool) (before after : Outside) (status : ℕ) → Statuses (sim_course design stimulus unknown) before after status → SimStatuses design stimulus unknown before after status
+
+outcome : CallLaw → SimLaw → (its_words : List (List ℕ)) (before after : Outside) (err_before err_after : SeenSink) (status : ℕ) (design stimulus out : List ℕ) → its_words ≡ codes "sim" ∷ codes "design" ∷ codes "stimulus" ∷ []
+    → IsCallOf (course_of (spelled_by its_words)) before after err_before err_after status → before.shelf.told (codes "design") ≡ held design → before.shelf.told (codes "stimulus") ≡ held stimulus
     → before.out.told ≡ Some [] → after.out.told ≡ Some out → IsOutcome design stimulus out status
-outcome words before after status design stimulus out are law statuses design_held stimulus_held none some =
-    let table = law (codes "design") (codes "stimulus") false before after status (subst (λ (ws : List (List ℕ)). Statuses (course_of (spelled_by ws)) before after status) are statuses) in
+outcome statuses_of_call statuses_of_sim its_words before after err_before err_after status design stimulus out are its_call design_held stimulus_held none some =
+    let call : IsCallOf (course_of its_sim) before after err_before err_after status = subst (λ (spelled : Spelled). IsCallOf (course_of spelled) before after err_before err_after status) (ap spelled_by are ∙ spells_sim) its_call in
+    let table = statuses_of_sim (codes "design") (codes "stimulus") false before after status (statuses_of_call its_sim before after err_before err_after status call) in
     record {
       done = λ is.
           let done = table.done design stimulus design_held stimulus_held is in
@@ -60,5 +76,5 @@ returns c =
     let both = hold_both c.new-shelf.result.files.items c.make.result c.make-2.result c.args.design.items c.args.stimulus.items files_are (c.make.ensures.name ∙ c.in_ok-name_of.ensures) (c.make-2.ensures.name ∙ c.in_ok-name_of-2.ensures) c.make.ensures.bytes c.make-2.ensures.bytes in
     let copied : c.in_ok-to_vec.field-0.items ≡ c.bytes.result.now = search rules in
     let out : c.virtual_wires-status.new.out.written.items ≡ c.in_ok-to_vec.field-0.items = sym (copied ∙ c.bytes.ensures) in
-    outcome c.deref.result.now before after c.virtual_wires-status.result c.args.design.items c.args.stimulus.items c.in_ok-to_vec.field-0.items words_are c.sim_statuses.ensures c.virtual_wires-status.ensures.statuses
+    outcome c.call_statuses.ensures c.sim_statuses.ensures c.deref.result.now before after (seen_sink c.new-err.result) (seen_sink c.virtual_wires-status.new.err) c.virtual_wires-status.result c.args.design.items c.args.stimulus.items c.in_ok-to_vec.field-0.items words_are c.virtual_wires-status.ensures
     both.design_held both.stimulus_held (ap Some c.new-out.ensures.written) (ap Some out)

@@ -7,7 +7,7 @@ use Rattle.vw_part.specs.declared.deal.Deal.{Deal}
 use Rattle.vw_part.specs.declared.load.Load.{Load}
 use Rattle.vw_part.specs.declared.pins.Pins.{Pins}
 use Rattle.vw_part.specs.Steps.Pins.{times_among, total}
-use Rattle.vw_net.specs.Steps.{one_if}
+use Rattle.vw_net.specs.Steps.Bits.{one_if}
 
 -- how many cells on a chip drive or read a net, given the nets of each cell
 abbrev pub held : List ℕ → List (List ℕ) → ℕ → ℕ → ℕ

@@ -57,9 +57,9 @@ pub record IsTasksDone (ordered : Ordered) (board : Board) (chip_of : List ℕ) 
   pub last : draft.after ≡ greatest (map after_last draft.hops.items)
 
 -- the moment at which what a latch reads is usable on the latch's chip; 0 for a gate
-abbrev pub latch_moment : Flat → Board → List ℕ → List Route → List (List Hop) → List ℕ → ℕ → Cell → ℕ
-latch_moment flat board chip_of routes hops leads number (Gate ins cover) = 0
-latch_moment flat board chip_of routes hops leads number (Latch d init) = usable_by flat board chip_of routes hops leads (slice_index chip_of number) d
+abbrev pub cell_moment : Flat → Board → List ℕ → List Route → List (List Hop) → List ℕ → ℕ → Cell → ℕ
+cell_moment flat board chip_of routes hops leads number (Gate ins cover) = 0
+cell_moment flat board chip_of routes hops leads number (Latch d init) = usable_by flat board chip_of routes hops leads (slice_index chip_of number) d
 
 -- the greatest of these moments, of some cells that are numbered from a number on
 abbrev pub latest : (ℕ → Cell → ℕ) → ℕ → List Cell → ℕ

@@ -5,8 +5,8 @@ use Rattle.vw_net.specs.declared.ordered.Ordered.{Ordered}
 use Rattle.vw_plan.specs.declared.board.Board.{Board}
 use Rattle.vw_plan.specs.declared.need.Route.{Route}
 use Rattle.vw_plan.specs.declared.wire.Hop.{Hop}
-use Rattle.vw_plan.specs.Lead.{after_last, driven_lead}
-use Rattle.vw_plan.specs.Nets.{node_of}
+use Rattle.vw_plan.specs.Lead.{after_last}
+use Rattle.vw_plan.specs.Nets.{greatest_read, node_of}
 use Rattle.vw_plan.specs.Routes.{steps_of}
 use Rattle.vw_slots.specs.Slots.{no_slots}
 use Rattle.vw_phase.specs.declared.draft.Draft.{Draft}
@@ -53,7 +53,7 @@ pub record HasLead (ordered : Ordered) (board : Board) (chip_of : List ℕ) (rou
   pub last : new.after ≡ old.after
   pub leads : let number = slice_index ordered.order place in
       new.leads.items ≡ slice_set old.leads.items (ordered.flat.inputs + number)
-      (driven_lead (lead_by ordered.flat board chip_of routes old.hops.items old.leads.items (slice_index chip_of number)) (slice_get ordered.flat.cells number))
+      (greatest_read (lead_by ordered.flat board chip_of routes old.hops.items old.leads.items (slice_index chip_of number)) (slice_get ordered.flat.cells number))
 
 -- what a task makes of a draft, in a phase that begins at a moment
 abbrev pub Does : Ordered → Board → List ℕ → List Route → Bool → ℕ → ℕ → Draft → Draft → Type 0

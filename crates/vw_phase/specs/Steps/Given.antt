@@ -5,7 +5,7 @@ use Rattle.vw_net.specs.declared.cell.Cell.{Cell}
 use Rattle.vw_plan.specs.declared.wire.Hop.{Hop}
 use Rattle.vw_phase.specs.declared.draft.Draft.{Draft}
 use Rattle.vw_phase.specs.declared.given.Given.{Given}
-use Rattle.vw_phase.specs.Steps.Done.{IsTasksDone, latch_moment}
+use Rattle.vw_phase.specs.Steps.Done.{IsTasksDone, cell_moment}
 use Rattle.vw_phase.specs.Steps.Drafts.{Does, IsFit, IsDraftReady, IsUntouched}
 use Rattle.vw_phase.specs.Steps.Leads.{lead_by, usable_by}
 
@@ -22,8 +22,8 @@ abbrev pub usable_for : Given → List (List Hop) → List ℕ → ℕ → ℕ �
 usable_for given hops leads node net = usable_by given.ordered.now.flat given.board.now given.chip_of.now given.routes.now hops leads node net
 
 -- the moment at which what a latch reads is usable; 0 for a gate
-abbrev pub latch_moment_for : Given → Draft → ℕ → Cell → ℕ
-latch_moment_for given draft number cell = latch_moment given.ordered.now.flat given.board.now given.chip_of.now given.routes.now draft.hops.items draft.leads.items number cell
+abbrev pub cell_moment_for : Given → Draft → ℕ → Cell → ℕ
+cell_moment_for given draft number cell = cell_moment given.ordered.now.flat given.board.now given.chip_of.now given.routes.now draft.hops.items draft.leads.items number cell
 
 -- nothing is done yet
 abbrev pub IsUntouchedFor : Given → Draft → Type 0

@@ -7,10 +7,10 @@ use Rattle.vw_net.specs.Order.{is_gate}
 use Rattle.vw_plan.specs.declared.board.Board.{Board}
 use Rattle.vw_plan.specs.declared.need.Route.{Route}
 use Rattle.vw_plan.specs.declared.wire.Hop.{Hop}
-use Rattle.vw_plan.specs.Lead.{after_last, driven_lead}
+use Rattle.vw_plan.specs.Lead.{after_last}
 use Rattle.vw_net.specs.Lists.{greatest}
 use Rattle.vw_plan.specs.Needs.{depth}
-use Rattle.vw_plan.specs.Nets.{driving_cell, node_of}
+use Rattle.vw_plan.specs.Nets.{driving_cell, greatest_read, node_of}
 use Rattle.vw_plan.specs.Routes.{steps_of}
 use Rattle.vw_slots.specs.declared.slot.Taken.{Taken}
 use Rattle.vw_slots.specs.Slots.{is_taken}
@@ -57,7 +57,7 @@ pub record AreTasks (ordered : Ordered) (chip_of : List ℕ) (routes : List Rout
 abbrev pub lead_at_place : Ordered → Board → List ℕ → List Route → List (List Hop) → List ℕ → ℕ → ℕ
 lead_at_place ordered board chip_of routes hops leads place =
     let number = slice_index ordered.order place in
-    driven_lead (lead_by ordered.flat board chip_of routes hops leads (slice_index chip_of number)) (slice_get ordered.flat.cells number)
+    greatest_read (lead_by ordered.flat board chip_of routes hops leads (slice_index chip_of number)) (slice_get ordered.flat.cells number)
 
 -- one past the arrival of the last hop of all routes of lesser depth; 0 where there is none
 abbrev pub start_by : Flat → Board → List ℕ → ℕ → List Route → List (List Hop) → ℕ

@@ -18,7 +18,7 @@ returns-then-width_between-eq0 c =
     let board = c.args.board.now in
     let hop = c.args.hop.now in
     let width : width_between board.links hop.from hop.to ≡ 0 = cc in
-    let none : has_link board.links hop.from hop.to ≡ false = has_link-width board.links board.linked.wide hop.from hop.to ∙ ap (λ (number : ℕ). not (eqb number 0)) width in
+    let none : has_link board.links hop.from hop.to ≡ false = has_link-width board.links board.linked.separate.wide hop.from hop.to ∙ ap (λ (number : ℕ). not (eqb number 0)) width in
     sym (and_left (eqb hop.from (begins_at c.args.from c.args.wire.now.hops c.args.number) && has_link board.links hop.from hop.to) _ (and_right _ _ none))
 
 -- the hop begins where it has to, a link leads where it goes, and it isn't the last
@@ -29,7 +29,7 @@ returns-then-number-hops c =
     let hops = c.args.wire.now.hops in
     let begins : eqb hop.from (begins_at c.args.from hops c.args.number) ≡ true = eq-eqb _ _ (cc) in
     let width : eqb (width_between board.links hop.from hop.to) 0 ≡ false = ne_eqb _ _ (λ none. c.if-width_between-eq0.false (c.width_between.ensures ∙ ap₂ (width_between board.links) c.from-2.ensures c.to.ensures ∙ none)) in
-    let link : has_link board.links hop.from hop.to ≡ true = has_link-width board.links board.linked.wide hop.from hop.to ∙ ap not width in
+    let link : has_link board.links hop.from hop.to ≡ true = has_link-width board.links board.linked.separate.wide hop.from hop.to ∙ ap not width in
     let within : suc c.args.number < length hops = omega (arith, ap length c.hops-hops.ensures) in
     lt-ltb _ _ c.if-number-hops.true ∙ sym (goes (eqb hop.from (begins_at c.args.from hops c.args.number)) (has_link board.links hop.from hop.to) (nat_lt (suc c.args.number) (length hops)) _ begins link (or_left _ _ (lt-ltb _ _ within)))
 
@@ -41,7 +41,7 @@ returns-else-number-hops c =
     let hops = c.args.wire.now.hops in
     let begins : eqb hop.from (begins_at c.args.from hops c.args.number) ≡ true = eq-eqb _ _ (cc) in
     let width : eqb (width_between board.links hop.from hop.to) 0 ≡ false = ne_eqb _ _ (λ none. c.if-width_between-eq0.false (c.width_between.ensures ∙ ap₂ (width_between board.links) c.from-2.ensures c.to.ensures ∙ none)) in
-    let link : has_link board.links hop.from hop.to ≡ true = has_link-width board.links board.linked.wide hop.from hop.to ∙ ap not width in
+    let link : has_link board.links hop.from hop.to ≡ true = has_link-width board.links board.linked.separate.wide hop.from hop.to ∙ ap not width in
     let past : nat_lt (suc c.args.number) (length hops) ≡ false = le-ltb _ _ (omega (arith, ap length c.hops-hops.ensures)) in
     let ends : eqb c.to-else-number-hops.result c.to-else-number-hops-2.result ≡ eqb hop.to c.args.wire.now.to = ap₂ eqb c.to-else-number-hops.ensures c.to-else-number-hops-2.ensures in
     ends ∙ sym (ends_or (eqb hop.from (begins_at c.args.from hops c.args.number)) (has_link board.links hop.from hop.to) (nat_lt (suc c.args.number) (length hops)) (eqb hop.to c.args.wire.now.to) begins link past)

@@ -10,5 +10,5 @@ returns-in-Pin c =
     let board = c.args.board.now in
     let hop = c.args.hop.now in
     ap₂ nat_lt c.pin.ensures (c.width_between.ensures ∙ ap₂ (width_between board.links) c.from.ensures c.to.ensures)
-    ∙ sym (has_pin-width board.links board.linked.once hop)
+    ∙ sym (has_pin-width board.links board.linked.separate.once hop)
     ∙ ap (λ (rule : Rule). keeps rule board c.args.period c.args.from c.args.wire.now c.args.number hop) (sym c.in-Pin.is)

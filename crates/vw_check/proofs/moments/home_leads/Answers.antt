@@ -1,7 +1,7 @@
 use Rattle.std.proofs.Common.{◌≡◌, ◌<◌, ◌≤◌, ◌+◌, ◌∙◌, ℕ, [], length, take, get_or, ap, ap₂, arith}
 use Rattle.vw_net.specs.declared.flat.Flat.{Flat}
 use Rattle.vw_plan.specs.Setting.{setting_of}
-use Rattle.vw_check.proofs.HomeLeads.{AreKept, all_leads, more_kept, same_lead, start_kept}
+use Rattle.vw_check.proofs.HomeLeads.{AreHomeLeads, all_leads, more_kept, same_lead, start_kept}
 use Rattle.vw_net.proofs.Ready.{order_within}
 use Rattle.vw_check.proofs.moments.home_leads.Goals as goal
 
@@ -9,7 +9,7 @@ use Rattle.vw_check.proofs.moments.home_leads.Goals as goal
 pub loop-number-init : goal.loop-number-init
 loop-number-init c =
     let setting = setting_of c.args.ordered.now c.args.board.now c.args.plan.now in
-    let kept : AreKept setting (c.leads_settle.ensures setting) [] c.in_ok-leads.leads.items = start_kept setting (c.leads_settle.ensures setting) c.in_ok-leads.leads.items (c.inputs-inputs.result + length c.cells.result.now) (c.in_ok-leads.ensures.items_if_clones_equal (λ y same. same)) (ap₂ (λ (first second : ℕ). first + second) (c.inputs-inputs.ensures ∙ ap (λ (flat : Flat). flat.inputs) c.flat-flat.ensures) (ap length (c.cells.ensures ∙ ap (λ (flat : Flat). flat.cells) c.flat-flat.ensures))) in
+    let kept : AreHomeLeads setting (c.leads_settle.ensures setting) [] c.in_ok-leads.leads.items = start_kept setting (c.leads_settle.ensures setting) c.in_ok-leads.leads.items (c.inputs-inputs.result + length c.cells.result.now) (c.in_ok-leads.ensures.items_if_clones_equal (λ y same. same)) (ap₂ (λ (first second : ℕ). first + second) (c.inputs-inputs.ensures ∙ ap (λ (flat : Flat). flat.inputs) c.flat-flat.ensures) (ap length (c.cells.ensures ∙ ap (λ (flat : Flat). flat.cells) c.flat-flat.ensures))) in
     record { long = kept.long; low = kept.low; right = kept.right }
 
 -- the number of a gate is below the number of cells
@@ -42,7 +42,7 @@ loop-number-preserved c =
     let inputs : c.inputs-inputs.result ≡ setting.ordered.flat.inputs = cc in
     let net = ap₂ (λ (first second : ℕ). first + second) inputs number in
     let value = c.lead_of_cell-lead.ensures.value ∙ same_lead setting c.as_slice.result.now leads _ _ c.as_slice.ensures.value number in
-    let before : AreKept setting (c.leads_settle.ensures setting) (take place setting.ordered.order) leads = record { long = c.loop-number.invariant.long; low = c.loop-number.invariant.low; right = c.loop-number.invariant.right } in
+    let before : AreHomeLeads setting (c.leads_settle.ensures setting) (take place setting.ordered.order) leads = record { long = c.loop-number.invariant.long; low = c.loop-number.invariant.low; right = c.loop-number.invariant.right } in
     let after = more_kept setting (c.leads_settle.ensures setting) place leads _ _ within net value c.lead_of_cell-lead.ensures.few before in
     record { long = after.long; low = after.low; right = after.right }
 

@@ -1,7 +1,6 @@
-use mir.Val.{bool_byte}
-use Rattle.std.proofs.Common.{◌≤◌, Bool, true, false, length, drop, arith}
+use Rattle.std.proofs.Common.{◌≤◌, length, drop, arith}
 use Rattle.std.proofs.lemmas.List.{length-drop}
-use Rattle.vw_net.proofs.Words.{place_of-below}
+use Rattle.vw_net.proofs.Words.{byte-le, place_of-below}
 use Rattle.vw_net.proofs.word.place_of.Goals as goal
 
 -- a place is below 64
@@ -10,10 +9,6 @@ overflow_mul-place c =
     let bits = drop c.loop-i.i c.args.bits.now in
     let few : length bits ≤ 6 = omega (arith, length-drop c.loop-i.i c.args.bits.now) in
     omega (arith, place_of-below bits few)
-
-byte-le : (value : Bool) → bool_byte value ≤ 1
-byte-le true = omega arith
-byte-le false = omega arith
 
 pub overflow_add-place : goal.overflow_add-place
 overflow_add-place c =

@@ -1,6 +1,6 @@
 -- what is left of the marks decides
 use Rattle.std.proofs.Common.{◌≡◌, drop}
-use Rattle.vw_net.specs.Word.{row_word}
+use Rattle.vw_net.specs.Steps.TableWord.{row_word}
 use Rattle.vw_net.proofs.word.row_word.Given as goal
 
 abbrev pub invariant-loop-i : goal.invariant-loop-i

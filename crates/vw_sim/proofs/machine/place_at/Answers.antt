@@ -1,11 +1,7 @@
-use mir.Val.{bool_byte}
-use Rattle.std.proofs.Common.{◌≤◌, ℕ, Bool, true, false, get_or, arith}
+use Rattle.std.proofs.Common.{ℕ, false, get_or, arith}
+use Rattle.vw_net.proofs.Words.{byte-le}
 use Rattle.vw_sim.proofs.Machines.{rest_place-below}
 use Rattle.vw_sim.proofs.machine.place_at.Goals as goal
-
-byte-le : (value : Bool) → bool_byte value ≤ 1
-byte-le true = omega arith
-byte-le false = omega arith
 
 -- a place is below 64
 pub overflow_mul-place : goal.overflow_mul-place

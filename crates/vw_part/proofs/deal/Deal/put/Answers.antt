@@ -3,7 +3,7 @@ use Rattle.std.proofs.lemmas.List.{get_or_default}
 use Rattle.vw_part.specs.declared.load.Load.{Load}
 use Rattle.vw_part.specs.Steps.Deals.{cell_nets}
 use Rattle.vw_part.specs.Steps.Pins.{times_among}
-use Rattle.vw_part.proofs.Dealing.{IsMore, dealt_more, loaded}
+use Rattle.vw_part.proofs.Dealing.{HasCellMore, dealt_more, loaded}
 use Rattle.vw_part.proofs.Held.{held-le}
 use Rattle.vw_part.proofs.deal.Deal.put.Goals as goal
 
@@ -29,6 +29,6 @@ returns-clause-deal c =
     let own : c.at-own.result.now ≡ cell_nets pins (length chips) = c.at-own.ensures ∙ ap (λ (cell : ℕ). cell_nets pins cell) next in
     let within : c.args.chip < length loads = omega (arith, c.requires.deal.nodes, c.requires.chip.1) in
     let found : old ≡ get_or loads c.args.chip new = c.index_mut.ensures.value ∙ get_or_default loads c.args.chip old new within in
-    let raw : IsMore c.at-own.result.now old new = record { cells = c.add.ensures.cells; long = omega (arith, c.add.ensures.long, old.counts.ok, new.counts.ok); counts = c.add.ensures.counts } in
-    let more : IsMore (cell_nets pins (length chips)) (get_or loads c.args.chip new) new = subst (λ (nets : List ℕ). IsMore nets (get_or loads c.args.chip new) new) own (subst (λ (load : Load). IsMore c.at-own.result.now load new) found raw) in
+    let raw : HasCellMore c.at-own.result.now old new = record { cells = c.add.ensures.cells; long = omega (arith, c.add.ensures.long, old.counts.ok, new.counts.ok); counts = c.add.ensures.counts } in
+    let more : HasCellMore (cell_nets pins (length chips)) (get_or loads c.args.chip new) new = subst (λ (nets : List ℕ). HasCellMore nets (get_or loads c.args.chip new) new) own (subst (λ (load : Load). HasCellMore c.at-own.result.now load new) found raw) in
     dealt_more c.args.board.now pins c.args.self.now _ c.args.chip new c.requires.deal c.requires.next c.requires.chip c.requires.room c.in_ok-push.ensures.items refl more

@@ -5,7 +5,7 @@ use Rattle.vw_plan.specs.Good.{IsChip}
 use Rattle.vw_part.specs.declared.load.Load.{Load}
 use Rattle.vw_part.specs.Steps.Deals.{held, cell_nets}
 use Rattle.vw_part.specs.Steps.Pins.{times_among}
-use Rattle.vw_part.proofs.Dealing.{IsMore, dealt_moved, loaded}
+use Rattle.vw_part.proofs.Dealing.{HasCellMore, dealt_moved, loaded}
 use Rattle.vw_part.proofs.Held.{held-le, held_least}
 use Rattle.vw_part.proofs.deal.Deal.shift.Goals as goal
 
@@ -48,8 +48,8 @@ returns-clause-deal c =
     let within : chip < length loads = omega (arith, c.requires.deal.nodes, c.requires.target.real.1) in
     let found_from : old_from ≡ get_or loads (get_or chips c.args.cell 0) new_from = c.index_mut.ensures.value ∙ ap (λ (x : ℕ). get_or loads x old_from) from ∙ get_or_default loads (get_or chips c.args.cell 0) old_from new_from from_within in
     let found : old ≡ get_or loads chip new = c.index_mut-2.ensures.value ∙ get_or-set_other loads c.index-from.result.now chip new_from old (λ same. c.requires.target.away (sym from ∙ sym same)) ∙ get_or_default loads chip old new within in
-    let raw_less : IsMore own new_from old_from = record { cells = sym c.remove.ensures.cells; long = omega (arith, c.remove.ensures.long, old_from.counts.ok, new_from.counts.ok); counts = λ net. sym (c.remove.ensures.counts net) } in
-    let raw : IsMore own old new = record { cells = c.add.ensures.cells; long = omega (arith, c.add.ensures.long, old.counts.ok, new.counts.ok); counts = c.add.ensures.counts } in
-    let less : IsMore (cell_nets pins c.args.cell) new_from (get_or loads (get_or chips c.args.cell 0) new_from) = subst (λ (nets : List ℕ). IsMore nets new_from (get_or loads (get_or chips c.args.cell 0) new_from)) c.at-own.ensures (subst (λ (load : Load). IsMore own new_from load) found_from raw_less) in
-    let more : IsMore (cell_nets pins c.args.cell) (get_or loads chip new) new = subst (λ (nets : List ℕ). IsMore nets (get_or loads chip new) new) c.at-own.ensures (subst (λ (load : Load). IsMore own load new) found raw) in
+    let raw_less : HasCellMore own new_from old_from = record { cells = sym c.remove.ensures.cells; long = omega (arith, c.remove.ensures.long, old_from.counts.ok, new_from.counts.ok); counts = λ net. sym (c.remove.ensures.counts net) } in
+    let raw : HasCellMore own old new = record { cells = c.add.ensures.cells; long = omega (arith, c.add.ensures.long, old.counts.ok, new.counts.ok); counts = c.add.ensures.counts } in
+    let less : HasCellMore (cell_nets pins c.args.cell) new_from (get_or loads (get_or chips c.args.cell 0) new_from) = subst (λ (nets : List ℕ). HasCellMore nets new_from (get_or loads (get_or chips c.args.cell 0) new_from)) c.at-own.ensures (subst (λ (load : Load). HasCellMore own new_from load) found_from raw_less) in
+    let more : HasCellMore (cell_nets pins c.args.cell) (get_or loads chip new) new = subst (λ (nets : List ℕ). HasCellMore nets (get_or loads chip new) new) c.at-own.ensures (subst (λ (load : Load). HasCellMore own load new) found raw) in
     dealt_moved c.args.board.now pins c.args.self.now _ c.args.cell chip new_from new c.requires.deal c.requires.cell c.requires.target refl (ap (λ (x : ℕ). set (set loads x new_from) chip new) from) less more

@@ -1,7 +1,7 @@
 -- those so far, and those among the nets that are left
 use Rattle.std.proofs.Common.{◌≡◌, ◌≤◌, ◌+◌, ◌==◌, drop, get_or}
 use Rattle.vw_part.specs.Steps.Pins.{total}
-use Rattle.vw_net.specs.Steps.{one_if}
+use Rattle.vw_net.specs.Steps.Bits.{one_if}
 use Rattle.vw_part.proofs.load.Load.lone.Given as goal
 
 abbrev pub invariant-loop-net : goal.invariant-loop-net
