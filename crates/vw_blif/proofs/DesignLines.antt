@@ -19,13 +19,13 @@ use Rattle.vw_blif.specs.Faults.{faults_by, first_of, fault_at}
 use Rattle.std.specs.Option.{option_or}
 use Rattle.vw_blif.specs.Read.{first_fault, unless, design_of_lines, design_of, is_text_fault}
 use Rattle.vw_blif.specs.Steps.Names.{opened, names_so_far}
-use Rattle.vw_blif.specs.Steps.Readers.{models_made, ToldOpen, ToldAll, IsAtStart, ReadsLine, RefusesLine, IsRead}
+use Rattle.vw_blif.specs.Steps.Readers.{models_made, HasOpenSaid, HasAllSaid, IsAtStart, ReadsLine, RefusesLine, IsRead}
 use Rattle.vw_blif.proofs.FewLines.{few_word_lines}
 
 -- so many lines of a design were read without a fault, and the rest wasn't
 pub record IsReadSoFar (lines rest : List Line) (r : Reader) : Type 0 where
   pub before : List Line
-  pub told : ToldAll before r
+  pub told : HasAllSaid before r
   pub faults : first_fault before rest ≡ first_fault [] lines
   pub makes : models_made r rest ≡ spelled_models lines
   pub few : length (names_so_far r.models.items (opened r.block)) + length rest ≤ length lines
@@ -36,7 +36,7 @@ no_line lines r start = record {
   told = record {
     open_ = rw start.block refl;
     names = rw (start.models, start.block) refl;
-    block = subst (λ (b : Option Block). ToldOpen [] b) (sym start.block) tt;
+    block = subst (λ (b : Option Block). HasOpenSaid [] b) (sym start.block) tt;
   };
   faults = refl;
   makes = rw (start.models, start.block) refl;
@@ -47,7 +47,7 @@ pub one_line : (lines rest : List Line) (line : Line) (old new : Reader) → IsR
     → IsReadSoFar lines rest new
 one_line lines rest line old new kept reads = record {
   before = line ∷ kept.before;
-  told = reads.tells kept.before kept.told;
+  told = reads.stays kept.before kept.told;
   faults = sym (ap (λ (f : Option TextFault). option_or f (first_fault (line ∷ kept.before) rest)) (reads.fine kept.before kept.told)) ∙ kept.faults;
   makes = reads.makes rest ∙ kept.makes;
   few = omega (reads.count, kept.few, arith);

@@ -21,7 +21,7 @@ use Rattle.vw_blif.specs.Before.{is_open, open_behind, names_behind, model_names
 use Rattle.vw_blif.specs.Faults.{when, faults_by, first_of, fault_at}
 use Rattle.vw_blif.specs.Steps.Names.{opened, names_so_far}
 use Rattle.vw_blif.specs.Steps.Blocks.{block_made, IsAsBefore, TakesLine, RefusesInModel, IsNew}
-use Rattle.vw_blif.specs.Steps.Readers.{models_with, models_made, ToldOpen, ToldAll, EndsModel, ReadsLine, RefusesLine}
+use Rattle.vw_blif.specs.Steps.Readers.{models_with, models_made, HasOpenSaid, HasAllSaid, EndsModel, ReadsLine, RefusesLine}
 use Rattle.vw_blif.proofs.Repeats.{has_name-push}
 
 -- a line of the open model
@@ -55,17 +55,17 @@ module _ (old new : Reader) (line : Line) (b taken : Block) (was : opened old.bl
   names_taken : names_so_far new.models.items (opened new.block) ≡ names_so_far old.models.items (opened old.block)
   names_taken = rw (same, was, is, takes.name) refl
 
-  told_block : (before : List Line) → ToldAll before old → IsAsBefore before b
-  told_block before told = subst (λ (o : Option Block). ToldOpen before o) was told.block
+  told_block : (before : List Line) → HasAllSaid before old → IsAsBefore before b
+  told_block before told = subst (λ (o : Option Block). HasOpenSaid before o) was told.block
 
   pub line_taken : ReadsLine old line new
   line_taken = record {
-    tells = λ before told.
-        let next = takes.tells before (told_block before told) in
+    stays = λ before told.
+        let next = takes.stays before (told_block before told) in
         record {
           open_ = next.open_ ∙ sym (ap is_some is);
           names = same_names (kind line) line (model_names before) other ∙ told.names ∙ sym names_taken;
-          block = subst (λ (o : Option Block). ToldOpen (line ∷ before) o) (sym is) next;
+          block = subst (λ (o : Option Block). HasOpenSaid (line ∷ before) o) (sym is) next;
         };
     fine = λ before told. takes.fine before (told_block before told);
     makes = λ rest. rw (same, was, is, other, takes.makes (blocks rest).before) refl;
@@ -74,7 +74,7 @@ module _ (old new : Reader) (line : Line) (b taken : Block) (was : opened old.bl
 
 -- a line that the open model refuses
 pub line_refused : (old : Reader) (line : Line) (b : Block) (fault : TextFault) → opened old.block ≡ Some b → RefusesInModel b line fault → RefusesLine old line fault
-line_refused old line b fault was refuses = λ before told. refuses before (subst (λ (o : Option Block). ToldOpen before o) was told.block)
+line_refused old line b fault was refuses = λ before told. refuses before (subst (λ (o : Option Block). HasOpenSaid before o) was told.block)
 
 -- a `.end` line
 
@@ -91,10 +91,10 @@ model_ended old ended new line b was same is is_end_ ends =
     let other : is_model (kind line) ≡ false = ap is_model is_end_ in
     let names : names_so_far new.models.items (opened new.block) ≡ names_so_far old.models.items (opened old.block) = ends.names ∙ rw (same, is, was) refl in
     record {
-      tells = λ before told. record {
+      stays = λ before told. record {
         open_ = ap (λ (k : Kind). open_behind k (is_open before)) is_end_ ∙ sym (ap is_some ends.block);
         names = same_names (kind line) line (model_names before) other ∙ told.names ∙ sym names;
-        block = subst (λ (o : Option Block). ToldOpen (line ∷ before) o) (sym ends.block) tt;
+        block = subst (λ (o : Option Block). HasOpenSaid (line ∷ before) o) (sym ends.block) tt;
       };
       fine = λ before told.
           ap first_of (end_faults (kind line) before line is_end_)
@@ -138,16 +138,16 @@ behind line rest is None = rw (ap is_model is) refl
 behind line rest is (Some b) = rw (ap is_model is) refl
 
 module _ (old mid : Reader) (line : Line) (name : Word) (is_kind : kind line ≡ Model) (one : further line ≡ name ∷ []) (ends : EndsModel old mid) where
-  names_mid : (before : List Line) → ToldAll before old → model_names before ≡ names_so_far mid.models.items (opened mid.block)
+  names_mid : (before : List Line) → HasAllSaid before old → model_names before ≡ names_so_far mid.models.items (opened mid.block)
   names_mid before told = told.names ∙ sym ends.names
 
-  fault_is : (before : List Line) → ToldAll before old → (again : Bool) → has_name (names_so_far mid.models.items (opened mid.block)) name ≡ again
+  fault_is : (before : List Line) → HasAllSaid before old → (again : Bool) → has_name (names_so_far mid.models.items (opened mid.block)) name ≡ again
       → fault_at before line ≡ first_of (when again (DuplicateModel line.number) ++ [])
   fault_is before told again test =
       ap first_of (model_faults (kind line) before line is_kind)
       ∙ rw (one) (ap (λ (b : Bool). first_of (when b (DuplicateModel line.number) ++ [])) (ap (λ (names : List Word). has_name names name) (names_mid before told) ∙ test))
 
-  pub model_again : has_name (names_so_far mid.models.items (opened mid.block)) name ≡ true → (before : List Line) → ToldAll before old → fault_at before line ≡ Some (DuplicateModel line.number)
+  pub model_again : has_name (names_so_far mid.models.items (opened mid.block)) name ≡ true → (before : List Line) → HasAllSaid before old → fault_at before line ≡ Some (DuplicateModel line.number)
   model_again again before told = fault_is before told true again
 
   module _ (new : Reader) (b : Block) (same : new.models ≡ mid.models) (is : opened new.block ≡ Some b) (fresh : IsNew name b)
@@ -155,7 +155,7 @@ module _ (old mid : Reader) (line : Line) (name : Word) (is_kind : kind line ≡
     names_new : names_so_far new.models.items (opened new.block) ≡ names_so_far mid.models.items (opened mid.block) ++ name ∷ []
     names_new = rw (same, is) (names_begun mid.models.items (opened mid.block) b name ends.block fresh.named)
 
-    names_told : (before : List Line) → ToldAll before old → model_names (line ∷ before) ≡ names_so_far new.models.items (opened new.block)
+    names_told : (before : List Line) → HasAllSaid before old → model_names (line ∷ before) ≡ names_so_far new.models.items (opened new.block)
     names_told before told =
         ap (λ (k : Kind). names_behind k line (model_names before)) is_kind
         ∙ ap₂ (λ (names ws : List Word). names ++ first_word ws ∷ []) (names_mid before told) one
@@ -185,10 +185,10 @@ module _ (old mid : Reader) (line : Line) (name : Word) (is_kind : kind line ≡
 
     pub model_begun : ReadsLine old line new
     model_begun = record {
-      tells = λ before told. record {
+      stays = λ before told. record {
         open_ = (told_new before).open_ ∙ sym (ap is_some is);
         names = names_told before told;
-        block = subst (λ (o : Option Block). ToldOpen (line ∷ before) o) (sym is) (told_new before);
+        block = subst (λ (o : Option Block). HasOpenSaid (line ∷ before) o) (sym is) (told_new before);
       };
       fine = λ before told. fault_is before told false unseen;
       makes = made_new;

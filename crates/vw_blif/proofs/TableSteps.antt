@@ -35,7 +35,7 @@ pub begins : (line : Line) (t : Table) → t.line ≡ line.number → t.ins ≡ 
     → 0 < length (further line) → length (further line) ≤ 129 → BeginsTable line t
 begins line t at ins out on rows some few = record {
   makes = λ more. rw (at, ins, out, on, rows) refl;
-  tells = rw (on, ins) (ap (λ n. record { width = n; value = None }) (length-front_words (further line) some));
+  stays = rw (on, ins) (ap (λ n. record { width = n; value = None }) (length-front_words (further line) some));
   some = ne_eqb (length (further line)) 0 (λ none. omega arith);
   few = le-ltb 129 (length (further line)) few;
 }
@@ -101,7 +101,7 @@ adds_row line old new row one at ins out on rows marks ends row_is same = record
       ∙ append_assoc (map (λ (r : Row). r.marks) old.rows.items) (row.marks ∷ []) (map (λ (l : Line). row_marks l.words) more)
       ∙ ap (λ (m : List Mark). map (λ (r : Row). r.marks) old.rows.items ++ m ∷ map (λ (l : Line). row_marks l.words) more) marks in
       rw (at, ins, out, on, rows) (ap₂ (λ (v : Bool) (ms : List (List Mark)). table old.line old.ins old.out v ms) value lists);
-  tells = rw (ins, on) (ap (λ (w : Word). record { width = length old.ins; value = Some w }) (value_told line one (length old.ins) ends row_is old.on same));
+  stays = rw (ins, on) (ap (λ (w : Word). record { width = length old.ins; value = Some w }) (value_told line one (length old.ins) ends row_is old.on same));
   fits = row_is;
   same = same_told line one (length old.ins) ends row_is old.on same;
 }

@@ -61,7 +61,7 @@ fn binds_of(alloc: Global, line: u64, words: &[Name]) -> Result<Vec<Bind>, TextF
 }
 
 /// The placed model of the words behind the keyword.
-pub fn place_of(alloc: Global, line: u64, words: &[Name]) -> Result<Item, TextFault>
+pub fn subckt_of(alloc: Global, line: u64, words: &[Name]) -> Result<Item, TextFault>
     requires { 0 < length words.now }
     ensures item { IfOk result (λ item. spelled_item item ≡ spelled_placing line words.now) }
     ensures shape { IfOk result (λ item. IsTrue (has_its_shape item)) }

@@ -3,7 +3,7 @@ ghost use Rattle.std.specs.Prelude.{◌≡◌, [], IsTrue, IfOk, IfErr, OnOk};
 ghost use Rattle.std.specs.List.{list_all};
 ghost use Rattle.vw_design.specs.Shape.{IsWellMade, has_its_shape};
 
-use crate::bind::place_of;
+use crate::bind::subckt_of;
 use crate::copies::further;
 use crate::fault::TextFault;
 use crate::latch::latch_of;
@@ -160,7 +160,7 @@ impl<'a> Block<'a> {
         if words.is_empty() {
             return Err(TextFault::BadWords(line.number()));
         }
-        let place = place_of(alloc, line.number(), words)?;
+        let place = subckt_of(alloc, line.number(), words)?;
         self.add_item(place)?;
         Ok(())
     }

@@ -111,7 +111,7 @@ fn written_of(words: &[Name]) -> Written<'_>
 }
 
 /// The latch with this input and output, by the words behind them.
-fn item_of(
+fn latch_item(
     alloc: Global,
     line: u64,
     d: &Name,
@@ -151,5 +151,5 @@ pub fn latch_of(alloc: Global, line: u64, words: &[Name]) -> Result<Item, TextFa
     if !is_init(written.init) {
         return Err(TextFault::BadInit(line));
     }
-    Ok(item_of(alloc, line, d, q, written)?)
+    Ok(latch_item(alloc, line, d, q, written)?)
 }

@@ -5,7 +5,7 @@ ghost use Rattle.vw_text.specs.declared.line.Line.{Line};
 ghost use Rattle.vw_blif.specs.Kinds.{further};
 ghost use Rattle.vw_blif.specs.Spelled.{spelled_item};
 ghost use Rattle.vw_blif.specs.Designs.{table_of};
-ghost use Rattle.vw_blif.specs.Steps.Blocks.{table_told, table_made};
+ghost use Rattle.vw_blif.specs.Steps.Blocks.{table_said, table_made};
 ghost use Rattle.vw_blif.specs.Steps.Tables.{BeginsTable, SaysNames, AddsRow, SaysRow, is_other_value};
 
 use crate::copies::{copies, copy, front_and_last, further, is};
@@ -43,7 +43,7 @@ pub fn begin_table(alloc: Global, line: &Line) -> Result<Table, TextFault>
 }
 
 /// Whether rows end in another digit than this value.
-fn is_other(on: Option<bool>, value: bool) -> bool
+fn is_other_value(on: Option<bool>, value: bool) -> bool
     ensures { result ≡ is_other_value on value }
 {
     match on {
@@ -71,7 +71,7 @@ pub fn add_row(alloc: Global, table: Table, line: &Line) -> Result<Table, TextFa
     }
     let (_, value) = front_and_last(words);
     let ends_in_one = is(value.as_slice(), b"1");
-    if is_other(on, ends_in_one) {
+    if is_other_value(on, ends_in_one) {
         return Err(TextFault::MixedRows(line.number()));
     }
     rows.push(Row::make(row_marks(alloc, words)?))?;

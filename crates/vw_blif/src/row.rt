@@ -46,7 +46,7 @@ fn are_marks(word: &[u8]) -> bool
 }
 
 /// The marks of the characters of a word.
-fn marks_of(alloc: Global, word: &[u8]) -> Result<Vec<Mark>, AllocError>
+fn marks_of_word(alloc: Global, word: &[u8]) -> Result<Vec<Mark>, AllocError>
     ensures { IfOk result (λ marks. marks.items ≡ map mark_of_byte word.now) }
 {
     word.iter().map(|byte| mark_of(*byte)).collect(alloc)
@@ -73,7 +73,7 @@ pub fn row_marks(alloc: Global, words: &[Name]) -> Result<Sequence<Mark>, AllocE
     ensures { IfOk result (λ marks. marks ≡ row_marks words.now) }
 {
     match words {
-        [marks, _, ..] => Ok(Sequence::of(marks_of(alloc, marks.as_slice())?)),
+        [marks, _, ..] => Ok(Sequence::of(marks_of_word(alloc, marks.as_slice())?)),
         _ => Ok(Sequence::of(Vec::new(alloc))),
     }
 }

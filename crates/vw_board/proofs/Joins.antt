@@ -12,7 +12,7 @@ use Rattle.vw_board.specs.BoardText.{IsFirstApart, ComesBefore}
 use Rattle.vw_plan.specs.Links.{AreLinks, AreSeparate}
 use Rattle.vw_board.specs.Steps.Tables.{AreLeast, first_below}
 use Rattle.vw_board.specs.Steps.Apart.{noted, AreAllThere, IsFirstPair}
-use Rattle.vw_board.proofs.Noted.{IsFirstPassing, first_passing}
+use Rattle.vw_board.proofs.NotedWalks.{IsFirstPassing, first_passing}
 
 module _ (chips : ℕ) (few : chips ≤ 32) (links : List Link) (separate : AreSeparate chips links) where
   module _ (lists : List (List (Option ℕ))) (least : AreLeast links (chips + 1) lists) where

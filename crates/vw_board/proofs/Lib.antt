@@ -1,7 +1,7 @@
 mod LinkReads
 mod CountedWalks
-mod Noted
-mod Near
+mod NotedWalks
+mod NearerNodes
 mod LineNumbers
 mod Joins
 mod Spelled

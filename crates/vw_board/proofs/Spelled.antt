@@ -8,7 +8,7 @@ use Rattle.vw_plan.specs.declared.link.Link.{Link}
 use Rattle.vw_plan.specs.declared.board.Board.{Board}
 use Rattle.vw_board.specs.declared.fault.BoardFault.{BoardFault}
 use Rattle.vw_board.specs.declared.fault.BoardFault.TheVariants.{TooLarge, BadLine, BadNumber, SelfLink, DuplicateLink, PinsExceeded, Unreachable, NoMemory}
-use Rattle.vw_board.specs.declared.head.Head.{Head}
+use Rattle.vw_board.specs.declared.head.BoardHead.{BoardHead}
 use Rattle.vw_board.specs.LinkLines.{first_link_fault, links_of}
 use Rattle.vw_board.specs.Headers.{chips_of, pins_of}
 use Rattle.vw_board.specs.Pins.{AreEnoughPins}
@@ -16,7 +16,7 @@ use Rattle.vw_board.specs.BoardText.{line_fault, RefusesLinks, RefusesLines, IsB
 use Rattle.vw_board.specs.Steps.Heads.{IsBoardHead}
 use Rattle.vw_board.specs.Steps.Links.{ReadsLinks}
 
-module _ (lines : List Line) (head : Head) (links : List Link) (is : IsBoardHead lines head) (reads : ReadsLinks head.chips (take (length lines - 5) (drop 5 lines)) links) where
+module _ (lines : List Line) (head : BoardHead) (links : List Link) (is : IsBoardHead lines head) (reads : ReadsLinks head.chips (take (length lines - 5) (drop 5 lines)) links) where
   rest : ReadsLinks head.chips (drop 5 lines) links
   rest = subst (λ (behind : List Line). ReadsLinks head.chips behind links) (take_all (length lines - 5) (drop 5 lines) (omega (arith, length-drop 5 lines))) reads
 

@@ -8,7 +8,7 @@ ghost use Rattle.vw_plan.specs.Links.{AreSeparate};
 
 use crate::apart::first_apart;
 use crate::fault::BoardFault;
-use crate::head::{Head, read_head};
+use crate::head::{BoardHead, read_head};
 use crate::link_lines::read_links;
 use crate::pins::first_over;
 use crate::walks::least_links;
@@ -18,7 +18,7 @@ use vw_plan::{Board, Link};
 use vw_text::{Line, lines};
 
 /// The board of these numbers and links, where the chips have enough pins and walks lead everywhere.
-fn make_board(alloc: Global, head: Head, links: Vec<Link>) -> Result<Board, BoardFault>
+fn make_board(alloc: Global, head: BoardHead, links: Vec<Link>) -> Result<Board, BoardFault>
     requires head { IsHeadInRange head }
     requires links { AreSeparate head.chips links.items }
     ensures enough { IfOk result (λ _. AreEnoughPins head.chips head.pins links.items) }

@@ -11,7 +11,7 @@ use vw_text::{Line, number};
 
 /// The numbers of the first five lines.
 #[derive(Clone, Copy, Debug, PartialEq, Eq)]
-pub struct Head {
+pub struct BoardHead {
     pub chips: u32,
     pub cells: u32,
     pub settle: u32,
@@ -82,7 +82,7 @@ fn header(
 }
 
 /// The numbers of the first five lines.
-pub fn read_head(lines: &[Line]) -> Result<Head, BoardFault>
+pub fn read_head(lines: &[Line]) -> Result<BoardHead, BoardFault>
     requires { All (λ line. line.number < 2 ^ 63) lines.now }
     ensures fine { IfOk result (IsBoardHead lines.now) }
     ensures fault { IfErr result (λ fault. headers_fault lines.now ≡ Some fault) }
@@ -93,7 +93,7 @@ pub fn read_head(lines: &[Line]) -> Result<Head, BoardFault>
     let cells = header(lines, 2, b"cells", 1, 65_536)?;
     let settle = header(lines, 3, b"settle", 0, 15)?;
     let pins = header(lines, 4, b"pins", 1, 4_096)?;
-    Ok(Head {
+    Ok(BoardHead {
         chips,
         cells,
         settle,

@@ -177,7 +177,3 @@ clash_behind-pin_clash plan = by_place [] (wires_placed 0 plan.wires) 0 (wires_p
 -- a hop for a place past the end
 abbrev pub no_hop : Hop
 no_hop = record { from = 0; to = 0; pin = 0; at = 0 }
-
-pub none_is : (found : Option PlanFault) → is_some found ≡ false → found ≡ None
-none_is None none = refl
-none_is (Some fault) none = cc

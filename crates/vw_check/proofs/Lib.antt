@@ -5,7 +5,7 @@ pub mod LawRoutes
 pub mod LawClashes
 pub mod LawMoments
 pub mod LawWires
-pub mod LawAll
+pub mod SoundPlans
 pub mod FirstPairs
 pub mod FirstPlaces
 pub mod LinkWidths

@@ -5,6 +5,7 @@ use Rattle.std.specs.List.{list_any, zip}
 use Rattle.std.specs.Option.{option_or}
 use Rattle.std.proofs.lemmas.Bool.{and_parts, or_cases, not-true}
 use Rattle.std.proofs.lemmas.List.Elements.{All-head, All-tail}
+use Rattle.vw_net.proofs.Orders.{among_below}
 use Rattle.vw_net.proofs.FirstOptions.{or_none}
 use Rattle.vw_net.specs.declared.cell.Cell.{Cell}
 use Rattle.vw_net.specs.declared.flat.Flat.{Flat}
@@ -38,19 +39,12 @@ passed false fault none = cc
 
 -- ---- nets that are needed
 
-below_net : (nets : List ℕ) (net past : ℕ) → All (λ other. other < past) nets → is_among nets net ≡ true → net < past
-below_net [] net past below among = absurd (true≢false (sym among))
-below_net (first ∷ nets) net past below among =
-    let if_first = λ (is : eqb first net ≡ true). let same : first ≡ net = eqb-true first net is in let low : net < past = omega (arith, All-head (λ other. other < past) first nets below) in low in
-    let if_later = λ (later : is_among nets net ≡ true). below_net nets net past (All-tail (λ other. other < past) first nets below) later in
-    ⊎_elim if_first if_later (or_cases (eqb first net) (is_among nets net) among)
-
 read_net : (chips : List ℕ) (cells : List Cell) (net node past : ℕ) → All (IsWellFormed past) cells → list_any (λ (placed : ℕ × Cell). eqb placed.0 node && is_among (read_nets placed.1) net) (zip chips cells) ≡ true → net < past
 read_net [] cells net node past fit reads = absurd (true≢false (sym reads))
 read_net (chip ∷ chips) [] net node past fit reads = absurd (true≢false (sym reads))
 read_net (chip ∷ chips) (cell ∷ cells) net node past fit reads =
     let rest = list_any (λ (placed : ℕ × Cell). eqb placed.0 node && is_among (read_nets placed.1) net) (zip chips cells) in
-    let if_here = λ (here : (eqb chip node && is_among (read_nets cell) net) ≡ true). below_net (read_nets cell) net past (All-head (IsWellFormed past) cell cells fit).1 (and_parts (eqb chip node) (is_among (read_nets cell) net) here).1 in
+    let if_here = λ (here : (eqb chip node && is_among (read_nets cell) net) ≡ true). among_below (read_nets cell) net past (All-head (IsWellFormed past) cell cells fit).1 (and_parts (eqb chip node) (is_among (read_nets cell) net) here).1 in
     let if_later = λ (later : rest ≡ true). read_net chips cells net node past (All-tail (IsWellFormed past) cell cells fit) later in
     ⊎_elim if_here if_later (or_cases (eqb chip node && is_among (read_nets cell) net) rest reads)
 
@@ -60,7 +54,7 @@ needed_net flat chip_of net node needed =
     let past = flat.inputs + length flat.cells in
     let host = eqb node 0 && is_among flat.outputs net in
     let if_read = λ (reads : is_read_at flat chip_of net node ≡ true). read_net chip_of flat.cells net node past flat.cells_fit reads in
-    let if_host = λ (at_host : host ≡ true). below_net flat.outputs net past flat.outputs_fit (and_parts (eqb node 0) (is_among flat.outputs net) at_host).1 in
+    let if_host = λ (at_host : host ≡ true). among_below flat.outputs net past flat.outputs_fit (and_parts (eqb node 0) (is_among flat.outputs net) at_host).1 in
     ⊎_elim if_read if_host (or_cases (is_read_at flat chip_of net node) host (and_parts (not (eqb (node_of flat chip_of net) node)) (is_read_at flat chip_of net node || host) needed).1)
 
 -- ---- what a plan has

@@ -4,7 +4,7 @@ use Rattle.std.specs.List.{AllZip, list_any, list_all}
 use Rattle.vw_net.specs.Order.{is_among}
 use Rattle.vw_design.specs.declared.design.Design.{Design}
 use Rattle.vw_design.specs.declared.model.Model.{Model}
-use Rattle.vw_design.specs.Paths.{Word, placings, model_named, items_of}
+use Rattle.vw_design.specs.Paths.{Word, Placing, placings, model_named, items_of}
 use Rattle.vw_design.specs.ModelFaults.{is_reached, has_model_name}
 
 -- the number of the model of a name, where the file has one
@@ -13,10 +13,14 @@ IsNumberOfModel design name None = model_named design.models name ≡ None
 IsNumberOfModel design name (Some number) =
     (number < length design.models) × (slice_get design.models number ≡ model_named design.models name)
 
+-- the numbers of the models that placings name
+abbrev pub AreModelNumbers : Design → List Placing → List (Option ℕ) → Type 0
+AreModelNumbers design placings numbers = AllZip (λ placing number. IsNumberOfModel design placing.model number) placings numbers
+
 -- for each model, the numbers of the models that its `.subckt` items name, in order
 abbrev pub AreTargets : Design → List (List (Option ℕ)) → Type 0
 AreTargets design targets =
-    AllZip (λ model numbers. AllZip (λ placing number. IsNumberOfModel design placing.model number) (placings model.items) numbers) design.models targets
+    AllZip (λ model numbers. AreModelNumbers design (placings model.items) numbers) design.models targets
 
 -- for each model, whether it is reached
 abbrev pub AreModelMarks : Design → List Bool → Type 0

@@ -4,7 +4,7 @@ use std::process::Abort;
 use std::test::Fail;
 use vw_blif::read;
 use vw_design::Design;
-use vw_drivers::{Claim, ModelClaims, Outputs, claims_of, outputs_of};
+use vw_drivers::{Claim, ModelClaims, Outputs, claims_of, output_sets};
 use vw_models::targets_of;
 use vw_outside::Name;
 
@@ -29,7 +29,7 @@ pub fn claims_at(alloc: Global, design: &Design, model: u32) -> Result<ModelClai
     if design.models().len() <= model as usize {
         return Err("no model".into());
     }
-    let outputs = outputs_of(alloc, design)?;
+    let outputs = output_sets(alloc, design)?;
     let targets = targets_of(alloc, design)?;
     Ok(claims_of(alloc, design, outputs.as_slice(), targets.as_slice(), model)?)
 }

@@ -9,13 +9,13 @@ use Rattle.vw_design.specs.declared.design.Design.{Design}
 use Rattle.vw_design.specs.Distinct.{has_name}
 use Rattle.vw_design.specs.Paths.{Word, placings, model_named, model_outputs}
 use Rattle.vw_design.specs.Claims.{and_behind}
-use Rattle.vw_design.specs.ModelNumbers.{IsNumberOfModel}
+use Rattle.vw_design.specs.ModelNumbers.{AreModelNumbers, IsNumberOfModel}
 use Rattle.vw_design.proofs.ListPlaces.{none_at_place}
 use Rattle.vw_design.proofs.PairedLists.{AllZip-length, AllZip-at}
 use Rattle.vw_drivers.specs.declared.claim.Claim.TheVariants.{Bound}
 use Rattle.vw_drivers.specs.Firsts.{First}
 use Rattle.vw_drivers.specs.Outputs.{AreOutputs}
-use Rattle.vw_drivers.specs.Steps.GatheredClaims.{model_outputs_at, binds_made, AreModelNumbers, IsModelNumber}
+use Rattle.vw_drivers.specs.Steps.GatheredClaims.{model_outputs_at, binds_made, IsModelNumber}
 
 -- an element by its place
 pub at_place : {A : Type 0} (xs : List A) (k : ℕ) (x : A) → k < length xs → x ≡ get_or xs k x → slice_get xs k ≡ Some x

@@ -5,7 +5,7 @@ ghost use Rattle.vw_drivers.specs.Tables.{AreModelClaims};
 
 use crate::gather_claims::claims_of;
 use crate::model_claims::ModelClaims;
-use crate::model_outputs::outputs_of;
+use crate::model_outputs::output_sets;
 use std::alloc::{AllocError, Global};
 use vw_design::Design;
 use vw_net::Sequence;
@@ -20,7 +20,7 @@ pub fn all_claims(
     ensures claims { IfOk result (λ claims. AreModelClaims design.now claims.items) }
     ensures each { IfOk result (λ claims. length claims.items ≡ length design.now.models) }
 {
-    let outputs = outputs_of(alloc, design)?;
+    let outputs = output_sets(alloc, design)?;
     let mut claims = Vec::with_capacity(alloc, design.models().len())?;
     for model in 0..design.models().len() {
         claims.push(claims_of(alloc, design, outputs.as_slice(), targets, model as u32)?)?;

@@ -1,10 +1,10 @@
 //! Gathers the claims of a model.
 ghost use Rattle.std.specs.Prelude.{◌≡◌, ◌≤◌, ◌<◌, ◌-◌, ◌^◌, length, slice_get, option_and_then, IfOk, IfSome, OnOk, []};
-ghost use Rattle.vw_design.specs.ModelNumbers.{AreTargets};
+ghost use Rattle.vw_design.specs.ModelNumbers.{AreModelNumbers, AreTargets};
 ghost use Rattle.vw_design.specs.Paths.{placings};
 ghost use Rattle.vw_design.specs.Claims.{and_behind};
 ghost use Rattle.vw_drivers.specs.Outputs.{AreOutputs};
-ghost use Rattle.vw_drivers.specs.Steps.GatheredClaims.{model_outputs_at, port_first, with_firsts, binds_made, item_made, with_claim, with_all, with_items, ports_only, AreModelNumbers, IsModelNumber};
+ghost use Rattle.vw_drivers.specs.Steps.GatheredClaims.{model_outputs_at, port_first, with_firsts, binds_made, item_made, with_claim, with_all, with_items, ports_only, IsModelNumber};
 ghost use Rattle.vw_drivers.specs.Claimed.{AreClaims};
 
 use crate::claim::{Again, Claim};
@@ -64,7 +64,7 @@ impl ModelClaims {
     {
         let is_new = self.firsts.add(alloc, name.as_slice(), claim)?;
         if !is_new && self.again.is_none() {
-            let name = Name::of(name.as_slice().to_vec(alloc)?);
+            let name = name.copy(alloc)?;
             self.again = Some(Again { item, name });
         }
         Ok(())

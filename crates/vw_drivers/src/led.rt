@@ -65,7 +65,7 @@ fn claim_in(tables: &Tables, model: u32, number: u32) -> Option<Claim>
 }
 
 /// The driver to which a claim with a number leads in an instance, by the rows of drivers.
-fn lead_by(
+fn led_by(
     tables: &Tables,
     outputs: &[Sequence<Option<Source>>],
     ports: &[Sequence<Option<Source>>],
@@ -98,7 +98,7 @@ pub fn lead(
 {
     let number = claim?;
     let entry = tables.instances().get(instance as usize)?;
-    lead_by(tables, outputs, ports, instance, *entry, number)
+    led_by(tables, outputs, ports, instance, *entry, number)
 }
 
 /// The ways from the formals of the item that places an instance; none at the root.

@@ -26,6 +26,6 @@ pub use gather_claims::claims_of;
 pub use gather_names::names_of;
 pub use model_claims::ModelClaims;
 pub use model_names::{ModelNames, PlacedNames, Way};
-pub use model_outputs::{Outputs, outputs_of};
+pub use model_outputs::{Outputs, output_sets};
 pub use source::Source;
 pub use tables::Tables;

@@ -47,7 +47,7 @@ impl<'a> Outputs<'a> {
 }
 
 /// For each model of a design, the set of its outputs.
-pub fn outputs_of<'a>(alloc: Global, design: &'a Design) -> Result<Vec<Outputs<'a>>, AllocError>
+pub fn output_sets<'a>(alloc: Global, design: &'a Design) -> Result<Vec<Outputs<'a>>, AllocError>
     ensures { IfOk result (λ outputs. AreOutputs design.now outputs.items) }
 {
     let mut outputs = Vec::with_capacity(alloc, design.models().len())?;

@@ -29,7 +29,7 @@ fn target_at(targets: &[Option<u32>], before: usize) -> Option<u32>
 }
 
 /// The number of the first claim on a name in the model with a number.
-fn number_in(claims: &[ModelClaims], model: Option<u32>, name: &[u8]) -> Option<u32>
+fn number_in_firsts(claims: &[ModelClaims], model: Option<u32>, name: &[u8]) -> Option<u32>
     ensures { result ≡ number_named (firsts_of claims.now model) name.now }
 {
     claims.get(model? as usize)?.first(name)
@@ -56,7 +56,7 @@ fn way_from(number: Option<u32>, claim: Option<Claim>, actual: Option<u32>) -> W
 fn bind_way(own: &ModelClaims, claims: &[ModelClaims], model: Option<u32>, bind: &Bind) -> Way
     ensures { result ≡ way_of own.now.firsts (firsts_of claims.now model) bind.now }
 {
-    let number = number_in(claims, model, bind.formal().as_slice());
+    let number = number_in_firsts(claims, model, bind.formal().as_slice());
     let claim = number.and_then(|number| claim_in(claims, model, number));
     let actual = own.first(bind.actual().as_slice());
     way_from(number, claim, actual)

@@ -13,7 +13,7 @@ use vw_elab::Elaborated;
 use vw_net::{Cell, Sequence};
 
 /// The item of a cell.
-pub fn item_of(elaborated: &Elaborated, cell: u32) -> &Item
+pub fn item_at_cell(elaborated: &Elaborated, cell: u32) -> &Item
     requires { cell < cell_count elaborated.now }
     ensures { item_with_numbers (slice_get (cells elaborated.now) cell) ≡ Some result.now }
 {

@@ -9,7 +9,7 @@ ghost use Rattle.vw_design.specs.Preorder.{cells};
 ghost use Rattle.vw_design.specs.Reads.{root_outputs};
 ghost use Rattle.vw_flat.specs.Steps.Numbers.{nets};
 
-use crate::cell::{cell_of, item_of};
+use crate::cell::{cell_of, item_at_cell};
 use crate::number::number_output;
 use std::alloc::{AllocError, Global};
 use vw_design::histories_agree;
@@ -25,14 +25,14 @@ fn cells_of(alloc: Global, elaborated: &Elaborated) -> Result<Vec<Cell>, AllocEr
 {
     let mut made = Vec::with_capacity(alloc, elaborated.cells() as usize)?;
     for cell in 0..elaborated.cells() {
-        let item = item_of(elaborated, cell);
+        let item = item_at_cell(elaborated, cell);
         made.push(cell_of(alloc, elaborated, cell, item)?)?;
     }
     Ok(made)
 }
 
 /// The numbers of the outputs of the root.
-fn outputs_of(alloc: Global, elaborated: &Elaborated) -> Result<Vec<u32>, AllocError>
+fn output_numbers(alloc: Global, elaborated: &Elaborated) -> Result<Vec<u32>, AllocError>
     ensures are { IfOk result (λ outputs.
         map (λ net. number_of elaborated.now net.path net.name) (root_outputs elaborated.now)
         ≡ map (λ net. Some net) outputs.items) }
@@ -58,7 +58,7 @@ pub fn flatten(alloc: Global, elaborated: &Elaborated) -> Result<Flat, AllocErro
     elaborated.is_accepted();
     histories_agree();
     let cells = cells_of(alloc, elaborated)?;
-    let outputs = outputs_of(alloc, elaborated)?;
+    let outputs = output_numbers(alloc, elaborated)?;
     Ok(Flat::make(
         elaborated.columns(),
         Sequence::of(cells),

@@ -4,7 +4,7 @@ ghost use Rattle.vw_design.specs.Limits.{cell_count};
 ghost use Rattle.vw_design.specs.Preorder.{cells};
 ghost use Rattle.vw_flat.specs.Printed.{driven_name, printed_site};
 
-use crate::cell::item_of;
+use crate::cell::item_at_cell;
 use std::alloc::{AllocError, Global};
 use vw_design::Item;
 use vw_elab::Elaborated;
@@ -17,7 +17,7 @@ pub fn path_of(alloc: Global, elaborated: &Elaborated, cell: u32) -> Result<Name
         ≡ Some name) }
 {
     let instance = elaborated.site(cell).instance;
-    match item_of(elaborated, cell) {
+    match item_at_cell(elaborated, cell) {
         Item::Names { out, .. } => elaborated.printed(alloc, instance, out),
         Item::Latch { q, .. } => elaborated.printed(alloc, instance, q),
         Item::Sub { .. } => unreachable!(),

@@ -14,8 +14,8 @@ use Rattle.vw_design.specs.ModelNumbers.{is_reached_model, has_number_among, IsM
 use Rattle.vw_design.proofs.Closed.{at_reached, model_is_named}
 use Rattle.vw_design.proofs.ListElements.{Has, at-Has, all-Has, from-any, any-Has}
 use Rattle.vw_design.proofs.Names.{equal_names}
-use Rattle.vw_net.proofs.Orders.{among_at}
-use Rattle.vw_order.proofs.Among.{at_among, front_position, once_short}
+use Rattle.vw_net.proofs.Orders.{among_at, at_among}
+use Rattle.vw_order.proofs.Among.{front_position, once_short}
 use Rattle.vw_models.proofs.NumbersInLists.{among_Has}
 use Rattle.vw_design.proofs.ModelNumbers.{place_of_model, model_of_place, name_of_named, named_by}
 use Rattle.vw_models.proofs.OrderedModels.{place_in_order, ranking}
@@ -41,7 +41,7 @@ module _ (design : Design) (order : List ℕ) (is_order : IsModelOrder design or
   among_within number among = reached_within design number (sym (is_order.each number) ∙ among)
 
   pub order_within : (i : ℕ) → i < length order → get_or order i 0 < length design.models
-  order_within i inside = among_within (get_or order i 0) (at_among order i inside)
+  order_within i inside = among_within (get_or order i 0) (at_among order i 0 inside)
 
   apart : (i j : ℕ) (d : ℕ) → i < j → j < length order → eqb (get_or order i d) (get_or order j d) ≡ false
   apart i j d before inside = by (eqb (get_or order i d) (get_or order j d)) refl where
@@ -76,7 +76,7 @@ module _ (design : Design) (order : List ℕ) (is_order : IsModelOrder design or
     low : (name : Word) → is_reached design name ≡ true → place_in_order design order is_order name < length design.models
     low name reached =
         let place = ordered name reached in
-        let among = at_among order place.k place.inside in
+        let among = at_among order place.k 0 place.inside in
         let passes : has_model_name name (slice_get design.models (get_or order place.k 0)) ≡ true =
         ap (λ (n : ℕ). has_model_name name (slice_get design.models n)) place.number ∙ ap (has_model_name name) place.at ∙ equal_names place.model.name name (name_of_named design name place.model place.named) in
         let any = any-Has (λ (n : ℕ). has_model_name name (slice_get design.models n)) (get_or order place.k 0) order (among_Has order (get_or order place.k 0) among) passes in

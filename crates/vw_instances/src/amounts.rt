@@ -1,8 +1,7 @@
 //! Counts of models, from those of the models that they place.
 ghost use Rattle.std.specs.Prelude.{◌≡◌, ◌+◌, ◌≤◌, min, length, IfOk};
-ghost use Rattle.std.specs.List.{AllZip};
 ghost use Rattle.vw_design.specs.Counts.{placed_one};
-ghost use Rattle.vw_design.specs.ModelNumbers.{AreTargets, IsModelOrder, IsNumberOfModel};
+ghost use Rattle.vw_design.specs.ModelNumbers.{AreTargets, IsModelOrder, AreModelNumbers};
 ghost use Rattle.vw_design.specs.Paths.{placings};
 ghost use Rattle.vw_instances.specs.Steps.Counting.{
   most,
@@ -21,7 +20,7 @@ use vw_net::Sequence;
 
 /// The number of the model that an item places: the one at this place among those that the item's model places. A gate or
 /// latch places none.
-pub fn target_of(item: &Item, targets: &[Option<u32>], place: usize) -> Option<u32>
+pub fn target_in(item: &Item, targets: &[Option<u32>], place: usize) -> Option<u32>
     requires { place + placed_one item.now ≤ length targets.now }
     ensures { result ≡ target_in targets.now place item.now }
 {
@@ -52,14 +51,13 @@ fn amount_of(
     counts: &[u32],
 ) -> u32
     requires each { length counts.now ≡ length design.now.models }
-    requires targets { AllZip (λ placing number. IsNumberOfModel design.now placing.model number)
-        (placings items.now) targets.now }
+    requires targets { AreModelNumbers design.now (placings items.now) targets.now }
     ensures { result ≡ min most (amount measure (count_in design.now counts.now) items.now) }
 {
     let mut total = 0;
     let mut place = 0;
     for item in items {
-        let target = target_of(item, targets, place);
+        let target = target_in(item, targets, place);
         let below = count_of(counts, target);
         total = measure.merge(total, measure.of_item(item, below));
         place += places(item);

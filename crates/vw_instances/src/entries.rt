@@ -1,11 +1,11 @@
 //! What stands before the items of models.
 ghost use Rattle.std.specs.Prelude.{◌≡◌, length, IfOk};
 ghost use Rattle.std.specs.List.{AllZip};
-ghost use Rattle.vw_design.specs.ModelNumbers.{AreTargets, IsNumberOfModel};
+ghost use Rattle.vw_design.specs.ModelNumbers.{AreTargets, AreModelNumbers};
 ghost use Rattle.vw_design.specs.Paths.{placings};
 ghost use Rattle.vw_instances.specs.Steps.Counting.{AreEntries};
 
-use crate::amounts::{count_of, target_of};
+use crate::amounts::{count_of, target_in};
 use crate::counting_tables::CountingTables;
 use crate::measure::{Measure, places};
 use crate::sizes::Before;
@@ -23,8 +23,7 @@ fn entries_of(
 ) -> Result<Sequence<Before>, AllocError>
     requires cells { length tables.now.cells.items ≡ length design.now.models }
     requires instances { length tables.now.instances.items ≡ length design.now.models }
-    requires targets { AllZip (λ placing number. IsNumberOfModel design.now placing.model number)
-        (placings items.now) targets.now }
+    requires targets { AreModelNumbers design.now (placings items.now) targets.now }
     ensures { IfOk result (AreEntries design.now tables.now items.now) }
 {
     let mut entries = Vec::with_capacity(alloc, items.len())?;
@@ -33,7 +32,7 @@ fn entries_of(
     let mut place = 0;
     for item in items {
         entries.push(Before { cells, instances })?;
-        let target = target_of(item, targets, place);
+        let target = target_in(item, targets, place);
         let more_cells = count_of(tables.cells.as_slice(), target);
         cells = Measure::Cells.merge(cells, Measure::Cells.of_item(item, more_cells));
         let more = count_of(tables.instances.as_slice(), target);

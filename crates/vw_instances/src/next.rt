@@ -18,7 +18,7 @@ pub enum Next {
 }
 
 /// The number of the model at a place of a model, the places being counted from 0.
-pub fn target_of(targets: &[Sequence<Option<u32>>], model: u32, before: u32) -> Option<u32>
+pub fn target_at(targets: &[Sequence<Option<u32>>], model: u32, before: u32) -> Option<u32>
     ensures { result ≡ target_at targets.now model before }
 {
     let numbers = targets.get(model as usize)?;
@@ -35,7 +35,7 @@ pub fn coming(design: &Design, targets: &[Sequence<Option<u32>>], frame: Frame) 
     match model.items().get(frame.item as usize) {
         None => Next::End,
         Some(Item::Names { .. } | Item::Latch { .. }) => Next::Cell,
-        Some(Item::Sub { .. }) => match target_of(targets, frame.model, frame.before) {
+        Some(Item::Sub { .. }) => match target_at(targets, frame.model, frame.before) {
             None => Next::End,
             Some(model) => Next::Place(model),
         },

@@ -18,7 +18,7 @@ use Rattle.vw_design.proofs.FilteredLists.{find_same}
 use Rattle.vw_design.proofs.PairedLists.{AllZip-at}
 use Rattle.vw_models.specs.declared.placement.Placement.{Placement}
 use Rattle.vw_models.specs.Steps.PlacedModels.{at_placement}
-use Rattle.vw_models.proofs.Searched.{found_next, found_now}
+use Rattle.vw_models.proofs.FirstAtPlaced.{found_next, found_now}
 
 -- what goes along with the model at a number
 pub zip_at : {A : Type 0} (R : Model → A → Type 0) (models : List Model) (ys : List A) (k : ℕ) (model : Model) → AllZip R models ys → slice_get models k ≡ Some model

@@ -18,8 +18,8 @@ use Rattle.vw_design.proofs.Names.{Has-has_name}
 use Rattle.vw_models.specs.Steps.Reach.{Targets}
 use Rattle.vw_order.specs.Graphs.{Reads}
 use Rattle.vw_order.specs.Circles.{IsNumberCircle, BeginsWithLeast}
-use Rattle.vw_net.proofs.Orders.{among_at}
-use Rattle.vw_order.proofs.Among.{among_right, at_among, once_apart}
+use Rattle.vw_net.proofs.Orders.{among_at, at_among}
+use Rattle.vw_order.proofs.Among.{among_right, once_apart}
 use Rattle.vw_models.specs.Steps.ModelGraphs.{graph_of_models}
 use Rattle.vw_models.specs.Steps.ModelNames.{name_of, numbered_names}
 use Rattle.vw_models.proofs.NumbersInLists.{Has_among}
@@ -82,7 +82,7 @@ module _ (design : Design) where
     name_at i name inside = get_or-map called circle i 0 name inside
 
     place_at : (i : ℕ) (name : Word) → i < length circle → place_in_file design (get_or (numbered_names design circle) i name) ≡ get_or circle i 0
-    place_at i name inside = ap (place_in_file design) (name_at i name inside) ∙ place_of_called (get_or circle i 0) (circle_within (get_or circle i 0) (at_among circle i inside))
+    place_at i name inside = ap (place_in_file design) (name_at i name inside) ∙ place_of_called (get_or circle i 0) (circle_within (get_or circle i 0) (at_among circle i 0 inside))
 
     placed_pair : (number next : ℕ) → Reads (graph_of_models design targets) number next → model_places (model_named design.models (called number)) (called next) ≡ true
     placed_pair number next places =
@@ -97,7 +97,7 @@ module _ (design : Design) where
       reached = λ i name inside.
           let here : i < length circle = omega (arith, names_long, inside) in
           ap (is_reached design) (name_at i name here)
-          ∙ reached_called (get_or circle i 0) (is_circle.counted (get_or circle i 0) (at_among circle i here));
+          ∙ reached_called (get_or circle i 0) (is_circle.counted (get_or circle i 0) (at_among circle i 0 here));
       distinct = names_apart circle is_circle.once circle_within;
       placed = subst (λ (l : List Word). AllZip (λ name next. model_places (model_named design.models name) next ≡ true) (numbered_names design circle) l) (map_turned called circle)
           (AllZip-maps (Reads (graph_of_models design targets)) (λ name next. model_places (model_named design.models name) next ≡ true) called circle (turned circle) placed_pair is_circle.each);

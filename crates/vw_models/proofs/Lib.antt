@@ -1,5 +1,5 @@
 pub mod AddedPlacements
-pub mod Searched
+pub mod FirstAtPlaced
 pub mod AtPlacedModel
 pub mod NumbersInLists
 pub mod Reaches

@@ -24,8 +24,8 @@ use Rattle.vw_design.proofs.Names.{equal_names}
 use Rattle.vw_models.specs.Steps.Reach.{Targets, IsClosed, PlacesAt}
 use Rattle.vw_models.specs.Steps.Unknown.{unknown_of}
 use Rattle.vw_order.specs.Orders.{IsNumberOrder}
-use Rattle.vw_net.proofs.Orders.{among_at}
-use Rattle.vw_order.proofs.Among.{at_among, front_among, front_position, once_apart}
+use Rattle.vw_net.proofs.Orders.{among_at, at_among}
+use Rattle.vw_order.proofs.Among.{front_among, front_position, once_apart}
 use Rattle.vw_models.specs.Steps.ModelGraphs.{graph_of_models}
 use Rattle.vw_models.proofs.NumbersInLists.{among_Has, Has_among}
 use Rattle.vw_models.proofs.FirstUnknown.{unknown_is}
@@ -71,7 +71,7 @@ module _ (design : Design) where
         let item = from-filter_map placing_of placing model.items has in
         let sub = sub_of placing item.0 item.2 in
         let has_sub : Has (Sub sub.0 placing.model placing.binds) model.items = subst (λ (x : Item). Has x model.items) sub.1 item.1 in
-        let reached : is_reached design model.name ≡ true = sym (ap (is_reached_model design) at) ∙ is_order.counted (get_or order i 0) (at_among order i within) in
+        let reached : is_reached design model.name ≡ true = sym (ap (is_reached_model design) at) ∙ is_order.counted (get_or order i 0) (at_among order i 0 within) in
         let known = places_known (get_or order i 0) model at reached sub.0 placing.model placing.binds has_sub in
         let places = any-Has (names_model placing.model) (Sub sub.0 placing.model placing.binds) model.items has_sub (equal_names placing.model placing.model refl) in
         let found = number_placed design targets are (get_or order i 0) model placing.model at places in

@@ -4,11 +4,11 @@ use Rattle.std.specs.List.{IsDistinct}
 use Rattle.std.proofs.lemmas.Bool.{cases_lt}
 use Rattle.std.proofs.lemmas.List.{get_or_append_left}
 use Rattle.std.proofs.lemmas.Option.{none-some, same_Some}
-use Rattle.vw_net.proofs.Orders.{among_at}
+use Rattle.vw_net.proofs.Orders.{among_at, at_among}
 use Rattle.vw_net.proofs.Lists.{once_none}
 use Rattle.vw_net.specs.Order.{is_among}
 use Rattle.vw_models.specs.Steps.Reach.{Targets, PlacesAt, AreWithin, IsClosed, AreReached, with_number, with_targets, AreMarked, AreReachMarks}
-use Rattle.vw_order.proofs.Among.{among_left, among_either, among_one, among_last, at_among, once_push, once_short}
+use Rattle.vw_order.proofs.Among.{among_left, among_either, among_one, among_last, once_push, once_short}
 
 -- numbers grow at their end
 pub record Grows (old new : List ℕ) : Type 0 where
@@ -115,7 +115,7 @@ module _ (targets : Targets) where
       → IsReaching (at + 1) (with_targets found (get_or targets (get_or found at 0) []))
   go_on within at found far here =
       let number = get_or found at 0 in
-      let added = add_all found (get_or targets number []) far.good (λ place placed places. fit within found far.good number (at_among found at here) place placed places) in
+      let added = add_all found (get_or targets number []) far.good (λ place placed places. fit within found far.good number (at_among found at 0 here) place placed places) in
       record {
         good = added.good;
         root = added.grows.keeps 0 far.root;

@@ -7,7 +7,6 @@ ghost use Rattle.vw_models.specs.Steps.PlacedModels.{IsPlacement, placed_models}
 ghost use Rattle.vw_models.specs.Steps.Formals.{IsBothWays};
 ghost use Rattle.vw_models.specs.PlacedFaults.{named_output};
 
-use crate::copy::copy;
 use crate::formals::ports_of;
 use crate::output_of::OutputOf;
 use crate::placement::{Placement, placed_models};
@@ -48,8 +47,8 @@ fn first_both(
         if let Some(output) = found {
             let model = &design.models()[placement.number as usize];
             return Ok(Some(OutputOf {
-                model: copy(alloc, model.name())?,
-                output: copy(alloc, output)?,
+                model: model.name().copy(alloc)?,
+                output: output.copy(alloc)?,
             }));
         }
     }

@@ -7,13 +7,6 @@ use vw_design::Design;
 use vw_net::Sequence;
 use vw_outside::Name;
 
-/// A name of its own with the same bytes.
-fn copy(alloc: Global, name: &Name) -> Result<Name, AllocError>
-    ensures { IfOk result (λ copy. copy ≡ name.now) }
-{
-    Ok(Name::of(name.as_slice().to_vec(alloc)?))
-}
-
 /// The names of the models of a circle, in order.
 pub fn circle_names(
     alloc: Global,
@@ -26,7 +19,7 @@ pub fn circle_names(
     let mut names = Vec::with_capacity(alloc, circle.len())?;
     for number in circle {
         let name = design.models()[*number as usize].name();
-        names.push(copy(alloc, name)?)?;
+        names.push(name.copy(alloc)?)?;
     }
     Ok(Sequence::of(names))
 }

@@ -4,7 +4,6 @@
 
 mod both;
 mod circle;
-mod copy;
 mod formal_at;
 mod formals;
 mod laws;

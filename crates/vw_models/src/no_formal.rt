@@ -9,7 +9,6 @@ ghost use Rattle.vw_models.specs.Steps.Formals.{AreFormals};
 ghost use Rattle.vw_design.specs.Paths.{lent};
 ghost use Rattle.vw_models.specs.PlacedFaults.{name_at};
 
-use crate::copy::copy;
 use crate::formal_at::FormalAt;
 use crate::formals::all_formals;
 use crate::placement::{Placement, placed_models};
@@ -51,7 +50,7 @@ fn first_unknown(
         if let Some(formal) = found {
             return Ok(Some(FormalAt {
                 line: placement.line,
-                formal: copy(alloc, formal)?,
+                formal: formal.copy(alloc)?,
             }));
         }
     }

@@ -2,7 +2,7 @@
 ghost use Rattle.std.specs.Prelude.{◌≡◌, [], List, filter_map, IfOk, OnOk};
 ghost use Rattle.std.specs.List.{AllZip};
 ghost use Rattle.vw_design.specs.Paths.{placings};
-ghost use Rattle.vw_design.specs.ModelNumbers.{AreTargets, AreModelMarks, IsNumberOfModel};
+ghost use Rattle.vw_design.specs.ModelNumbers.{AreTargets, AreModelMarks, AreModelNumbers};
 ghost use Rattle.vw_models.specs.Steps.PlacedModels.{IsPlacement, AreAdded, placed_by, placed_models};
 
 use std::alloc::{AllocError, Global};
@@ -54,8 +54,7 @@ fn add_placed<'a>(
     targets: &[Option<u32>],
     placed: &mut Vec<Placement<'a>>,
 ) -> Result<(), AllocError>
-    requires { AllZip (λ placing number. IsNumberOfModel design.now placing.model number)
-        (placings items.now) targets.now }
+    requires { AreModelNumbers design.now (placings items.now) targets.now }
     ensures { OnOk result (AreAdded design.now placed.old.items
         (filter_map (placed_by design.now) items.now) placed.new.items) }
 {

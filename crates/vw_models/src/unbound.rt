@@ -7,7 +7,6 @@ ghost use Rattle.vw_models.specs.Steps.PlacedModels.{IsPlacement, placed_models}
 ghost use Rattle.vw_design.specs.Paths.{lent};
 ghost use Rattle.vw_models.specs.PlacedFaults.{name_at};
 
-use crate::copy::copy;
 use crate::formal_at::FormalAt;
 use crate::placement::{Placement, placed_models};
 use std::alloc::{AllocError, Global};
@@ -46,7 +45,7 @@ fn first_unbound(
         if let Some(formal) = found {
             return Ok(Some(FormalAt {
                 line: placement.line,
-                formal: copy(alloc, formal)?,
+                formal: formal.copy(alloc)?,
             }));
         }
     }

@@ -1,10 +1,9 @@
 //! Items that name no model of the file.
 ghost use Rattle.std.specs.Prelude.{◌≡◌, List, Some, None, is_none, if◌then◌else◌};
-ghost use Rattle.std.specs.List.{AllZip};
 ghost use Rattle.vw_design.specs.Lists.{first_found};
 ghost use Rattle.vw_design.specs.Paths.{placings, model_named};
 ghost use Rattle.vw_design.specs.ModelFaults.{by_placing, unknown_model};
-ghost use Rattle.vw_design.specs.ModelNumbers.{AreTargets, AreModelMarks, IsNumberOfModel};
+ghost use Rattle.vw_design.specs.ModelNumbers.{AreTargets, AreModelMarks, AreModelNumbers};
 ghost use Rattle.vw_models.specs.Steps.Unknown.{unknown_of};
 
 use vw_design::{Design, Item};
@@ -34,8 +33,7 @@ pub fn unknown_model(
 
 /// The line of the first of a model's items that names no model of the file.
 fn unknown_item(design: &Design, items: &[Item], targets: &[Option<u32>]) -> Option<u64>
-    requires { AllZip (λ placing number. IsNumberOfModel design.now placing.model number)
-        (placings items.now) targets.now }
+    requires { AreModelNumbers design.now (placings items.now) targets.now }
     ensures { result ≡ first_found (unknown_of design.now) items.now }
 {
     let mut place = 0;

@@ -1,9 +1,11 @@
 -- Numbers among others, which cells are gates, and how long an order of gates is.
-use Rattle.std.proofs.Common.{◌≡◌, ◌<◌, ◌≤◌, ◌||◌, ◌==◌, ℕ, zero, suc, Bool, true, false, List, [], ◌∷◌, length, get_or, slice_get, eqb, ap, ap₂, refl, sym, ◌∙◌, ⊎_elim, ne_eqb, true≢false, arith}
+use Rattle.std.proofs.Common.{◌≡◌, ◌<◌, ◌≤◌, ◌||◌, ◌==◌, ℕ, zero, suc, Bool, true, false, List, [], ◌∷◌, length, get_or, slice_get, eqb, ap, ap₂, refl, sym, ◌∙◌, ⊎_elim, ne_eqb, true≢false, All, arith}
 use Rattle.std.specs.List.{list_any, IsDistinct}
-use Rattle.std.proofs.lemmas.Bool.{cases_lt, eqb-true, or_cases}
+use Rattle.std.proofs.lemmas.Bool.{cases_lt, eq-eqb, eqb-true, or_cases}
 use Rattle.std.proofs.lemmas.Grind.{common_steps}
 use Rattle.std.proofs.lemmas.List.{get_or_default}
+use Rattle.std.proofs.lemmas.List.Elements.{All-head, All-tail}
+use Rattle.std.proofs.lemmas.List.Folds.{list_any_at}
 use Rattle.std.proofs.lemmas.Map.Keys.{IsDistinct-from_apart}
 use Rattle.std.proofs.lemmas.Map.Steps.{length-le_from_distinct_below}
 use Rattle.std.proofs.lemmas.Option.{slice_get_past}
@@ -28,6 +30,18 @@ among_at (first ∷ numbers) number among =
     (λ here. (0, omega arith, eqb-true first number here))
     (λ there. let at = among_at numbers number there in (suc at.0, omega (arith, at.1), at.2))
     (or_cases (first == number) (is_among numbers number) among)
+
+-- and has what each of them has
+pub among_below : (nets : List ℕ) (net past : ℕ) → All (λ other. other < past) nets → is_among nets net ≡ true → net < past
+among_below [] net past below among = absurd (true≢false (sym among))
+among_below (first ∷ nets) net past below among =
+    let if_first = λ (is : eqb first net ≡ true). let same : first ≡ net = eqb-true first net is in let low : net < past = omega (arith, All-head (λ other. other < past) first nets below) in low in
+    let if_later = λ (later : is_among nets net ≡ true). among_below nets net past (All-tail (λ other. other < past) first nets below) later in
+    ⊎_elim if_first if_later (or_cases (eqb first net) (is_among nets net) among)
+
+-- what stands at a place is among them
+pub at_among : (numbers : List ℕ) (i default : ℕ) → i < length numbers → is_among numbers (get_or numbers i default) ≡ true
+at_among numbers i default within = list_any_at (λ (other : ℕ). other == get_or numbers i default) numbers i default within (eq-eqb (get_or numbers i default) (get_or numbers i default) refl)
 
 -- a gate's number is below the number of cells
 pub gate_within : (cells : List Cell) (number : ℕ) → is_gate (slice_get cells number) ≡ true → number < length cells

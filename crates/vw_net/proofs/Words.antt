@@ -209,7 +209,7 @@ test-bit true = refl
 test-bit false = refl
 
 -- the word of a table of at most six inputs has its value at the place of any values
-pub word_tells : (cover : Cover) (bits : List Bool) → cover.inputs ≤ 6 → length bits ≡ cover.inputs → bit_of cover.word (place_of bits) ≡ cover_value cover bits
-word_tells cover bits few size =
+pub word_is_table : (cover : Cover) (bits : List Bool) → cover.inputs ≤ 6 → length bits ≡ cover.inputs → bit_of cover.word (place_of bits) ≡ cover_value cover bits
+word_is_table cover bits few size =
     let its = table_bit cover.inputs cover.on cover.rows bits few size cover.even in
     ap (λ (word : ℕ). bit_of word (place_of bits)) cover.word_is ∙ ap (λ (n : ℕ). nat_eq n 1) (shr_and_one (table_word cover.inputs cover.on cover.rows) (place_of bits) ∙ its) ∙ test-bit (cover_value cover bits)

@@ -81,7 +81,7 @@ pub struct Cover {
     pub inputs: u32,
     pub on: bool,
     pub rows: Sequence<Row>,
-    /// Where there are at most six inputs: bit k is the value where input i has bit i of k. The law `words_tell` says so.
+    /// Where there are at most six inputs: bit k is the value where input i has bit i of k. The law `words_are_tables` says so.
     pub word: u64,
     ghost narrow: { inputs ≤ 128 },
     ghost even: { All (λ row. length row.marks ≡ inputs) rows },

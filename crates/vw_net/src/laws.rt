@@ -10,7 +10,7 @@ ghost use Rattle.vw_net.specs.Word.{bit_of, place_of};
 ghost use Rattle.vw_net.specs.History.{flat_history, joined};
 
 /// The word of a table of at most six inputs has, at the place of any values, the table's value of them.
-pub fn words_tell()
+pub fn words_are_tables()
     ensures { (cover : Cover) (bits : List Bool) → cover.inputs ≤ 6 → length bits ≡ cover.inputs
         → bit_of cover.word (place_of bits) ≡ cover_value cover bits }
 {}

@@ -13,7 +13,7 @@ mod word;
 pub use cell::{Cell, Init};
 pub use cover::{Cover, Mark, Row};
 pub use flat::Flat;
-pub use laws::{gates_settle, histories_join, levels_settle, words_tell};
+pub use laws::{gates_settle, histories_join, levels_settle, words_are_tables};
 pub use ordered::Ordered;
 pub use sequence::{Bits, Rows, Sequence};
 pub use word::{WORD_INPUTS, bit_of};

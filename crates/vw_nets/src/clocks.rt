@@ -8,7 +8,6 @@ ghost use Rattle.vw_drivers.specs.Tables.{root_firsts};
 ghost use Rattle.vw_nets.specs.Steps.Ports.{root_ports};
 ghost use Rattle.vw_nets.specs.Nets.{AreNets, printed_net, ports_pair};
 
-use crate::copy::copy;
 use crate::nets::{Nets, Pair};
 use crate::ports::{first_port, other_port};
 use crate::wanted::Wanted;
@@ -56,8 +55,8 @@ impl<'a> Nets<'a> {
         let Some(other) = self.port_named(other) else {
             return Ok(None);
         };
-        let first = copy(alloc, first)?;
-        let other = copy(alloc, other)?;
+        let first = first.copy(alloc)?;
+        let other = other.copy(alloc)?;
         Ok(Some(Pair { first, other }))
     }
 

@@ -64,12 +64,12 @@ impl<'a> Nets<'a> {
             → item_at self.now.design.now path cell.item ≡ Some item
             → IsTyped self.now.design.now (other_edge edge path item) result }
     {
-        match self.item_of(cell)? {
+        match self.item_found(cell)? {
             Item::Latch {
                 q,
                 edge: written,
                 ..
-            } if is_other(edge, *written) => Some(Typed {
+            } if is_other_edge(edge, *written) => Some(Typed {
                 instance: cell.instance,
                 q,
                 edge: *written,
@@ -80,7 +80,7 @@ impl<'a> Nets<'a> {
 }
 
 /// Whether a latch writes a type other than this one.
-fn is_other(edge: Edge, written: Edge) -> bool
+fn is_other_edge(edge: Edge, written: Edge) -> bool
     ensures { result ≡ differs edge written }
 {
     match written {

@@ -11,7 +11,7 @@ use vw_outside::Name;
 
 impl<'a> Nets<'a> {
     /// The item of a cell.
-    pub(crate) fn item_of(&self, cell: CellSite) -> Option<&'a Item>
+    pub(crate) fn item_found(&self, cell: CellSite) -> Option<&'a Item>
         ensures { lent_item result ≡ item_at_site self.now.design.now self.now.tables.now cell }
     {
         let entry = self.tables.instances().get(cell.instance as usize)?;

@@ -3,7 +3,6 @@
 
 mod clocks;
 mod columns;
-mod copy;
 mod edges;
 mod items;
 mod marks;

@@ -44,7 +44,7 @@ impl<'a> Nets<'a> {
             (item_ports self.now.design.now path item)
             ≡ map (λ (number : ℕ). Some number) (option_to_list result) }
     {
-        let item = self.item_of(cell)?;
+        let item = self.item_found(cell)?;
         let numbers = self.numbers_of(cell)?;
         match control_of(item) {
             Some(_) => port_of(
@@ -104,7 +104,7 @@ fn name_numbered<'a>(claims: &ModelClaims, names: &'a [Name], number: u32) -> Op
         ≡ find (λ name. has_number (number_named claims.now.firsts name) number) names.now }
 {
     for name in names {
-        if is_number(claims.first(name.as_slice()), number) {
+        if is_port_number(claims.first(name.as_slice()), number) {
             return Some(name);
         }
     }
@@ -112,7 +112,7 @@ fn name_numbered<'a>(claims: &ModelClaims, names: &'a [Name], number: u32) -> Op
 }
 
 /// Whether a claim that was found has a number.
-fn is_number(found: Option<u32>, number: u32) -> bool
+fn is_port_number(found: Option<u32>, number: u32) -> bool
     ensures { result ≡ has_number found number }
 {
     match found {

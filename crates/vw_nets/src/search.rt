@@ -160,7 +160,7 @@ impl<'a> Nets<'a> {
             → lent result
             ≡ wanted_among self.now.design.now wanted.now path (wanted_names wanted.now item) }
     {
-        let item = self.item_of(cell)?;
+        let item = self.item_found(cell)?;
         let numbers = self.numbers_of(cell)?;
         self.read_found(cell.instance, item, numbers, wanted)
     }

@@ -34,9 +34,6 @@ among_first number numbers = or_left (number == number) (is_among numbers number
 pub among_last : (numbers : List ℕ) (number : ℕ) → is_among (numbers ++ number ∷ []) number ≡ true
 among_last numbers number = among_right numbers (number ∷ []) number (among_first number [])
 
-pub at_among : (numbers : List ℕ) (i : ℕ) → i < length numbers → is_among numbers (get_or numbers i 0) ≡ true
-at_among numbers i within = list_any_at (λ (other : ℕ). other == get_or numbers i 0) numbers i 0 within (eq-eqb (get_or numbers i 0) (get_or numbers i 0) refl)
-
 -- numbers of which none stands twice
 pub once_part : (front back : List ℕ) → IsDistinct eqb (front ++ back) → IsDistinct eqb back
 once_part [] back once = once

@@ -5,12 +5,12 @@ use Rattle.std.proofs.lemmas.Bool.{cases_lt}
 use Rattle.std.proofs.lemmas.List.{take-append-drop, length-take, get_or-drop, get_or_append_left}
 use Rattle.std.proofs.lemmas.List.Sorted.{IsPermutation-append_comm}
 use Rattle.std.proofs.lemmas.Map.Keys.{IsDistinct-IsPermutation}
-use Rattle.vw_net.proofs.Orders.{among_at}
+use Rattle.vw_net.proofs.Orders.{among_at, at_among}
 use Rattle.vw_net.specs.Order.{is_among}
 use Rattle.vw_order.specs.Graphs.{Graph, Reads}
 use Rattle.vw_order.specs.Circles.{IsNumberCircle, BeginsWithLeast}
 use Rattle.vw_order.specs.Steps.Rounds.{IsLeast}
-use Rattle.vw_order.proofs.Among.{among_left, among_right, among_either, at_among}
+use Rattle.vw_order.proofs.Among.{among_left, among_right, among_either}
 use Rattle.vw_net.proofs.Orders.{eqb_comm}
 use Rattle.vw_order.proofs.Rounds.{turns}
 
@@ -42,7 +42,7 @@ pub from_least : (graph : Graph) (circle : List ℕ) (start : ℕ) → IsLeast c
 from_least graph circle start least is_circle = (round_circle circle start least.0 graph is_circle, begins) where
   begins : BeginsWithLeast (drop start circle ++ take start circle)
   begins = λ i inside.
-      let at = among_at circle (get_or (drop start circle ++ take start circle) i 0) (round_among circle start least.0 (get_or (drop start circle ++ take start circle) i 0) (at_among (drop start circle ++ take start circle) i inside)) in
+      let at = among_at circle (get_or (drop start circle ++ take start circle) i 0) (round_among circle start least.0 (get_or (drop start circle ++ take start circle) i 0) (at_among (drop start circle ++ take start circle) i 0 inside)) in
       let most : get_or circle start 0 ≤ get_or circle at.0 0 = least.1 at.0 at.1 in
       omega (arith, round_first circle start least.0, most, at.2)
 

@@ -3,7 +3,7 @@ pub mod Among
 pub mod Rounds
 pub mod LeastFirst
 pub mod DepthSearches
-pub mod Growth
+pub mod OrderOrCircle
 pub mod NoCircle
 pub mod Inputs
 pub mod OrderedGates

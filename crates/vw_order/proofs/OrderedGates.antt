@@ -9,10 +9,10 @@ use Rattle.vw_net.specs.declared.cell.Cell.TheVariants.{Gate, Latch}
 use Rattle.vw_net.specs.declared.flat.Flat.{Flat}
 use Rattle.vw_net.specs.Order.{IsOrder, is_gate, is_latch, is_among, is_ready, read_nets_at, gate_inputs}
 use Rattle.vw_net.specs.Cells.{read_nets}
-use Rattle.vw_net.proofs.Orders.{gate_or_latch}
+use Rattle.vw_net.proofs.Orders.{gate_or_latch, at_among}
 use Rattle.vw_order.specs.Graphs.{ReadsAt}
 use Rattle.vw_order.specs.Orders.{IsNumberOrder}
-use Rattle.vw_order.proofs.Among.{at_among, once_apart}
+use Rattle.vw_order.proofs.Among.{once_apart}
 use Rattle.vw_order.specs.Steps.Gates.{gate_of, gates}
 use Rattle.vw_order.proofs.Inputs.{is_gate_of}
 
@@ -75,5 +75,5 @@ module _ (flat : Flat) (order : List ℕ) (far : IsNumberOrder (gates flat) orde
   is_order = record {
     each = λ number. both_ways (is_gate (slice_get flat.cells number)) (is_among order number) (far.all number) (far.counted number);
     once = once_apart order far.once;
-    after = λ i within. ready (take i order) (get_or order i 0) (λ place other reads. far.behind i place other within reads) (slice_get flat.cells (get_or order i 0)) refl (far.counted (get_or order i 0) (at_among order i within));
+    after = λ i within. ready (take i order) (get_or order i 0) (λ place other reads. far.behind i place other within reads) (slice_get flat.cells (get_or order i 0)) refl (far.counted (get_or order i 0) (at_among order i 0 within));
   }

@@ -56,7 +56,7 @@ fn open_name<R: Files>(alloc: Global, files: &R, name: &Name) -> io::Result<Open
         return Err(io::Error::from(io::ErrorKind::InvalidInput));
     };
     let file = open_regular(files, path)?;
-    let name = Name::of(name.as_slice().to_vec(alloc)?);
+    let name = name.copy(alloc)?;
     Ok(Opened { name, file })
 }
 

@@ -2,7 +2,7 @@ ghost use Rattle.std.specs.Prelude.{◌≡◌, ◌≤◌, ◌<◌, ℕ, List, tr
 ghost use Rattle.vw_outside.specs.Told.{absent, held};
 ghost use Rattle.vw_outside.specs.Faults.{one_more, is_listed};
 ghost use Rattle.vw_outside.specs.Reads.{Fills, ReadEnds};
-ghost use Rattle.vw_outside.specs.Steps.{text_place};
+ghost use Rattle.vw_outside.specs.Steps.TextPlaces.{text_place};
 
 use crate::held::Held;
 use crate::name::Name;
@@ -56,7 +56,7 @@ fn find(files: &[Held], name: &[u8]) -> Option<usize>
 }
 
 /// Copies bytes from a place on into the front of a buffer, at most `most` of them.
-fn copy(bytes: &[u8], from: u64, most: u32, into: &mut [u8]) -> usize
+fn fill(bytes: &[u8], from: u64, most: u32, into: &mut [u8]) -> usize
     requires { 0 < most }
     ensures within { result ≤ length into.new }
     ensures filled { Fills bytes.now from into.new result }
@@ -106,7 +106,7 @@ impl Shelf for MemShelf {
             }
             Some(place) => {
                 let file = &self.files[place];
-                Ok(copy(&file.bytes, from, self.most, into))
+                Ok(fill(&file.bytes, from, self.most, into))
             }
         }
     }

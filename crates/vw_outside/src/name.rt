@@ -1,5 +1,7 @@
-ghost use Rattle.std.specs.Prelude.{◌≡◌, ◌==◌, length};
+ghost use Rattle.std.specs.Prelude.{◌≡◌, ◌==◌, length, IfOk};
+ghost use Rattle.std.specs.Str.{bytes_eq};
 
+use std::alloc::{AllocError, Global};
 use std::marker::Model;
 
 /// The name of a file, a word or a net: bytes of any value. Contracts see it as the list of its bytes.
@@ -36,5 +38,19 @@ impl Name {
         ensures { result ≡ (length self.now == 0) }
     {
         self.bytes.is_empty()
+    }
+
+    /// A name of its own with the same bytes.
+    pub fn copy(&self, alloc: Global) -> Result<Self, AllocError>
+        ensures { IfOk result (λ copy. copy ≡ self.now) }
+    {
+        Ok(Name::of(self.bytes.as_slice().to_vec(alloc)?))
+    }
+
+    /// Whether it has exactly these bytes.
+    pub fn is(&self, bytes: &[u8]) -> bool
+        ensures { result ≡ bytes_eq self.now bytes.now }
+    {
+        self.bytes.as_slice() == bytes
     }
 }

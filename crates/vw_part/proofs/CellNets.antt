@@ -1,15 +1,16 @@
 -- The nets of a cell, sorted and each kept once; and those of all cells.
-use Rattle.std.proofs.Common.{◌≡◌, ◌<◌, ◌≤◌, ◌+◌, ◌||◌, ℕ, zero, suc, Bool, true, false, List, [], ◌∷◌, ◌++◌, length, get_or, eqb, ap, refl, sym, subst, ◌∙◌, ⊎_elim, eq-eqb, eqb-true, All, arith}
+use Rattle.std.proofs.Common.{◌≡◌, ◌<◌, ◌≤◌, ◌+◌, ◌||◌, ℕ, suc, Bool, true, false, List, [], ◌∷◌, ◌++◌, length, get_or, eqb, ap, refl, sym, subst, ◌∙◌, ⊎_elim, eqb-true, All, arith}
 use Rattle.std.specs.List.{AllPairs, Any, Contains, dedup, list_any}
 use Rattle.std.specs.List.Sorted.{IsPermutation, IsSorted}
 use Rattle.std.specs.Ordering.{nat_cmp}
-use Rattle.std.proofs.lemmas.Bool.{cases_eq, or_cases, or_left, or_right}
+use Rattle.std.proofs.lemmas.Bool.{cases_eq, or_cases}
 use Rattle.std.proofs.lemmas.List.Elements.{All-cons, All-head, All-nil, All-tail}
 use Rattle.std.proofs.lemmas.List.Folds.{Any-from_list_any, list_any-append, list_any-from_Any}
 use Rattle.std.proofs.lemmas.List.Kept.{AllPairs-from_increasing, Contains-dedup_nat, Contains-from_dedup}
 use Rattle.std.proofs.lemmas.List.Sorted.{list_any-IsPermutation}
 use Rattle.std.proofs.lemmas.Map.Keys.{IsStrictlyIncreasing-dedup}
 use Rattle.std.specs.Cmp.{both_ways}
+use Rattle.vw_net.proofs.Orders.{among_below, at_among}
 use Rattle.vw_net.specs.declared.cell.Cell.{Cell}
 use Rattle.vw_net.specs.Cells.{IsWellFormed, read_nets}
 use Rattle.vw_net.specs.Order.{is_among}
@@ -89,24 +90,12 @@ pins_once own [] (nets ∷ pins) are = absurd are
 pins_once own (cell ∷ cells) [] are = absurd are
 pins_once own (cell ∷ cells) (nets ∷ pins) are = All-cons (λ nets. (net : ℕ) → times_among nets net ≤ 1) nets pins are.0.once (pins_once (own + 1) cells pins are.1)
 
-itself : (numbers : List ℕ) (place default : ℕ) → place < length numbers → is_among numbers (get_or numbers place default) ≡ true
-itself [] place default within = absurd (omega arith)
-itself (first ∷ numbers) zero default within = or_left (eqb first first) _ (eq-eqb first first refl)
-itself (first ∷ numbers) (suc place) default within = or_right (eqb first (get_or numbers place default)) _ (itself numbers place default (omega arith))
-
-below_among : (numbers : List ℕ) (bound number : ℕ) → All (λ net. net < bound) numbers → is_among numbers number ≡ true → number < bound
-below_among [] bound number all among = cc
-below_among (first ∷ numbers) bound number all among =
-    let if_here = λ (here : eqb first number ≡ true). let is : first ≡ number = eqb-true first number here in let low : number < bound = omega (arith, is, All-head (λ net. net < bound) first numbers all) in low in
-    let if_later = λ (later : is_among numbers number ≡ true). below_among numbers bound number (All-tail (λ net. net < bound) first numbers all) later in
-    ⊎_elim if_here if_later (or_cases (eqb first number) (is_among numbers number) among)
-
 within_one : (own bound : ℕ) (cell : Cell) (nets : List ℕ) → own < bound → All (λ net. net < bound) (read_nets cell) → AreNetsOf own cell nets → All (λ net. net < bound) nets
 within_one own bound cell nets low reads are place default within =
     let net = get_or nets place default in
-    let among : (eqb own net || is_among (read_nets cell) net) ≡ true = sym (are.same net) ∙ itself nets place default within in
+    let among : (eqb own net || is_among (read_nets cell) net) ≡ true = sym (are.same net) ∙ at_among nets place default within in
     let if_own = λ (here : eqb own net ≡ true). let is : own ≡ net = eqb-true own net here in subst (λ (x : ℕ). x < bound) is low in
-    let if_read = λ (read : is_among (read_nets cell) net ≡ true). below_among (read_nets cell) bound net reads read in
+    let if_read = λ (read : is_among (read_nets cell) net ≡ true). among_below (read_nets cell) net bound reads read in
     ⊎_elim if_own if_read (or_cases (eqb own net) (is_among (read_nets cell) net) among)
 
 pub pins_within : (own bound : ℕ) (cells : List Cell) (pins : List (List ℕ)) → own + length cells ≤ bound → All (IsWellFormed bound) cells → ArePins own cells pins → All (λ nets. All (λ net. net < bound) nets) pins

@@ -11,7 +11,7 @@ use Rattle.vw_part.specs.declared.pins.Pins.{Pins}
 use Rattle.vw_part.specs.Steps.Deals.{IsDeal, IsLoad, IsTarget, freed, held, met, cell_nets}
 use Rattle.vw_part.specs.Steps.Pins.{times_among, total}
 use Rattle.vw_net.specs.Steps.Bits.{one_if}
-use Rattle.vw_part.proofs.Held.{all_full, held_push, held_set, on_all, on_push, on_set}
+use Rattle.vw_part.proofs.ChipLoads.{all_full, held_push, held_set, on_all, on_push, on_set}
 use Rattle.vw_part.proofs.Totals.{at_other, at_same, total_same, total_tests-le}
 
 -- some chip has room

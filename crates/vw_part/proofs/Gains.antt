@@ -10,7 +10,7 @@ use Rattle.vw_part.specs.declared.pins.Pins.{Pins}
 use Rattle.vw_part.specs.Steps.Deals.{freed, held, holders, met, cell_nets, spread}
 use Rattle.vw_part.specs.Steps.Pins.{times_among, total}
 use Rattle.vw_net.specs.Steps.Bits.{one_if}
-use Rattle.vw_part.proofs.Held.{at_none, held_set}
+use Rattle.vw_part.proofs.ChipLoads.{at_none, held_set}
 use Rattle.vw_part.proofs.Totals.{at, at_other, at_same, by_share, range_at, share, share_none, share_one, total_ones, total_plus, total_same}
 
 -- one fewer

@@ -1,7 +1,7 @@
 pub mod Totals
-pub mod Held
+pub mod ChipLoads
 pub mod Gains
 pub mod PairsAndSpread
 pub mod CellNets
 pub mod Dealing
-pub mod Least
+pub mod NoMoveHelps

@@ -18,7 +18,7 @@ fn reads(alloc: Global, cell: &Cell) -> Result<Vec<u32>, AllocError>
 }
 
 /// The nets that a cell drives or reads, each once; `own` is the one that it drives.
-fn nets_of(alloc: Global, own: u32, cell: &Cell) -> Result<Sequence<u32>, AllocError>
+fn nets_of_cell(alloc: Global, own: u32, cell: &Cell) -> Result<Sequence<u32>, AllocError>
     ensures { IfOk result (AreNetsOf own cell.now) }
 {
     let mut nets = reads(alloc, cell)?;
@@ -49,7 +49,7 @@ impl Pins {
     {
         let mut of_cells = Vec::with_capacity(alloc, flat.cells().len())?;
         for (number, cell) in flat.cells().iter().enumerate() {
-            let nets = nets_of(alloc, flat.inputs() + number as u32, cell)?;
+            let nets = nets_of_cell(alloc, flat.inputs() + number as u32, cell)?;
             of_cells.push(nets)?;
         }
         Ok(Pins {

@@ -1,9 +1,9 @@
 -- A table of the numbers of links, filled from the last link to the first.
-use Rattle.std.proofs.Common.{◌≡◌, ◌<◌, ◌≤◌, ◌-◌, ◌+◌, ◌*◌, ◌&&◌, ◌||◌, ◌∙◌, ◌∷◌, [], ℕ, suc, Bool, true, false, List, length, drop, drop-cons, get_or, set, eqb, eqb-true, eq-eqb, ap, refl, subst, sym, ⊎_elim, true≢false, All, arith}
-use Rattle.std.proofs.lemmas.Bool.{and_from, and_parts, cases_Bool, or_cases}
+use Rattle.std.proofs.Common.{◌≡◌, ◌<◌, ◌≤◌, ◌-◌, ◌+◌, ◌*◌, ◌&&◌, ◌||◌, ◌∙◌, ◌∷◌, ℕ, suc, Bool, true, false, List, length, drop, drop-cons, get_or, set, eqb, eqb-true, eq-eqb, ap, refl, subst, sym, ⊎_elim, true≢false, arith}
+use Rattle.std.proofs.lemmas.Bool.{and_from, and_parts, cases_Bool}
 use Rattle.std.proofs.lemmas.Grind.{get_or-set_at}
 use Rattle.std.proofs.lemmas.List.{drop_all, get_or-set_other, length-set}
-use Rattle.std.proofs.lemmas.List.Elements.{All-head, All-tail}
+use Rattle.vw_plan.proofs.Shortest.{reached}
 use Rattle.vw_plan.specs.declared.board.Board.{Board}
 use Rattle.vw_plan.specs.declared.link.Link.{Link}
 use Rattle.vw_plan.specs.Walks.{has_link}
@@ -63,20 +63,8 @@ one_more links left numbers default at value some within from_low to_low is_at i
   cut : drop (left - 1) links ≡ get_or links (left - 1) default ∷ drop left links
   cut = drop-cons links (left - 1) default (omega arith) ∙ ap (λ (number : ℕ). get_or links (left - 1) default ∷ drop number links) later
 
--- where there is a link to a node, the node is one of the board
-to_low : (chips : ℕ) (links : List Link) → All (λ link. (link.from ≤ chips) × (link.to ≤ chips)) links → (from to : ℕ) → has_link links from to ≡ true → to ≤ chips
-to_low chips [] ends from to is = absurd (true≢false (sym is))
-to_low chips (link ∷ links) ends from to is =
-    let here = All-head (λ (other : Link). (other.from ≤ chips) × (other.to ≤ chips)) link links ends in
-    let rest = All-tail (λ (other : Link). (other.from ≤ chips) × (other.to ≤ chips)) link links ends in
-    let if_here = λ (yes : (eqb link.from from && eqb link.to to) ≡ true).
-    let parts = and_parts (eqb link.from from) (eqb link.to to) yes in
-    let same : link.to ≡ to = eqb-true link.to to parts.1 in
-    let whole : to ≤ chips = omega (arith, here.1) in whole in
-    ⊎_elim if_here (to_low chips links rest from to) (or_cases (eqb link.from from && eqb link.to to) (has_link links from to) is)
-
 pub all_numbers : (board : Board) (left : ℕ) (numbers : List ℕ) → left ≡ 0 → HasFrom board.links left numbers → HasNumbers board.links numbers
 all_numbers board left numbers none has = λ from to is.
     let from_first : HasFrom board.links 0 numbers = subst (λ (place : ℕ). HasFrom board.links place numbers) none has in
-    let low : to < 33 = omega (arith, to_low board.chips board.links board.linked.separate.ends from to is, board.few_chips) in
+    let low : to < 33 = omega (arith, reached board.chips board.links board.linked.separate.ends from to is, board.few_chips) in
     let at : get_or numbers (from * 33 + to) 0 ≡ link_place board.links from to = omega (arith, from_first.there from to low is) in at

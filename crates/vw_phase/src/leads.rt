@@ -24,7 +24,7 @@ pub fn after_last(hops: &[Hop]) -> u64
 }
 
 /// One past the arrival of a net at a node, by the hops so far; 0 where there is none.
-fn arrival(given: &Given, hops: &[Sequence<Hop>], node: u32, net: u32) -> u64
+fn after_arrival(given: &Given, hops: &[Sequence<Hop>], node: u32, net: u32) -> u64
     requires hops { length hops.now ≡ length given.now.routes.now }
     requires early { All (All (λ hop. hop.at ≤ 2 ^ 61)) hops.now }
     ensures { result
@@ -47,7 +47,7 @@ fn lead_at(given: &Given, hops: &[Sequence<Hop>], leads: &[u64], node: u32, net:
     if node_of(given.ordered.flat(), given.chip_of, net) == node {
         return leads[net as usize];
     }
-    arrival(given, hops, node, net)
+    after_arrival(given, hops, node, net)
 }
 
 /// The greatest lead at a node of some nets.

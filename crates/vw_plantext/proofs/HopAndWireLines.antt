@@ -161,7 +161,7 @@ module _ (state : BodyState) (fits : Fits state) (part : UnfinishedWire) (is : s
   refuses_hop line some none content more in_range is_left = refused_hop part state.left state.wires content.wires line more some in_range.wires none (moved state.part (Some part) is state.left state.wires content.wires (line ∷ more) is_left.wires)
 
   pub takes_hop : (line : List ℕ) (hop : Hop) → 1 ≤ part.left → IsHopLine line hop → TakesPlanLine state line (with_part (part_with_hop part hop))
-  takes_hop line hop some is_hop = record { fits = new_fits; tells = tells; makes = makes } where
+  takes_hop line hop some is_hop = record { fits = new_fits; stays = stays; makes = makes } where
     old : state.part ≡ Some part
     old = is
 
@@ -176,8 +176,8 @@ module _ (state : BodyState) (fits : Fits state) (part : UnfinishedWire) (is : s
       hops = let hops : hop_count state.wires + ((length part.hops + part.left) + (state.room + 1)) ≡ 2 ^ 30 = subst (λ (p : Option UnfinishedWire). hop_count state.wires + (part_hops p + (state.room + 1)) ≡ 2 ^ 30) old fits.hops in omega (arith, length-append part.hops (hop ∷ []));
     }
 
-    tells : (content : Content) (more : List (List ℕ)) → IsInRange content → IsRestOfPlan state content (line ∷ more) → IsRestOfPlan (with_part (part_with_hop part hop)) content more
-    tells content more in_range is_left = record { chip_of = is_left.chip_of; period = is_left.period; wires = follows_hop part state.left state.wires content.wires line more hop is_hop some in_range.wires (moved state.part (Some part) old state.left state.wires content.wires (line ∷ more) is_left.wires) }
+    stays : (content : Content) (more : List (List ℕ)) → IsInRange content → IsRestOfPlan state content (line ∷ more) → IsRestOfPlan (with_part (part_with_hop part hop)) content more
+    stays content more in_range is_left = record { chip_of = is_left.chip_of; period = is_left.period; wires = follows_hop part state.left state.wires content.wires line more hop is_hop some in_range.wires (moved state.part (Some part) old state.left state.wires content.wires (line ∷ more) is_left.wires) }
 
     makes : (content : Content) (more : List (List ℕ)) → IsRestOfPlan (with_part (part_with_hop part hop)) content more → IsRestOfPlan state content (line ∷ more)
     makes content more is_left = record { chip_of = is_left.chip_of; period = is_left.period; wires = moved (Some part) state.part (sym old) state.left state.wires content.wires (line ∷ more) (follows_hop_back part state.left state.wires content.wires line more hop is_hop some is_left.wires) }
@@ -187,7 +187,7 @@ module _ (state : BodyState) (fits : Fits state) (part : UnfinishedWire) (is : s
   done = record { chip_of = state.chip_of; period = state.period; wires = state.wires ++ record { net = part.net; to = part.to; hops = part.hops } ∷ []; part = None; left = state.left; room = state.room }
 
   pub closes_full : part.left ≡ 0 → ClosesWire state done
-  closes_full full = record { fits = new_fits; some_left = tt; tells = tells; makes = makes } where
+  closes_full full = record { fits = new_fits; some_left = tt; stays = stays; makes = makes } where
     wire : Wire
     wire = record { net = part.net; to = part.to; hops = part.hops }
 
@@ -205,8 +205,8 @@ module _ (state : BodyState) (fits : Fits state) (part : UnfinishedWire) (is : s
       hops = let hops : hop_count state.wires + ((length part.hops + part.left) + (state.room + 1)) ≡ 2 ^ 30 = subst (λ (p : Option UnfinishedWire). hop_count state.wires + (part_hops p + (state.room + 1)) ≡ 2 ^ 30) old fits.hops in omega (arith, hop_count-append state.wires (record { net = part.net; to = part.to; hops = part.hops } ∷ []), hop_count-cons (record { net = part.net; to = part.to; hops = part.hops }) [], hop_count-nil);
     }
 
-    tells : (content : Content) (more : List (List ℕ)) → IsRestOfPlan state content more → IsRestOfPlan done content more
-    tells content more is_left = record { chip_of = is_left.chip_of; period = is_left.period; wires = closed_wires part full state.left state.wires content.wires more (moved state.part (Some part) old state.left state.wires content.wires more is_left.wires) }
+    stays : (content : Content) (more : List (List ℕ)) → IsRestOfPlan state content more → IsRestOfPlan done content more
+    stays content more is_left = record { chip_of = is_left.chip_of; period = is_left.period; wires = closed_wires part full state.left state.wires content.wires more (moved state.part (Some part) old state.left state.wires content.wires more is_left.wires) }
 
     makes : (content : Content) (more : List (List ℕ)) → IsRestOfPlan done content more → IsRestOfPlan state content more
     makes content more is_left = record { chip_of = is_left.chip_of; period = is_left.period; wires = moved (Some part) state.part (sym old) state.left state.wires content.wires more (opened_wires part full state.left state.wires content.wires more is_left.wires) }
@@ -222,7 +222,7 @@ module _ (state : BodyState) (fits : Fits state) (is : state.part ≡ None) wher
   refuses_wire line some none content more in_range is_left = refused_wire state.left state.wires content.wires line more state.room some all_hops in_range.wires in_range.few_hops none (moved state.part None is state.left state.wires content.wires (line ∷ more) is_left.wires)
 
   pub takes_wire : (line : List ℕ) (net to count : ℕ) → 1 ≤ state.left → line ≡ number_line (codes "wire") (net ∷ to ∷ count ∷ []) → net < 2 ^ 32 → to < 2 ^ 32 → count ≤ state.room → TakesPlanLine state line (with_wire (record { net = net; to = to; hops = []; left = count }))
-  takes_wire line net to count some is_line net_fits to_fits few = record { fits = new_fits; tells = tells; makes = makes } where
+  takes_wire line net to count some is_line net_fits to_fits few = record { fits = new_fits; stays = stays; makes = makes } where
     old : state.part ≡ None
     old = is
 
@@ -240,8 +240,8 @@ module _ (state : BodyState) (fits : Fits state) (is : state.part ≡ None) wher
     small : count < 2 ^ 30
     small = let all : hop_count state.wires + (state.room + 1) ≡ 2 ^ 30 = all_hops in omega arith
 
-    tells : (content : Content) (more : List (List ℕ)) → IsInRange content → IsRestOfPlan state content (line ∷ more) → IsRestOfPlan (with_wire (record { net = net; to = to; hops = []; left = count })) content more
-    tells content more in_range is_left = record { chip_of = is_left.chip_of; period = is_left.period; wires = follows_wire state.left state.wires content.wires line more net to count is_line some net_fits to_fits small in_range.wires in_range.few_hops (moved state.part None old state.left state.wires content.wires (line ∷ more) is_left.wires) }
+    stays : (content : Content) (more : List (List ℕ)) → IsInRange content → IsRestOfPlan state content (line ∷ more) → IsRestOfPlan (with_wire (record { net = net; to = to; hops = []; left = count })) content more
+    stays content more in_range is_left = record { chip_of = is_left.chip_of; period = is_left.period; wires = follows_wire state.left state.wires content.wires line more net to count is_line some net_fits to_fits small in_range.wires in_range.few_hops (moved state.part None old state.left state.wires content.wires (line ∷ more) is_left.wires) }
 
     makes : (content : Content) (more : List (List ℕ)) → IsRestOfPlan (with_wire (record { net = net; to = to; hops = []; left = count })) content more → IsRestOfPlan state content (line ∷ more)
     makes content more is_left = record { chip_of = is_left.chip_of; period = is_left.period; wires = moved None state.part (sym old) state.left state.wires content.wires (line ∷ more) (follows_wire_back state.left state.wires content.wires line more net to count is_line some net_fits to_fits small is_left.wires) }

@@ -71,7 +71,7 @@ module _ (text : List ℕ) (state : BodyState) (rest : List ℕ) (number : ℕ) 
     no_next : (next behind : List ℕ) → after ≡ next ++ 10 ∷ behind → IsOneLine next → ¬ (CanStand ((to.lines ++ line ∷ []) ++ next ∷ []))
     no_next next behind cut_ one_line stands =
         let begins : to.lines ++ (line ∷ next ∷ stands.rest) ≡ plan_lines stands.content = sym (append_assoc to.lines (line ∷ []) (next ∷ stands.rest)) ∙ sym (append_assoc (to.lines ++ line ∷ []) (next ∷ []) stands.rest) ∙ stands.begins in
-        let only : line ∷ next ∷ stands.rest ≡ codes "end" ∷ [] = end_left stands.content (line ∷ next ∷ stands.rest) (to.read.tells stands.content (line ∷ next ∷ stands.rest) stands.in_range begins) in
+        let only : line ∷ next ∷ stands.rest ≡ codes "end" ∷ [] = end_left stands.content (line ∷ next ∷ stands.rest) (to.read.stays stands.content (line ∷ next ∷ stands.rest) stands.in_range begins) in
         cc
 
   -- another line stands in its place

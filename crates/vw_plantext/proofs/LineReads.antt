@@ -8,7 +8,7 @@ use Rattle.vw_plantext.specs.Content.{IsHopInRange}
 use Rattle.vw_plantext.specs.Grammar.{number_line, hop_line}
 use Rattle.vw_plantext.specs.Steps.Words.{line_numbers}
 use Rattle.vw_plantext.specs.Steps.Hops.{hop_numbers, IsHop, IsNoHop, IsHopLine, IsNoHopLine, IsWireHead, IsNoWireHead, IsWireHeadLine, IsNoWireHeadLine}
-use Rattle.vw_plantext.specs.declared.start.Head.{Head}
+use Rattle.vw_plantext.specs.declared.start.PlanHead.{PlanHead}
 use Rattle.vw_plantext.specs.Steps.Starts.{head_numbers, IsPlanHead, IsNoHead, IsHeadLine, IsNoHeadLine, AreChips, AreNoChips, IsChipsLine, IsNoChipsLine}
 use Rattle.vw_plantext.proofs.NumberLines.{AreSmall, IsNumberLine, line_numbers-Some, line_numbers-number_line}
 use Rattle.vw_plantext.proofs.Lines.{Fits64Bits, small_hop, small_head, small_chips}
@@ -53,7 +53,7 @@ head_back cells wires period few_cells few_wires short = line_numbers-number_lin
 pub head_line_none : (line : List ℕ) → line_numbers (codes "plan") line ≡ None → IsNoHeadLine line
 head_line_none line none cells wires period few_cells few_wires short is = let some : None ≡ Some (head_numbers cells wires period) = sym none ∙ ap (line_numbers (codes "plan")) is ∙ head_back cells wires period few_cells few_wires short in cc
 
-pub head_line_read : (line numbers : List ℕ) → line_numbers (codes "plan") line ≡ Some numbers → (found : Option Head) → MatchOption found (IsNoHead numbers) (IsPlanHead numbers) → MatchOption found (IsNoHeadLine line) (IsHeadLine line)
+pub head_line_read : (line numbers : List ℕ) → line_numbers (codes "plan") line ≡ Some numbers → (found : Option PlanHead) → MatchOption found (IsNoHead numbers) (IsPlanHead numbers) → MatchOption found (IsNoHeadLine line) (IsHeadLine line)
 head_line_read line numbers read None none = λ cells wires period few_cells few_wires short is. none cells wires period few_cells few_wires short (ap (λ (o : Option (List ℕ)). unwrap_or o []) (sym read ∙ ap (line_numbers (codes "plan")) is ∙ head_back cells wires period few_cells few_wires short))
 head_line_read line numbers read (Some head) found =
     let is : IsNumberLine (codes "plan") line numbers = line_numbers-Some (codes "plan") line numbers read in

@@ -1,5 +1,5 @@
 -- A text is the spelling of one plan, and then it isn't refused.
-use Rattle.std.proofs.Common.{◌≡◌, ◌<◌, ◌≤◌, ◌^◌, ◌++◌, ℕ, List, [], length, IsTrue, sym, ◌∙◌, ap, All, append-nil, true≢false, arith}
+use Rattle.std.proofs.Common.{◌≡◌, ◌<◌, ◌≤◌, ◌^◌, ◌++◌, ℕ, List, [], length, IsTrue, refl, sym, ◌∙◌, ap, All, append-nil, true≢false, arith}
 use Rattle.std.specs.List.{sum_by}
 use Rattle.std.proofs.Math.Bridge.{le_prop}
 use mathlib.Core.HLevel.{is_prop→PathP}
@@ -9,12 +9,24 @@ use Rattle.vw_plantext.specs.declared.fault.PlanTextFault.TheVariants.{TooLarge,
 use Rattle.vw_plantext.specs.Content.{Content, content_of}
 use Rattle.vw_plantext.specs.Grammar.{spelling}
 use Rattle.vw_plantext.specs.PlanText.{Spells, Refuses, is_text_fault}
+use Rattle.vw_plantext.proofs.OneLine.{one_first}
 use Rattle.vw_plantext.proofs.Spellings.{spelling_same}
 
 pub spelled_unrefused : (text : List ℕ) (plan : Plan) (fault : PlanTextFault) → Spells text plan → IsTrue (is_text_fault fault) → Refuses text fault → ⊥
 spelled_unrefused text plan TooLarge is content refused = let small = is.small in omega (arith, small, refused)
 spelled_unrefused text plan (BadLine line) is content refused = refused.1.refused (content_of plan) is.in_range is.spelled
 spelled_unrefused text plan NoMemory is content refused = true≢false (sym content)
+
+-- ---- faults of one text
+
+pub fault_once : (text : List ℕ) (one other : PlanTextFault) → IsTrue (is_text_fault one) → IsTrue (is_text_fault other) → Refuses text one → Refuses text other → one ≡ other
+fault_once text TooLarge TooLarge one other large again = refl
+fault_once text TooLarge (BadLine line) one other large bad = absurd (let small = bad.0 in omega (arith, large, small))
+fault_once text (BadLine line) TooLarge one other bad large = absurd (let small = bad.0 in omega (arith, large, small))
+fault_once text (BadLine line) (BadLine next) one other bad again = ap (λ (number : ℕ). BadLine number) (one_first text line next bad.1 again.1)
+fault_once text NoMemory fault one other refused again = absurd (true≢false (sym one))
+fault_once text TooLarge NoMemory one other refused again = absurd (true≢false (sym other))
+fault_once text (BadLine line) NoMemory one other refused again = absurd (true≢false (sym other))
 
 -- ---- plans of one text
 

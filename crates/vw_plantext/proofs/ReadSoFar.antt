@@ -14,7 +14,7 @@ use Rattle.vw_plantext.specs.CanStand.{CanStand, IsFirstBadLine}
 use Rattle.vw_plantext.specs.Steps.Cuts.{IsOneLine, IsLineCut}
 use Rattle.vw_plantext.specs.Steps.Bodies.{UnfinishedWire, BodyState, FollowsWires, FollowsHops, FollowsPart, IsRestOfPlan, part_hops, part_count, IsPartInRange, FitsPart, Fits, HasRead, TakesPlanLine, RefusesLine, ClosesWire}
 use Rattle.vw_plantext.specs.Steps.Starts.{head_numbers, IsReadTo, IsHeadLine, IsNoHeadLine, IsChipsLine, IsNoChipsLine}
-use Rattle.vw_plantext.specs.declared.start.Head.{Head}
+use Rattle.vw_plantext.specs.declared.start.PlanHead.{PlanHead}
 use Rattle.vw_plantext.proofs.NumberLines.{number_line_injective}
 use Rattle.vw_plantext.proofs.Lines.{small_head, small_chips, hop_count-cons}
 use Rattle.vw_plantext.proofs.Spellings.{plain_plan, plain_chips}
@@ -113,17 +113,17 @@ module _ (lines : List (List ℕ)) (state : BodyState) (read : HasRead lines sta
     none (line ∷ front) middle empty = cc
 
   pub incomplete : (content : Content) → IsInRange content → lines ≢ plan_lines content
-  incomplete content fits all = some_line state.part state.left state.wires content.wires (read.tells content [] fits (append-nil lines ∙ all)).wires
+  incomplete content fits all = some_line state.part state.left state.wires content.wires (read.stays content [] fits (append-nil lines ∙ all)).wires
 
   -- a line that is refused can't stand behind them
   pub refused_behind : (line : List ℕ) → RefusesLine state line → ¬ (CanStand (lines ++ line ∷ []))
-  refused_behind line refuses can = refuses can.content can.rest can.in_range (read.tells can.content (line ∷ can.rest) can.in_range (sym (append_assoc lines (line ∷ []) can.rest) ∙ can.begins))
+  refused_behind line refuses can = refuses can.content can.rest can.in_range (read.stays can.content (line ∷ can.rest) can.in_range (sym (append_assoc lines (line ∷ []) can.rest) ∙ can.begins))
 
   -- one line more
   pub read_more : (line : List ℕ) (mid new : BodyState) → TakesPlanLine state line mid → ClosesWire mid new → HasRead (lines ++ line ∷ []) new
-  read_more line mid new takes closes = record { fits = closes.fits; some_left = closes.some_left; tells = tells; makes = makes } where
-    tells : (content : Content) (more : List (List ℕ)) → IsInRange content → (lines ++ line ∷ []) ++ more ≡ plan_lines content → IsRestOfPlan new content more
-    tells content more fits same = closes.tells content more (takes.tells content more fits (read.tells content (line ∷ more) fits (sym (append_assoc lines (line ∷ []) more) ∙ same)))
+  read_more line mid new takes closes = record { fits = closes.fits; some_left = closes.some_left; stays = stays; makes = makes } where
+    stays : (content : Content) (more : List (List ℕ)) → IsInRange content → (lines ++ line ∷ []) ++ more ≡ plan_lines content → IsRestOfPlan new content more
+    stays content more fits same = closes.stays content more (takes.stays content more fits (read.stays content (line ∷ more) fits (sym (append_assoc lines (line ∷ []) more) ∙ same)))
 
     makes : (content : Content) (more : List (List ℕ)) → IsRestOfPlan new content more → (lines ++ line ∷ []) ++ more ≡ plan_lines content
     makes content more left = append_assoc lines (line ∷ []) more ∙ read.makes content (line ∷ more) (takes.makes content more (closes.makes content more left))
@@ -146,12 +146,12 @@ module _ (cells wires period : ℕ) (few_cells : cells < 2 ^ 32) (few_wires : wi
     begun = record { chip_of = chips; period = period; wires = []; part = None; left = wires; room = room }
 
     pub read_two : HasRead (plan_line ∷ second_line ∷ []) begun
-    read_two = record { fits = begun_fits; some_left = tt; tells = tells; makes = makes } where
+    read_two = record { fits = begun_fits; some_left = tt; stays = stays; makes = makes } where
       begun_fits : Fits begun
       begun_fits = record { few_cells = omega arith; chips = chips_fit; short = short; wires = All-nil IsWireInRange; part = tt; few_wires = omega arith; hops = let none : hop_count [] ≡ 0 = refl in omega arith }
 
-      tells : (content : Content) (more : List (List ℕ)) → IsInRange content → (plan_line ∷ second_line ∷ []) ++ more ≡ plan_lines content → IsRestOfPlan begun content more
-      tells content more fits same =
+      stays : (content : Content) (more : List (List ℕ)) → IsInRange content → (plan_line ∷ second_line ∷ []) ++ more ≡ plan_lines content → IsRestOfPlan begun content more
+      stays content more fits same =
           let head : plan_line ≡ head_line content = cc in
           let second : second_line ≡ chips_line content.chip_of = cc in
           let body : more ≡ body_lines content.wires = cc in
@@ -218,7 +218,7 @@ fault_no_line text one_line = no_further_line text [] text 1 refl refl nothing_c
 pub fault_head : (text line rest : List ℕ) → IsLineCut text line rest → IsNoHeadLine line → IsFirstBadLine text 1
 fault_head text line rest cut none = bad_line text [] text 1 refl refl nothing_can_stand line rest cut (first_can_not line none)
 
-module _ (text line rest : List ℕ) (cut : IsLineCut text line rest) (head : Head) (is : IsHeadLine line head) where
+module _ (text line rest : List ℕ) (cut : IsLineCut text line rest) (head : PlanHead) (is : IsHeadLine line head) where
   one_can : CanStand (line ∷ [])
   one_can = subst (λ (first : List ℕ). CanStand (first ∷ [])) (sym is.is) (first_can_stand head.cells head.wires head.period is.few_cells is.few_wires is.short)
 

@@ -10,6 +10,8 @@ mod start;
 mod writer;
 
 pub use fault::PlanTextFault;
-pub use laws::{one_line_is_first, plans_spell_once, spellings_differ};
+pub use laws::{
+    one_line_is_first, plan_text_faults_are_single, plans_spell_once, spellings_differ,
+};
 pub use plan_text::read;
 pub use writer::print;

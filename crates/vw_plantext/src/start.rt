@@ -10,14 +10,14 @@ use std::alloc::{AllocError, Global};
 
 /// The numbers of cells and wires, and the period.
 #[derive(Clone, Copy, Debug, PartialEq, Eq)]
-pub struct Head {
+pub struct PlanHead {
     pub cells: u64,
     pub wires: u64,
     pub period: u64,
 }
 
 /// The head of numbers, where they are in their ranges.
-fn head_of(numbers: &[u64]) -> Option<Head>
+fn head_of(numbers: &[u64]) -> Option<PlanHead>
     ensures { MatchOption result (IsNoHead numbers.now) (IsPlanHead numbers.now) }
 {
     let [1, cells, wires, period] = numbers else {
@@ -26,7 +26,7 @@ fn head_of(numbers: &[u64]) -> Option<Head>
     if *cells > u64::from(u32::MAX) || *wires > u64::from(u32::MAX) || *period > 1 << 62 {
         return None;
     }
-    Some(Head {
+    Some(PlanHead {
         cells: *cells,
         wires: *wires,
         period: *period,
@@ -34,7 +34,7 @@ fn head_of(numbers: &[u64]) -> Option<Head>
 }
 
 /// The head of a line.
-fn read_head(line: &[u8], numbers: &mut Vec<u64>) -> Result<Option<Head>, AllocError>
+fn read_head(line: &[u8], numbers: &mut Vec<u64>) -> Result<Option<PlanHead>, AllocError>
     ensures { IfOk result (λ head. MatchOption head
         (IsNoHeadLine line.now) (IsHeadLine line.now)) }
 {
@@ -45,7 +45,7 @@ fn read_head(line: &[u8], numbers: &mut Vec<u64>) -> Result<Option<Head>, AllocE
 }
 
 /// The chips of numbers, where there is one for each cell, and all are in their range.
-fn chips_of(alloc: Global, numbers: &[u64], cells: u64) -> Result<Option<Vec<u32>>, AllocError>
+fn chips_in(alloc: Global, numbers: &[u64], cells: u64) -> Result<Option<Vec<u32>>, AllocError>
     ensures { IfOk result (λ chips. MatchOption chips (AreNoChips cells numbers.now)
         (λ chips. AreChips cells numbers.now chips.items)) }
 {
@@ -75,7 +75,7 @@ fn read_chips(
     if !read_numbers(line, b"chips", numbers)? {
         return Ok(None);
     }
-    chips_of(alloc, numbers, cells)
+    chips_in(alloc, numbers, cells)
 }
 
 /// Reads the first two lines of a text: the plan without wires so far, and what stands behind these lines.

@@ -7,7 +7,7 @@ use Rattle.vw_text.specs.Bare.{is_blank, without_comment}
 use Rattle.vw_text.specs.WordLines.{words_of}
 use Rattle.vw_text.proofs.LineWords.{word_taken}
 use Rattle.vw_rows.specs.Stimulus.{line_words}
-use Rattle.vw_rows.specs.Steps.{FindsWord}
+use Rattle.vw_rows.specs.Steps.Reading.{FindsWord}
 
 pub no_further : (line : List ℕ) (found : Option (Bor (List ℕ) × Bor (List ℕ))) → FindsWord line found → is_some found ≡ false → words_of line ≡ []
 no_further line None none missing = none

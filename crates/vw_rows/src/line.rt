@@ -3,7 +3,7 @@ ghost use Rattle.std.specs.Prelude.{◌≡◌, ◌≢◌, ◌==◌, ℕ, List, B
 ghost use Rattle.std.specs.List.{before_first, after_first};
 ghost use Rattle.vw_text.specs.Bare.{is_blank};
 ghost use Rattle.vw_rows.specs.Stimulus.{is_bits, bits_of, line_words, row_of_bits, held_times, repeated, rows_added};
-ghost use Rattle.vw_rows.specs.Steps.{Answers, rows_asked, FitsRun, FindsWord};
+ghost use Rattle.vw_rows.specs.Steps.Reading.{Answers, rows_asked, FitsRun, FindsWord};
 
 use crate::stimulus::StimFault;
 use std::alloc::{AllocError, Global};

@@ -4,7 +4,7 @@ ghost use Rattle.vw_outside.specs.Told.{absent, OfText};
 ghost use Rattle.vw_outside.specs.Reads.{CountsFault};
 ghost use Rattle.vw_text.specs.Physical.{text_lines};
 ghost use Rattle.vw_rows.specs.Stimulus.{row_before, joined_rows, with_rows_of, with_lines, stimulus_rows, is_of_text};
-ghost use Rattle.vw_rows.specs.Steps.{Answers, rows_asked, FitsRun, AnswersNew};
+ghost use Rattle.vw_rows.specs.Steps.Reading.{Answers, rows_asked, FitsRun, AnswersNew};
 
 use crate::line::{Asked, CLOCKS_LIMIT, read_line};
 use crate::row_runs::RowRuns;

@@ -1,7 +1,7 @@
 //! Rows that are read in batches.
 ghost use Rattle.std.specs.Prelude.{◌≡◌, [], ◌∷◌, List, Bool, Option, length, ◌+◌, take, drop, IfOk, IfErr, OnOk};
 ghost use Rattle.vw_rows.specs.Runs.{rows_of_runs};
-ghost use Rattle.vw_rows.specs.Steps.{ReadsRow};
+ghost use Rattle.vw_rows.specs.Steps.Reading.{ReadsRow};
 
 use crate::run::Run;
 use std::alloc::{AllocError, Global};

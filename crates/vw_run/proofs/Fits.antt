@@ -2,7 +2,7 @@
 use Rattle.std.proofs.Common.{◌≤◌, ◌*◌, length, arith}
 use Rattle.vw_plan.specs.Setting.{Setting}
 use Rattle.vw_plan.specs.Sound.{IsSound}
-use Rattle.vw_part.proofs.Held.{all_fit}
+use Rattle.vw_part.proofs.ChipLoads.{all_fit}
 
 pub fits : (setting : Setting) → IsSound setting → length setting.ordered.flat.cells ≤ setting.board.chips * setting.board.cells
 fits setting sound =

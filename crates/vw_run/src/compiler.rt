@@ -63,7 +63,7 @@ fn plan_by(
 }
 
 /// A good plan.
-fn plan_of(alloc: Global, ordered: &Ordered, board: &Board) -> Result<Plan, CompileFault>
+fn good_plan_of(alloc: Global, ordered: &Ordered, board: &Board) -> Result<Plan, CompileFault>
     ensures good { IfOk result (λ plan. IsGood (setting_of ordered.now board.now plan)) }
     ensures fault { IfErr result (IsCompileFault ordered.now board.now) }
 {
@@ -78,7 +78,7 @@ pub fn compile(alloc: Global, ordered: Ordered, board: Board) -> Result<Checked,
     ensures compiled { IfOk result (IsCompiled ordered board) }
     ensures refused { IfErr result (IsCompileRefused ordered board) }
 {
-    match plan_of(alloc, &ordered, &board) {
+    match good_plan_of(alloc, &ordered, &board) {
         Ok(plan) => Ok(Checked::make(ordered, board, plan)),
         Err(fault) => Err(CompileRefused {
             fault,

@@ -1,13 +1,13 @@
-ghost use Rattle.std.specs.Prelude.{◌≡◌, ◌<◌, ◌≤◌, ◌+◌, ◌-◌, ◌++◌, ◌||◌, ℕ, Bool, false, List, [], length, take, drop, map, not, nat_lt, slice_get, slice_index_or, Some, IsTrue};
+ghost use Rattle.std.specs.Prelude.{◌≡◌, ◌<◌, ◌≤◌, ◌+◌, ◌-◌, ◌++◌, ℕ, false, List, length, take, drop, slice_get, slice_index_or, IsTrue};
 ghost use Rattle.std.specs.List.{All};
 ghost use Rattle.vw_net.specs.declared.cell.Cell.TheVariants.{Gate};
 ghost use Rattle.vw_net.specs.declared.cover.Cover.{Cover};
 ghost use Rattle.vw_net.specs.Cells.{latch_count, latch_inputs};
 ghost use Rattle.vw_net.specs.Cover.{cover_value};
-ghost use Rattle.vw_net.specs.Order.{is_latch, is_ready};
+ghost use Rattle.vw_net.specs.Order.{is_latch};
 ghost use Rattle.vw_net.specs.Value.{net_value};
 ghost use Rattle.vw_net.specs.History.{next_state};
-ghost use Rattle.vw_sim.specs.Steps.Values.{bits_at, is_no_latch_net};
+ghost use Rattle.vw_sim.specs.Steps.Values.{SettlesGates, bits_at, is_no_latch_net};
 
 use vw_net::{Bits, Cell, Cover, Flat, Ordered, gates_settle};
 
@@ -66,13 +66,7 @@ fn put_latches(flat: &Flat, state: &Bits, values: &mut Bits)
 fn put_gates(ordered: &Ordered, values: &mut Bits)
     requires { length values.old ≡ ordered.now.flat.inputs + length ordered.now.flat.cells }
     ensures nets { length values.new ≡ length values.old }
-    ensures values { (value : ℕ → Bool)
-        → ((net : ℕ) → IsTrue (is_ready ordered.now.flat.inputs ordered.now.flat.cells [] net)
-        → slice_index_or values.old net false ≡ value net)
-        → ((number : ℕ) (ins : List ℕ) (cover : Cover)
-        → slice_get ordered.now.flat.cells number ≡ Some (Gate ins cover)
-        → value (ordered.now.flat.inputs + number) ≡ cover_value cover (map value ins))
-        → (net : ℕ) → net < length values.new → slice_index_or values.new net false ≡ value net }
+    ensures values { SettlesGates ordered.now.flat values.old values.new }
 {
     let flat = ordered.flat();
     let first = flat.inputs() as usize;

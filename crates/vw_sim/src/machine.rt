@@ -1,21 +1,20 @@
 //! A netlist whose clocks are worked out many times, with what a clock reads lying in a few arrays.
-ghost use Rattle.std.specs.Prelude.{◌≡◌, ◌<◌, ◌≤◌, ◌+◌, ◌++◌, ℕ, Bool, false, List, [], length, map, slice_get, slice_index_or, Some, IsTrue, IfOk};
+ghost use Rattle.std.specs.Prelude.{◌≡◌, ◌<◌, ◌≤◌, ◌+◌, ℕ, false, List, length, slice_get, slice_index_or, Some, IfOk};
 ghost use Rattle.std.specs.List.{All};
 ghost use Rattle.vw_net.specs.declared.cell.Cell.TheVariants.{Gate};
 ghost use Rattle.vw_net.specs.declared.cover.Cover.{Cover};
 ghost use Rattle.vw_net.specs.Cells.{latch_count, latch_inputs};
 ghost use Rattle.vw_net.specs.Cover.{cover_value};
 ghost use Rattle.vw_net.specs.History.{next_state};
-ghost use Rattle.vw_net.specs.Order.{is_ready, gate_inputs};
 ghost use Rattle.vw_net.specs.Value.{net_value};
 ghost use Rattle.vw_net.specs.Word.{place_of};
-ghost use Rattle.vw_sim.specs.Steps.Values.{bits_at};
+ghost use Rattle.vw_sim.specs.Steps.Values.{SettlesGates, bits_at};
 ghost use Rattle.vw_sim.specs.Steps.Machine.{step_of, gate_steps, gathered_reads, latch_nets, with_bits, IsReady};
 
 use crate::clock::{gate_value, put_inputs};
 use std::alloc::{AllocError, Global};
 use std::marker::Model;
-use vw_net::{Bits, Cell, Flat, Ordered, WORD_INPUTS, bit_of, gates_settle, words_tell};
+use vw_net::{Bits, Cell, Flat, Ordered, WORD_INPUTS, bit_of, gates_settle, words_are_tables};
 
 /// A gate of a machine.
 #[derive(Drop)]
@@ -62,7 +61,7 @@ impl<'a> Machine<'a> {
         Ok(Machine {
             ordered,
             gates: gate_steps(alloc, ordered)?,
-            reads: gate_reads(alloc, ordered)?,
+            reads: gathered_reads(alloc, ordered)?,
             latches: latch_nets(alloc, flat)?,
             taken: taken_nets(alloc, flat)?,
         })
@@ -126,7 +125,7 @@ fn gate_steps(alloc: Global, ordered: &Ordered) -> Result<Vec<GateStep>, AllocEr
 }
 
 /// The nets that the gates of a netlist read, gate after gate.
-fn gate_reads(alloc: Global, ordered: &Ordered) -> Result<Vec<u32>, AllocError>
+fn gathered_reads(alloc: Global, ordered: &Ordered) -> Result<Vec<u32>, AllocError>
     ensures { IfOk result (λ reads. reads.items
         ≡ gathered_reads ordered.now.flat.cells ordered.now.order) }
 {
@@ -197,13 +196,7 @@ fn run_gates(ordered: &Ordered, gates: &[GateStep], reads: &[u32], values: &mut 
     requires gates { gates.now ≡ gate_steps ordered.now.flat.cells ordered.now.order }
     requires reads { reads.now ≡ gathered_reads ordered.now.flat.cells ordered.now.order }
     ensures nets { length values.new ≡ length values.old }
-    ensures values { (value : ℕ → Bool)
-        → ((net : ℕ) → IsTrue (is_ready ordered.now.flat.inputs ordered.now.flat.cells [] net)
-        → slice_index_or values.old net false ≡ value net)
-        → ((number : ℕ) (ins : List ℕ) (cover : Cover)
-        → slice_get ordered.now.flat.cells number ≡ Some (Gate ins cover)
-        → value (ordered.now.flat.inputs + number) ≡ cover_value cover (map value ins))
-        → (net : ℕ) → net < length values.new → slice_index_or values.new net false ≡ value net }
+    ensures values { SettlesGates ordered.now.flat values.old values.new }
 {
     let flat = ordered.flat();
     let first = flat.inputs() as usize;
@@ -225,7 +218,7 @@ fn gate_bit(flat: &Flat, gate: &GateStep, ins: &[u32], values: &Bits) -> bool
     ensures { (cover : Cover) → slice_get flat.now.cells gate.now.number ≡ Some (Gate ins.now cover)
         → result ≡ cover_value cover (bits_at values.now ins.now) }
 {
-    words_tell();
+    words_are_tables();
     if gate.width <= WORD_INPUTS {
         return bit_of(gate.word, place_at(ins, values));
     }

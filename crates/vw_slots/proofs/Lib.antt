@@ -2,4 +2,4 @@ pub mod WrittenMoments
 pub mod Chained
 pub mod TakenSlots
 pub mod Taking
-pub mod Full
+pub mod KeptSlots

@@ -6,6 +6,7 @@ use Rattle.std.proofs.lemmas.Bool.{and_parts, or_cases, false≢true}
 use Rattle.std.proofs.lemmas.List.Folds.{list_any-append}
 use Rattle.std.proofs.lemmas.Bool.Decides.{nat_tests}
 use Rattle.vw_net.specs.Steps.Bits.{one_if}
+use Rattle.vw_net.proofs.Lists.{one_if-le}
 use Rattle.vw_slots.specs.declared.slot.Taken.{Taken}
 use Rattle.vw_slots.specs.Slots.{is_taken}
 
@@ -13,10 +14,6 @@ use Rattle.vw_slots.specs.Slots.{is_taken}
 abbrev number : (Taken → Bool) → List Taken → ℕ
 number test [] = 0
 number test (slot ∷ taken) = one_if (test slot) + number test taken
-
-one_if-le : (b : Bool) → one_if b ≤ 1
-one_if-le true = omega arith
-one_if-le false = omega arith
 
 number-le : (test : Taken → Bool) (taken : List Taken) → number test taken ≤ length taken
 number-le test [] = omega arith

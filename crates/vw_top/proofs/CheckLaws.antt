@@ -10,7 +10,7 @@ use Rattle.vw_plantext.specs.PlanText.{Spells as SpellsPlan}
 use Rattle.vw_plantext.proofs.OnePlan.{spelled_once}
 use Rattle.vw_check.specs.declared.fault.PlanFault.{PlanFault}
 use Rattle.vw_check.specs.Faults.{plan_fault}
-use Rattle.vw_check.proofs.LawAll.{sound, faultless}
+use Rattle.vw_check.proofs.SoundPlans.{sound, faultless}
 use Rattle.vw_check.proofs.SameNetlist.{fault_same}
 use Rattle.vw_outside.specs.Told.{Told, absent, held, IsTextOf}
 use Rattle.vw_outside.specs.Reads.{CountsFault}

@@ -7,7 +7,8 @@ pub mod SecondFile
 pub mod JudgedTexts
 pub mod StageLaws
 pub mod SimLaws
-pub mod Gates
+pub mod NetlistLoops
 pub mod FlatTraces
 pub mod CheckLaws
 pub mod PlanLaws
+pub mod OtherWords

@@ -19,8 +19,8 @@ use Rattle.vw_top.specs.Designs.{IsNetlistOf, RefusesDesign}
 use Rattle.vw_top.specs.Course.{Course, Outside, outside, MayWrite, MayRefuse, MayRead, writing, refusing, ComesTo}
 use Rattle.vw_top.specs.Statuses.{Statuses, LeavesPart}
 use Rattle.vw_top.specs.Commands.{RefusesBoard, RefusesFit, HasRoom, plan_course, plan_board_course, good_course, text_of_plan}
-use Rattle.vw_top.specs.CommandStatuses.{YieldsTwo}
-use Rattle.vw_top.specs.PlanStatuses.{AreSpelledOn, IsGoodPlan, HaveRoom, HaveNoRoom, HoldTwo, PlanStatuses}
+use Rattle.vw_top.specs.CommandStatuses.{HoldTwo, YieldsTwo}
+use Rattle.vw_top.specs.PlanStatuses.{AreSpelledOn, IsGoodPlan, HaveRoom, HaveNoRoom, PlanStatuses}
 use Rattle.vw_top.proofs.FirstFile.{its_text, at_held, first_refused, first_comes, first_absent}
 use Rattle.vw_top.proofs.SecondFile.{second_refused, second_comes, second_absent}
 use Rattle.vw_top.proofs.JudgedTexts.{judged_netlist, judged_board, status_one, board_status, netlist_same, no_refused_design, no_refused_board}

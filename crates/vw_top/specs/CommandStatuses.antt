@@ -11,6 +11,11 @@ use Rattle.vw_top.specs.Commands.{RefusesBoard}
 abbrev pub Holds : Outside → List ℕ → List ℕ → Type 0
 Holds before name text = before.shelf.told name ≡ held text
 
+-- the two texts are held
+pub record HoldTwo (design board : List ℕ) (before : Outside) (d b : List ℕ) : Type 0 where
+  pub design_held : Holds before design d
+  pub board_held : Holds before board b
+
 -- a board text has a fault
 abbrev pub IsNoBoard : List ℕ → Type 0
 IsNoBoard b = (reason : Reason) × RefusesBoard b reason

@@ -24,7 +24,7 @@ use Rattle.vw_plantext.specs.PlanText.{Spells as SpellsPlan, Refuses as RefusesP
 use Rattle.vw_plantext.proofs.OnePlan.{spelled_unrefused as plan_unrefused}
 use Rattle.vw_check.specs.declared.fault.PlanFault.{PlanFault}
 use Rattle.vw_check.specs.Faults.{plan_fault}
-use Rattle.vw_check.proofs.LawAll.{faultless}
+use Rattle.vw_check.proofs.SoundPlans.{faultless}
 use Rattle.vw_run.proofs.Fits.{fits}
 use Rattle.vw_rows.specs.declared.stimulus.StimFault.{StimFault}
 use Rattle.vw_run.specs.declared.fault.CompileFault.TheVariants.{TooManyCells}

@@ -13,7 +13,7 @@ use Rattle.vw_top.specs.Designs.{IsNetlistOf, IsNoDesign}
 use Rattle.vw_top.specs.Course.{Outside, outside}
 use Rattle.vw_top.specs.Statuses.{LeavesPart}
 use Rattle.vw_top.specs.Commands.{HasRoom, text_of_plan}
-use Rattle.vw_top.specs.CommandStatuses.{Holds, IsOneMore, Yields, IsNoBoard, YieldsTwo}
+use Rattle.vw_top.specs.CommandStatuses.{HoldTwo, Holds, IsOneMore, Yields, IsNoBoard, YieldsTwo}
 
 -- a netlist of the design of a text, and the board of another
 pub record AreSpelledOn (d b : List ℕ) (ordered : Ordered) (board : Board) : Type 0 where
@@ -40,11 +40,6 @@ pub record HaveNoRoom (d b : List ℕ) : Type 0 where
   pub board : Board
   pub are : AreSpelledOn d b ordered board
   pub none : board.chips * board.cells < length ordered.flat.cells
-
--- the two texts are held
-pub record HoldTwo (design board : List ℕ) (before : Outside) (d b : List ℕ) : Type 0 where
-  pub design_held : Holds before design d
-  pub board_held : Holds before board b
 
 pub record PlanStatuses (design board : List ℕ) (before after : Outside) (status : ℕ) : Type 0 where
   -- 0: the text of a good plan is written, and nothing else changed

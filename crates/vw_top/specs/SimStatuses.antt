@@ -11,7 +11,7 @@ use Rattle.vw_top.specs.Designs.{IsDesignOf, IsNoDesign}
 use Rattle.vw_top.specs.Course.{Outside, outside}
 use Rattle.vw_top.specs.Statuses.{LeavesPart}
 use Rattle.vw_top.specs.Commands.{trace_of}
-use Rattle.vw_top.specs.CommandStatuses.{Holds, IsOneMore, Yields}
+use Rattle.vw_top.specs.CommandStatuses.{Holds, IsOneMore, Yields, YieldsTwo}
 
 -- the texts are held, and stand for this design and these rows
 pub record AreAccepted (design stimulus : List ℕ) (before : Outside) (spelled : Design) (rows : List (List Bool)) : Type 0 where
@@ -36,7 +36,7 @@ pub record SimStatuses (design stimulus : List ℕ) (unknown : Bool) (before aft
       → (spelled : Design) × (fault : StimFault) × IsDesignOf d spelled × (stimulus_rows (length (columns spelled)) s ≡ Err fault)
   pub no_rows_comes : (d s : List ℕ) (spelled : Design) (fault : StimFault) → Holds before design d → Holds before stimulus s
       → IsDesignOf d spelled → stimulus_rows (length (columns spelled)) s ≡ Err fault
-      → (status ≡ 5) ⊎ (Yields design before after status ⊎ Yields stimulus before after status)
+      → (status ≡ 5) ⊎ YieldsTwo design stimulus before after status
   -- 7: a fault was counted at one of the two files, over every shelf
   pub read_fault : status ≡ 7 → CountsFault design before.shelf after.shelf ⊎ CountsFault stimulus before.shelf after.shelf
   -- these aren't statuses of `sim`

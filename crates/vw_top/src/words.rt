@@ -41,9 +41,7 @@ fn gives(setting: WordSetting, word: &Name) -> bool
     ensures { result ≡ gives (setting_view setting) word.now }
 {
     match setting {
-        WordSetting::Unknown => {
-            word.as_slice() == b"unknown=0".as_slice() || word.as_slice() == b"unknown=1".as_slice()
-        }
+        WordSetting::Unknown => word.is(b"unknown=0") || word.is(b"unknown=1"),
     }
 }
 
@@ -89,7 +87,7 @@ fn unknown_in(settings: &[Name]) -> bool
     ensures { result ≡ unknown_in settings.now }
 {
     for word in settings {
-        if word.as_slice() == b"unknown=1".as_slice() {
+        if word.is(b"unknown=1") {
             return true;
         }
     }
@@ -155,21 +153,28 @@ fn plan_of(rest: &[Name]) -> Command<'_>
     }
 }
 
+/// The command that words spell, where these are the first one and the others.
+fn command_by<'a>(verb: &Name, rest: &'a [Name]) -> Command<'a>
+    ensures { spelled_by (verb.now ∷ rest.now) ≡ command_view result }
+{
+    if verb.is(b"sim") {
+        return sim_of(rest);
+    }
+    if verb.is(b"check") {
+        return check_of(rest);
+    }
+    if verb.is(b"plan") {
+        return plan_of(rest);
+    }
+    Command::Nothing(1)
+}
+
 /// The command that words spell.
 pub fn command_of(words: &[Name]) -> Command<'_>
     ensures { spelled_by words.now ≡ command_view result }
 {
-    let [verb, rest @ ..] = words else {
-        return Command::Nothing(1);
-    };
-    if verb.as_slice() == b"sim".as_slice() {
-        return sim_of(rest);
+    match words {
+        [verb, rest @ ..] => command_by(verb, rest),
+        [] => Command::Nothing(1),
     }
-    if verb.as_slice() == b"check".as_slice() {
-        return check_of(rest);
-    }
-    if verb.as_slice() == b"plan".as_slice() {
-        return plan_of(rest);
-    }
-    Command::Nothing(1)
 }

@@ -1,3 +1,3 @@
 pub mod RisingPairs
-pub mod Listed
+pub mod ListedPairs
 pub mod DepthTable

@@ -19,8 +19,8 @@ use Rattle.vw_blif.specs.Steps.Says.{Says}
 -- ---- tables
 
 -- what an open table tells of the next row
-abbrev pub table_told : Table → OpenTable
-table_told t = record { width = length t.ins; value = option_map value_word t.on }
+abbrev pub table_said : Table → OpenTable
+table_said t = record { width = length t.ins; value = option_map value_word t.on }
 
 abbrev pub on_or : Option Bool → Bool → Bool
 on_or None other = other
@@ -87,14 +87,14 @@ pub record HasItem (old : Block) (item : Item) (new : Block) : Type 0 where
 -- what the lines before say is what the model has
 pub record IsAsBefore (before : List Line) (b : Block) : Type 0 where
   pub open_ : is_open before ≡ true
-  pub table_ : open_table before ≡ option_map table_told b.table
+  pub table_ : open_table before ≡ option_map table_said b.table
   pub inputs : ports_before input before ≡ b.inputs.names.items
   pub outputs : ports_before output before ≡ b.outputs.names.items
   pub clocks : ports_before clocked before ≡ b.clocks.names.items
 
 -- a line was taken into a model
 pub record TakesLine (old : Block) (line : Line) (new : Block) : Type 0 where
-  pub tells : (before : List Line) → IsAsBefore before old → IsAsBefore (line ∷ before) new
+  pub stays : (before : List Line) → IsAsBefore before old → IsAsBefore (line ∷ before) new
   pub fine : (before : List Line) → IsAsBefore before old → fault_at before line ≡ None
   pub makes : (rest : List Line) → block_made new rest ≡ block_made old (line ∷ rest)
   pub name : new.name ≡ old.name

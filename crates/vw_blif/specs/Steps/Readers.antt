@@ -30,15 +30,15 @@ abbrev pub models_made : Reader → List Line → List SpelledModel
 models_made r lines = map spelled_model r.models.items ++ models_with (opened r.block) (blocks lines)
 
 -- what the lines before say is what the open model has
-abbrev pub ToldOpen : List Line → Option Block → Type 0
-ToldOpen before None = Unit {0}
-ToldOpen before (Some b) = IsAsBefore before b
+abbrev pub HasOpenSaid : List Line → Option Block → Type 0
+HasOpenSaid before None = Unit {0}
+HasOpenSaid before (Some b) = IsAsBefore before b
 
 -- what the lines before say is what the design has
-pub record ToldAll (before : List Line) (r : Reader) : Type 0 where
+pub record HasAllSaid (before : List Line) (r : Reader) : Type 0 where
   pub open_ : is_open before ≡ is_some (opened r.block)
   pub names : model_names before ≡ names_so_far r.models.items (opened r.block)
-  pub block : ToldOpen before (opened r.block)
+  pub block : HasOpenSaid before (opened r.block)
 
 -- nothing was read
 pub record IsAtStart (r : Reader) : Type 0 where
@@ -53,14 +53,14 @@ pub record EndsModel (old new : Reader) : Type 0 where
 
 -- a line was read
 pub record ReadsLine (old : Reader) (line : Line) (new : Reader) : Type 0 where
-  pub tells : (before : List Line) → ToldAll before old → ToldAll (line ∷ before) new
-  pub fine : (before : List Line) → ToldAll before old → fault_at before line ≡ None
+  pub stays : (before : List Line) → HasAllSaid before old → HasAllSaid (line ∷ before) new
+  pub fine : (before : List Line) → HasAllSaid before old → fault_at before line ≡ None
   pub makes : (rest : List Line) → models_made new rest ≡ models_made old (line ∷ rest)
   pub count : length (names_so_far new.models.items (opened new.block)) ≤ length (names_so_far old.models.items (opened old.block)) + 1
 
 -- a line was refused
 abbrev pub RefusesLine : Reader → Line → TextFault → Type 0
-RefusesLine old line fault = (before : List Line) → ToldAll before old → Says fault (fault_at before line)
+RefusesLine old line fault = (before : List Line) → HasAllSaid before old → Says fault (fault_at before line)
 
 -- the fault of a line with another word, unless memory ran out
 abbrev pub SaysOther : Line → TextFault → Type 0

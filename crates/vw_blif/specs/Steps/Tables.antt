@@ -10,12 +10,12 @@ use Rattle.vw_blif.specs.Rows.{is_row_of}
 use Rattle.vw_blif.specs.Designs.{table_of}
 use Rattle.vw_blif.specs.Before.{or_value}
 use Rattle.vw_blif.specs.Faults.{differs_from}
-use Rattle.vw_blif.specs.Steps.Blocks.{table_told, table_made}
+use Rattle.vw_blif.specs.Steps.Blocks.{table_said, table_made}
 
 -- a table begins at a line, which has words enough and not too many
 pub record BeginsTable (line : Line) (new : Table) : Type 0 where
   pub makes : (rows : List Line) → table_made new rows ≡ table_of line rows
-  pub tells : table_told new ≡ record { width = length (further line) - 1; value = None }
+  pub stays : table_said new ≡ record { width = length (further line) - 1; value = None }
   pub some : (length (further line) == 0) ≡ false
   pub few : nat_lt 129 (length (further line)) ≡ false
 
@@ -43,18 +43,18 @@ is_other_value (Some false) value = value
 -- a row was added to a table
 pub record AddsRow (old : Table) (line : Line) (new : Table) : Type 0 where
   pub makes : (rows : List Line) → table_made new rows ≡ table_made old (line ∷ rows)
-  pub tells : table_told new ≡ record { width = (table_told old).width; value = Some (or_value (table_told old).value (last_word line.words)) }
-  pub fits : is_row_of (table_told old).width line.words ≡ true
-  pub same : differs_from (table_told old).value (last_word line.words) ≡ false
+  pub stays : table_said new ≡ record { width = (table_said old).width; value = Some (or_value (table_said old).value (last_word line.words)) }
+  pub fits : is_row_of (table_said old).width line.words ≡ true
+  pub same : differs_from (table_said old).value (last_word line.words) ≡ false
 
 abbrev pub SaysRow : Table → Line → TextFault → Type 0
 SaysRow old line TooLarge = ⊥
 SaysRow old line (NoModel at) = ⊥
 SaysRow old line (Unsupported at word) = ⊥
 SaysRow old line (BadWords at) = ⊥
-SaysRow old line (BadRow at) = (at ≡ line.number) × (is_row_of (table_told old).width line.words ≡ false)
-SaysRow old line (MixedRows at) = (at ≡ line.number) × (is_row_of (table_told old).width line.words ≡ true)
-    × (differs_from (table_told old).value (last_word line.words) ≡ true)
+SaysRow old line (BadRow at) = (at ≡ line.number) × (is_row_of (table_said old).width line.words ≡ false)
+SaysRow old line (MixedRows at) = (at ≡ line.number) × (is_row_of (table_said old).width line.words ≡ true)
+    × (differs_from (table_said old).value (last_word line.words) ≡ true)
 SaysRow old line (TooWide at) = ⊥
 SaysRow old line (BadLatchType at) = ⊥
 SaysRow old line (BadInit at) = ⊥

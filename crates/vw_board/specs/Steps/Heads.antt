@@ -1,11 +1,11 @@
 -- The numbers of the first five lines of a board text.
 use Rattle.std.specs.Prelude.{◌≡◌, ◌≤◌, List, length, None}
 use Rattle.vw_text.specs.declared.line.Line.{Line}
-use Rattle.vw_board.specs.declared.head.Head.{Head}
+use Rattle.vw_board.specs.declared.head.BoardHead.{BoardHead}
 use Rattle.vw_board.specs.Headers.{headers_fault, chips_of, cells_of, settle_of, pins_of}
 
 -- numbers that a board can have
-pub record IsHeadInRange (head : Head) : Type 0 where
+pub record IsHeadInRange (head : BoardHead) : Type 0 where
   pub some_chips : 1 ≤ head.chips
   pub few_chips : head.chips ≤ 32
   pub some_cells : 1 ≤ head.cells
@@ -13,7 +13,7 @@ pub record IsHeadInRange (head : Head) : Type 0 where
   pub quick : head.settle ≤ 15
 
 -- none of the lines is at fault, and these are their numbers
-pub record IsBoardHead (lines : List Line) (head : Head) : Type 0 where
+pub record IsBoardHead (lines : List Line) (head : BoardHead) : Type 0 where
   pub fine : headers_fault lines ≡ None
   pub chips : head.chips ≡ chips_of lines
   pub cells : head.cells ≡ cells_of lines

@@ -1,6 +1,6 @@
 -- How the claims of a model are gathered, item by item.
 use Rattle.std.specs.Prelude.{ℕ, Bool, suc, List, [], ◌∷◌, ◌++◌, map, slice_get, Option, Some, None, if◌then◌else◌}
-use Rattle.std.specs.List.{AllZip, list_any}
+use Rattle.std.specs.List.{list_any}
 use Rattle.std.specs.Option.{option_or, unwrap_or}
 use Rattle.std.specs.Str.{bytes_eq}
 use Rattle.vw_design.specs.declared.item.Bind.{Bind}
@@ -9,7 +9,7 @@ use Rattle.vw_design.specs.declared.item.Item.TheVariants.{Names, Latch, Sub}
 use Rattle.vw_design.specs.declared.model.Model.{Model}
 use Rattle.vw_design.specs.declared.design.Design.{Design}
 use Rattle.vw_design.specs.Distinct.{has_name}
-use Rattle.vw_design.specs.Paths.{Word, Placing, model_named, model_outputs}
+use Rattle.vw_design.specs.Paths.{Word, model_named, model_outputs}
 use Rattle.vw_design.specs.Claims.{and_behind}
 use Rattle.vw_design.specs.ModelNumbers.{IsNumberOfModel}
 use Rattle.vw_drivers.specs.declared.claim.Claim.{Claim}
@@ -76,10 +76,7 @@ ports_only model = record {
   again = None;
 }
 
--- the numbers of the models that placings name, and that of what an item places
-abbrev pub AreModelNumbers : Design → List Placing → List (Option ℕ) → Type 0
-AreModelNumbers design placings numbers = AllZip (λ placing number. IsNumberOfModel design placing.model number) placings numbers
-
+-- the number of what an item places
 abbrev pub IsModelNumber : Design → Item → Option ℕ → Type 0
 IsModelNumber design (Names line ins out cover) target = Unit {0}
 IsModelNumber design (Latch line d q edge control init) target = Unit {0}

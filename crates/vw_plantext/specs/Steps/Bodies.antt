@@ -107,13 +107,13 @@ is_complete state = is_complete_but state.part state.left
 pub record HasRead (lines : List (List ℕ)) (state : BodyState) : Type 0 where
   pub fits : Fits state
   pub some_left : HasSomeLeft state.part
-  pub tells : (content : Content) (more : List (List ℕ)) → IsInRange content → lines ++ more ≡ plan_lines content → IsRestOfPlan state content more
+  pub stays : (content : Content) (more : List (List ℕ)) → IsInRange content → lines ++ more ≡ plan_lines content → IsRestOfPlan state content more
   pub makes : (content : Content) (more : List (List ℕ)) → IsRestOfPlan state content more → lines ++ more ≡ plan_lines content
 
 -- a line was taken
 pub record TakesPlanLine (old : BodyState) (line : List ℕ) (new : BodyState) : Type 0 where
   pub fits : Fits new
-  pub tells : (content : Content) (more : List (List ℕ)) → IsInRange content → IsRestOfPlan old content (line ∷ more) → IsRestOfPlan new content more
+  pub stays : (content : Content) (more : List (List ℕ)) → IsInRange content → IsRestOfPlan old content (line ∷ more) → IsRestOfPlan new content more
   pub makes : (content : Content) (more : List (List ℕ)) → IsRestOfPlan new content more → IsRestOfPlan old content (line ∷ more)
 
 -- a line can't stand there
@@ -124,5 +124,5 @@ RefusesLine old line = (content : Content) (more : List (List ℕ)) → IsInRang
 pub record ClosesWire (old new : BodyState) : Type 0 where
   pub fits : Fits new
   pub some_left : HasSomeLeft new.part
-  pub tells : (content : Content) (more : List (List ℕ)) → IsRestOfPlan old content more → IsRestOfPlan new content more
+  pub stays : (content : Content) (more : List (List ℕ)) → IsRestOfPlan old content more → IsRestOfPlan new content more
   pub makes : (content : Content) (more : List (List ℕ)) → IsRestOfPlan new content more → IsRestOfPlan old content more

@@ -2,7 +2,7 @@
 use Rattle.std.specs.Prelude.{◌≡◌, ◌≢◌, ◌<◌, ◌≤◌, ◌+◌, ◌^◌, ℕ, List, [], ◌∷◌, ◌++◌, length, codes}
 use Rattle.std.specs.List.{All}
 use Rattle.vw_text.specs.Physical.{lines_text}
-use Rattle.vw_plantext.specs.declared.start.Head.{Head}
+use Rattle.vw_plantext.specs.declared.start.PlanHead.{PlanHead}
 use Rattle.vw_plantext.specs.declared.fault.PlanTextFault.{PlanTextFault}
 use Rattle.vw_plantext.specs.declared.fault.PlanTextFault.TheVariants.{TooLarge, BadLine, NoMemory}
 use Rattle.vw_plantext.specs.Grammar.{number_line}
@@ -13,7 +13,7 @@ use Rattle.vw_plantext.specs.Steps.Bodies.{BodyState, HasRead}
 abbrev pub head_numbers : ℕ → ℕ → ℕ → List ℕ
 head_numbers cells wires period = 1 ∷ cells ∷ wires ∷ period ∷ []
 
-pub record IsPlanHead (numbers : List ℕ) (head : Head) : Type 0 where
+pub record IsPlanHead (numbers : List ℕ) (head : PlanHead) : Type 0 where
   pub are : numbers ≡ head_numbers head.cells head.wires head.period
   pub few_cells : head.cells < 2 ^ 32
   pub few_wires : head.wires < 2 ^ 32
@@ -22,7 +22,7 @@ pub record IsPlanHead (numbers : List ℕ) (head : Head) : Type 0 where
 abbrev pub IsNoHead : List ℕ → Type 0
 IsNoHead numbers = (cells wires period : ℕ) → cells < 2 ^ 32 → wires < 2 ^ 32 → period ≤ 2 ^ 62 → numbers ≢ head_numbers cells wires period
 
-pub record IsHeadLine (line : List ℕ) (head : Head) : Type 0 where
+pub record IsHeadLine (line : List ℕ) (head : PlanHead) : Type 0 where
   pub is : line ≡ number_line (codes "plan") (head_numbers head.cells head.wires head.period)
   pub few_cells : head.cells < 2 ^ 32
   pub few_wires : head.wires < 2 ^ 32

@@ -4,9 +4,8 @@ use Rattle.vw_design.specs.declared.design.Design.{Design}
 use Rattle.vw_design.specs.Flattened.{IsFlatOf}
 use Rattle.vw_design.specs.Loops.{IsLoopFree}
 use Rattle.vw_top.specs.declared.endings.Unfinished.{Unfinished}
-use Rattle.vw_top.specs.declared.endings.Unfinished.TheVariants.{Stopped, Refused}
-use Rattle.vw_top.specs.declared.stop.Stop.TheVariants.{ReadFault, WriteFault, NoMemory}
 use Rattle.vw_top.specs.Designs.{RefusesLoop}
+use Rattle.vw_top.specs.Steps.Stage.{EndsFor}
 
 -- the netlist is that of the design, which has no loop
 pub record IsOrderedOf (design : Design) (ordered : Ordered) : Type 0 where
@@ -15,7 +14,4 @@ pub record IsOrderedOf (design : Design) (ordered : Ordered) : Type 0 where
 
 -- the call is refused for a loop of the design, or memory ran out
 abbrev pub EndsLoop : Design → Unfinished → Type 0
-EndsLoop design (Refused refusal) = RefusesLoop design refusal.reason
-EndsLoop design (Stopped NoMemory) = Unit {0}
-EndsLoop design (Stopped WriteFault) = ⊥
-EndsLoop design (Stopped (ReadFault file)) = ⊥
+EndsLoop design = EndsFor (RefusesLoop design)

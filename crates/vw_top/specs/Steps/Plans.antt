@@ -9,8 +9,7 @@ use Rattle.vw_run.specs.declared.fault.CompileFault.{CompileFault}
 use Rattle.vw_run.specs.declared.fault.CompileFault.TheVariants.{TooManyCells}
 use Rattle.vw_top.specs.declared.reason.Reason.TheVariants as reasons
 use Rattle.vw_top.specs.declared.endings.Unfinished.{Unfinished}
-use Rattle.vw_top.specs.declared.endings.Unfinished.TheVariants.{Stopped, Refused}
-use Rattle.vw_top.specs.declared.stop.Stop.TheVariants.{ReadFault, WriteFault, NoMemory}
+use Rattle.vw_top.specs.Steps.Stage.{EndsFor}
 
 -- the plan of the setting, which is sound
 pub record IsCheckedPlan (setting : Setting) (checked : Checked) : Type 0 where
@@ -19,14 +18,8 @@ pub record IsCheckedPlan (setting : Setting) (checked : Checked) : Type 0 where
 
 -- the command refuses for the fault; for want of memory, and for nothing else, it is stopped
 abbrev pub EndsPlanFault : PlanFault → Unfinished → Type 0
-EndsPlanFault fault (Refused refusal) = (refusal.reason ≡ reasons.Plan fault) × IsTrue (is_plan_fault fault)
-EndsPlanFault fault (Stopped NoMemory) = Unit {0}
-EndsPlanFault fault (Stopped WriteFault) = ⊥
-EndsPlanFault fault (Stopped (ReadFault file)) = ⊥
+EndsPlanFault fault = EndsFor (λ reason. (reason ≡ reasons.Plan fault) × IsTrue (is_plan_fault fault))
 
 -- the command refuses for want of room
 abbrev pub EndsCompileFault : CompileFault → Unfinished → Type 0
-EndsCompileFault fault (Refused refusal) = (cells room : ℕ) × (fault ≡ TooManyCells cells room) × (refusal.reason ≡ reasons.Fit (TooManyCells cells room))
-EndsCompileFault fault (Stopped NoMemory) = Unit {0}
-EndsCompileFault fault (Stopped WriteFault) = ⊥
-EndsCompileFault fault (Stopped (ReadFault file)) = ⊥
+EndsCompileFault fault = EndsFor (λ reason. (cells room : ℕ) × (fault ≡ TooManyCells cells room) × (reason ≡ reasons.Fit (TooManyCells cells room)))

@@ -28,13 +28,17 @@ WritesOut text before after (Err WriteFault) = FailedAfterPart text before after
 WritesOut text before after (Err NoMemory) = WrotePart text before after
 WritesOut text before after (Err (ReadFault file)) = ⊥
 
+-- the call was refused for such a reason, or memory ran out
+abbrev pub EndsFor : (Reason → Type 0) → Unfinished → Type 0
+EndsFor Bad (Refused refusal) = Bad refusal.reason
+EndsFor Bad (Stopped NoMemory) = Unit {0}
+EndsFor Bad (Stopped WriteFault) = ⊥
+EndsFor Bad (Stopped (ReadFault file)) = ⊥
+
 -- something was made of a text for which it is good, or the text is refused, or memory ran out
 abbrev pub JudgesText : {A : Type 0} → (A → Type 0) → (Reason → Type 0) → Result A Unfinished → Type 0
 JudgesText Good Bad (Ok x) = Good x
-JudgesText Good Bad (Err (Refused refusal)) = Bad refusal.reason
-JudgesText Good Bad (Err (Stopped NoMemory)) = Unit {0}
-JudgesText Good Bad (Err (Stopped WriteFault)) = ⊥
-JudgesText Good Bad (Err (Stopped (ReadFault file))) = ⊥
+JudgesText Good Bad (Err unfinished) = EndsFor Bad unfinished
 
 -- the answer of a command that wrote its text, or that a stop ended while it wrote
 abbrev pub answer_of : Result (Unit {0}) Stop → Result (Unit {0}) Unfinished

@@ -23,4 +23,4 @@ returns-clause-item c =
     let words = c.args.words.now in
     let written = c.written_of-written.ensures in
     let parts = parted words c.d-item.result c.q-item.result c.in-len2-up.len_at_least c.d-item.is c.q-item.is in
-    c.in_ok-item_of.ensures ∙ latch_with c.args.line words (take (length words - 2) (drop 2 words)) c.d-item.result c.q-item.result _ _ _ parts written.type_ written.control written.init
+    c.in_ok-latch_item.ensures ∙ latch_with c.args.line words (take (length words - 2) (drop 2 words)) c.d-item.result c.q-item.result _ _ _ parts written.type_ written.control written.init

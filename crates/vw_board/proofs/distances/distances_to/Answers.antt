@@ -3,7 +3,7 @@ use Rattle.std.specs.Prelude.{IsSome, unwrap_or}
 use Rattle.vw_plan.specs.declared.board.Board.{Board}
 use Rattle.vw_plan.specs.Distance.{distance}
 use Rattle.vw_board.specs.Steps.Tables.{HaveLeast}
-use Rattle.vw_board.proofs.Noted.{noted_distance, distances_push}
+use Rattle.vw_board.proofs.NotedWalks.{noted_distance, distances_push}
 use Rattle.vw_board.proofs.distances.distances_to.Goals as goal
 
 -- at each node its distance was noted

@@ -1,4 +1,4 @@
-use Rattle.vw_board.proofs.Near.{all_near, some_nearer}
+use Rattle.vw_board.proofs.NearerNodes.{all_near, some_nearer}
 use Rattle.vw_board.proofs.distances.step_to.Goals as goal
 
 pub first_nearer-requires-clause-near : goal.first_nearer-requires-clause-near

@@ -1,6 +1,7 @@
 use Rattle.std.proofs.Common.{◌<◌, ◌∙◌, sym, refl, ap, length, get_or, List, arith}
 use Rattle.vw_plan.specs.declared.wire.Wire.{Wire}
-use Rattle.vw_check.proofs.Clashes.{clash_behind-pin_clash, none_is, wires_clash, wires_end, wires_first, wires_next}
+use Rattle.vw_check.proofs.FaultOrder.{no_fault}
+use Rattle.vw_check.proofs.Clashes.{clash_behind-pin_clash, wires_clash, wires_end, wires_first, wires_next}
 use Rattle.vw_check.proofs.clash.pin_clash.Goals as goal
 
 -- all wires are left at first
@@ -14,7 +15,7 @@ loop-number-preserved c =
     let number = c.loop-number.number in
     let within : number < length wires = omega (arith, ap length c.wires-wire-items.ensures) in
     let is = c.wire-item.is ∙ ap (λ (list : List Wire). get_or list number c.wire-item.result) c.wires-wire-items.ensures in
-    wires_next number wires c.loop-number.pins.users c.clash_in.new.pins.users c.loop-number.invariant c.wire-item.result within is c.wire-item.result.hops refl c.in_ok-found.found c.in_ok-found.ensures (none_is c.in_ok-found.found (sym c.if-is_some.ensures))
+    wires_next number wires c.loop-number.pins.users c.clash_in.new.pins.users c.loop-number.invariant c.wire-item.result within is c.wire-item.result.hops refl c.in_ok-found.found c.in_ok-found.ensures (no_fault c.in_ok-found.found c.if-is_some.ensures)
 
 -- the first clash of the rest is the first of all
 pub returns-then-is_some : goal.returns-then-is_some

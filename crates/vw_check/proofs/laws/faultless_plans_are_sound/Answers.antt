@@ -1,4 +1,4 @@
-use Rattle.vw_check.proofs.LawAll.{sound}
+use Rattle.vw_check.proofs.SoundPlans.{sound}
 use Rattle.vw_check.proofs.laws.faultless_plans_are_sound.Goals as goal
 
 pub returns : goal.returns

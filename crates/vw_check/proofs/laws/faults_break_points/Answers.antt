@@ -1,4 +1,4 @@
-use Rattle.vw_check.proofs.LawAll.{breaks}
+use Rattle.vw_check.proofs.SoundPlans.{breaks}
 use Rattle.vw_check.proofs.laws.faults_break_points.Goals as goal
 
 pub returns : goal.returns

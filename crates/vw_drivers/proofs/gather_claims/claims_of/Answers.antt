@@ -6,7 +6,8 @@ use Rattle.vw_design.specs.Paths.{placings}
 use Rattle.vw_design.proofs.PairedLists.{AllZip-length, AllZip-at}
 use Rattle.vw_drivers.specs.declared.model_claims.ModelClaims.{ModelClaims}
 use Rattle.vw_drivers.specs.Claimed.{AreClaims}
-use Rattle.vw_drivers.specs.Steps.GatheredClaims.{AreModelNumbers, with_items, ports_only}
+use Rattle.vw_drivers.specs.Steps.GatheredClaims.{with_items, ports_only}
+use Rattle.vw_design.specs.ModelNumbers.{AreModelNumbers}
 use Rattle.vw_drivers.proofs.FirstClaims.{gathered_firsts}
 use Rattle.vw_drivers.proofs.ModelClaimsAgain.{gathered_again}
 use Rattle.vw_drivers.proofs.Targets.{at_place}

@@ -5,7 +5,7 @@ use Rattle.vw_models.specs.Steps.PlacedModels.{at_placement}
 use Rattle.vw_models.specs.Steps.Formals.{IsBothWays}
 use Rattle.vw_models.specs.Steps.FoundAtPlaced.{both_ways_at}
 use Rattle.vw_models.proofs.NumberedModels.{model_at_place, within_models}
-use Rattle.vw_models.proofs.Searched.{the_output, model_of, both_is}
+use Rattle.vw_models.proofs.FirstAtPlaced.{the_output, model_of, both_is}
 use Rattle.vw_models.proofs.AtPlacedModel.{zip_at, nothing_at, something_at, nothing_left, made_none, made_some}
 use Rattle.vw_models.proofs.both.first_both.Goals as goal
 use Rattle.vw_order.proofs.NoValue.{none_is}

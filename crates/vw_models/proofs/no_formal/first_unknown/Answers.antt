@@ -6,7 +6,7 @@ use Rattle.vw_design.specs.WordSets.{has_word}
 use Rattle.vw_models.specs.Steps.PlacedModels.{at_placement}
 use Rattle.vw_models.specs.Steps.Formals.{AreFormals}
 use Rattle.vw_models.specs.Steps.FoundAtPlaced.{unknown_formal_at}
-use Rattle.vw_models.proofs.Searched.{the_name, model_of, unknown_is}
+use Rattle.vw_models.proofs.FirstAtPlaced.{the_name, model_of, unknown_is}
 use Rattle.vw_models.proofs.AtPlacedModel.{zip_at, nothing_at, something_at, nothing_left, made_none, made_some, unknown_by}
 use Rattle.vw_models.proofs.no_formal.first_unknown.Goals as goal
 use Rattle.vw_order.proofs.NoValue.{none_is}

@@ -4,7 +4,7 @@ use Rattle.vw_design.specs.ModelFaults.{IsModelCircle}
 use Rattle.vw_design.specs.ModelNumbers.{IsModelOrder}
 use Rattle.vw_order.specs.Circles.{IsNumberCircle, BeginsWithLeast}
 use Rattle.vw_order.specs.Orders.{IsNumberOrder}
-use Rattle.vw_order.proofs.Among.{at_among}
+use Rattle.vw_net.proofs.Orders.{at_among}
 use Rattle.vw_models.specs.Steps.ModelGraphs.{graph_of_models}
 use Rattle.vw_models.specs.Steps.ModelNames.{numbered_names}
 use Rattle.vw_models.proofs.Models.{search_within}
@@ -25,7 +25,7 @@ circle_names-requires c = λ i inside.
     let targets = c.args.targets.now in
     let circle = c.deref.result.now in
     let here : IsNumberCircle (graph_of_models design targets) circle = subst (λ (l : List ℕ). IsNumberCircle (graph_of_models design targets) l) (sym c.deref.ensures.value) (found (goal.at.circle_names-requires c).In-Circle).0 in
-    circle_within design targets c.requires.targets circle here (get_or circle i 0) (at_among circle i inside)
+    circle_within design targets c.requires.targets circle here (get_or circle i 0) (at_among circle i 0 inside)
 
 pub returns-in-Order : goal.returns-in-Order
 returns-in-Order c =

@@ -3,7 +3,7 @@ use Rattle.std.proofs.lemmas.List.{get_or_default}
 use Rattle.vw_net.specs.Order.{is_among}
 use Rattle.vw_models.specs.Steps.Reach.{with_number, with_targets}
 use Rattle.vw_models.proofs.Reaches.{IsReaching, start, go_on, short, all_reached}
-use Rattle.vw_order.proofs.Among.{at_among}
+use Rattle.vw_net.proofs.Orders.{at_among}
 use Rattle.vw_models.proofs.reach.reach.Goals as goal
 use Rattle.vw_models.proofs.reach.reach.Goals.{else-loop-at-test, then-loop-at-test+then-at-len}
 
@@ -24,7 +24,7 @@ bounds-targets-number c =
     let found = c.loop-at.reached.found.items in
     let within : c.loop-at.at < length found = omega (arith, c.if-at-len.false, c.len.ensures) in
     let is = number_is found c.loop-at.at c.index-number.result.now within c.index-number.ensures in
-    far.good.within c.index-number.result.now (ap (is_among found) is ∙ at_among found c.loop-at.at within)
+    far.good.within c.index-number.result.now (ap (is_among found) is ∙ at_among found c.loop-at.at 0 within)
 
 pub add_all-requires-clause-within : goal.add_all-requires-clause-within
 add_all-requires-clause-within c = λ place placed at.
@@ -33,7 +33,7 @@ add_all-requires-clause-within c = λ place placed at.
     let far = c.loop-at.invariant.far in
     let here : c.loop-at.at < length found = omega (arith, c.if-at-len.false, c.len.ensures) in
     let is = number_is found c.loop-at.at number here c.index-number.ensures in
-    let within : number < length c.args.targets.now = far.good.within number (ap (is_among found) is ∙ at_among found c.loop-at.at here) in
+    let within : number < length c.args.targets.now = far.good.within number (ap (is_among found) is ∙ at_among found c.loop-at.at 0 here) in
     let list : c.as_slice.result.now ≡ get_or c.args.targets.now number [] = c.as_slice.ensures ∙ c.index-targets-number.is ∙ get_or_default c.args.targets.now number c.index-targets-number.result [] within in
     let below : placed < length c.args.targets.now = c.requires.within number place placed (ap (λ (l : List (Option ℕ)). slice_get l place) (sym list) ∙ at) in
     omega (arith, below, c.loop-at.invariant.marks)
@@ -44,7 +44,7 @@ loop-at-preserved c =
     let number = c.index-number.result.now in
     let within : c.loop-at.at < length found = omega (arith, c.if-at-len.false, c.len.ensures) in
     let is = number_is found c.loop-at.at number within c.index-number.ensures in
-    let below : number < length c.args.targets.now = c.loop-at.invariant.far.good.within number (ap (is_among found) is ∙ at_among found c.loop-at.at within) in
+    let below : number < length c.args.targets.now = c.loop-at.invariant.far.good.within number (ap (is_among found) is ∙ at_among found c.loop-at.at 0 within) in
     let list : c.as_slice.result.now ≡ get_or c.args.targets.now (get_or found c.loop-at.at 0) [] =
     c.as_slice.ensures ∙ c.index-targets-number.is ∙ get_or_default c.args.targets.now number c.index-targets-number.result [] below ∙ ap (λ (n : ℕ). get_or c.args.targets.now n []) is in
     record {

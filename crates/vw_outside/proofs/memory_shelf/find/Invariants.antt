@@ -1,7 +1,7 @@
 -- no text before this place has the name
 use Rattle.std.proofs.Common.{◌≡◌, ◌+◌, drop}
 use Rattle.std.specs.Prelude.{option_map}
-use Rattle.vw_outside.specs.Steps.{text_place}
+use Rattle.vw_outside.specs.Steps.TextPlaces.{text_place}
 use Rattle.vw_outside.proofs.memory_shelf.find.Given as goal
 
 abbrev pub invariant-loop-place : goal.invariant-loop-place

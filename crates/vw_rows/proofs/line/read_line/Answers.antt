@@ -1,7 +1,7 @@
 -- The words that were found are those of the line.
 use Rattle.std.proofs.Common.{ℕ, List, sym, ◌∙◌, subst}
 use Rattle.vw_rows.specs.Stimulus.{rows_added}
-use Rattle.vw_rows.specs.Steps.{Answers, rows_asked}
+use Rattle.vw_rows.specs.Steps.Reading.{Answers, rows_asked}
 use Rattle.vw_rows.proofs.FoundWords.{no_further, one_word, two_words}
 use Rattle.vw_rows.proofs.line.read_line.Goals as goal
 

@@ -6,7 +6,7 @@ use Rattle.vw_design.specs.Preorder.{cells}
 use Rattle.vw_flat.specs.Printed.{printed_site}
 use Rattle.vw_order.specs.Faults.{IsOrderFault}
 use Rattle.vw_order.specs.Loops.{IsLoop}
-use Rattle.vw_top.proofs.Gates.{within_cells, loop_named}
+use Rattle.vw_top.proofs.NetlistLoops.{within_cells, loop_named}
 use Rattle.vw_top.proofs.design.refuse_loop.Goals as goal
 
 -- the numbers are those of gates

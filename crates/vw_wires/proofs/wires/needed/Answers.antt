@@ -5,7 +5,7 @@ use Rattle.vw_net.specs.declared.flat.Flat.{Flat}
 use Rattle.vw_plan.specs.declared.need.Need.{Need}
 use Rattle.vw_plan.specs.Needs.{is_pair, needed_pairs}
 use Rattle.vw_wires.specs.Steps.Crossings.{crossings}
-use Rattle.vw_wires.proofs.Listed.{any_crossings, same, sorted_once}
+use Rattle.vw_wires.proofs.ListedPairs.{any_crossings, same, sorted_once}
 use Rattle.vw_wires.proofs.RisingPairs.{sorted_from_rising, HaveSame}
 use Rattle.vw_wires.proofs.wires.needed.Goals as goal
 

@@ -1,4 +1,4 @@
-use Rattle.vw_board.proofs.Noted.{table_push}
+use Rattle.vw_board.proofs.NotedWalks.{table_push}
 use Rattle.vw_board.proofs.distances.Distances.of.Goals as goal
 
 pub loop-to-preserved : goal.loop-to-preserved

@@ -3,7 +3,8 @@ use Rattle.std.proofs.lemmas.List.{drop_more}
 use Rattle.vw_design.specs.declared.item.Item.{Item}
 use Rattle.vw_design.specs.Paths.{placings}
 use Rattle.vw_design.specs.Claims.{and_behind}
-use Rattle.vw_drivers.specs.Steps.GatheredClaims.{item_made, with_all, with_items, AreModelNumbers, IsModelNumber}
+use Rattle.vw_drivers.specs.Steps.GatheredClaims.{item_made, with_all, with_items, IsModelNumber}
+use Rattle.vw_design.specs.ModelNumbers.{AreModelNumbers}
 use Rattle.vw_drivers.proofs.Targets.{target_here, placed_more, behind_few}
 use Rattle.vw_drivers.proofs.model_claims.ModelClaims.add_items.Goals as goal
 

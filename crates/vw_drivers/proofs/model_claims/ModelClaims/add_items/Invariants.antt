@@ -1,7 +1,8 @@
 -- the items so far were added, and these models are placed by those that are left
 use Rattle.std.proofs.Common.{◌≡◌, ◌≤◌, drop}
 use Rattle.vw_design.specs.Paths.{placings}
-use Rattle.vw_drivers.specs.Steps.GatheredClaims.{with_items, AreModelNumbers}
+use Rattle.vw_drivers.specs.Steps.GatheredClaims.{with_items}
+use Rattle.vw_design.specs.ModelNumbers.{AreModelNumbers}
 use Rattle.vw_drivers.proofs.model_claims.ModelClaims.add_items.Given as goal
 
 abbrev pub invariant-loop-index : goal.invariant-loop-index

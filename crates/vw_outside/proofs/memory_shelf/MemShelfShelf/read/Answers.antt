@@ -1,6 +1,6 @@
 use Rattle.std.proofs.Common.{◌≡◌, Some, None, arith, rules, refl, subst}
 use Rattle.vw_outside.specs.Reads.{Fills}
-use Rattle.vw_outside.specs.Steps.{text_place}
+use Rattle.vw_outside.specs.Steps.TextPlaces.{text_place}
 use Rattle.vw_outside.proofs.FaultCounts.{place_below, counts_at, counts_elsewhere, held_at, not_absent, not_held}
 use Rattle.vw_outside.proofs.memory_shelf.MemShelfShelf.read.Goals as goal
 use Rattle.vw_outside.proofs.memory_shelf.MemShelfShelf.read.Goals.{In-Some, In-None}
@@ -46,11 +46,11 @@ returns-in-None-clause-sure c = λ bytes told unlisted. absurd (not_held c.args.
 
 pub returns-in-Some-2-clause-reads : goal.returns-in-Some-2-clause-reads
 returns-in-Some-2-clause-reads c = record {
-  within = c.copy.ensures.within;
+  within = c.fill.ensures.within;
   held = λ bytes told.
       let same = held_at c.args.self.now.files.items c.args.name.now c.in-Some.place c.index-file.result.now bytes (found ((goal.at.returns-in-Some-2-clause-reads c).In-Some)) c.index-file.ensures told in
       let read : c.deref-in-Some-2.result.now ≡ bytes = cc in
-      subst (λ text. Fills text c.args.from c.copy.new.into c.copy.result) read c.copy.ensures.filled;
+      subst (λ text. Fills text c.args.from c.fill.new.into c.fill.result) read c.fill.ensures.filled;
   absent = λ told. absurd (not_absent c.args.self.now.files.items c.args.name.now c.in-Some.place c.index-file.result.now (found ((goal.at.returns-in-Some-2-clause-reads c).In-Some)) told);
   done = refl;
   failed = tt;

@@ -4,7 +4,7 @@ use Rattle.vw_part.specs.declared.load.Load.{Load}
 use Rattle.vw_part.specs.Steps.Deals.{cell_nets}
 use Rattle.vw_part.specs.Steps.Pins.{times_among}
 use Rattle.vw_part.proofs.Dealing.{HasCellMore, dealt_more, loaded}
-use Rattle.vw_part.proofs.Held.{held-le}
+use Rattle.vw_part.proofs.ChipLoads.{held-le}
 use Rattle.vw_part.proofs.deal.Deal.put.Goals as goal
 
 -- each cell so far counts once at most

@@ -6,7 +6,7 @@ use Rattle.vw_part.specs.declared.load.Load.{Load}
 use Rattle.vw_part.specs.Steps.Deals.{held, cell_nets}
 use Rattle.vw_part.specs.Steps.Pins.{times_among}
 use Rattle.vw_part.proofs.Dealing.{HasCellMore, dealt_moved, loaded}
-use Rattle.vw_part.proofs.Held.{held-le, held_least}
+use Rattle.vw_part.proofs.ChipLoads.{held-le, held_least}
 use Rattle.vw_part.proofs.deal.Deal.shift.Goals as goal
 
 -- the cell's nets are held by its chip

@@ -3,8 +3,8 @@ use Rattle.std.proofs.lemmas.Option.{slice_get_within}
 use Rattle.vw_design.specs.declared.design.Design.{Design}
 use Rattle.vw_design.specs.Preorder.{instances}
 use Rattle.vw_flat.proofs.Items.{IsModelAt, cell_is, item_read}
-use Rattle.vw_flat.proofs.cell.item_of.Goals.{After-models}
-use Rattle.vw_flat.proofs.cell.item_of.Goals as goal
+use Rattle.vw_flat.proofs.cell.item_at_cell.Goals.{After-models}
+use Rattle.vw_flat.proofs.cell.item_at_cell.Goals as goal
 
 -- the instance of the cell
 pub instance-instance-requires : goal.instance-instance-requires

@@ -5,7 +5,7 @@ use Rattle.vw_design.specs.declared.model.Model.{Model}
 use Rattle.vw_design.specs.Distinct.{has_name}
 use Rattle.vw_design.specs.Paths.{Word}
 use Rattle.vw_design.proofs.PairedLists.{AllZip-push}
-use Rattle.vw_drivers.proofs.model_outputs.outputs_of.Goals as goal
+use Rattle.vw_drivers.proofs.model_outputs.output_sets.Goals as goal
 
 pub loop-model-preserved : goal.loop-model-preserved
 loop-model-preserved c =

@@ -7,7 +7,7 @@ use Rattle.vw_design.specs.Reads.{net_at, root_outputs}
 use Rattle.vw_design.specs.Flattened.{number_of}
 use Rattle.vw_flat.specs.Steps.Numbers.{nets}
 use Rattle.vw_flat.proofs.LongerLists.{maps_more, all_more}
-use Rattle.vw_flat.proofs.netlist.outputs_of.Goals as goal
+use Rattle.vw_flat.proofs.netlist.output_numbers.Goals as goal
 
 -- one number more
 pub loop-place-preserved : goal.loop-place-preserved

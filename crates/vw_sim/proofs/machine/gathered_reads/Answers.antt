@@ -4,8 +4,8 @@ use Rattle.vw_net.specs.Order.{gate_inputs}
 use Rattle.vw_sim.proofs.Gates.{order_cell}
 use Rattle.vw_net.proofs.Ready.{order_within}
 use Rattle.vw_sim.proofs.Machines.{reads_more}
-use Rattle.vw_sim.proofs.machine.gate_reads.Goals as goal
-use Rattle.vw_sim.proofs.machine.gate_reads.Goals.{in-Gate+in_ok-extend_from_slice, in_default}
+use Rattle.vw_sim.proofs.machine.gathered_reads.Goals as goal
+use Rattle.vw_sim.proofs.machine.gathered_reads.Goals.{in-Gate+in_ok-extend_from_slice, in_default}
 
 -- the number of a gate is below the number of cells
 pub bounds-cells-number : goal.bounds-cells-number

@@ -3,7 +3,7 @@ use Rattle.std.specs.List.{All}
 use Rattle.vw_design.specs.Flattened.{number_of}
 use Rattle.vw_design.specs.Reads.{root_outputs}
 use Rattle.vw_flat.specs.Steps.Numbers.{nets}
-use Rattle.vw_flat.proofs.netlist.outputs_of.Given as goal
+use Rattle.vw_flat.proofs.netlist.output_numbers.Given as goal
 
 -- so many numbers are there
 abbrev pub invariant-loop-place : goal.invariant-loop-place

@@ -3,7 +3,7 @@ use Rattle.std.specs.List.{dedup}
 use Rattle.std.proofs.lemmas.List.Filters.{dedup_is}
 use Rattle.vw_part.specs.Steps.Pins.{AreNetsOf}
 use Rattle.vw_part.proofs.CellNets.{kept_once}
-use Rattle.vw_part.proofs.pins.nets_of.Goals as goal
+use Rattle.vw_part.proofs.pins.nets_of_cell.Goals as goal
 
 -- sorted, and each kept once
 pub returns : goal.returns

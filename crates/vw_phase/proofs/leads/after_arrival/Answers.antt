@@ -2,7 +2,7 @@ use Rattle.std.proofs.Common.{◌≤◌, ◌^◌, ◌<◌, [], sym, subst, ◌�
 use Rattle.std.proofs.lemmas.List.{get_or_default}
 use Rattle.vw_plan.specs.Lead.{after_last}
 use Rattle.vw_phase.proofs.HopsTo.{Finds, finds}
-use Rattle.vw_phase.proofs.leads.arrival.Goals as goal
+use Rattle.vw_phase.proofs.leads.after_arrival.Goals as goal
 
 -- the place that the table has leads to the hops
 pub bounds-hops-place : goal.bounds-hops-place
