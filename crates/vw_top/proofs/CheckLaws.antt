@@ -1,5 +1,5 @@
 -- What the table of statuses says of the files of `check`.
-use Rattle.std.proofs.Common.{◌≡◌, ◌<◌, ◌⊎◌, ℕ, List, refl, sym, ◌∙◌, ap, ap₂, subst, inl, inr, ⊎_elim, lit<, arith}
+use Rattle.std.proofs.Common.{◌≡◌, ◌<◌, ◌⊎◌, ℕ, List, [], ◌∷◌, refl, sym, ◌∙◌, ap, ap₂, subst, inl, inr, lit<, arith}
 use Rattle.vw_net.specs.declared.ordered.Ordered.{Ordered}
 use Rattle.vw_plan.specs.declared.board.Board.{Board}
 use Rattle.vw_plan.specs.declared.plan.Plan.{Plan}
@@ -13,7 +13,6 @@ use Rattle.vw_check.specs.Faults.{plan_fault}
 use Rattle.vw_check.proofs.SoundPlans.{sound, faultless}
 use Rattle.vw_check.proofs.SameNetlist.{fault_same}
 use Rattle.vw_outside.specs.Told.{Told, absent, held, IsTextOf}
-use Rattle.vw_outside.specs.Reads.{CountsFault}
 use Rattle.vw_outside.specs.Writes.{appended}
 use Rattle.vw_top.specs.declared.stop.File.{File}
 use Rattle.vw_top.specs.declared.stop.File.TheVariants as files
@@ -24,10 +23,11 @@ use Rattle.vw_top.specs.Designs.{IsNetlistOf, RefusesDesign}
 use Rattle.vw_top.specs.Course.{Course, Outside, outside, MayWrite, MayRefuse, MayRead, writing, refusing, missing, ComesTo}
 use Rattle.vw_top.specs.Statuses.{Statuses}
 use Rattle.vw_top.specs.Commands.{RefusesBoard, RefusesPlanText, RefusesPlan, plan_text_apart, check_course, check_board_course, check_plan_course, sound_text}
-use Rattle.vw_top.specs.CommandStatuses.{YieldsThree}
+use Rattle.vw_top.specs.CommandStatuses.{CountsFaultAt, YieldsAt}
 use Rattle.vw_top.specs.CheckStatuses.{AreSpelled, IsNoPlanText, HasPlanFault, IsNoPlan, IsSoundPlan, HoldTexts, CheckStatuses}
-use Rattle.vw_top.proofs.CourseEnds.{refused_with, refused_or_stopped, fault_of_three, yields_three, absent_leaves, part_of, carried_out}
-use Rattle.vw_top.proofs.FirstFile.{its_text, no_text, at_held, at_absent, first_refused, first_comes, first_absent}
+use Rattle.vw_top.proofs.CourseEnds.{none_counted, refused_with, refused_or_stopped, refused_one_of, fault_at, yields_at, absent_leaves, part_of, carried_out}
+use Rattle.vw_top.proofs.ReadsAndRefusals.{IsOneOf, ReadsOnly, reads_one_of, RefusesWith}
+use Rattle.vw_top.proofs.FirstFile.{its_text, no_text, at_held, at_absent, first_reads, first_refuses, first_refused, first_comes, first_absent}
 use Rattle.vw_top.proofs.SecondFile.{second_refused, second_comes, second_absent}
 use Rattle.vw_top.proofs.JudgedTexts.{judged_netlist, judged_board, status_one, board_status, netlist_same, no_refused_design, no_refused_board}
 
@@ -94,27 +94,25 @@ module _ (design board plan : List ℕ) (told : List ℕ → Told) where
     text_is = written;
   }
 
-  -- what `check` reads
-  which : (file : File) (name : List ℕ) → MayRead course told file name → (name ≡ design) ⊎ ((name ≡ board) ⊎ (name ≡ plan))
-  which file name (inl (is, same)) = inl same
-  which file name (inr (d, d_is, (ordered, netlist, inl (is, same)))) = inr (inl same)
-  which file name (inr (d, d_is, (ordered, netlist, inr (b, b_is, (its, its_is, inl (is, same)))))) = inr (inr same)
-  which file name (inr (d, d_is, (ordered, netlist, inr (b, b_is, (its, its_is, inr (p, p_is, (content, content_is, (done, sound_is, more)))))))) = absurd more
+  -- what `check` reads, and with which statuses it refuses
+  plan_refuses : (ordered : Ordered) (its : Board) → RefusesWith (4 ∷ []) (check_plan_course ordered its plan)
+  plan_refuses ordered its = λ p. (
+    λ reason refused. inl (text_status p reason refused),
+    λ content is. (λ reason refused. inl (plan_status (setting_of ordered its content) reason refused), λ done sound_is. tt),
+  )
+
+  board_refuses : (ordered : Ordered) → RefusesWith (3 ∷ 4 ∷ []) (check_board_course ordered board plan)
+  board_refuses ordered = first_refuses judged_board files.Board board (λ its. check_plan_course ordered its plan) (4 ∷ []) (plan_refuses ordered)
+
+  refuse : RefusesWith (1 ∷ 3 ∷ 4 ∷ []) course
+  refuse = first_refuses judged_netlist files.Design design (λ ordered. check_board_course ordered board plan) (3 ∷ 4 ∷ []) board_refuses
+
+  read : ReadsOnly (design ∷ board ∷ plan ∷ []) course
+  read =
+      first_reads judged_netlist files.Design design (λ ordered. check_board_course ordered board plan) (board ∷ plan ∷ [])
+      (λ ordered. first_reads judged_board files.Board board (λ its. check_plan_course ordered its plan) (plan ∷ []) (λ its. (inl refl, λ p content is done sound_is. tt)))
 
   -- ---- what it comes to
-
-  -- a refusal behind the board has status 4
-  behind_board : (ordered : Ordered) (its : Board) (reason : Reason) → MayRefuse (check_plan_course ordered its plan) told reason → reason_status reason ≡ 4
-  behind_board ordered its reason (p, p_is, inl refused) = text_status p reason refused
-  behind_board ordered its reason (p, p_is, inr (content, content_is, inl refused)) = plan_status (setting_of ordered its content) reason refused
-  behind_board ordered its reason (p, p_is, inr (content, content_is, inr (done, sound_is, more))) = absurd more
-
-  after_board : (ordered : Ordered) (its : Board) (reason : Reason) → MayRefuse (check_plan_course ordered its plan) told reason → reason_status reason ≡ 3 → ⊥
-  after_board ordered its reason may is = omega (arith, is, behind_board ordered its reason may)
-
-  after_design : (ordered : Ordered) (reason : Reason) → MayRefuse (check_board_course ordered board plan) told reason → reason_status reason ≡ 1 → ⊥
-  after_design ordered reason (b, b_is, inl refused) is = omega (arith, is, board_status b reason refused)
-  after_design ordered reason (b, b_is, inr (its, its_is, may)) is = omega (arith, is, behind_board ordered its reason may)
 
   comes_to_no_text : (d b p : List ℕ) (ordered : Ordered) (its : Board) → told design ≡ held d → told board ≡ held b → told plan ≡ held p → IsNetlistOf d ordered → SpellsBoard b its → IsNoPlanText p → ComesTo refusing course told
   comes_to_no_text d b p ordered its d_is b_is p_is netlist board_is none =
@@ -171,28 +169,22 @@ module _ (design board plan : List ℕ) (before after : Outside) (status : ℕ) 
   abbrev told : List ℕ → Told
   told = before.shelf.told
 
-  abbrev Counts : List ℕ → Type 0
-  Counts name = CountsFault name before.shelf after.shelf
-
   its_why : (reason : Reason) → MayRefuse (check_course design board plan) told reason → WhyRefused design board plan told reason
   its_why = why design board plan told
 
-  read_fault : status ≡ 7 → Counts design ⊎ (Counts board ⊎ Counts plan)
-  read_fault = fault_of_three table design board plan (which design board plan told)
+  which : (file : File) (name : List ℕ) → MayRead (check_course design board plan) told file name → IsOneOf (design ∷ board ∷ plan ∷ []) name
+  which = reads_one_of (design ∷ board ∷ plan ∷ []) (check_course design board plan) (read design board plan told) told
 
-  yields : (status ≡ 7) ⊎ (status ≡ 9) → YieldsThree design board plan before after status
-  yields = yields_three table design board plan (which design board plan told)
+  read_fault : status ≡ 7 → CountsFaultAt (design ∷ board ∷ plan ∷ []) before after
+  read_fault = fault_at table (design ∷ board ∷ plan ∷ []) which
+
+  yields : (status ≡ 7) ⊎ (status ≡ 9) → YieldsAt (design ∷ board ∷ plan ∷ []) before after status
+  yields = yields_at table (design ∷ board ∷ plan ∷ []) which
 
   -- ---- refusals
 
-  one_three_four : (reason : Reason) → WhyRefused design board plan told reason → status ≡ reason_status reason → (status ≡ 1) ⊎ ((status ≡ 3) ⊎ (status ≡ 4))
-  one_three_four reason (bad_design d d_is refused) its = inl (its ∙ status_one d reason refused)
-  one_three_four reason (bad_board d b ordered d_is netlist b_is refused) its = inr (inl (its ∙ board_status b reason refused))
-  one_three_four reason (bad_text d b p ordered content d_is netlist b_is board_is p_is refused) its = inr (inr (its ∙ text_status p reason refused))
-  one_three_four reason (unsound d b p ordered spelled content d_is b_is p_is are refused) its = inr (inr (its ∙ plan_status (setting_of ordered spelled content) reason refused))
-
-  no_other : (0 < status) → (status < 7) → (status ≡ 1) ⊎ ((status ≡ 3) ⊎ (status ≡ 4))
-  no_other some few = let refusal = table.refused some few in one_three_four refusal.reason (its_why refusal.reason refusal.may) refusal.its_status
+  no_other : 0 < status → status < 7 → IsOneOf (1 ∷ 3 ∷ 4 ∷ []) status
+  no_other = refused_one_of table (1 ∷ 3 ∷ 4 ∷ []) (refuse design board plan told)
 
   spelled_here : (d b p text_d text_b text_p : List ℕ) (ordered : Ordered) (its : Board) (content : Plan) → told design ≡ held d → told board ≡ held b → told plan ≡ held p
       → IsTextOf (told design) text_d → IsTextOf (told board) text_b → IsTextOf (told plan) text_p → AreSpelled text_d text_b text_p ordered its content → AreSpelled d b p ordered its content
@@ -247,18 +239,18 @@ module _ (design board plan : List ℕ) (before after : Outside) (status : ℕ) 
         let done = table.done is in
         let w = what design board plan told done.text done.may in
         (w.content, here d b p done.text held_all w, done.leaves ∙ ap (λ (t : List ℕ). outside before.shelf (appended before.out t)) w.text_is);
-    no_design = first_refused judged_netlist files.Design design (λ ordered. check_board_course ordered board plan) table (after_design design board plan told);
+    no_design = first_refused judged_netlist files.Design design (λ ordered. check_board_course ordered board plan) table (3 ∷ 4 ∷ []) (λ is. omega (arith, is)) (board_refuses design board plan told);
     no_design_comes = first_comes judged_netlist files.Design design (λ ordered. check_board_course ordered board plan) table;
-    no_board = second_refused judged_netlist judged_board (λ (is : 1 ≡ 3). omega arith) files.Design files.Board design board (λ ordered its. check_plan_course ordered its plan) table (after_board design board plan told);
-    no_board_comes = λ d b ordered held_d held_b netlist. second_comes judged_netlist judged_board (λ (is : 1 ≡ 3). omega arith) files.Design files.Board design board (λ ordered its. check_plan_course ordered its plan) table d ordered held_d netlist b held_b;
+    no_board = λ b here is. let bad = second_refused judged_netlist (λ ordered. judged_board) (λ (is : 1 ≡ 3). omega arith) (lit< tt) (lit< tt) files.Design files.Board design board (λ ordered its. check_plan_course ordered its plan) table (4 ∷ []) (λ is. omega (arith, is)) (plan_refuses design board plan told) b here is in (bad.reason, bad.bad);
+    no_board_comes = λ d b ordered held_two netlist. second_comes judged_netlist (λ ordered. judged_board) (λ (is : 1 ≡ 3). omega arith) (lit< tt) (lit< tt) files.Design files.Board design board (λ ordered its. check_plan_course ordered its plan) table d ordered held_two.design_held netlist (λ other is text reason bad. bad) b held_two.board_held;
     no_plan = λ d b p held_all.
         refused_with table 4 (IsNoPlan d b p) (lit< tt) (lit< tt) (λ reason may. why_four d b p reason held_all (its_why reason may));
     no_plan_text_comes = λ d b p ordered its held_all netlist board_is none.
-        refused_or_stopped table 4 (YieldsThree design board plan before after status)
+        refused_or_stopped table 4 (YieldsAt (design ∷ board ∷ plan ∷ []) before after status)
         (λ reason may. four_comes d b ordered its reason held_all.design_held held_all.board_held netlist board_is (its_why reason may))
         yields (comes_to_no_text design board plan told d b p ordered its held_all.design_held held_all.board_held held_all.plan_held netlist board_is none);
     unsound_comes = λ d b p fault held_all has.
-        refused_or_stopped table 4 (YieldsThree design board plan before after status)
+        refused_or_stopped table 4 (YieldsAt (design ∷ board ∷ plan ∷ []) before after status)
         (λ reason may. four_comes d b has.ordered has.board reason held_all.design_held held_all.board_held has.are.netlist has.are.board_is (its_why reason may))
         yields (comes_to_unsound design board plan told d b p fault held_all.design_held held_all.board_held held_all.plan_held has);
     read_fault = read_fault;
@@ -271,12 +263,11 @@ module _ (design board plan : List ℕ) (before after : Outside) (status : ℕ) 
         part_of table (sound_text its) (λ text may. text_here d b p text its held_all is (what design board plan told text may))
         (comes_to_sound design board plan told d b p its held_all.design_held held_all.board_held held_all.plan_held is);
     absent_design = first_absent judged_netlist files.Design design (λ ordered. check_board_course ordered board plan) table;
-    absent_board = second_absent judged_netlist judged_board (λ (is : 1 ≡ 3). omega arith) files.Design files.Board design board (λ ordered its. check_plan_course ordered its plan) table;
+    absent_board = second_absent judged_netlist (λ ordered. judged_board) (λ (is : 1 ≡ 3). omega arith) (lit< tt) (lit< tt) files.Design files.Board design board (λ ordered its. check_plan_course ordered its plan) table;
     absent_plan = λ d b ordered its held_d held_b netlist board_is gone.
         absent_leaves table (λ text may. let w = what design board plan told text may in no_text (told plan) w.p gone w.p_is)
         (comes_to_no_plan_file design board plan told d b ordered its held_d held_b netlist board_is gone);
-    complete = λ d b p its held_all is no_design no_board no_plan no_write.
-        let no_later : Counts board ⊎ Counts plan → ⊥ = ⊎_elim (λ (c : Counts board). no_board c.here) (λ (c : Counts plan). no_plan c.here) in
-        carried_out table (λ seven. ⊎_elim (λ (c : Counts design). no_design c.here) no_later (read_fault seven)) no_write
+    complete = λ d b p its held_all is no_fault no_write.
+        carried_out table (λ seven. none_counted before after (design ∷ board ∷ plan ∷ []) no_fault (read_fault seven)) no_write
         (comes_to_sound design board plan told d b p its held_all.design_held held_all.board_held held_all.plan_held is);
   }

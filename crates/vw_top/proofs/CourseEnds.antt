@@ -1,38 +1,29 @@
 -- What the table of statuses says of the end of a call, whichever its course.
-use Rattle.std.proofs.Common.{◌≡◌, ◌<◌, ◌⊎◌, ℕ, List, sym, ◌∙◌, ap, subst, inl, inr, ⊎_elim}
-use Rattle.vw_outside.specs.Reads.{CountsFault, SeenShelf}
+use Rattle.std.proofs.Common.{◌≡◌, ◌<◌, ◌⊎◌, ℕ, List, [], ◌∷◌, sym, ◌∙◌, ap, subst, inl, inr, ⊎_elim}
+use Rattle.vw_outside.specs.Reads.{CountsFault}
 use Rattle.vw_outside.specs.Writes.{SeenSink, WrotePart}
 use Rattle.vw_top.specs.declared.stop.File.{File}
 use Rattle.vw_top.specs.declared.reason.Reason.{Reason}
 use Rattle.vw_top.specs.Reasons.{reason_status}
 use Rattle.vw_top.specs.Course.{Course, Outside, MayWrite, MayRefuse, MayRead, writing, refusing, missing, ComesTo}
 use Rattle.vw_top.specs.Statuses.{Statuses, IsWantOfMemory, LeavesPart}
-use Rattle.vw_top.specs.CommandStatuses.{IsOneMore, Yields, YieldsTwo, YieldsThree}
+use Rattle.vw_top.specs.CommandStatuses.{IsOneMore, CountsFaultAt, NoFaultAt, YieldsAt}
 use Rattle.vw_top.proofs.CourseLaws.{none_written}
+use Rattle.vw_top.proofs.ReadsAndRefusals.{IsOneOf, RefusesWith, refuses_one_of}
 
 -- ---- a fault was counted at one of some files
 
-module _ (before after : SeenShelf) (name : List ℕ) (counted : CountsFault name before after) where
-  counted_at : (one : List ℕ) → name ≡ one → CountsFault one before after
-  counted_at one same = subst (λ (n : List ℕ). CountsFault n before after) same counted
+module _ (before after : Outside) where
+  counted_at : (name : List ℕ) → CountsFault name before.shelf after.shelf → (names : List (List ℕ)) → IsOneOf names name → CountsFaultAt names before after
+  counted_at name counted [] is = absurd is
+  counted_at name counted (one ∷ others) (inl same) = inl (subst (λ (n : List ℕ). CountsFault n before.shelf after.shelf) same counted)
+  counted_at name counted (one ∷ others) (inr is) = inr (counted_at name counted others is)
 
-  among_two : (one two : List ℕ) → (name ≡ one) ⊎ (name ≡ two) → CountsFault one before after ⊎ CountsFault two before after
-  among_two one two (inl same) = inl (counted_at one same)
-  among_two one two (inr same) = inr (counted_at two same)
-
-  among_three : (one two three : List ℕ) → (name ≡ one) ⊎ ((name ≡ two) ⊎ (name ≡ three)) → CountsFault one before after ⊎ (CountsFault two before after ⊎ CountsFault three before after)
-  among_three one two three (inl same) = inl (counted_at one same)
-  among_three one two three (inr same) = inr (among_two two three same)
-
-module _ (before after : Outside) (status : ℕ) (is : status ≡ 7) where
-  stopped_in_two : (one two : List ℕ) → CountsFault one before.shelf after.shelf ⊎ CountsFault two before.shelf after.shelf → YieldsTwo one two before after status
-  stopped_in_two one two (inl counted) = inl (inr (is, counted))
-  stopped_in_two one two (inr counted) = inr (inr (is, counted))
-
-  stopped_in_three : (one two three : List ℕ) → CountsFault one before.shelf after.shelf ⊎ (CountsFault two before.shelf after.shelf ⊎ CountsFault three before.shelf after.shelf)
-      → YieldsThree one two three before after status
-  stopped_in_three one two three (inl counted) = inl (inr (is, counted))
-  stopped_in_three one two three (inr counted) = inr (stopped_in_two two three counted)
+  -- and then its count rose
+  pub none_counted : (names : List (List ℕ)) → NoFaultAt names before after → CountsFaultAt names before after → ⊥
+  none_counted [] none counted = counted
+  none_counted (name ∷ names) none (inl counted) = none.0 counted.here
+  none_counted (name ∷ names) none (inr counted) = none_counted names none.1 counted
 
 -- ---- what the table says
 
@@ -53,31 +44,20 @@ module _ {course : Course} {before after : Outside} {status : ℕ} (table : Stat
       (λ (stops : (status ≡ 7) ⊎ (status ≡ 9)). inr (stopped stops))
       (table.rejected comes)
 
-  -- a stop in the reading of one file, of two, or of three
-  pub yields_one : (one : List ℕ) → ((file : File) (name : List ℕ) → MayRead course before.shelf.told file name → name ≡ one) → (status ≡ 7) ⊎ (status ≡ 9) → Yields one before after status
-  yields_one one which (inl is) =
-      let fault = table.read_fault is in inr (is, counted_at before.shelf after.shelf fault.name fault.counted one (which fault.file fault.name fault.may))
-  yields_one one which (inr is) = inl is
+  -- a refusal has one of the statuses with which the course refuses
+  pub refused_one_of : (numbers : List ℕ) → RefusesWith numbers course → 0 < status → status < 7 → IsOneOf numbers status
+  refused_one_of numbers all some few =
+      let refusal = table.refused some few in
+      subst (IsOneOf numbers) (sym refusal.its_status) (refuses_one_of numbers course all before.shelf.told refusal.reason refusal.may)
 
-  pub fault_of_two : (one two : List ℕ) → ((file : File) (name : List ℕ) → MayRead course before.shelf.told file name → (name ≡ one) ⊎ (name ≡ two))
-      → status ≡ 7 → CountsFault one before.shelf after.shelf ⊎ CountsFault two before.shelf after.shelf
-  fault_of_two one two which is =
-      let fault = table.read_fault is in among_two before.shelf after.shelf fault.name fault.counted one two (which fault.file fault.name fault.may)
+  -- a stop in the reading of one of these files
+  pub fault_at : (names : List (List ℕ)) → ((file : File) (name : List ℕ) → MayRead course before.shelf.told file name → IsOneOf names name) → status ≡ 7 → CountsFaultAt names before after
+  fault_at names which is =
+      let fault = table.read_fault is in counted_at before after fault.name fault.counted names (which fault.file fault.name fault.may)
 
-  pub yields_two : (one two : List ℕ) → ((file : File) (name : List ℕ) → MayRead course before.shelf.told file name → (name ≡ one) ⊎ (name ≡ two))
-      → (status ≡ 7) ⊎ (status ≡ 9) → YieldsTwo one two before after status
-  yields_two one two which (inl is) = stopped_in_two before after status is one two (fault_of_two one two which is)
-  yields_two one two which (inr is) = inl (inl is)
-
-  pub fault_of_three : (one two three : List ℕ) → ((file : File) (name : List ℕ) → MayRead course before.shelf.told file name → (name ≡ one) ⊎ ((name ≡ two) ⊎ (name ≡ three)))
-      → status ≡ 7 → CountsFault one before.shelf after.shelf ⊎ (CountsFault two before.shelf after.shelf ⊎ CountsFault three before.shelf after.shelf)
-  fault_of_three one two three which is =
-      let fault = table.read_fault is in among_three before.shelf after.shelf fault.name fault.counted one two three (which fault.file fault.name fault.may)
-
-  pub yields_three : (one two three : List ℕ) → ((file : File) (name : List ℕ) → MayRead course before.shelf.told file name → (name ≡ one) ⊎ ((name ≡ two) ⊎ (name ≡ three)))
-      → (status ≡ 7) ⊎ (status ≡ 9) → YieldsThree one two three before after status
-  yields_three one two three which (inl is) = stopped_in_three before after status is one two three (fault_of_three one two three which is)
-  yields_three one two three which (inr is) = inl (inl is)
+  pub yields_at : (names : List (List ℕ)) → ((file : File) (name : List ℕ) → MayRead course before.shelf.told file name → IsOneOf names name) → (status ≡ 7) ⊎ (status ≡ 9) → YieldsAt names before after status
+  yields_at names which (inl is) = inr (is, fault_at names which is)
+  yields_at names which (inr is) = inl is
 
   -- want of memory leaves out as it was, where nothing can be written
   pub want_untouched : IsWantOfMemory course before after → ((text : List ℕ) → MayWrite course before.shelf.told text → ⊥) → after.out ≡ before.out

@@ -1,13 +1,14 @@
 -- What the table of statuses says of the first file of a command, whichever file it is.
-use Rattle.std.proofs.Common.{◌≡◌, ◌<◌, ◌⊎◌, ℕ, List, refl, sym, subst, inl, inr}
+use Rattle.std.proofs.Common.{◌≡◌, ◌<◌, ◌⊎◌, ℕ, List, [], ◌∷◌, refl, sym, subst, inl, inr}
 use Rattle.vw_outside.specs.Told.{Told, absent, held, IsTextOf}
 use Rattle.vw_top.specs.declared.stop.File.{File}
 use Rattle.vw_top.specs.declared.reason.Reason.{Reason}
 use Rattle.vw_top.specs.Reasons.{reason_status}
 use Rattle.vw_top.specs.Course.{Course, reads, judges, Outside, MayRefuse, MayRead, AtFile}
 use Rattle.vw_top.specs.Statuses.{Statuses}
-use Rattle.vw_top.specs.CommandStatuses.{Holds, Yields}
-use Rattle.vw_top.proofs.CourseEnds.{refused_with, refused_or_stopped, yields_one, absent_leaves}
+use Rattle.vw_top.specs.CommandStatuses.{Holds, YieldsAt}
+use Rattle.vw_top.proofs.CourseEnds.{refused_with, refused_or_stopped, yields_at, absent_leaves}
+use Rattle.vw_top.proofs.ReadsAndRefusals.{IsOneOf, ReadsOnly, reads_more, RefusesWith, refuses_one_of, refuses_more}
 
 -- ---- what is told of a file
 
@@ -43,20 +44,27 @@ module _ {A : Type 0} {number : ℕ} (judged : Judged A number) (file : File) (n
   abbrev pub first_stage : Course
   first_stage = reads file name (λ text. judges A (judged.Good text) (judged.Bad text) (judged.apart text) (λ x is. next x))
 
+  -- it reads this file, and what the rest reads; and it refuses with this status, or as the rest does
+  pub first_reads : (names : List (List ℕ)) → ((x : A) → ReadsOnly names (next x)) → ReadsOnly (name ∷ names) first_stage
+  first_reads names only = (inl refl, λ text x good. reads_more name names (next x) (only x))
+
+  pub first_refuses : (numbers : List ℕ) → ((x : A) → RefusesWith numbers (next x)) → RefusesWith (number ∷ numbers) first_stage
+  first_refuses numbers all = λ text. (λ reason bad. inl (judged.its_status text reason bad), λ x good. refuses_more number numbers (next x) (all x))
+
   module _ {before after : Outside} {status : ℕ} (table : Statuses first_stage before after status) where
     abbrev told : List ℕ → Told
     told = before.shelf.told
 
-    refused_for : ((x : A) (reason : Reason) → MayRefuse (next x) told reason → reason_status reason ≡ number → ⊥)
+    refused_for : (others : List ℕ) → (IsOneOf others number → ⊥) → ((x : A) → RefusesWith others (next x))
         → (text : List ℕ) (reason : Reason) → Holds before name text → MayRefuse first_stage told reason → reason_status reason ≡ number → (r : Reason) × judged.Bad text r
-    refused_for later text reason here (other, may, inl bad) is = (reason, subst (λ (t : List ℕ). judged.Bad t reason) (its_text (told name) other text here may) bad)
-    refused_for later text reason here (other, may, inr (x, good, more)) is = absurd (later x reason more is)
+    refused_for others none later text reason here (other, may, inl bad) is = (reason, subst (λ (t : List ℕ). judged.Bad t reason) (its_text (told name) other text here may) bad)
+    refused_for others none later text reason here (other, may, inr (x, good, more)) is = absurd (none (subst (IsOneOf others) is (refuses_one_of others (next x) (later x) told reason more)))
 
     -- with its status the text has a fault, where no later refusal has this status
-    pub first_refused : ((x : A) (reason : Reason) → MayRefuse (next x) told reason → reason_status reason ≡ number → ⊥)
+    pub first_refused : (others : List ℕ) → (IsOneOf others number → ⊥) → ((x : A) → RefusesWith others (next x))
         → (text : List ℕ) → Holds before name text → status ≡ number → (reason : Reason) × judged.Bad text reason
-    first_refused later text here =
-        refused_with table number ((reason : Reason) × judged.Bad text reason) judged.some judged.few (λ reason. refused_for later text reason here)
+    first_refused others none later text here =
+        refused_with table number ((reason : Reason) × judged.Bad text reason) judged.some judged.few (λ reason. refused_for others none later text reason here)
 
     module _ (text : List ℕ) (here : told name ≡ held text) (bad : (reason : Reason) × judged.Bad text reason) where
       -- nothing good comes of it
@@ -67,14 +75,14 @@ module _ {A : Type 0} {number : ℕ} (judged : Judged A number) (file : File) (n
       status_for reason (other, may, inl its) = judged.its_status other reason its
       status_for reason (other, may, inr (x, good, more)) = absurd (none_good other x may good)
 
-      read_there : (which : File) (its : List ℕ) → MayRead first_stage told which its → its ≡ name
-      read_there which its (inl (is, same)) = same
+      read_there : (which : File) (its : List ℕ) → MayRead first_stage told which its → IsOneOf (name ∷ []) its
+      read_there which its (inl (is, same)) = inl same
       read_there which its (inr (other, may, (x, good, more))) = absurd (none_good other x may good)
 
       -- a text with a fault gives its status
-      pub first_comes : (status ≡ number) ⊎ Yields name before after status
+      pub first_comes : (status ≡ number) ⊎ YieldsAt (name ∷ []) before after status
       first_comes =
-          refused_or_stopped table number (Yields name before after status) status_for (yields_one table name read_there)
+          refused_or_stopped table number (YieldsAt (name ∷ []) before after status) status_for (yields_at table (name ∷ []) read_there)
           (at_held (told name) text _ _ here (inl (refl, bad.0, bad.1)))
 
     -- a file that is absent

@@ -1,6 +1,7 @@
 pub mod Clocks
 pub mod TraceLines
 pub mod CourseLaws
+pub mod ReadsAndRefusals
 pub mod CourseEnds
 pub mod FirstFile
 pub mod SecondFile

@@ -1,5 +1,5 @@
 -- What the table of statuses says of the files of `plan`.
-use Rattle.std.proofs.Common.{◌≡◌, ◌<◌, ◌≤◌, ◌*◌, ◌⊎◌, ℕ, List, length, refl, sym, ◌∙◌, ap, subst, inl, inr, ⊎_elim, lit<, arith}
+use Rattle.std.proofs.Common.{◌≡◌, ◌<◌, ◌≤◌, ◌*◌, ◌⊎◌, ℕ, List, [], ◌∷◌, length, refl, sym, ◌∙◌, ap, subst, inl, inr, ⊎_elim, lit<, arith}
 use Rattle.vw_net.specs.declared.flat.Flat.{Flat}
 use Rattle.vw_net.specs.declared.ordered.Ordered.{Ordered}
 use Rattle.vw_plan.specs.declared.board.Board.{Board}
@@ -8,7 +8,6 @@ use Rattle.vw_board.specs.BoardText.{Spells as SpellsBoard}
 use Rattle.vw_board.proofs.OneBoard.{accepted_once}
 use Rattle.vw_run.specs.declared.fault.CompileFault.TheVariants.{TooManyCells}
 use Rattle.vw_outside.specs.Told.{Told, held, IsTextOf}
-use Rattle.vw_outside.specs.Reads.{CountsFault}
 use Rattle.vw_outside.specs.Writes.{appended}
 use Rattle.vw_top.specs.declared.stop.File.{File}
 use Rattle.vw_top.specs.declared.stop.File.TheVariants as files
@@ -19,12 +18,13 @@ use Rattle.vw_top.specs.Designs.{IsNetlistOf, RefusesDesign}
 use Rattle.vw_top.specs.Course.{Course, Outside, outside, MayWrite, MayRefuse, MayRead, writing, refusing, ComesTo}
 use Rattle.vw_top.specs.Statuses.{Statuses, LeavesPart}
 use Rattle.vw_top.specs.Commands.{RefusesBoard, RefusesFit, HasRoom, plan_course, plan_board_course, good_course, text_of_plan}
-use Rattle.vw_top.specs.CommandStatuses.{HoldTwo, YieldsTwo}
+use Rattle.vw_top.specs.CommandStatuses.{CountsFaultAt, HoldTwo, YieldsAt}
 use Rattle.vw_top.specs.PlanStatuses.{AreSpelledOn, IsGoodPlan, HaveRoom, HaveNoRoom, PlanStatuses}
-use Rattle.vw_top.proofs.FirstFile.{its_text, at_held, first_refused, first_comes, first_absent}
+use Rattle.vw_top.proofs.FirstFile.{its_text, at_held, first_reads, first_refuses, first_refused, first_comes, first_absent}
 use Rattle.vw_top.proofs.SecondFile.{second_refused, second_comes, second_absent}
 use Rattle.vw_top.proofs.JudgedTexts.{judged_netlist, judged_board, status_one, board_status, netlist_same, no_refused_design, no_refused_board}
-use Rattle.vw_top.proofs.CourseEnds.{refused_with, refused_or_stopped, fault_of_two, yields_two, carried_out}
+use Rattle.vw_top.proofs.CourseEnds.{none_counted, refused_with, refused_or_stopped, refused_one_of, fault_at, yields_at, carried_out}
+use Rattle.vw_top.proofs.ReadsAndRefusals.{IsOneOf, ReadsOnly, reads_one_of, RefusesWith}
 
 fit_status : (ordered : Ordered) (board : Board) (reason : Reason) → RefusesFit ordered board reason → reason_status reason ≡ 6
 fit_status ordered board reason refused = ap reason_status refused.0
@@ -83,25 +83,22 @@ module _ (design board : List ℕ) (told : List ℕ → Told) where
     text_is = written;
   }
 
-  -- what `plan` reads
-  which : (file : File) (name : List ℕ) → MayRead course told file name → (name ≡ design) ⊎ (name ≡ board)
-  which file name (inl (is, same)) = inl same
-  which file name (inr (d, d_is, (ordered, netlist, inl (is, same)))) = inr same
-  which file name (inr (d, d_is, (ordered, netlist, inr (b, b_is, (its, its_is, (plan, good, more)))))) = absurd more
+  -- what `plan` reads, and with which statuses it refuses
+  fit_refuses : (ordered : Ordered) (its : Board) → RefusesWith (6 ∷ []) (good_course ordered its)
+  fit_refuses ordered its = (λ reason refused. inl (fit_status ordered its reason refused), λ plan good. tt)
+
+  board_refuses : (ordered : Ordered) → RefusesWith (3 ∷ 6 ∷ []) (plan_board_course ordered board)
+  board_refuses ordered = first_refuses judged_board files.Board board (good_course ordered) (6 ∷ []) (fit_refuses ordered)
+
+  refuse : RefusesWith (1 ∷ 3 ∷ 6 ∷ []) course
+  refuse = first_refuses judged_netlist files.Design design (λ ordered. plan_board_course ordered board) (3 ∷ 6 ∷ []) board_refuses
+
+  read : ReadsOnly (design ∷ board ∷ []) course
+  read =
+      first_reads judged_netlist files.Design design (λ ordered. plan_board_course ordered board) (board ∷ [])
+      (λ ordered. first_reads judged_board files.Board board (good_course ordered) [] (λ its plan good. tt))
 
   -- ---- what it comes to
-
-  -- a refusal behind the board has status 6
-  behind_board : (ordered : Ordered) (its : Board) (reason : Reason) → MayRefuse (good_course ordered its) told reason → reason_status reason ≡ 6
-  behind_board ordered its reason (inl refused) = fit_status ordered its reason refused
-  behind_board ordered its reason (inr (plan, good, more)) = absurd more
-
-  after_board : (ordered : Ordered) (its : Board) (reason : Reason) → MayRefuse (good_course ordered its) told reason → reason_status reason ≡ 3 → ⊥
-  after_board ordered its reason may is = omega (arith, is, behind_board ordered its reason may)
-
-  after_design : (ordered : Ordered) (reason : Reason) → MayRefuse (plan_board_course ordered board) told reason → reason_status reason ≡ 1 → ⊥
-  after_design ordered reason (b, b_is, inl refused) is = omega (arith, is, board_status b reason refused)
-  after_design ordered reason (b, b_is, inr (its, its_is, may)) is = omega (arith, is, behind_board ordered its reason may)
 
   comes_to_no_room : (d b : List ℕ) → told design ≡ held d → told board ≡ held b → HaveNoRoom d b → ComesTo refusing course told
   comes_to_no_room d b d_is b_is has =
@@ -133,27 +130,22 @@ module _ (design board : List ℕ) (before after : Outside) (status : ℕ) (tabl
   abbrev told : List ℕ → Told
   told = before.shelf.told
 
-  abbrev Counts : List ℕ → Type 0
-  Counts name = CountsFault name before.shelf after.shelf
-
   its_why : (reason : Reason) → MayRefuse (plan_course design board) told reason → WhyRefused design board told reason
   its_why = why design board told
 
-  read_fault : status ≡ 7 → Counts design ⊎ Counts board
-  read_fault = fault_of_two table design board (which design board told)
+  which : (file : File) (name : List ℕ) → MayRead (plan_course design board) told file name → IsOneOf (design ∷ board ∷ []) name
+  which = reads_one_of (design ∷ board ∷ []) (plan_course design board) (read design board told) told
 
-  yields : (status ≡ 7) ⊎ (status ≡ 9) → YieldsTwo design board before after status
-  yields = yields_two table design board (which design board told)
+  read_fault : status ≡ 7 → CountsFaultAt (design ∷ board ∷ []) before after
+  read_fault = fault_at table (design ∷ board ∷ []) which
+
+  yields : (status ≡ 7) ⊎ (status ≡ 9) → YieldsAt (design ∷ board ∷ []) before after status
+  yields = yields_at table (design ∷ board ∷ []) which
 
   -- ---- refusals
 
-  one_three_six : (reason : Reason) → WhyRefused design board told reason → status ≡ reason_status reason → (status ≡ 1) ⊎ ((status ≡ 3) ⊎ (status ≡ 6))
-  one_three_six reason (bad_design d d_is refused) its = inl (its ∙ status_one d reason refused)
-  one_three_six reason (bad_board d b ordered d_is netlist b_is refused) its = inr (inl (its ∙ board_status b reason refused))
-  one_three_six reason (bad_fit d b ordered its_board d_is b_is are refused) its = inr (inr (its ∙ fit_status ordered its_board reason refused))
-
-  no_other : (0 < status) → (status < 7) → (status ≡ 1) ⊎ ((status ≡ 3) ⊎ (status ≡ 6))
-  no_other some few = let refusal = table.refused some few in one_three_six refusal.reason (its_why refusal.reason refusal.may) refusal.its_status
+  no_other : 0 < status → status < 7 → IsOneOf (1 ∷ 3 ∷ 6 ∷ []) status
+  no_other = refused_one_of table (1 ∷ 3 ∷ 6 ∷ []) (refuse design board told)
 
   spelled_here : (d b text_d text_b : List ℕ) (ordered : Ordered) (its : Board) → told design ≡ held d → told board ≡ held b
       → IsTextOf (told design) text_d → IsTextOf (told board) text_b → AreSpelledOn text_d text_b ordered its → AreSpelledOn d b ordered its
@@ -189,14 +181,14 @@ module _ (design board : List ℕ) (before after : Outside) (status : ℕ) (tabl
         let done = table.done is in
         let w = what design board told done.text done.may in
         (w.plan, here d b done.text held_two w, done.leaves ∙ ap (λ (t : List ℕ). outside before.shelf (appended before.out t)) w.text_is);
-    no_design = first_refused judged_netlist files.Design design (λ ordered. plan_board_course ordered board) table (after_design design board told);
+    no_design = first_refused judged_netlist files.Design design (λ ordered. plan_board_course ordered board) table (3 ∷ 6 ∷ []) (λ is. omega (arith, is)) (board_refuses design board told);
     no_design_comes = first_comes judged_netlist files.Design design (λ ordered. plan_board_course ordered board) table;
-    no_board = second_refused judged_netlist judged_board (λ (is : 1 ≡ 3). omega arith) files.Design files.Board design board good_course table (after_board design board told);
-    no_board_comes = λ d b ordered held_two netlist. second_comes judged_netlist judged_board (λ (is : 1 ≡ 3). omega arith) files.Design files.Board design board good_course table d ordered held_two.design_held netlist b held_two.board_held;
+    no_board = λ b here is. let bad = second_refused judged_netlist (λ ordered. judged_board) (λ (is : 1 ≡ 3). omega arith) (lit< tt) (lit< tt) files.Design files.Board design board good_course table (6 ∷ []) (λ is. omega (arith, is)) (fit_refuses design board told) b here is in (bad.reason, bad.bad);
+    no_board_comes = λ d b ordered held_two netlist. second_comes judged_netlist (λ ordered. judged_board) (λ (is : 1 ≡ 3). omega arith) (lit< tt) (lit< tt) files.Design files.Board design board good_course table d ordered held_two.design_held netlist (λ other is text reason bad. bad) b held_two.board_held;
     no_room = λ d b held_two.
         refused_with table 6 (HaveNoRoom d b) (lit< tt) (lit< tt) (λ reason may. why_six d b reason held_two.design_held held_two.board_held (its_why reason may));
     no_room_comes = λ d b held_two has.
-        refused_or_stopped table 6 (YieldsTwo design board before after status)
+        refused_or_stopped table 6 (YieldsAt (design ∷ board ∷ []) before after status)
         (λ reason may. six_comes d b has.ordered has.board reason held_two.design_held held_two.board_held has.are (its_why reason may))
         yields (comes_to_no_room design board told d b held_two.design_held held_two.board_held has);
     read_fault = read_fault;
@@ -213,8 +205,8 @@ module _ (design board : List ℕ) (before after : Outside) (status : ℕ) (tabl
         inr (w.plan, here d b some.0 held_two w, subst (λ (t : List ℕ). LeavesPart t before.out after.out) w.text_is some.2))
         (table.part (comes_to_room design board told d b held_two.design_held held_two.board_held has));
     absent_design = first_absent judged_netlist files.Design design (λ ordered. plan_board_course ordered board) table;
-    absent_board = second_absent judged_netlist judged_board (λ (is : 1 ≡ 3). omega arith) files.Design files.Board design board good_course table;
-    complete = λ d b held_two has no_design no_board no_write.
-        carried_out table (λ seven. ⊎_elim (λ (c : Counts design). no_design c.here) (λ (c : Counts board). no_board c.here) (read_fault seven)) no_write
+    absent_board = second_absent judged_netlist (λ ordered. judged_board) (λ (is : 1 ≡ 3). omega arith) (lit< tt) (lit< tt) files.Design files.Board design board good_course table;
+    complete = λ d b held_two has no_fault no_write.
+        carried_out table (λ seven. none_counted before after (design ∷ board ∷ []) no_fault (read_fault seven)) no_write
         (comes_to_room design board told d b held_two.design_held held_two.board_held has);
   }

@@ -1,49 +1,46 @@
 -- What the table of statuses says of the files of `sim`, and of words that spell no command.
-use Rattle.std.proofs.Common.{◌≡◌, ◌<◌, ◌⊎◌, ℕ, Bool, List, length, Ok, Err, refl, sym, ◌∙◌, ap, ap₂, subst, inl, inr, ⊎_elim, lit<, arith}
+use Rattle.std.proofs.Common.{◌≡◌, ◌<◌, ◌⊎◌, ℕ, Bool, List, [], ◌∷◌, length, Ok, refl, sym, ◌∙◌, ap, ap₂, subst, inl, inr, ⊎_elim, lit<, arith}
 use Rattle.vw_design.specs.declared.design.Design.{Design as Spelled}
 use Rattle.vw_design.specs.Clocks.{columns}
-use Rattle.vw_outside.specs.Told.{Told, absent, held, IsTextOf}
-use Rattle.vw_outside.specs.Reads.{CountsFault}
+use Rattle.vw_outside.specs.Told.{Told, held, IsTextOf}
 use Rattle.vw_outside.specs.Writes.{appended}
-use Rattle.vw_rows.specs.declared.stimulus.StimFault.{StimFault}
 use Rattle.vw_rows.specs.Stimulus.{stimulus_rows}
 use Rattle.vw_top.specs.declared.stop.File.{File}
 use Rattle.vw_top.specs.declared.stop.File.TheVariants as files
 use Rattle.vw_top.specs.declared.reason.Reason.{Reason}
 use Rattle.vw_top.specs.declared.reason.Reason.TheVariants.{Usage, Stimulus}
 use Rattle.vw_top.specs.Reasons.{reason_status}
-use Rattle.vw_top.specs.Designs.{IsDesignOf, IsNoDesign, spells_once, design_apart}
-use Rattle.vw_top.specs.Course.{Course, refuses, Outside, outside, MayWrite, MayRefuse, MayRead, writing, refusing, missing, ComesTo}
+use Rattle.vw_top.specs.Designs.{IsDesignOf, spells_once}
+use Rattle.vw_top.specs.Course.{Course, writes, refuses, Outside, outside, MayWrite, MayRead, writing, ComesTo}
 use Rattle.vw_top.specs.Statuses.{Statuses, IsRefused, IsWantOfMemory}
-use Rattle.vw_top.specs.Commands.{sim_course, sim_rows_course, trace_of}
-use Rattle.vw_top.specs.CommandStatuses.{UsageStatuses, YieldsTwo}
+use Rattle.vw_top.specs.Commands.{sim_course, sim_rows_course, trace_of, IsRowsOf, RefusesRows, rows_apart}
+use Rattle.vw_top.specs.CommandStatuses.{CountsFaultAt, UsageStatuses}
 use Rattle.vw_top.specs.SimStatuses.{AreAccepted, SimStatuses}
-use Rattle.vw_top.proofs.FirstFile.{its_text, no_text, at_held, at_absent, first_refused, first_comes, first_absent}
-use Rattle.vw_top.proofs.JudgedTexts.{judged_design, status_one}
+use Rattle.vw_top.proofs.ReadsAndRefusals.{IsOneOf, ReadsOnly, reads_one_of, RefusesWith}
+use Rattle.vw_top.proofs.FirstFile.{its_text, at_held, Judged, first_reads, first_refuses, first_refused, first_comes, first_absent}
+use Rattle.vw_top.proofs.SecondFile.{second_refused, second_comes, second_absent}
+use Rattle.vw_top.proofs.JudgedTexts.{judged_design}
 use Rattle.vw_top.proofs.StageLaws.{same_outside}
-use Rattle.vw_top.proofs.CourseEnds.{refused_with, refused_or_stopped, fault_of_two, yields_two, want_untouched, absent_leaves, part_of, carried_out}
-
-no_both : (d : List ℕ) (spelled : Spelled) → IsDesignOf d spelled → IsNoDesign d → ⊥
-no_both d spelled is none = design_apart d spelled none.0 is none.1
+use Rattle.vw_top.proofs.CourseEnds.{none_counted, refused_one_of, fault_at, want_untouched, part_of, carried_out}
 
 -- designs of one text are one, and so are their rows
 same_design : (d : List ℕ) (spelled other : Spelled) → IsDesignOf d spelled → IsDesignOf d other → other ≡ spelled
 same_design d spelled other is its = spells_once d other spelled its.spelled is.spelled
 
+-- a stimulus text for the columns of a design
+abbrev judged_rows : Spelled → Judged (List (List Bool)) 5
+judged_rows spelled =
+    let width = length (columns spelled) in
+    record { Good = IsRowsOf width; Bad = RefusesRows width; apart = rows_apart width; its_status = λ text reason refused. ap reason_status refused.1; some = lit< tt; few = lit< tt }
+
+-- a stimulus that is bad for the design of a text is bad for each
+bad_for_each : (d : List ℕ) (spelled : Spelled) → IsDesignOf d spelled → (other : Spelled) → IsDesignOf d other → (text : List ℕ) (reason : Reason) → (judged_rows spelled).Bad text reason → (judged_rows other).Bad text reason
+bad_for_each d spelled is other its text reason bad =
+    subst (λ (one : Spelled). RefusesRows (length (columns one)) text reason) (sym (same_design d spelled other is its)) bad
+
 module _ (design stimulus : List ℕ) (unknown : Bool) (told : List ℕ → Told) where
   abbrev course : Course
   course = sim_course design stimulus unknown
-
-  -- why `sim` refuses
-  data WhyRefused (reason : Reason) : Type 0 where
-    bad_design : (d : List ℕ) → IsTextOf (told design) d → reason_status reason ≡ 1 → IsNoDesign d → WhyRefused reason
-    bad_rows : (d s : List ℕ) (spelled : Spelled) (fault : StimFault) → IsTextOf (told design) d → IsDesignOf d spelled → IsTextOf (told stimulus) s
-        → reason ≡ Stimulus fault → stimulus_rows (length (columns spelled)) s ≡ Err fault → WhyRefused reason
-
-  why : (reason : Reason) → MayRefuse course told reason → WhyRefused reason
-  why reason (d, d_is, inl refused) = bad_design d d_is (status_one d reason refused) (reason, refused)
-  why reason (d, d_is, inr (spelled, its_design, (s, s_is, inl (fault, is, said)))) = bad_rows d s spelled fault d_is its_design s_is is said
-  why reason (d, d_is, inr (spelled, its_design, (s, s_is, inr (rows, are, more)))) = absurd more
 
   -- what `sim` writes
   record WhatWritten (text : List ℕ) : Type 0 where
@@ -61,24 +58,15 @@ module _ (design stimulus : List ℕ) (unknown : Bool) (told : List ℕ → Told
   what text (d, d_is, (spelled, its_design, (s, s_is, (rows, are, is)))) =
       record { d = d; s = s; spelled = spelled; rows = rows; d_is = d_is; s_is = s_is; its_design = its_design; are = are; text_is = is }
 
-  -- what `sim` reads
-  which : (file : File) (name : List ℕ) → MayRead course told file name → (name ≡ design) ⊎ (name ≡ stimulus)
-  which file name (inl (is, same)) = inl same
-  which file name (inr (d, d_is, (spelled, its_design, inl (is, same)))) = inr same
-  which file name (inr (d, d_is, (spelled, its_design, inr (s, s_is, (rows, are, more))))) = absurd more
+  -- what `sim` reads, and with which statuses it refuses
+  rows_refuse : (spelled : Spelled) → RefusesWith (5 ∷ []) (sim_rows_course spelled stimulus unknown)
+  rows_refuse spelled = λ s. (λ reason refused. inl (ap reason_status refused.1), λ rows are. tt)
 
-  -- a refusal behind the design has status 5
-  after_design : (spelled : Spelled) (reason : Reason) → MayRefuse (sim_rows_course spelled stimulus unknown) told reason → reason_status reason ≡ 1 → ⊥
-  after_design spelled reason (s, s_is, inl (fault, said, refused)) is = let five : reason_status reason ≡ 5 = ap reason_status said in omega (arith, five, is)
-  after_design spelled reason (s, s_is, inr (rows, are, more)) is = absurd more
+  refuse : RefusesWith (1 ∷ 5 ∷ []) course
+  refuse = first_refuses judged_design files.Design design (λ spelled. sim_rows_course spelled stimulus unknown) (5 ∷ []) rows_refuse
 
-  comes_to_no_rows : (d s : List ℕ) (spelled : Spelled) (fault : StimFault) → told design ≡ held d → told stimulus ≡ held s → IsDesignOf d spelled
-      → stimulus_rows (length (columns spelled)) s ≡ Err fault → ComesTo refusing course told
-  comes_to_no_rows d s spelled fault d_is s_is its_design said = at_held (told design) d _ _ d_is (inr (
-    (spelled, its_design),
-    λ other its.
-        at_held (told stimulus) s _ _ s_is (inl (refl, Stimulus fault, (fault, refl, ap (λ (one : Spelled). stimulus_rows (length (columns one)) s) (same_design d spelled other its_design its) ∙ said))),
-  ))
+  read : ReadsOnly (design ∷ stimulus ∷ []) course
+  read = first_reads judged_design files.Design design (λ spelled. sim_rows_course spelled stimulus unknown) (stimulus ∷ []) (λ spelled. (inl refl, λ s rows are. tt))
 
   comes_to_trace : (d s : List ℕ) (spelled : Spelled) (rows : List (List Bool)) → told design ≡ held d → told stimulus ≡ held s → IsDesignOf d spelled
       → stimulus_rows (length (columns spelled)) s ≡ Ok rows → ComesTo writing course told
@@ -88,47 +76,19 @@ module _ (design stimulus : List ℕ) (unknown : Bool) (told : List ℕ → Told
         at_held (told stimulus) s _ _ s_is (inr ((rows, ap (λ (one : Spelled). stimulus_rows (length (columns one)) s) (same_design d spelled other its_design its) ∙ said), λ these are. refl)),
   ))
 
-  comes_to_no_stimulus : (d : List ℕ) (spelled : Spelled) → told design ≡ held d → IsDesignOf d spelled → told stimulus ≡ absent → ComesTo missing course told
-  comes_to_no_stimulus d spelled d_is its_design is = at_held (told design) d _ _ d_is (inr ((spelled, its_design), λ other its. at_absent (told stimulus) _ _ is refl))
-
 module _ (design stimulus : List ℕ) (unknown : Bool) (before after : Outside) (status : ℕ) (table : Statuses (sim_course design stimulus unknown) before after status) where
   abbrev told : List ℕ → Told
   told = before.shelf.told
 
-  its_why : (reason : Reason) → MayRefuse (sim_course design stimulus unknown) told reason → WhyRefused design stimulus unknown told reason
-  its_why = why design stimulus unknown told
+  which : (file : File) (name : List ℕ) → MayRead (sim_course design stimulus unknown) told file name → IsOneOf (design ∷ stimulus ∷ []) name
+  which = reads_one_of (design ∷ stimulus ∷ []) (sim_course design stimulus unknown) (read design stimulus unknown told) told
 
-  read_fault : status ≡ 7 → CountsFault design before.shelf after.shelf ⊎ CountsFault stimulus before.shelf after.shelf
-  read_fault = fault_of_two table design stimulus (which design stimulus unknown told)
+  read_fault : status ≡ 7 → CountsFaultAt (design ∷ stimulus ∷ []) before after
+  read_fault = fault_at table (design ∷ stimulus ∷ []) which
 
   -- a refusal is status 1 or 5
-  one_or_five : (reason : Reason) → WhyRefused design stimulus unknown told reason → status ≡ reason_status reason → (status ≡ 1) ⊎ (status ≡ 5)
-  one_or_five reason (bad_design d d_is is none) its = inl (its ∙ is)
-  one_or_five reason (bad_rows d s spelled fault d_is its_design s_is is said) its = inr (its ∙ ap reason_status is)
-
-  no_other : (0 < status) → (status < 7) → (status ≡ 1) ⊎ (status ≡ 5)
-  no_other some few = let refusal = table.refused some few in one_or_five refusal.reason (its_why refusal.reason refusal.may) refusal.its_status
-
-  record HasFault (d s : List ℕ) : Type 0 where
-    spelled : Spelled
-    fault : StimFault
-    its_design : IsDesignOf d spelled
-    said : stimulus_rows (length (columns spelled)) s ≡ Err fault
-
-  why_five : (d s : List ℕ) (reason : Reason) → told design ≡ held d → told stimulus ≡ held s → WhyRefused design stimulus unknown told reason → reason_status reason ≡ 5 → HasFault d s
-  why_five d s reason held_d held_s (bad_design text text_is is none) its = absurd (let wrong : 5 ≡ 1 = sym its ∙ is in omega arith)
-  why_five d s reason held_d held_s (bad_rows text rest spelled fault text_is its_design rest_is is said) its = record {
-    spelled = spelled;
-    fault = fault;
-    its_design = subst (λ (t : List ℕ). IsDesignOf t spelled) (its_text (told design) text d held_d text_is) its_design;
-    said = subst (λ (t : List ℕ). stimulus_rows (length (columns spelled)) t ≡ Err fault) (its_text (told stimulus) rest s held_s rest_is) said;
-  }
-
-  -- a fault of the rows gives status 5
-  five_comes : (d : List ℕ) (spelled : Spelled) (reason : Reason) → told design ≡ held d → IsDesignOf d spelled → WhyRefused design stimulus unknown told reason → reason_status reason ≡ 5
-  five_comes d spelled reason held_d its_design (bad_design text text_is is none) =
-      let gone : IsNoDesign d = subst IsNoDesign (its_text (told design) text d held_d text_is) none in absurd (no_both d spelled its_design gone)
-  five_comes d spelled reason held_d its_design (bad_rows text rest other fault text_is its_netlist rest_is is said) = ap reason_status is
+  no_other : 0 < status → status < 7 → IsOneOf (1 ∷ 5 ∷ []) status
+  no_other = refused_one_of table (1 ∷ 5 ∷ []) (refuse design stimulus unknown told)
 
   -- what `sim` writes is the trace of the design and the rows that its files have
   text_of : (spelled : Spelled) (rows : List (List Bool)) (text : List ℕ) (accepted : AreAccepted design stimulus before spelled rows) → MayWrite (sim_course design stimulus unknown) told text → text ≡ trace_of unknown spelled rows
@@ -153,15 +113,13 @@ module _ (design stimulus : List ℕ) (unknown : Bool) (before after : Outside) 
           subst (λ (t : List ℕ). stimulus_rows (length (columns w.spelled)) t ≡ Ok w.rows) (its_text (told stimulus) w.s s held_s w.s_is) w.are,
           done.leaves ∙ ap (λ (t : List ℕ). outside before.shelf (appended before.out t)) w.text_is,
         );
-    no_design = first_refused judged_design files.Design design (λ spelled. sim_rows_course spelled stimulus unknown) table (after_design design stimulus unknown told);
+    no_design = first_refused judged_design files.Design design (λ spelled. sim_rows_course spelled stimulus unknown) table (5 ∷ []) (λ is. omega (arith, is)) (rows_refuse design stimulus unknown told);
     no_design_comes = first_comes judged_design files.Design design (λ spelled. sim_rows_course spelled stimulus unknown) table;
     no_rows = λ d s held_d held_s is.
-        let fault = refused_with table 5 (HasFault d s) (lit< tt) (lit< tt) (λ reason may. why_five d s reason held_d held_s (its_why reason may)) is in
-        (fault.spelled, fault.fault, fault.its_design, fault.said);
+        let bad = second_refused judged_design judged_rows (λ (is : 1 ≡ 5). omega arith) (lit< tt) (lit< tt) files.Design files.Stimulus design stimulus (λ spelled rows. writes (trace_of unknown spelled rows)) table [] (λ none. none) (λ spelled rows. tt) s held_s is in
+        (bad.x, bad.bad.0, subst (λ (t : List ℕ). IsDesignOf t bad.x) (its_text (told design) bad.first d held_d bad.may) bad.good, bad.bad.2);
     no_rows_comes = λ d s spelled fault held_d held_s its_design said.
-        refused_or_stopped table 5 (YieldsTwo design stimulus before after status) (λ reason may. five_comes d spelled reason held_d its_design (its_why reason may))
-        (yields_two table design stimulus (which design stimulus unknown told))
-        (comes_to_no_rows design stimulus unknown told d s spelled fault held_d held_s its_design said);
+        second_comes judged_design judged_rows (λ (is : 1 ≡ 5). omega arith) (lit< tt) (lit< tt) files.Design files.Stimulus design stimulus (λ spelled rows. writes (trace_of unknown spelled rows)) table d spelled held_d its_design (bad_for_each d spelled its_design) s held_s (Stimulus fault, (fault, refl, said));
     read_fault = read_fault;
     others = (
       λ is. omega (arith, no_other (omega arith) (omega arith)),
@@ -173,12 +131,10 @@ module _ (design stimulus : List ℕ) (unknown : Bool) (before after : Outside) 
         part_of table (trace_of unknown spelled rows) (λ text. text_of spelled rows text accepted)
         (comes_to_trace design stimulus unknown told accepted.design_text accepted.stimulus_text spelled rows accepted.design_held accepted.stimulus_held accepted.is accepted.read);
     absent_design = first_absent judged_design files.Design design (λ spelled. sim_rows_course spelled stimulus unknown) table;
-    absent_stimulus = λ d spelled held_d its_design gone.
-        absent_leaves table (λ text may. let w = what design stimulus unknown told text may in no_text (told stimulus) w.s gone w.s_is)
-        (comes_to_no_stimulus design stimulus unknown told d spelled held_d its_design gone);
-    complete = λ spelled rows accepted no_design no_stimulus no_write.
+    absent_stimulus = λ d spelled held_d its_design. second_absent judged_design judged_rows (λ (is : 1 ≡ 5). omega arith) (lit< tt) (lit< tt) files.Design files.Stimulus design stimulus (λ spelled rows. writes (trace_of unknown spelled rows)) table d spelled held_d its_design;
+    complete = λ spelled rows accepted no_fault no_write.
         carried_out table
-        (λ seven. ⊎_elim (λ (c : CountsFault design before.shelf after.shelf). no_design c.here) (λ (c : CountsFault stimulus before.shelf after.shelf). no_stimulus c.here) (read_fault seven))
+        (λ seven. none_counted before after (design ∷ stimulus ∷ []) no_fault (read_fault seven))
         no_write
         (comes_to_trace design stimulus unknown told accepted.design_text accepted.stimulus_text spelled rows accepted.design_held accepted.stimulus_held accepted.is accepted.read);
   }

@@ -1,5 +1,5 @@
 -- What the table of statuses says of the files of `check`.
-use Rattle.std.specs.Prelude.{◌≡◌, ◌≢◌, ◌⊎◌, ℕ, List, Some}
+use Rattle.std.specs.Prelude.{◌≡◌, ◌≢◌, ◌⊎◌, ℕ, List, [], ◌∷◌, Some}
 use Rattle.vw_net.specs.declared.ordered.Ordered.{Ordered}
 use Rattle.vw_plan.specs.declared.board.Board.{Board}
 use Rattle.vw_plan.specs.declared.plan.Plan.{Plan}
@@ -10,14 +10,13 @@ use Rattle.vw_plantext.specs.PlanText.{Spells as SpellsPlan}
 use Rattle.vw_check.specs.declared.fault.PlanFault.{PlanFault}
 use Rattle.vw_check.specs.Faults.{plan_fault}
 use Rattle.vw_outside.specs.Told.{absent}
-use Rattle.vw_outside.specs.Reads.{CountsFault}
 use Rattle.vw_outside.specs.Writes.{appended}
 use Rattle.vw_top.specs.declared.reason.Reason.{Reason}
 use Rattle.vw_top.specs.Designs.{IsNetlistOf, IsNoDesign}
 use Rattle.vw_top.specs.Course.{Outside, outside}
 use Rattle.vw_top.specs.Statuses.{LeavesPart}
 use Rattle.vw_top.specs.Commands.{RefusesPlanText, sound_text}
-use Rattle.vw_top.specs.CommandStatuses.{Holds, IsOneMore, Yields, IsNoBoard, YieldsTwo, YieldsThree}
+use Rattle.vw_top.specs.CommandStatuses.{HoldTwo, Holds, IsNoBoard, IsOneMore, CountsFaultAt, NoFaultAt, YieldsAt}
 
 -- a netlist of the design of a text, and the board and the plan of two others
 pub record AreSpelled (d b p : List ℕ) (ordered : Ordered) (board : Board) (plan : Plan) : Type 0 where
@@ -60,19 +59,19 @@ pub record CheckStatuses (design board plan : List ℕ) (before after : Outside)
       → (its : Plan) × IsSoundPlan d b p its × (after ≡ outside before.shelf (appended before.out (sound_text its)))
   -- 1: exactly where the design text has a fault, or its design has one, or a loop
   pub no_design : (d : List ℕ) → Holds before design d → status ≡ 1 → IsNoDesign d
-  pub no_design_comes : (d : List ℕ) → Holds before design d → IsNoDesign d → (status ≡ 1) ⊎ Yields design before after status
+  pub no_design_comes : (d : List ℕ) → Holds before design d → IsNoDesign d → (status ≡ 1) ⊎ YieldsAt (design ∷ []) before after status
   -- 3: exactly where the board text has a fault
   pub no_board : (b : List ℕ) → Holds before board b → status ≡ 3 → IsNoBoard b
-  pub no_board_comes : (d b : List ℕ) (ordered : Ordered) → Holds before design d → Holds before board b → IsNetlistOf d ordered → IsNoBoard b
-      → (status ≡ 3) ⊎ YieldsTwo design board before after status
+  pub no_board_comes : (d b : List ℕ) (ordered : Ordered) → HoldTwo design board before d b → IsNetlistOf d ordered → IsNoBoard b
+      → (status ≡ 3) ⊎ YieldsAt (design ∷ board ∷ []) before after status
   -- 4: exactly where the plan text has a fault, or its plan isn't sound
   pub no_plan : (d b p : List ℕ) → HoldTexts design board plan before d b p → status ≡ 4 → IsNoPlan d b p
   pub no_plan_text_comes : (d b p : List ℕ) (ordered : Ordered) (its : Board) → HoldTexts design board plan before d b p → IsNetlistOf d ordered → SpellsBoard b its → IsNoPlanText p
-      → (status ≡ 4) ⊎ YieldsThree design board plan before after status
+      → (status ≡ 4) ⊎ YieldsAt (design ∷ board ∷ plan ∷ []) before after status
   pub unsound_comes : (d b p : List ℕ) (fault : PlanFault) → HoldTexts design board plan before d b p → HasPlanFault d b p fault
-      → (status ≡ 4) ⊎ YieldsThree design board plan before after status
+      → (status ≡ 4) ⊎ YieldsAt (design ∷ board ∷ plan ∷ []) before after status
   -- 7: a fault was counted at one of the three files, over every shelf
-  pub read_fault : status ≡ 7 → CountsFault design before.shelf after.shelf ⊎ (CountsFault board before.shelf after.shelf ⊎ CountsFault plan before.shelf after.shelf)
+  pub read_fault : status ≡ 7 → CountsFaultAt (design ∷ board ∷ plan ∷ []) before after
   -- these aren't statuses of `check`
   pub others : (status ≢ 2) × (status ≢ 5) × (status ≢ 6)
   -- whatever the status, out has a part of what status 0 would have written
@@ -85,7 +84,4 @@ pub record CheckStatuses (design board plan : List ℕ) (before after : Outside)
       → (after.out ≡ before.out) × ((status ≡ 7) ⊎ (status ≡ 9))
   -- where no count rose, a sound plan is accepted, unless memory runs out
   pub complete : (d b p : List ℕ) (its : Plan) → HoldTexts design board plan before d b p → IsSoundPlan d b p its
-      → (IsOneMore (before.shelf.faults design) (after.shelf.faults design) → ⊥)
-      → (IsOneMore (before.shelf.faults board) (after.shelf.faults board) → ⊥)
-      → (IsOneMore (before.shelf.faults plan) (after.shelf.faults plan) → ⊥)
-      → (IsOneMore before.out.faults after.out.faults → ⊥) → (status ≡ 0) ⊎ (status ≡ 9)
+      → NoFaultAt (design ∷ board ∷ plan ∷ []) before after → (IsOneMore before.out.faults after.out.faults → ⊥) → (status ≡ 0) ⊎ (status ≡ 9)

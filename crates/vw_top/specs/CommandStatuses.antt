@@ -1,5 +1,5 @@
 -- Words of the tables of all commands, and what the table of statuses says of words that spell no command.
-use Rattle.std.specs.Prelude.{◌≡◌, ◌⊎◌, ℕ, List}
+use Rattle.std.specs.Prelude.{◌≡◌, ◌⊎◌, ℕ, List, [], ◌∷◌, ⊤}
 use Rattle.vw_outside.specs.Told.{held}
 use Rattle.vw_outside.specs.Faults.{one_more}
 use Rattle.vw_outside.specs.Reads.{CountsFault}
@@ -24,16 +24,20 @@ IsNoBoard b = (reason : Reason) × RefusesBoard b reason
 abbrev pub IsOneMore : ℕ → ℕ → Type 0
 IsOneMore before now = now ≡ one_more before
 
--- the call ended with want of memory, or with a fault in the reading of a file
-abbrev pub Yields : List ℕ → Outside → Outside → ℕ → Type 0
-Yields name before after status = (status ≡ 9) ⊎ ((status ≡ 7) × CountsFault name before.shelf after.shelf)
+-- a fault was counted at one of these names
+abbrev pub CountsFaultAt : List (List ℕ) → Outside → Outside → Type 0
+CountsFaultAt [] before after = ⊥
+CountsFaultAt (name ∷ names) before after = CountsFault name before.shelf after.shelf ⊎ CountsFaultAt names before after
 
--- the call ended with want of memory, or with a fault in the reading of one of two files, or of three
-abbrev pub YieldsTwo : List ℕ → List ℕ → Outside → Outside → ℕ → Type 0
-YieldsTwo design board before after status = Yields design before after status ⊎ Yields board before after status
+-- no count of these names is as a fault would leave it
+abbrev pub NoFaultAt : List (List ℕ) → Outside → Outside → Type 0
+NoFaultAt [] before after = ⊤
+NoFaultAt (name ∷ names) before after =
+    (IsOneMore (before.shelf.faults name) (after.shelf.faults name) → ⊥) × NoFaultAt names before after
 
-abbrev pub YieldsThree : List ℕ → List ℕ → List ℕ → Outside → Outside → ℕ → Type 0
-YieldsThree design board plan before after status = Yields design before after status ⊎ (Yields board before after status ⊎ Yields plan before after status)
+-- the call ended with want of memory, or with a fault in the reading of one of these files
+abbrev pub YieldsAt : List (List ℕ) → Outside → Outside → ℕ → Type 0
+YieldsAt names before after status = (status ≡ 9) ⊎ ((status ≡ 7) × CountsFaultAt names before after)
 
 -- where words spell no command: status 2, unless memory runs out, and nothing was read or written
 pub record UsageStatuses (before after : Outside) (status : ℕ) : Type 0 where

@@ -1,5 +1,5 @@
 -- What the table of statuses says of the files of `plan`.
-use Rattle.std.specs.Prelude.{◌≡◌, ◌≢◌, ◌<◌, ◌⊎◌, ◌*◌, ℕ, List, length}
+use Rattle.std.specs.Prelude.{◌≡◌, ◌≢◌, ◌<◌, ◌⊎◌, ◌*◌, ℕ, List, [], ◌∷◌, length}
 use Rattle.vw_net.specs.declared.ordered.Ordered.{Ordered}
 use Rattle.vw_plan.specs.declared.board.Board.{Board}
 use Rattle.vw_plan.specs.declared.plan.Plan.{Plan}
@@ -7,13 +7,12 @@ use Rattle.vw_plan.specs.Good.{IsGood}
 use Rattle.vw_plan.specs.Setting.{setting_of}
 use Rattle.vw_board.specs.BoardText.{Spells as SpellsBoard}
 use Rattle.vw_outside.specs.Told.{absent}
-use Rattle.vw_outside.specs.Reads.{CountsFault}
 use Rattle.vw_outside.specs.Writes.{appended}
 use Rattle.vw_top.specs.Designs.{IsNetlistOf, IsNoDesign}
 use Rattle.vw_top.specs.Course.{Outside, outside}
 use Rattle.vw_top.specs.Statuses.{LeavesPart}
 use Rattle.vw_top.specs.Commands.{HasRoom, text_of_plan}
-use Rattle.vw_top.specs.CommandStatuses.{HoldTwo, Holds, IsOneMore, Yields, IsNoBoard, YieldsTwo}
+use Rattle.vw_top.specs.CommandStatuses.{HoldTwo, Holds, IsNoBoard, IsOneMore, CountsFaultAt, NoFaultAt, YieldsAt}
 
 -- a netlist of the design of a text, and the board of another
 pub record AreSpelledOn (d b : List ℕ) (ordered : Ordered) (board : Board) : Type 0 where
@@ -47,16 +46,16 @@ pub record PlanStatuses (design board : List ℕ) (before after : Outside) (stat
       → (plan : Plan) × IsGoodPlan d b plan × (after ≡ outside before.shelf (appended before.out (text_of_plan plan)))
   -- 1: exactly where the design text has a fault, or its design has one, or a loop
   pub no_design : (d : List ℕ) → Holds before design d → status ≡ 1 → IsNoDesign d
-  pub no_design_comes : (d : List ℕ) → Holds before design d → IsNoDesign d → (status ≡ 1) ⊎ Yields design before after status
+  pub no_design_comes : (d : List ℕ) → Holds before design d → IsNoDesign d → (status ≡ 1) ⊎ YieldsAt (design ∷ []) before after status
   -- 3: exactly where the board text has a fault
   pub no_board : (b : List ℕ) → Holds before board b → status ≡ 3 → IsNoBoard b
   pub no_board_comes : (d b : List ℕ) (ordered : Ordered) → HoldTwo design board before d b → IsNetlistOf d ordered → IsNoBoard b
-      → (status ≡ 3) ⊎ YieldsTwo design board before after status
+      → (status ≡ 3) ⊎ YieldsAt (design ∷ board ∷ []) before after status
   -- 6: exactly where all chips have room for fewer cells
   pub no_room : (d b : List ℕ) → HoldTwo design board before d b → status ≡ 6 → HaveNoRoom d b
-  pub no_room_comes : (d b : List ℕ) → HoldTwo design board before d b → HaveNoRoom d b → (status ≡ 6) ⊎ YieldsTwo design board before after status
+  pub no_room_comes : (d b : List ℕ) → HoldTwo design board before d b → HaveNoRoom d b → (status ≡ 6) ⊎ YieldsAt (design ∷ board ∷ []) before after status
   -- 7: a fault was counted at one of the two files, over every shelf
-  pub read_fault : status ≡ 7 → CountsFault design before.shelf after.shelf ⊎ CountsFault board before.shelf after.shelf
+  pub read_fault : status ≡ 7 → CountsFaultAt (design ∷ board ∷ []) before after
   -- these aren't statuses of `plan`
   pub others : (status ≢ 2) × (status ≢ 4) × (status ≢ 5)
   -- whatever the status, out is as it was, or has a part of the text of a good plan
@@ -68,6 +67,4 @@ pub record PlanStatuses (design board : List ℕ) (before after : Outside) (stat
       → (after.out ≡ before.out) × ((status ≡ 7) ⊎ (status ≡ 9))
   -- where no count rose, a design that has room is planned, unless memory runs out
   pub complete : (d b : List ℕ) → HoldTwo design board before d b → HaveRoom d b
-      → (IsOneMore (before.shelf.faults design) (after.shelf.faults design) → ⊥)
-      → (IsOneMore (before.shelf.faults board) (after.shelf.faults board) → ⊥)
-      → (IsOneMore before.out.faults after.out.faults → ⊥) → (status ≡ 0) ⊎ (status ≡ 9)
+      → NoFaultAt (design ∷ board ∷ []) before after → (IsOneMore before.out.faults after.out.faults → ⊥) → (status ≡ 0) ⊎ (status ≡ 9)

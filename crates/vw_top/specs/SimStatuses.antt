@@ -1,9 +1,8 @@
 -- What the table of statuses says of the files of `sim`.
-use Rattle.std.specs.Prelude.{◌≡◌, ◌≢◌, ◌⊎◌, ℕ, Bool, List, length, Ok, Err}
+use Rattle.std.specs.Prelude.{◌≡◌, ◌≢◌, ◌⊎◌, ℕ, Bool, List, [], ◌∷◌, length, Ok, Err}
 use Rattle.vw_design.specs.declared.design.Design.{Design}
 use Rattle.vw_design.specs.Clocks.{columns}
 use Rattle.vw_outside.specs.Told.{absent}
-use Rattle.vw_outside.specs.Reads.{CountsFault}
 use Rattle.vw_outside.specs.Writes.{appended}
 use Rattle.vw_rows.specs.declared.stimulus.StimFault.{StimFault}
 use Rattle.vw_rows.specs.Stimulus.{stimulus_rows}
@@ -11,7 +10,7 @@ use Rattle.vw_top.specs.Designs.{IsDesignOf, IsNoDesign}
 use Rattle.vw_top.specs.Course.{Outside, outside}
 use Rattle.vw_top.specs.Statuses.{LeavesPart}
 use Rattle.vw_top.specs.Commands.{trace_of}
-use Rattle.vw_top.specs.CommandStatuses.{Holds, IsOneMore, Yields, YieldsTwo}
+use Rattle.vw_top.specs.CommandStatuses.{Holds, IsOneMore, CountsFaultAt, NoFaultAt, YieldsAt}
 
 -- the texts are held, and stand for this design and these rows
 pub record AreAccepted (design stimulus : List ℕ) (before : Outside) (spelled : Design) (rows : List (List Bool)) : Type 0 where
@@ -30,15 +29,15 @@ pub record SimStatuses (design stimulus : List ℕ) (unknown : Bool) (before aft
   -- 1: exactly where the design text has a fault, or its design has one, or a loop
   pub no_design : (d : List ℕ) → Holds before design d → status ≡ 1 → IsNoDesign d
   pub no_design_comes : (d : List ℕ) → Holds before design d → IsNoDesign d
-      → (status ≡ 1) ⊎ Yields design before after status
+      → (status ≡ 1) ⊎ YieldsAt (design ∷ []) before after status
   -- 5: exactly where the stimulus text has a fault
   pub no_rows : (d s : List ℕ) → Holds before design d → Holds before stimulus s → status ≡ 5
       → (spelled : Design) × (fault : StimFault) × IsDesignOf d spelled × (stimulus_rows (length (columns spelled)) s ≡ Err fault)
   pub no_rows_comes : (d s : List ℕ) (spelled : Design) (fault : StimFault) → Holds before design d → Holds before stimulus s
       → IsDesignOf d spelled → stimulus_rows (length (columns spelled)) s ≡ Err fault
-      → (status ≡ 5) ⊎ YieldsTwo design stimulus before after status
+      → (status ≡ 5) ⊎ YieldsAt (design ∷ stimulus ∷ []) before after status
   -- 7: a fault was counted at one of the two files, over every shelf
-  pub read_fault : status ≡ 7 → CountsFault design before.shelf after.shelf ⊎ CountsFault stimulus before.shelf after.shelf
+  pub read_fault : status ≡ 7 → CountsFaultAt (design ∷ stimulus ∷ []) before after
   -- these aren't statuses of `sim`
   pub others : (status ≢ 2) × (status ≢ 3) × (status ≢ 4) × (status ≢ 6)
   -- whatever the status, out has a part of what status 0 would have written
@@ -50,6 +49,4 @@ pub record SimStatuses (design stimulus : List ℕ) (unknown : Bool) (before aft
       → before.shelf.told stimulus ≡ absent → (after.out ≡ before.out) × ((status ≡ 7) ⊎ (status ≡ 9))
   -- where no count rose, accepted texts are run, unless memory runs out
   pub complete : (spelled : Design) (rows : List (List Bool)) → AreAccepted design stimulus before spelled rows
-      → (IsOneMore (before.shelf.faults design) (after.shelf.faults design) → ⊥)
-      → (IsOneMore (before.shelf.faults stimulus) (after.shelf.faults stimulus) → ⊥)
-      → (IsOneMore before.out.faults after.out.faults → ⊥) → (status ≡ 0) ⊎ (status ≡ 9)
+      → NoFaultAt (design ∷ stimulus ∷ []) before after → (IsOneMore before.out.faults after.out.faults → ⊥) → (status ≡ 0) ⊎ (status ≡ 9)
