@@ -15,7 +15,7 @@ use Rattle.vw_plan.specs.Lead.{brought_at, level_lead, lead, usable}
 use Rattle.vw_check.specs.declared.fault.PlanFault.{PlanFault}
 use Rattle.vw_check.specs.declared.fault.PlanFault.TheVariants.{BrokenRoute, TooEarly, LateLatch}
 use Rattle.vw_check.specs.Firsts.{first_at, first_some, found_unless}
-use Rattle.vw_check.specs.HopFaults.{bad_pin, out_of_order, past_period, pin_clash, goes_on, broken_route}
+use Rattle.vw_check.specs.HopFaults.{bad_pin, out_of_order, past_period, pin_clash, fits_route, broken_route}
 use Rattle.vw_check.specs.MomentFaults.{early_wire, late_cell}
 use Rattle.vw_check.specs.Faults.{cell_fault, wire_fault, hop_fault, moment_fault, plan_fault}
 
@@ -50,7 +50,7 @@ module _ (board : Board) (plan : Plan) (one other : Ordered) (same : one.flat �
       first_at
       (λ number wire.
       if length wire.hops == 0 then Some (BrokenRoute number 0)
-      else first_at (λ place hop. found_unless (goes_on board.links (node_of flat plan.chip_of wire.net) wire place hop) (BrokenRoute number place)) 0 wire.hops) 0 plan.wires) same
+      else first_at (λ place hop. found_unless (fits_route board.links (node_of flat plan.chip_of wire.net) wire place hop) (BrokenRoute number place)) 0 wire.hops) 0 plan.wires) same
 
   early_same : early_wire here ≡ early_wire there
   early_same = fun_ext (λ number. fun_ext (λ wire.

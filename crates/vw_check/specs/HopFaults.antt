@@ -28,8 +28,8 @@ begins_at from hops (suc number) = option_map_or (λ before. before.to) (slice_g
 
 -- whether a hop goes on with the route of its wire, which begins at a node: it begins where it has to, a link leads where it
 -- goes, and the last hop ends at the wire's node
-abbrev pub goes_on : List Link → ℕ → Wire → ℕ → Hop → Bool
-goes_on links from wire number hop =
+abbrev pub fits_route : List Link → ℕ → Wire → ℕ → Hop → Bool
+fits_route links from wire number hop =
     (hop.from == begins_at from wire.hops number && has_link links hop.from hop.to)
     && (nat_lt (suc number) (length wire.hops) || hop.to == wire.to)
 
@@ -37,7 +37,7 @@ goes_on links from wire number hop =
 abbrev pub broken_wire : Setting → ℕ → Wire → Option PlanFault
 broken_wire setting number wire =
     if length wire.hops == 0 then Some (BrokenRoute number 0)
-    else first_at (λ place hop. found_unless (goes_on setting.board.links (home setting wire.net) wire place hop) (BrokenRoute number place)) 0 wire.hops
+    else first_at (λ place hop. found_unless (fits_route setting.board.links (home setting wire.net) wire place hop) (BrokenRoute number place)) 0 wire.hops
 
 abbrev pub broken_route : Setting → Option PlanFault
 broken_route setting = first_at (broken_wire setting) 0 setting.plan.wires

@@ -2,7 +2,7 @@
 ghost use Rattle.std.specs.Prelude.{◌≡◌, ◌<◌, ◌+◌, ◌^◌, length};
 ghost use Rattle.std.specs.List.{All};
 ghost use Rattle.vw_plan.specs.Setting.{setting_of};
-ghost use Rattle.vw_check.specs.HopFaults.{begins_at, broken_wire, broken_route, goes_on, is_later};
+ghost use Rattle.vw_check.specs.HopFaults.{begins_at, broken_wire, broken_route, fits_route, is_later};
 ghost use Rattle.vw_check.specs.Pairs.{HasPairs};
 ghost use Rattle.vw_check.specs.Steps.Tables.{link_pairs};
 ghost use Rattle.vw_check.specs.Steps.Rules.{first_breaking, first_in_wire, keeps, rule_fault};
@@ -51,7 +51,7 @@ fn begins_at(from: u32, hops: &[Hop], number: usize) -> u32
 }
 
 /// Whether a hop goes on with the route of its wire.
-fn goes_on(
+fn fits_route(
     board: &Board,
     links: &PairTable,
     from: u32,
@@ -61,7 +61,7 @@ fn goes_on(
 ) -> bool
     requires links { HasPairs (link_pairs board.now.links) links.now.places }
     requires number { number < length wire.now.hops }
-    ensures { result ≡ goes_on board.now.links from wire.now number hop.now }
+    ensures { result ≡ fits_route board.now.links from wire.now number hop.now }
 {
     let hops = wire.hops();
     if hop.from() != begins_at(from, hops, number) {
@@ -100,7 +100,7 @@ fn keeps(
     ensures { result ≡ keeps rule board.now period from wire.now number hop.now }
 {
     match rule {
-        Rule::Route => goes_on(board, links, from, wire, number, hop),
+        Rule::Route => fits_route(board, links, from, wire, number, hop),
         Rule::Pin => hop.pin() < width_between(board, links, hop.from(), hop.to()),
         Rule::Order => is_later(wire.hops(), number, hop),
         Rule::Period => hop.at() < period,

@@ -11,7 +11,7 @@ use Rattle.vw_design.specs.Paths.{Word, Path, Net, model_at, items_of, is_port}
 use Rattle.vw_design.specs.Claims.{Claim, port, driven, bound, first_claim}
 use Rattle.vw_design.specs.Drivers.{Source, at_port, at_cell, actual_of, turn_up, turn_by, follow_turn, follow, driver}
 use Rattle.vw_design.specs.Preorder.{Site, is_cell, sites, cells}
-use Rattle.vw_design.specs.Reads.{nets_at, data_of, controls_of, root_outputs, reads, data_reads}
+use Rattle.vw_design.specs.Reads.{nets_at, data_of, controls_of, root_outputs, net_reads, data_reads}
 use Rattle.vw_design.specs.Clocks.{inputs_of, clocks_of, control_ports, clock_ports, columns}
 use Rattle.vw_design.specs.PathValue.{item_at, place_of_name, place_of_site, is_site_of}
 use Rattle.vw_design.specs.NetFaults.{is_clock_source}
@@ -92,7 +92,7 @@ module _ (design : Design) (accepted : IsAccepted design) where
       (length (columns design) + place.0, ap (option_map (λ (at : ℕ). length (columns design) + at)) place.1, omega (arith, slice_get_within (cells design) place.0 site.0 site.1))
 
   -- what is read as data is read
-  data_is_read : (net : Net) → Has net (data_reads design) → Has net (reads design)
+  data_is_read : (net : Net) → Has net (data_reads design) → Has net (net_reads design)
   data_is_read net has =
       let at_data = λ (site : Site). nets_at site (data_of site.item) in
       let at_all = λ (site : Site). nets_at site (data_of site.item ++ controls_of site.item) in
@@ -110,7 +110,7 @@ module _ (design : Design) (accepted : IsAccepted design) where
       → (number : ℕ) × (number_of design net.path net.name ≡ Some number) × (number < length (columns design) + length (cells design))
   read_numbered net listed =
       let has = Has-Contains net (data_reads design) listed in
-      let found = none-find (λ (n : Net). is_none (driver design n.path n.name)) net (reads design) accepted.driven (data_is_read net has) in
+      let found = none-find (λ (n : Net). is_none (driver design n.path n.name)) net (net_reads design) accepted.driven (data_is_read net has) in
       let no_clock = none-find (λ (n : Net). is_clock_source design (driver design n.path n.name)) net (data_reads design) accepted.no_clock_read has in
       by (driver design net.path net.name) refl found no_clock
     where

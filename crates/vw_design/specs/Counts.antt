@@ -1,11 +1,11 @@
 -- What a design weighs, by its models alone and before any expansion: a model weighs what its items weigh, and what the
 -- models weigh that they place. Source: this project.
-use Rattle.std.specs.Prelude.{ℕ, zero, suc, ◌+◌, ◌&&◌, max, Bool, true, List, [], ◌∷◌, length, IsTrue, nat_lt}
+use Rattle.std.specs.Prelude.{ℕ, zero, suc, ◌+◌, ◌-◌, ◌&&◌, max, Bool, true, List, [], ◌∷◌, length, take, IsTrue, nat_lt}
 use Rattle.std.specs.List.{list_all}
 use Rattle.vw_design.specs.declared.item.Item.{Item}
 use Rattle.vw_design.specs.declared.item.Item.TheVariants.{Names, Latch, Sub}
 use Rattle.vw_design.specs.declared.design.Design.{Design}
-use Rattle.vw_design.specs.Paths.{Word, model_named, items_of}
+use Rattle.vw_design.specs.Paths.{Word, Path, model_named, model_at, items_of}
 
 -- the weights by which instances and cells are counted: of each item one or none
 abbrev pub placed_one : Item → ℕ
@@ -34,6 +34,16 @@ abbrev pub model_weight : Design → (Item → ℕ) → ℕ → Word → ℕ
 model_weight design weight zero name = 0
 model_weight design weight (suc depth) name =
     items_weight weight (model_weight design weight depth) (items_of (model_named design.models name))
+
+-- what the items of an instance weigh that stand before a place, with what they place, at most so many levels deep
+abbrev pub weight_before : Design → (Item → ℕ) → ℕ → Path → ℕ → ℕ
+weight_before design weight depth path place =
+    items_weight weight (model_weight design weight depth) (take place (items_of (model_at design path)))
+
+-- how many levels deep a design may go below an instance: no path of placed models is longer than there are models, and
+-- the further levels are those of the sites
+abbrev pub levels_below : Design → Path → ℕ
+levels_below design path = 64 + length design.models - length path
 
 -- how many levels stand below a placed model, and below items
 abbrev pub placed_height : (Word → ℕ) → Item → ℕ

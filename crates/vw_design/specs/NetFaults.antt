@@ -14,12 +14,12 @@ use Rattle.vw_design.specs.Lists.{first_found}
 use Rattle.vw_design.specs.Paths.{Word, Path, Net, model_named, model_at, model_outputs}
 use Rattle.vw_design.specs.Drivers.{Source, at_port, at_cell, driver}
 use Rattle.vw_design.specs.Preorder.{Site, sites, latches}
-use Rattle.vw_design.specs.Reads.{net_at, reads, data_reads, controls}
+use Rattle.vw_design.specs.Reads.{net_at, net_reads, data_reads, controls}
 use Rattle.vw_design.specs.Clocks.{clock_ports, control_ports}
 
 -- 19: a net that is read has no driver
 abbrev pub undriven : Design → Option Net
-undriven design = find (λ net. is_none (driver design net.path net.name)) (reads design)
+undriven design = find (λ net. is_none (driver design net.path net.name)) (net_reads design)
 
 -- the actual of a binding, where its formal is one of these outputs
 abbrev pub bound_actual : List Word → Bind → Option Word

@@ -29,8 +29,8 @@ abbrev pub root_outputs : Design → List Net
 root_outputs design = map (net_at []) (model_outputs (model_at design []))
 
 -- all nets that are read, those that are read as data, and the controls, each in preorder
-abbrev pub reads : Design → List Net
-reads design = flat_map (λ site. nets_at site (data_of site.item ++ controls_of site.item)) (sites design) ++ root_outputs design
+abbrev pub net_reads : Design → List Net
+net_reads design = flat_map (λ site. nets_at site (data_of site.item ++ controls_of site.item)) (sites design) ++ root_outputs design
 
 abbrev pub data_reads : Design → List Net
 data_reads design = flat_map (λ site. nets_at site (data_of site.item)) (sites design) ++ root_outputs design

@@ -10,7 +10,7 @@ use crate::models::Models;
 use std::alloc::{AllocError, Global};
 use vw_design::Design;
 use vw_drivers::{Drivers, Tables};
-use vw_instances::{CellSite, Sizes, walk};
+use vw_instances::{CellSite, Sizes, list_instances};
 use vw_net::Sequence;
 use vw_nets::Nets;
 
@@ -36,7 +36,7 @@ impl Parts {
         ensures { IfOk result (AreDesignParts design.now) }
     {
         let targets = models.targets.as_slice();
-        let walked = walk(alloc, design, targets, sizes.instances, sizes.cells)?;
+        let walked = list_instances(alloc, design, targets, sizes.instances, sizes.cells)?;
         let tables = Tables::of(alloc, design, targets, walked.instances, sizes.before)?;
         let drivers = Drivers::of(alloc, design, &tables)?;
         Ok(Parts {

@@ -1,6 +1,6 @@
 //! Laws of the tables.
 ghost use Rattle.std.specs.Prelude.{◌≡◌, ◌+◌, ◌-◌, ℕ, suc, true, List, ◌∷◌, Some, length, slice_get, take};
-ghost use Rattle.vw_design.specs.Counts.{placed_one, cell_one, items_weight, model_weight};
+ghost use Rattle.vw_design.specs.Counts.{placed_one, cell_one, levels_below, weight_before};
 ghost use Rattle.vw_design.specs.Limits.{IsSmall};
 ghost use Rattle.vw_design.specs.PathValue.{item_at, place_of_site};
 ghost use Rattle.vw_design.specs.Paths.{Path, Word, placings, model_at, items_of};
@@ -23,29 +23,25 @@ pub fn entries_give_numbers()
         → ArePlaced design table → (number : ℕ) (path : Path) (entry : Placed)
         → slice_get (instances design) number ≡ Some path → slice_get table number ≡ Some entry
         → (place : ℕ) (item : Item) → item_at design path place ≡ Some item → is_cell item ≡ true
-        → place_of_site (cells design) path place ≡ Some (entry.cells + items_weight cell_one
-        (model_weight design cell_one (64 + length design.models - length path))
-        (take place (items_of (model_at design path)))) }
+        → place_of_site (cells design) path place ≡ Some (entry.cells + weight_before design cell_one
+        (levels_below design path) path place) }
     ensures instances { (design : Design) (table : List Placed) → IsSmall design
         → ArePlaced design table → (number : ℕ) (path : Path)
         → slice_get (instances design) number ≡ Some path
         → (place line : ℕ) (name : Word) (binds : List Bind)
         → item_at design path place ≡ Some (Sub line name binds)
-        → slice_get (instances design) (1 + (number + items_weight placed_one
-        (model_weight design placed_one (64 + length design.models - length path))
-        (take place (items_of (model_at design path)))))
+        → slice_get (instances design) (1 + (number + weight_before design placed_one
+        (levels_below design path) path place))
         ≡ Some (suc (length (placings (take place (items_of (model_at design path))))) ∷ path) }
     ensures sites { (design : Design) (table : List Placed) → IsSmall design
         → ArePlaced design table → (number : ℕ) (path : Path) (entry : Placed)
         → slice_get (instances design) number ≡ Some path → slice_get table number ≡ Some entry
         → (place : ℕ) (item : Item) → item_at design path place ≡ Some item
         → place_of_site (sites design) path place ≡ Some ((entry.cells + number)
-        + (items_weight cell_one
-        (model_weight design cell_one (64 + length design.models - length path))
-        (take place (items_of (model_at design path)))
-        + items_weight placed_one
-        (model_weight design placed_one (64 + length design.models - length path))
-        (take place (items_of (model_at design path))))) }
+        + (weight_before design cell_one
+        (levels_below design path) path place
+        + weight_before design placed_one
+        (levels_below design path) path place)) }
 {
     numbers_are_counts()
 }

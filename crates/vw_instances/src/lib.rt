@@ -21,7 +21,7 @@ mod totals;
 
 pub use count::sizes_of;
 pub use laws::{entries_give_numbers, tables_are_one};
-pub use preorder::walk;
+pub use preorder::list_instances;
 pub use quantity::Quantity;
 pub use sizes::{Before, Measured, Sizes};
-pub use tables::{CellSite, Placed, Walk};
+pub use tables::{CellSite, Listing, Placed};

@@ -25,12 +25,12 @@ pub struct CellSite {
 
 /// The instances and the cells of a design, in preorder.
 #[derive(Drop)]
-pub struct Walk {
+pub struct Listing {
     pub instances: Sequence<Placed>,
     pub cells: Sequence<CellSite>,
 }
 
-impl Walk {
+impl Listing {
     /// The instances, by their numbers.
     pub fn instances(&self) -> &[Placed]
         ensures { result.now ≡ self.now.instances }

@@ -1,5 +1,5 @@
 //! The first net that is looked for.
-ghost use Rattle.std.specs.Prelude.{◌≡◌, [], ◌∷◌, Some, slice_get, option_to_list, IfOk};
+ghost use Rattle.std.specs.Prelude.{◌≡◌, [], ◌∷◌, Some, slice_get, IfOk};
 ghost use Rattle.vw_design.specs.declared.item.Item.{Item};
 ghost use Rattle.vw_design.specs.Drivers.{driver};
 ghost use Rattle.vw_design.specs.Paths.{Path, Word, model_at, model_outputs, lent};
@@ -8,10 +8,9 @@ ghost use Rattle.vw_design.specs.Preorder.{instances};
 ghost use Rattle.vw_design.specs.Reads.{data_of, controls_of};
 ghost use Rattle.vw_drivers.specs.Firsts.{number_named};
 ghost use Rattle.vw_drivers.specs.Names.{reads_of};
-ghost use Rattle.vw_drivers.specs.Tables.{root_firsts, instance_firsts};
-ghost use Rattle.vw_nets.specs.Steps.Items.{AreNumbersOf};
+ghost use Rattle.vw_drivers.specs.Tables.{instance_firsts};
 ghost use Rattle.vw_nets.specs.Nets.{AreNets, printed_net};
-ghost use Rattle.vw_nets.specs.Steps.Wanted.{wants, HasMarks, wanted_names, wanted_among, wanted_read, first_wanted};
+ghost use Rattle.vw_nets.specs.Steps.Wanted.{wants, FindsAmong, HasMarksOf, wanted_names, wanted_among, wanted_read, first_wanted};
 
 use crate::items::{control_of, number_at};
 use crate::nets::Nets;
@@ -27,7 +26,7 @@ impl<'a> Nets<'a> {
     /// Whether the nets of an instance on whose names the first claim has this number are looked for.
     fn is_wanted(&self, instance: u32, number: Option<u32>, wanted: &Wanted) -> bool
         requires nets { AreNets self.now }
-        requires marks { HasMarks self.now.design.now (root_firsts self.now.tables.now) wanted.now }
+        requires marks { HasMarksOf self.now wanted.now }
         ensures { (path : Path) (name : Word)
             → slice_get (instances self.now.design.now) instance ≡ Some path
             → number ≡ number_named (instance_firsts self.now.tables.now instance) name
@@ -45,7 +44,7 @@ impl<'a> Nets<'a> {
         wanted: &Wanted,
     ) -> Option<&'a Name>
         requires nets { AreNets self.now }
-        requires marks { HasMarks self.now.design.now (root_firsts self.now.tables.now) wanted.now }
+        requires marks { HasMarksOf self.now wanted.now }
         ensures { (path : Path) → slice_get (instances self.now.design.now) instance ≡ Some path
             → number ≡ number_named (instance_firsts self.now.tables.now instance) name.now
             → lent result ≡ wanted_among self.now.design.now wanted.now path (name.now ∷ []) }
@@ -66,10 +65,8 @@ impl<'a> Nets<'a> {
         wanted: &Wanted,
     ) -> Option<&'a Name>
         requires nets { AreNets self.now }
-        requires marks { HasMarks self.now.design.now (root_firsts self.now.tables.now) wanted.now }
-        ensures { (path : Path) → slice_get (instances self.now.design.now) instance ≡ Some path
-            → AreNumbersOf (instance_firsts self.now.tables.now instance) names.now numbers.now
-            → lent result ≡ wanted_among self.now.design.now wanted.now path names.now }
+        requires marks { HasMarksOf self.now wanted.now }
+        ensures { FindsAmong self.now wanted.now instance names.now numbers.now names.now (lent result) }
     {
         for (place, name) in names.iter().enumerate() {
             let number = number_at(numbers, place);
@@ -89,11 +86,9 @@ impl<'a> Nets<'a> {
         wanted: &Wanted,
     ) -> Option<&'a Name>
         requires nets { AreNets self.now }
-        requires marks { HasMarks self.now.design.now (root_firsts self.now.tables.now) wanted.now }
-        ensures { (path : Path) → slice_get (instances self.now.design.now) instance ≡ Some path
-            → AreNumbersOf (instance_firsts self.now.tables.now instance)
-            (reads_of item.now) numbers.now
-            → lent result ≡ wanted_among self.now.design.now wanted.now path (data_of item.now) }
+        requires marks { HasMarksOf self.now wanted.now }
+        ensures { FindsAmong self.now wanted.now instance (reads_of item.now) numbers.now
+            (data_of item.now) (lent result) }
     {
         match item {
             Item::Names { ins, .. } => self.first_among(instance, ins.as_slice(), numbers, wanted),
@@ -111,12 +106,9 @@ impl<'a> Nets<'a> {
         wanted: &Wanted,
     ) -> Option<&'a Name>
         requires nets { AreNets self.now }
-        requires marks { HasMarks self.now.design.now (root_firsts self.now.tables.now) wanted.now }
-        ensures { (path : Path) → slice_get (instances self.now.design.now) instance ≡ Some path
-            → AreNumbersOf (instance_firsts self.now.tables.now instance)
-            (reads_of item.now) numbers.now
-            → lent result
-            ≡ wanted_among self.now.design.now wanted.now path (controls_of item.now) }
+        requires marks { HasMarksOf self.now wanted.now }
+        ensures { FindsAmong self.now wanted.now instance (reads_of item.now) numbers.now
+            (controls_of item.now) (lent result) }
     {
         match control_of(item) {
             Some(control) => self.only(instance, control, number_at(numbers, 1), wanted),
@@ -133,12 +125,9 @@ impl<'a> Nets<'a> {
         wanted: &Wanted,
     ) -> Option<&'a Name>
         requires nets { AreNets self.now }
-        requires marks { HasMarks self.now.design.now (root_firsts self.now.tables.now) wanted.now }
-        ensures { (path : Path) → slice_get (instances self.now.design.now) instance ≡ Some path
-            → AreNumbersOf (instance_firsts self.now.tables.now instance)
-            (reads_of item.now) numbers.now
-            → lent result
-            ≡ wanted_among self.now.design.now wanted.now path (wanted_names wanted.now item.now) }
+        requires marks { HasMarksOf self.now wanted.now }
+        ensures { FindsAmong self.now wanted.now instance (reads_of item.now) numbers.now
+            (wanted_names wanted.now item.now) (lent result) }
     {
         match wanted {
             Wanted::Undriven => match self.data_found(instance, item, numbers, wanted) {
@@ -153,7 +142,7 @@ impl<'a> Nets<'a> {
     /// The first name of the item of a cell that is looked for.
     fn wanted_at(&self, cell: CellSite, wanted: &Wanted) -> Option<&'a Name>
         requires nets { AreNets self.now }
-        requires marks { HasMarks self.now.design.now (root_firsts self.now.tables.now) wanted.now }
+        requires marks { HasMarksOf self.now wanted.now }
         ensures { (path : Path) (item : Item)
             → slice_get (instances self.now.design.now) cell.instance ≡ Some path
             → item_at self.now.design.now path cell.item ≡ Some item
@@ -172,7 +161,7 @@ impl<'a> Nets<'a> {
         wanted: &Wanted,
     ) -> Result<Option<Name>, AllocError>
         requires nets { AreNets self.now }
-        requires marks { HasMarks self.now.design.now (root_firsts self.now.tables.now) wanted.now }
+        requires marks { HasMarksOf self.now wanted.now }
         ensures { IfOk result (λ found. found
             ≡ printed_net (wanted_read self.now.design.now wanted.now)) }
     {
@@ -190,7 +179,7 @@ impl<'a> Nets<'a> {
     /// The first output of the root that is looked for.
     fn wanted_output(&self, wanted: &Wanted) -> Option<&'a Name>
         requires nets { AreNets self.now }
-        requires marks { HasMarks self.now.design.now (root_firsts self.now.tables.now) wanted.now }
+        requires marks { HasMarksOf self.now wanted.now }
         ensures { lent result ≡ wanted_among self.now.design.now wanted.now []
             (model_outputs (model_at self.now.design.now [])) }
     {
@@ -207,7 +196,7 @@ impl<'a> Nets<'a> {
         wanted: &Wanted,
     ) -> Option<&'a Name>
         requires nets { AreNets self.now }
-        requires marks { HasMarks self.now.design.now (root_firsts self.now.tables.now) wanted.now }
+        requires marks { HasMarksOf self.now wanted.now }
         requires claims { claims.now.firsts ≡ instance_firsts self.now.tables.now 0 }
         ensures { lent result ≡ wanted_among self.now.design.now wanted.now [] names.now }
     {
@@ -227,7 +216,7 @@ impl<'a> Nets<'a> {
         wanted: &Wanted,
     ) -> Result<Option<Name>, AllocError>
         requires nets { AreNets self.now }
-        requires marks { HasMarks self.now.design.now (root_firsts self.now.tables.now) wanted.now }
+        requires marks { HasMarksOf self.now wanted.now }
         ensures { IfOk result (λ found. found
             ≡ printed_net (first_wanted self.now.design.now wanted.now)) }
     {

@@ -4,7 +4,7 @@ use Rattle.std.specs.List.{All, range_with_len}
 use Rattle.std.proofs.lemmas.List.Elements.{All-head, All-tail}
 use Rattle.std.proofs.lemmas.List.Sums.{sum_by-cons}
 use Rattle.vw_plan.specs.Good.{cells_on}
-use Rattle.vw_part.specs.Steps.Deals.{held}
+use Rattle.vw_part.specs.Steps.Deals.{pins_held}
 use Rattle.vw_part.specs.Steps.Pins.{times_among, total}
 use Rattle.vw_net.specs.Steps.Bits.{one_if}
 use Rattle.vw_part.proofs.Totals.{at, at_same, range_at, total_plus}
@@ -74,13 +74,13 @@ all_fit chips most room real few = omega (arith, on_all chips most real, few_in 
 
 -- ---- nets
 
-pub held_push : (chips : List ℕ) (pins : List (List ℕ)) (new chip net : ℕ) → length chips < length pins → held (chips ++ new ∷ []) pins chip net ≡ held chips pins chip net + at new (times_among (get_or pins (length chips) []) net) chip
+pub held_push : (chips : List ℕ) (pins : List (List ℕ)) (new chip net : ℕ) → length chips < length pins → pins_held (chips ++ new ∷ []) pins chip net ≡ pins_held chips pins chip net + at new (times_among (get_or pins (length chips) []) net) chip
 held_push [] [] new chip net within = absurd (omega arith)
 held_push [] (own ∷ pins) new chip net within = omega arith
 held_push (first ∷ chips) [] new chip net within = absurd (omega arith)
 held_push (first ∷ chips) (own ∷ pins) new chip net within = omega (arith, held_push chips pins new chip net (omega arith))
 
-pub held_set : (chips : List ℕ) (pins : List (List ℕ)) (cell new chip net : ℕ) → cell < length chips → held (set chips cell new) pins chip net + at (get_or chips cell 0) (times_among (get_or pins cell []) net) chip ≡ held chips pins chip net + at new (times_among (get_or pins cell []) net) chip
+pub held_set : (chips : List ℕ) (pins : List (List ℕ)) (cell new chip net : ℕ) → cell < length chips → pins_held (set chips cell new) pins chip net + at (get_or chips cell 0) (times_among (get_or pins cell []) net) chip ≡ pins_held chips pins chip net + at new (times_among (get_or pins cell []) net) chip
 held_set [] pins cell new chip net within = absurd (omega arith)
 held_set (first ∷ chips) [] zero new chip net within = omega (arith, at_none first chip, at_none new chip)
 held_set (first ∷ chips) [] (suc cell) new chip net within = omega (arith, at_none (get_or chips cell 0) chip, at_none new chip)
@@ -88,13 +88,13 @@ held_set (first ∷ chips) (own ∷ pins) zero new chip net within = omega arith
 held_set (first ∷ chips) (own ∷ pins) (suc cell) new chip net within = omega (arith, held_set chips pins cell new chip net (omega arith))
 
 -- a cell's nets are held by its chip
-pub held_least : (chips : List ℕ) (pins : List (List ℕ)) (cell net : ℕ) → cell < length chips → times_among (get_or pins cell []) net ≤ held chips pins (get_or chips cell 0) net
+pub held_least : (chips : List ℕ) (pins : List (List ℕ)) (cell net : ℕ) → cell < length chips → times_among (get_or pins cell []) net ≤ pins_held chips pins (get_or chips cell 0) net
 held_least [] pins cell net within = absurd (omega arith)
 held_least (first ∷ chips) [] cell net within = omega arith
 held_least (first ∷ chips) (own ∷ pins) zero net within = omega (arith, at_same first (times_among own net))
 held_least (first ∷ chips) (own ∷ pins) (suc cell) net within = omega (arith, held_least chips pins cell net (omega arith))
 
-pub held-le : (chips : List ℕ) (pins : List (List ℕ)) (chip net : ℕ) → All (λ own. (net : ℕ) → times_among own net ≤ 1) pins → held chips pins chip net ≤ length chips
+pub held-le : (chips : List ℕ) (pins : List (List ℕ)) (chip net : ℕ) → All (λ own. (net : ℕ) → times_among own net ≤ 1) pins → pins_held chips pins chip net ≤ length chips
 held-le [] pins chip net once = omega arith
 held-le (first ∷ chips) [] chip net once = omega arith
 held-le (first ∷ chips) (own ∷ pins) chip net once =

@@ -8,7 +8,7 @@ use Rattle.vw_plan.specs.Good.{IsChip, cells_on}
 use Rattle.vw_part.specs.declared.deal.Deal.{Deal}
 use Rattle.vw_part.specs.declared.load.Load.{Load}
 use Rattle.vw_part.specs.declared.pins.Pins.{Pins}
-use Rattle.vw_part.specs.Steps.Deals.{IsDeal, IsLoad, IsTarget, freed, held, met, cell_nets}
+use Rattle.vw_part.specs.Steps.Deals.{IsDeal, IsLoad, IsTarget, freed, pins_held, met, cell_nets}
 use Rattle.vw_part.specs.Steps.Pins.{times_among, total}
 use Rattle.vw_net.specs.Steps.Bits.{one_if}
 use Rattle.vw_part.proofs.ChipLoads.{all_full, held_push, held_set, on_all, on_push, on_set}
@@ -25,7 +25,7 @@ pub record HasCellMore (own : List ℕ) (before after : Load) : Type 0 where
   pub long : length after.counts.items ≡ length before.counts.items
   pub counts : (net : ℕ) → get_or after.counts.items net 0 ≡ get_or before.counts.items net 0 + times_among own net
 
-load_same : (pins : Pins) (chips others : List ℕ) (chip : ℕ) (load : Load) → cells_on others chip ≡ cells_on chips chip → ((net : ℕ) → held others pins.of_cells.items chip net ≡ held chips pins.of_cells.items chip net) → IsLoad pins chips chip load → IsLoad pins others chip load
+load_same : (pins : Pins) (chips others : List ℕ) (chip : ℕ) (load : Load) → cells_on others chip ≡ cells_on chips chip → ((net : ℕ) → pins_held others pins.of_cells.items chip net ≡ pins_held chips pins.of_cells.items chip net) → IsLoad pins chips chip load → IsLoad pins others chip load
 load_same pins chips others chip load cells counts is = record {
   cells = is.cells ∙ sym cells;
   long = is.long;
@@ -125,18 +125,18 @@ freed_is board pins deal cell from lone load own is within from_is found own_is 
     let was = All-get_or (IsChip board) chips cell 0 within is.chips in
     let low : from ≤ board.chips = omega (arith, from_is, was.1) in
     let load_is = loaded board pins deal from load is low found in
-    let same = total_same (λ net. one_if (eqb (get_or load.counts.items net 0) 1)) (λ net. one_if (eqb (held chips pins.of_cells.items from net) 1)) own (λ net. ap (λ (n : ℕ). one_if (eqb n 1)) (load_is.counts net)) in
-    count ∙ same ∙ ap (λ (nets : List ℕ). total (λ net. one_if (eqb (held chips pins.of_cells.items from net) 1)) nets) own_is ∙ ap (λ (x : ℕ). total (λ net. one_if (eqb (held chips pins.of_cells.items x net) 1)) (cell_nets pins cell)) from_is
+    let same = total_same (λ net. one_if (eqb (get_or load.counts.items net 0) 1)) (λ net. one_if (eqb (pins_held chips pins.of_cells.items from net) 1)) own (λ net. ap (λ (n : ℕ). one_if (eqb n 1)) (load_is.counts net)) in
+    count ∙ same ∙ ap (λ (nets : List ℕ). total (λ net. one_if (eqb (pins_held chips pins.of_cells.items from net) 1)) nets) own_is ∙ ap (λ (x : ℕ). total (λ net. one_if (eqb (pins_held chips pins.of_cells.items x net) 1)) (cell_nets pins cell)) from_is
 
 pub met_is : (board : Board) (pins : Pins) (deal : Deal) (cell chip there : ℕ) (load : Load) (own : List ℕ) → IsDeal board pins deal → chip ≤ board.chips → load ≡ get_or deal.loads.items chip load → own ≡ cell_nets pins cell → there ≡ total (λ net. one_if (nat_lt 0 (get_or load.counts.items net 0))) own → there ≡ met pins deal.chip_of.items cell chip
 met_is board pins deal cell chip there load own is low found own_is count =
     let chips = deal.chip_of.items in
     let load_is = loaded board pins deal chip load is low found in
-    let same = total_same (λ net. one_if (nat_lt 0 (get_or load.counts.items net 0))) (λ net. one_if (nat_lt 0 (held chips pins.of_cells.items chip net))) own (λ net. ap (λ (n : ℕ). one_if (nat_lt 0 n)) (load_is.counts net)) in
-    count ∙ same ∙ ap (λ (nets : List ℕ). total (λ net. one_if (nat_lt 0 (held chips pins.of_cells.items chip net))) nets) own_is
+    let same = total_same (λ net. one_if (nat_lt 0 (get_or load.counts.items net 0))) (λ net. one_if (nat_lt 0 (pins_held chips pins.of_cells.items chip net))) own (λ net. ap (λ (n : ℕ). one_if (nat_lt 0 n)) (load_is.counts net)) in
+    count ∙ same ∙ ap (λ (nets : List ℕ). total (λ net. one_if (nat_lt 0 (pins_held chips pins.of_cells.items chip net))) nets) own_is
 
 pub freed-le : (pins : Pins) (chips : List ℕ) (cell : ℕ) → freed pins chips cell ≤ length (cell_nets pins cell)
-freed-le pins chips cell = total_tests-le (λ net. eqb (held chips pins.of_cells.items (get_or chips cell 0) net) 1) (cell_nets pins cell)
+freed-le pins chips cell = total_tests-le (λ net. eqb (pins_held chips pins.of_cells.items (get_or chips cell 0) net) 1) (cell_nets pins cell)
 
 pub met-le : (pins : Pins) (chips : List ℕ) (cell chip : ℕ) → met pins chips cell chip ≤ length (cell_nets pins cell)
-met-le pins chips cell chip = total_tests-le (λ net. nat_lt 0 (held chips pins.of_cells.items chip net)) (cell_nets pins cell)
+met-le pins chips cell chip = total_tests-le (λ net. nat_lt 0 (pins_held chips pins.of_cells.items chip net)) (cell_nets pins cell)

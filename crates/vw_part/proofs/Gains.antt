@@ -7,7 +7,7 @@ use Rattle.std.proofs.lemmas.List.Elements.{All-get_or}
 use Rattle.vw_plan.specs.declared.board.Board.{Board}
 use Rattle.vw_plan.specs.Good.{IsChip}
 use Rattle.vw_part.specs.declared.pins.Pins.{Pins}
-use Rattle.vw_part.specs.Steps.Deals.{freed, held, holders, met, cell_nets, spread}
+use Rattle.vw_part.specs.Steps.Deals.{freed, pins_held, holders, met, cell_nets, spread}
 use Rattle.vw_part.specs.Steps.Pins.{times_among, total}
 use Rattle.vw_net.specs.Steps.Bits.{one_if}
 use Rattle.vw_part.proofs.ChipLoads.{at_none, held_set}
@@ -40,10 +40,10 @@ module _ (chips : List ℕ) (pins : List (List ℕ)) (cell new most : ℕ) (with
   chips_after = set chips cell new
 
   abbrev leaves : ℕ → ℕ
-  leaves net = one_if (eqb (held chips pins old net) 1)
+  leaves net = one_if (eqb (pins_held chips pins old net) 1)
 
   abbrev there : ℕ → ℕ
-  there net = one_if (nat_lt 0 (held chips pins new net))
+  there net = one_if (nat_lt 0 (pins_held chips pins new net))
 
   -- another net is held as before
   others : (net : ℕ) → times_among own net ≡ 0 → holders most chips_after pins net ≡ holders most chips pins net
@@ -51,12 +51,12 @@ module _ (chips : List ℕ) (pins : List (List ℕ)) (cell new most : ℕ) (with
       let each = λ (chip : ℕ).
       let left : at old (times_among own net) chip ≡ 0 = ap (λ (amount : ℕ). at old amount chip) none ∙ at_none old chip in
       let right : at new (times_among own net) chip ≡ 0 = ap (λ (amount : ℕ). at new amount chip) none ∙ at_none new chip in
-      let same : held chips_after pins chip net ≡ held chips pins chip net = omega (arith, left, right, held_set chips pins cell new chip net within) in
-      let bit : one_if (nat_lt 0 (held chips_after pins chip net)) ≡ one_if (nat_lt 0 (held chips pins chip net)) = ap (λ (amount : ℕ). one_if (nat_lt 0 amount)) same in bit in
-      total_same (λ chip. one_if (nat_lt 0 (held chips_after pins chip net))) (λ chip. one_if (nat_lt 0 (held chips pins chip net))) (range_with_len 1 most) each
+      let same : pins_held chips_after pins chip net ≡ pins_held chips pins chip net = omega (arith, left, right, held_set chips pins cell new chip net within) in
+      let bit : one_if (nat_lt 0 (pins_held chips_after pins chip net)) ≡ one_if (nat_lt 0 (pins_held chips pins chip net)) = ap (λ (amount : ℕ). one_if (nat_lt 0 amount)) same in bit in
+      total_same (λ chip. one_if (nat_lt 0 (pins_held chips_after pins chip net))) (λ chip. one_if (nat_lt 0 (pins_held chips pins chip net))) (range_with_len 1 most) each
 
   -- a net of the cell, chip by chip
-  by_chip : (net chip : ℕ) → times_among own net ≡ 1 → (old ≡ new → ⊥) → (one_if (nat_lt 0 (held chips_after pins chip net)) + at old (leaves net) chip) + at new (there net) chip ≡ one_if (nat_lt 0 (held chips pins chip net)) + at new 1 chip
+  by_chip : (net chip : ℕ) → times_among own net ≡ 1 → (old ≡ new → ⊥) → (one_if (nat_lt 0 (pins_held chips_after pins chip net)) + at old (leaves net) chip) + at new (there net) chip ≡ one_if (nat_lt 0 (pins_held chips pins chip net)) + at new 1 chip
   by_chip net chip one apart =
       let change = held_set chips pins cell new chip net within in
       let left : at old (times_among own net) chip ≡ at old 1 chip = ap (λ (amount : ℕ). at old amount chip) one in
@@ -65,22 +65,22 @@ module _ (chips : List ℕ) (pins : List (List ℕ)) (cell new most : ℕ) (with
       let away : new ≡ chip → ⊥ = λ is. apart (here ∙ sym is) in
       let unit : at old 1 chip ≡ 1 = subst (λ (x : ℕ). at old 1 x ≡ 1) here (at_same old 1) in
       let whole : at old (leaves net) chip ≡ leaves net = subst (λ (x : ℕ). at old (leaves net) x ≡ leaves net) here (at_same old (leaves net)) in
-      let was : held chips pins old net ≡ held chips pins chip net = ap (λ (x : ℕ). held chips pins x net) here in
-      let step = fewer (held chips pins old net) (held chips_after pins chip net) (omega (arith, change, left, right, unit, at_other new 1 chip away, was)) in
-      let same : one_if (nat_lt 0 (held chips pins old net)) ≡ one_if (nat_lt 0 (held chips pins chip net)) = ap (λ (amount : ℕ). one_if (nat_lt 0 amount)) was in
-      let sum : (one_if (nat_lt 0 (held chips_after pins chip net)) + at old (leaves net) chip) + at new (there net) chip ≡ one_if (nat_lt 0 (held chips pins chip net)) + at new 1 chip = omega (arith, step, same, whole, at_other new 1 chip away, at_other new (there net) chip away) in sum in
+      let was : pins_held chips pins old net ≡ pins_held chips pins chip net = ap (λ (x : ℕ). pins_held chips pins x net) here in
+      let step = fewer (pins_held chips pins old net) (pins_held chips_after pins chip net) (omega (arith, change, left, right, unit, at_other new 1 chip away, was)) in
+      let same : one_if (nat_lt 0 (pins_held chips pins old net)) ≡ one_if (nat_lt 0 (pins_held chips pins chip net)) = ap (λ (amount : ℕ). one_if (nat_lt 0 amount)) was in
+      let sum : (one_if (nat_lt 0 (pins_held chips_after pins chip net)) + at old (leaves net) chip) + at new (there net) chip ≡ one_if (nat_lt 0 (pins_held chips pins chip net)) + at new 1 chip = omega (arith, step, same, whole, at_other new 1 chip away, at_other new (there net) chip away) in sum in
       let if_else = λ (away : old ≡ chip → ⊥).
       let if_new = λ (here : new ≡ chip).
       let unit : at new 1 chip ≡ 1 = subst (λ (x : ℕ). at new 1 x ≡ 1) here (at_same new 1) in
       let whole : at new (there net) chip ≡ there net = subst (λ (x : ℕ). at new (there net) x ≡ there net) here (at_same new (there net)) in
-      let was : held chips pins new net ≡ held chips pins chip net = ap (λ (x : ℕ). held chips pins x net) here in
-      let step = more (held chips pins new net) (held chips_after pins chip net) (omega (arith, change, left, right, unit, at_other old 1 chip away, was)) in
-      let same : there net ≡ one_if (nat_lt 0 (held chips pins chip net)) = ap (λ (amount : ℕ). one_if (nat_lt 0 amount)) was in
-      let sum : (one_if (nat_lt 0 (held chips_after pins chip net)) + at old (leaves net) chip) + at new (there net) chip ≡ one_if (nat_lt 0 (held chips pins chip net)) + at new 1 chip = omega (arith, step, same, whole, unit, at_other old (leaves net) chip away) in sum in
+      let was : pins_held chips pins new net ≡ pins_held chips pins chip net = ap (λ (x : ℕ). pins_held chips pins x net) here in
+      let step = more (pins_held chips pins new net) (pins_held chips_after pins chip net) (omega (arith, change, left, right, unit, at_other old 1 chip away, was)) in
+      let same : there net ≡ one_if (nat_lt 0 (pins_held chips pins chip net)) = ap (λ (amount : ℕ). one_if (nat_lt 0 amount)) was in
+      let sum : (one_if (nat_lt 0 (pins_held chips_after pins chip net)) + at old (leaves net) chip) + at new (there net) chip ≡ one_if (nat_lt 0 (pins_held chips pins chip net)) + at new 1 chip = omega (arith, step, same, whole, unit, at_other old (leaves net) chip away) in sum in
       let if_third = λ (apart_too : new ≡ chip → ⊥).
-      let keeps : held chips_after pins chip net ≡ held chips pins chip net = omega (arith, change, left, right, at_other old 1 chip away, at_other new 1 chip apart_too) in
-      let same : one_if (nat_lt 0 (held chips_after pins chip net)) ≡ one_if (nat_lt 0 (held chips pins chip net)) = ap (λ (amount : ℕ). one_if (nat_lt 0 amount)) keeps in
-      let sum : (one_if (nat_lt 0 (held chips_after pins chip net)) + at old (leaves net) chip) + at new (there net) chip ≡ one_if (nat_lt 0 (held chips pins chip net)) + at new 1 chip = omega (arith, same, at_other old (leaves net) chip away, at_other new (there net) chip apart_too, at_other new 1 chip apart_too) in sum in
+      let keeps : pins_held chips_after pins chip net ≡ pins_held chips pins chip net = omega (arith, change, left, right, at_other old 1 chip away, at_other new 1 chip apart_too) in
+      let same : one_if (nat_lt 0 (pins_held chips_after pins chip net)) ≡ one_if (nat_lt 0 (pins_held chips pins chip net)) = ap (λ (amount : ℕ). one_if (nat_lt 0 amount)) keeps in
+      let sum : (one_if (nat_lt 0 (pins_held chips_after pins chip net)) + at old (leaves net) chip) + at new (there net) chip ≡ one_if (nat_lt 0 (pins_held chips pins chip net)) + at new 1 chip = omega (arith, same, at_other old (leaves net) chip away, at_other new (there net) chip apart_too, at_other new 1 chip apart_too) in sum in
       ⊎_elim if_new if_third (cases_eq new chip) in
       ⊎_elim if_old if_else (cases_eq old chip)
 
@@ -88,8 +88,8 @@ module _ (chips : List ℕ) (pins : List (List ℕ)) (cell new most : ℕ) (with
   by_net : (net : ℕ) → times_among own net ≡ 1 → (old ≡ new → ⊥) → 1 ≤ old → old ≤ most → 1 ≤ new → new ≤ most → holders most chips_after pins net + (leaves net + there net) ≡ holders most chips pins net + 1
   by_net net one apart some_old few_old some_new few_new =
       let range = range_with_len 1 most in
-      let after = λ (chip : ℕ). one_if (nat_lt 0 (held chips_after pins chip net)) in
-      let before = λ (chip : ℕ). one_if (nat_lt 0 (held chips pins chip net)) in
+      let after = λ (chip : ℕ). one_if (nat_lt 0 (pins_held chips_after pins chip net)) in
+      let before = λ (chip : ℕ). one_if (nat_lt 0 (pins_held chips pins chip net)) in
       let first = total_plus after (at old (leaves net)) (λ chip. after chip + at old (leaves net) chip) range (λ chip. refl) in
       let second = total_plus (λ chip. after chip + at old (leaves net) chip) (at new (there net)) (λ chip. (after chip + at old (leaves net) chip) + at new (there net) chip) range (λ chip. refl) in
       let third = total_plus before (at new 1) (λ chip. before chip + at new 1 chip) range (λ chip. refl) in

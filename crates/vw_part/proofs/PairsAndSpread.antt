@@ -15,7 +15,7 @@ use Rattle.vw_net.specs.Steps.Bits.{one_if}
 use Rattle.vw_plan.specs.Needs.{needed_nodes, needed_pairs}
 use Rattle.vw_plan.specs.Nets.{is_needed, node_of}
 use Rattle.vw_plan.proofs.NeededPairs.{need_of}
-use Rattle.vw_part.specs.Steps.Deals.{held, holders}
+use Rattle.vw_part.specs.Steps.Deals.{pins_held, holders}
 use Rattle.vw_part.specs.Steps.Pins.{ArePins, times_among, total}
 use Rattle.vw_part.proofs.Totals.{among, at, length-filter, length-flat_map, range_at, range_longer, range_plus, range_same, total_ones, total_plus, total_same}
 
@@ -47,7 +47,7 @@ more_than first second =
     ⊎_elim if_none if_some (cases_lt first 1)
 
 -- a chip holds a net where it has the cell that drives it, or one that reads it
-held_where : (own : ℕ) (chips : List ℕ) (cells : List Cell) (pins : List (List ℕ)) (chip net : ℕ) → ArePins own cells pins → length chips ≡ length cells → nat_lt 0 (held chips pins chip net) ≡ (drives_at own chips net chip || list_any (reads_at net chip) (zip chips cells))
+held_where : (own : ℕ) (chips : List ℕ) (cells : List Cell) (pins : List (List ℕ)) (chip net : ℕ) → ArePins own cells pins → length chips ≡ length cells → nat_lt 0 (pins_held chips pins chip net) ≡ (drives_at own chips net chip || list_any (reads_at net chip) (zip chips cells))
 held_where own [] [] [] chip net are same = refl
 held_where own [] [] (nets ∷ pins) chip net are same = absurd are
 held_where own [] (cell ∷ cells) pins chip net are same = absurd (omega (arith, same))
@@ -56,7 +56,7 @@ held_where own (first ∷ chips) (cell ∷ cells) [] chip net are same = absurd 
 held_where own (first ∷ chips) (cell ∷ cells) (nets ∷ pins) chip net are same =
     let rest = held_where (own + 1) chips cells pins chip net are.1 (omega (arith, same)) in
     let head : nat_lt 0 (at first (times_among nets net) chip) ≡ (eqb first chip && (eqb own net || is_among (read_nets cell) net)) = by_bit (eqb first chip) in
-    more_than (at first (times_among nets net) chip) (held chips pins chip net)
+    more_than (at first (times_among nets net) chip) (pins_held chips pins chip net)
     ∙ ap₂ (λ (one other : Bool). one || other) head rest
     ∙ sides (eqb first chip) (eqb own net) (is_among (read_nets cell) net) (drives_at (own + 1) chips net chip) (list_any (reads_at net chip) (zip chips cells))
   where
@@ -196,7 +196,7 @@ module _ (flat : Flat) (pins : List (List ℕ)) (most : ℕ) (are : ArePins flat
           ⊎_elim if_input if_cell (cases_lt net flat.inputs)
 
   -- a chip is touched where it holds the net
-  chip_touched : (net chip : ℕ) → 1 ≤ chip → touched net chip ≡ nat_lt 0 (held chip_of pins chip net)
+  chip_touched : (net chip : ℕ) → 1 ≤ chip → touched net chip ≡ nat_lt 0 (pins_held chip_of pins chip net)
   chip_touched net chip some =
       let away : (eqb chip 0 && is_among flat.outputs net) ≡ false = and_left (eqb chip 0) _ (ne_eqb chip 0 (λ is. omega arith)) in
       ap₂ (λ (home rest : Bool). home || (list_any (reads_at net chip) (zip chip_of flat.cells) || rest)) (sym (driven_is flat.inputs chip_of net chip some)) away
@@ -207,7 +207,7 @@ module _ (flat : Flat) (pins : List (List ℕ)) (most : ℕ) (are : ArePins flat
   of_net : (net : ℕ) → net < net_total → length (needed_nodes flat chip_of net) + 1 ≡ one_if (at_host flat net) + holders most chip_of pins net
   of_net net below =
       let host_is : one_if (touched net 0) ≡ one_if (at_host flat net) = ap (λ (bit : Bool). one_if bit) (host net below) in
-      let chips_are : total (λ node. one_if (touched net node)) (range_with_len 1 most) ≡ holders most chip_of pins net = range_same (λ node. one_if (touched net node)) (λ chip. one_if (nat_lt 0 (held chip_of pins chip net))) 1 most (λ chip above below. ap (λ (bit : Bool). one_if bit) (chip_touched net chip above)) in
+      let chips_are : total (λ node. one_if (touched net node)) (range_with_len 1 most) ≡ holders most chip_of pins net = range_same (λ node. one_if (touched net node)) (λ chip. one_if (nat_lt 0 (pins_held chip_of pins chip net))) 1 most (λ chip above below. ap (λ (bit : Bool). one_if bit) (chip_touched net chip above)) in
       omega (arith, one_fewer net, host_is, chips_are)
 
   -- and all nets together

@@ -13,7 +13,7 @@ use Rattle.vw_check.specs.declared.fault.PlanFault.TheVariants.{BrokenRoute, Bad
 use Rattle.vw_check.specs.declared.hops.Rule.{Rule}
 use Rattle.vw_check.specs.declared.hops.Rule.TheVariants.{Route, Pin, Order, Period}
 use Rattle.vw_check.specs.Firsts.{first_at, found_unless}
-use Rattle.vw_check.specs.HopFaults.{goes_on, is_later}
+use Rattle.vw_check.specs.HopFaults.{fits_route, is_later}
 
 -- the number of pins of the link from a node to another; 0 where there is none
 abbrev pub width_between : List Link → ℕ → ℕ → ℕ
@@ -27,7 +27,7 @@ rule_fault Period wire hop = PastPeriod wire hop
 
 -- whether a hop keeps a rule, on a board and for a period; its wire begins at a node
 abbrev pub keeps : Rule → Board → ℕ → ℕ → Wire → ℕ → Hop → Bool
-keeps Route board period from wire number hop = goes_on board.links from wire number hop
+keeps Route board period from wire number hop = fits_route board.links from wire number hop
 keeps Pin board period from wire number hop = has_pin board.links hop
 keeps Order board period from wire number hop = is_later wire.hops number hop
 keeps Period board period from wire number hop = nat_lt (arrival hop) period

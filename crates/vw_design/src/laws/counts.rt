@@ -9,7 +9,7 @@ ghost use Rattle.vw_design.specs.Paths.{Word, Path, placings, model_named, model
 ghost use Rattle.vw_design.specs.Preorder.{Site, is_cell, sites_below, sites, instances, cells};
 ghost use Rattle.vw_design.specs.PathValue.{item_at, place_of_site};
 ghost use Rattle.vw_design.specs.Limits.{weight_of, instance_count, binding_weight, binding_count, cell_count, greatest_depth};
-ghost use Rattle.vw_design.specs.Counts.{placed_one, cell_one, items_weight, model_weight, weight_of_root, items_height, model_height, height_of_root, IsRanking};
+ghost use Rattle.vw_design.specs.Counts.{placed_one, cell_one, items_weight, model_weight, weight_before, weight_of_root, items_height, model_height, height_of_root, IsRanking};
 
 /// The instances, the bindings and the cells of a design are what its models weigh, and its depth is their height.
 pub fn counts_are_weights()
@@ -57,23 +57,19 @@ pub fn numbers_are_counts()
         → sites design ≡ before ++ (sites_below design (suc depth) path ++ after)
         → (number : ℕ) (item : Item) → item_at design path number ≡ Some item → is_cell item ≡ true
         → place_of_site (cells design) path number ≡ Some (weight_of cell_one before
-        + items_weight cell_one (model_weight design cell_one depth)
-        (take number (items_of (model_at design path)))) }
+        + weight_before design cell_one depth path number) }
     ensures instances { (design : Design) (before after : List Site) (depth : ℕ) (path : Path)
         → sites design ≡ before ++ (sites_below design (suc depth) path ++ after)
         → (number line : ℕ) (name : Word) (binds : List Bind)
         → item_at design path number ≡ Some (Sub line name binds)
         → slice_get (instances design) (1 + (weight_of placed_one before
-        + items_weight placed_one (model_weight design placed_one depth)
-        (take number (items_of (model_at design path)))))
+        + weight_before design placed_one depth path number))
         ≡ Some (suc (length (placings (take number (items_of (model_at design path))))) ∷ path) }
     ensures sites { (design : Design) (before after : List Site) (depth : ℕ) (path : Path)
         → sites design ≡ before ++ (sites_below design (suc depth) path ++ after)
         → (number : ℕ) (item : Item) → item_at design path number ≡ Some item
         → place_of_site (sites design) path number
         ≡ Some ((weight_of cell_one before + weight_of placed_one before)
-        + (items_weight cell_one (model_weight design cell_one depth)
-        (take number (items_of (model_at design path)))
-        + items_weight placed_one (model_weight design placed_one depth)
-        (take number (items_of (model_at design path))))) }
+        + (weight_before design cell_one depth path number
+        + weight_before design placed_one depth path number)) }
 {}

@@ -6,15 +6,18 @@ use Rattle.vw_design.specs.declared.design.Design.{Design}
 use Rattle.vw_design.specs.Distinct.{has_name}
 use Rattle.vw_design.specs.Paths.{Word, Path, Net, model_at, model_outputs}
 use Rattle.vw_design.specs.Drivers.{Source as PathSource, driver}
-use Rattle.vw_design.specs.Preorder.{cells}
+use Rattle.vw_design.specs.Preorder.{cells, instances}
 use Rattle.vw_design.specs.Reads.{net_at, nets_at, data_of, controls_of}
 use Rattle.vw_design.specs.Clocks.{clock_ports}
 use Rattle.vw_design.specs.NetFaults.{is_cell_source, is_clock_source}
 use Rattle.vw_drivers.specs.Firsts.{First, number_named}
 use Rattle.vw_drivers.specs.declared.source.Source.{Source}
 use Rattle.vw_drivers.specs.declared.source.Source.TheVariants.{Port, Cell}
+use Rattle.vw_drivers.specs.Tables.{root_firsts, instance_firsts}
+use Rattle.vw_nets.specs.declared.nets.Nets.{Nets}
 use Rattle.vw_nets.specs.declared.wanted.Wanted.{Wanted}
 use Rattle.vw_nets.specs.declared.wanted.Wanted.TheVariants.{Undriven, Gated, ClockPort}
+use Rattle.vw_nets.specs.Steps.Items.{AreNumbersOf}
 
 -- whether a net with a driver is looked for
 abbrev pub wants : Design → Wanted → Option PathSource → Bool
@@ -66,3 +69,14 @@ wanted_read design wanted =
 abbrev pub first_wanted : Design → Wanted → Option Net
 first_wanted design wanted =
     option_or (wanted_read design wanted) (option_map (net_at []) (wanted_among design wanted [] (model_outputs (model_at design []))))
+
+-- what is looked for has its marks, by the tables of some nets
+abbrev pub HasMarksOf : Nets → Wanted → Type 0
+HasMarksOf nets wanted = HasMarks nets.design.now (root_firsts nets.tables.now) wanted
+
+-- what was found is the first of some names of an instance that is looked for, where these numbers are those of the first
+-- claims on what is read there
+abbrev pub FindsAmong : Nets → Wanted → ℕ → List Word → List (Option ℕ) → List Word → Option Word → Type 0
+FindsAmong nets wanted instance read numbers names found =
+    (path : Path) → slice_get (instances nets.design.now) instance ≡ Some path → AreNumbersOf (instance_firsts nets.tables.now instance) read numbers
+    → found ≡ wanted_among nets.design.now wanted path names

@@ -10,14 +10,14 @@ use Rattle.vw_part.specs.Steps.Pins.{times_among, total}
 use Rattle.vw_net.specs.Steps.Bits.{one_if}
 
 -- how many cells on a chip drive or read a net, given the nets of each cell
-abbrev pub held : List ℕ → List (List ℕ) → ℕ → ℕ → ℕ
-held [] pins chip net = 0
-held (other ∷ chips) [] chip net = 0
-held (other ∷ chips) (nets ∷ pins) chip net = (if other == chip then times_among nets net else 0) + held chips pins chip net
+abbrev pub pins_held : List ℕ → List (List ℕ) → ℕ → ℕ → ℕ
+pins_held [] pins chip net = 0
+pins_held (other ∷ chips) [] chip net = 0
+pins_held (other ∷ chips) (nets ∷ pins) chip net = (if other == chip then times_among nets net else 0) + pins_held chips pins chip net
 
 -- on how many chips a net is driven or read
 abbrev pub holders : ℕ → List ℕ → List (List ℕ) → ℕ → ℕ
-holders chips chip_of pins net = total (λ chip. one_if (nat_lt 0 (held chip_of pins chip net))) (range_with_len 1 chips)
+holders chips chip_of pins net = total (λ chip. one_if (nat_lt 0 (pins_held chip_of pins chip net))) (range_with_len 1 chips)
 
 -- all nets together
 unfoldable pub spread : Board → Pins → List ℕ → ℕ
@@ -27,7 +27,7 @@ spread board pins chip_of = total (holders board.chips chip_of pins.of_cells.ite
 pub record IsLoad (pins : Pins) (chip_of : List ℕ) (chip : ℕ) (load : Load) : Type 0 where
   pub cells : load.cells ≡ cells_on chip_of chip
   pub long : length load.counts.items ≡ pins.nets
-  pub counts : (net : ℕ) → slice_index load.counts.items net ≡ held chip_of pins.of_cells.items chip net
+  pub counts : (net : ℕ) → slice_index load.counts.items net ≡ pins_held chip_of pins.of_cells.items chip net
 
 -- the chips of the first cells, none of them overfull, and what each chip holds
 pub record IsDeal (board : Board) (pins : Pins) (deal : Deal) : Type 0 where
@@ -43,11 +43,11 @@ cell_nets pins cell = slice_index_or pins.of_cells.items cell []
 
 -- of its nets, how many only this cell of its chip drives or reads
 abbrev pub freed : Pins → List ℕ → ℕ → ℕ
-freed pins chip_of cell = total (λ net. one_if (held chip_of pins.of_cells.items (slice_index chip_of cell) net == 1)) (cell_nets pins cell)
+freed pins chip_of cell = total (λ net. one_if (pins_held chip_of pins.of_cells.items (slice_index chip_of cell) net == 1)) (cell_nets pins cell)
 
 -- of its nets, how many some cell of a chip drives or reads
 abbrev pub met : Pins → List ℕ → ℕ → ℕ → ℕ
-met pins chip_of cell chip = total (λ net. one_if (nat_lt 0 (held chip_of pins.of_cells.items chip net))) (cell_nets pins cell)
+met pins chip_of cell chip = total (λ net. one_if (nat_lt 0 (pins_held chip_of pins.of_cells.items chip net))) (cell_nets pins cell)
 
 -- a chip to which a cell may be moved: another one, with room
 pub record IsTarget (board : Board) (chip_of : List ℕ) (cell chip : ℕ) : Type 0 where

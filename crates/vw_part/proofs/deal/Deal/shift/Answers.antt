@@ -3,7 +3,7 @@ use Rattle.std.proofs.lemmas.List.{get_or-set_other, get_or_default}
 use Rattle.std.proofs.lemmas.List.Elements.{All-get_or}
 use Rattle.vw_plan.specs.Good.{IsChip}
 use Rattle.vw_part.specs.declared.load.Load.{Load}
-use Rattle.vw_part.specs.Steps.Deals.{held, cell_nets}
+use Rattle.vw_part.specs.Steps.Deals.{pins_held, cell_nets}
 use Rattle.vw_part.specs.Steps.Pins.{times_among}
 use Rattle.vw_part.proofs.Dealing.{HasCellMore, dealt_moved, loaded}
 use Rattle.vw_part.proofs.ChipLoads.{held-le, held_least}
@@ -17,7 +17,7 @@ remove-requires-clause-there c = λ net.
     let from : c.index-from.result.now ≡ get_or chips c.args.cell 0 = c.index-from.ensures ∙ get_or_default chips c.args.cell c.index-from.result.now 0 c.requires.cell in
     let was = All-get_or (IsChip c.args.board.now) chips c.args.cell 0 c.requires.cell c.requires.deal.chips in
     let load = loaded c.args.board.now pins c.args.self.now c.index-from.result.now c.index_mut.result.now c.requires.deal (omega (arith, from, was.1)) c.index_mut.ensures.value in
-    let least : times_among c.at-own.result.now net ≤ held chips pins.of_cells.items c.index-from.result.now net = subst (λ (nets : List ℕ). times_among nets net ≤ held chips pins.of_cells.items c.index-from.result.now net) (sym c.at-own.ensures) (subst (λ (chip : ℕ). times_among (cell_nets pins c.args.cell) net ≤ held chips pins.of_cells.items chip net) (sym from) (held_least chips pins.of_cells.items c.args.cell net c.requires.cell)) in
+    let least : times_among c.at-own.result.now net ≤ pins_held chips pins.of_cells.items c.index-from.result.now net = subst (λ (nets : List ℕ). times_among nets net ≤ pins_held chips pins.of_cells.items c.index-from.result.now net) (sym c.at-own.ensures) (subst (λ (chip : ℕ). times_among (cell_nets pins c.args.cell) net ≤ pins_held chips pins.of_cells.items chip net) (sym from) (held_least chips pins.of_cells.items c.args.cell net c.requires.cell)) in
     omega (arith, load.counts net, least)
 
 pub add-requires-clause-fits : goal.add-requires-clause-fits

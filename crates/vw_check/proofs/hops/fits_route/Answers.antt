@@ -4,7 +4,7 @@ use Rattle.vw_plan.specs.Walks.{has_link}
 use Rattle.vw_check.specs.HopFaults.{begins_at}
 use Rattle.vw_check.specs.Steps.Rules.{width_between}
 use Rattle.vw_check.proofs.LinkWidths.{has_link-width}
-use Rattle.vw_check.proofs.hops.goes_on.Goals as goal
+use Rattle.vw_check.proofs.hops.fits_route.Goals as goal
 
 goes : (begins link more ends : Bool) → begins ≡ true → link ≡ true → (more || ends) ≡ true → ((begins && link) && (more || ends)) ≡ true
 goes begins link more ends begin_is link_is more_is = rw (begin_is, link_is) more_is

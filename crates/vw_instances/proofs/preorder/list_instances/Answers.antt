@@ -1,7 +1,7 @@
 use Rattle.std.proofs.Common.{sym, subst}
 use Rattle.vw_instances.specs.Tables.{ArePlaced, AreCellSites}
 use Rattle.vw_instances.proofs.WalkEnds.{starts, ends_placed, ends_cells}
-use Rattle.vw_instances.proofs.preorder.walk.Goals as goal
+use Rattle.vw_instances.proofs.preorder.list_instances.Goals as goal
 
 pub loop-frame-init : goal.loop-frame-init
 loop-frame-init c = rw (c.in_ok-state.ensures.instances, c.in_ok-state.ensures.cells, c.in_ok-state.ensures.frames) (starts c.args.design.now)

@@ -1,5 +1,5 @@
 use Rattle.vw_instances.specs.Steps.Frames.{IsUnderWay, steps_left}
-use Rattle.vw_instances.proofs.preorder.walk.Given as goal
+use Rattle.vw_instances.proofs.preorder.list_instances.Given as goal
 
 -- the tables have what was listed, and the frames have the rest
 abbrev pub invariant-loop-frame : goal.invariant-loop-frame
