@@ -23,25 +23,23 @@ pub fn entries_give_numbers()
         → ArePlaced design table → (number : ℕ) (path : Path) (entry : Placed)
         → slice_get (instances design) number ≡ Some path → slice_get table number ≡ Some entry
         → (place : ℕ) (item : Item) → item_at design path place ≡ Some item → is_cell item ≡ true
-        → place_of_site (cells design) path place ≡ Some (entry.cells + weight_before design cell_one
-        (levels_below design path) path place) }
+        → place_of_site (cells design) path place ≡ Some (entry.cells
+        + weight_before design cell_one (levels_below design path) path place) }
     ensures instances { (design : Design) (table : List Placed) → IsSmall design
         → ArePlaced design table → (number : ℕ) (path : Path)
         → slice_get (instances design) number ≡ Some path
         → (place line : ℕ) (name : Word) (binds : List Bind)
         → item_at design path place ≡ Some (Sub line name binds)
-        → slice_get (instances design) (1 + (number + weight_before design placed_one
-        (levels_below design path) path place))
+        → slice_get (instances design) (1 + (number
+        + weight_before design placed_one (levels_below design path) path place))
         ≡ Some (suc (length (placings (take place (items_of (model_at design path))))) ∷ path) }
     ensures sites { (design : Design) (table : List Placed) → IsSmall design
         → ArePlaced design table → (number : ℕ) (path : Path) (entry : Placed)
         → slice_get (instances design) number ≡ Some path → slice_get table number ≡ Some entry
         → (place : ℕ) (item : Item) → item_at design path place ≡ Some item
         → place_of_site (sites design) path place ≡ Some ((entry.cells + number)
-        + (weight_before design cell_one
-        (levels_below design path) path place
-        + weight_before design placed_one
-        (levels_below design path) path place)) }
+        + (weight_before design cell_one (levels_below design path) path place
+        + weight_before design placed_one (levels_below design path) path place)) }
 {
     numbers_are_counts()
 }

@@ -66,7 +66,8 @@ impl<'a> Nets<'a> {
     ) -> Option<&'a Name>
         requires nets { AreNets self.now }
         requires marks { HasMarksOf self.now wanted.now }
-        ensures { FindsAmong self.now wanted.now instance names.now numbers.now names.now (lent result) }
+        ensures { FindsAmong self.now wanted.now instance names.now numbers.now
+            names.now (lent result) }
     {
         for (place, name) in names.iter().enumerate() {
             let number = number_at(numbers, place);
