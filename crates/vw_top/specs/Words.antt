@@ -28,8 +28,8 @@ pub data Spelled : Type 0 where
   plan : (design board : List ℕ) → Spelled
   nothing : (place : ℕ) → Spelled
 
--- the places of a command; its settings, which stand behind them in any order; and what words spell that have all its
--- places
+-- the places of a command; its settings, which stand behind them in any order; and what words spell that have this form,
+-- which is asked of no others
 pub record Form : Type 0 where
   pub places : List Place
   pub settings : List WordSetting
