@@ -45,8 +45,8 @@ row_kind n on (Any ∷ marks) = refl
 abbrev pub begins_group : Line → Bool
 begins_group line = not (is_row (kind line))
 
-abbrev pub leaves : Line → Bool
-leaves line = is_model (kind line) || is_end (kind line)
+abbrev pub ends_model : Line → Bool
+ends_model line = is_model (kind line) || is_end (kind line)
 
 abbrev pub rows_at : ℕ → Bool → List (List Mark) → List Line
 rows_at n on rows = numbered_lines n (map (row_words on) rows)
@@ -56,7 +56,7 @@ rows_begin_none n on [] = refl
 rows_begin_none n on (row ∷ rows) =
     ap₂ (λ (k : Kind) (b : Bool). not (is_row k) || b) (row_kind n on row) (rows_begin_none (n + 1) on rows)
 
-pub rows_stay : (n : ℕ) (on : Bool) (rows : List (List Mark)) → list_any leaves (rows_at n on rows) ≡ false
+pub rows_stay : (n : ℕ) (on : Bool) (rows : List (List Mark)) → list_any ends_model (rows_at n on rows) ≡ false
 rows_stay n on [] = refl
 rows_stay n on (row ∷ rows) =
     ap₂ (λ (k : Kind) (b : Bool). (is_model k || is_end k) || b) (row_kind n on row) (rows_stay (n + 1) on rows)

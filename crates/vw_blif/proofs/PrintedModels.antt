@@ -16,7 +16,7 @@ use Rattle.vw_blif.specs.Printed.{latch_words, bind_word, item_lines, port_lines
 use Rattle.vw_blif.specs.PlainDesigns.{is_plain_bind, is_plain_item, can_stand_beside, is_plain_model, line_of, are_numbered, have_numbers}
 use Rattle.vw_blif.proofs.CutLines.{cut_front}
 use Rattle.vw_blif.proofs.PrintedWords.{plain_parts}
-use Rattle.vw_blif.proofs.PrintedGroups.{numbered-append, begins_group, leaves, rows_at, rows_begin_none, rows_stay, table_back, latch_back, binds_back}
+use Rattle.vw_blif.proofs.PrintedGroups.{numbered-append, begins_group, ends_model, rows_at, rows_begin_none, rows_stay, table_back, latch_back, binds_back}
 
 -- a line that begins a part, others that don't, and lines that begin with a part
 part_cut : (begins : Line → Bool) (line : Line) (tail rest : List Line) → begins line ≡ true → list_any begins tail ≡ false → (cut_before begins rest).before ≡ []
@@ -36,14 +36,14 @@ record Adds (lines : List Line) (inputs outputs clocks : List Word) (items : Lis
   outputs_ : flat_map (ports_of output) (cut_before begins_group lines).parts ≡ outputs
   clocks_ : flat_map (ports_of clocked) (cut_before begins_group lines).parts ≡ clocks
   items_ : filter_map item_of (cut_before begins_group lines).parts ≡ items
-  stay : list_any leaves lines ≡ false
+  stay : list_any ends_model lines ≡ false
 
 no_line : Adds [] [] [] [] []
 no_line = record { before = refl; inputs_ = refl; outputs_ = refl; clocks_ = refl; items_ = refl; stay = refl }
 
 -- a group of a line and rows before others
-group_first : (line : Line) (rows rest : List Line) (inputs outputs clocks : List Word) (items : List SpelledItem) → begins_group line ≡ true → leaves line ≡ false
-    → list_any begins_group rows ≡ false → list_any leaves rows ≡ false → Adds rest inputs outputs clocks items
+group_first : (line : Line) (rows rest : List Line) (inputs outputs clocks : List Word) (items : List SpelledItem) → begins_group line ≡ true → ends_model line ≡ false
+    → list_any begins_group rows ≡ false → list_any ends_model rows ≡ false → Adds rest inputs outputs clocks items
     → Adds (line ∷ (rows ++ rest)) (ports_of input (record { head = line; tail = rows }) ++ inputs) (ports_of output (record { head = line; tail = rows }) ++ outputs)
     (ports_of clocked (record { head = line; tail = rows }) ++ clocks) (cons_option (item_of (record { head = line; tail = rows })) items)
 group_first line rows rest inputs outputs clocks items begins stays none stay adds =
@@ -55,7 +55,7 @@ group_first line rows rest inputs outputs clocks items begins stays none stay ad
       outputs_ = ap (λ (c : CutList Line). flat_map (ports_of output) c.parts) cut ∙ ap (λ (ws : List Word). ports_of output part ++ ws) adds.outputs_;
       clocks_ = ap (λ (c : CutList Line). flat_map (ports_of clocked) c.parts) cut ∙ ap (λ (ws : List Word). ports_of clocked part ++ ws) adds.clocks_;
       items_ = ap (λ (c : CutList Line). filter_map item_of c.parts) cut ∙ ap (λ (is : List SpelledItem). cons_option (item_of part) is) adds.items_;
-      stay = ap₂ (λ (a b : Bool). a || b) stays (list_any-append leaves rows rest ∙ ap₂ (λ (a b : Bool). a || b) stay adds.stay);
+      stay = ap₂ (λ (a b : Bool). a || b) stays (list_any-append ends_model rows rest ∙ ap₂ (λ (a b : Bool). a || b) stay adds.stay);
     }
 
 -- ---- items
@@ -177,10 +177,10 @@ model_cut n model =
     ∙ ap (λ (ls : List Line). model_line n model ∷ ls) (numbered-append (n + 1) (lines_between model) ((codes ".end" ∷ []) ∷ []))
 
 -- lines none of which leaves the model, in parts
-neither : (lines : List Line) → list_any leaves lines ≡ false → (list_any (λ line. is_model (kind line)) lines ≡ false) × (list_any (λ line. is_end (kind line)) lines ≡ false)
+neither : (lines : List Line) → list_any ends_model lines ≡ false → (list_any (λ line. is_model (kind line)) lines ≡ false) × (list_any (λ line. is_end (kind line)) lines ≡ false)
 neither [] stay = (refl, refl)
 neither (line ∷ lines) stay =
-    let parts = or_parts (leaves line) (list_any leaves lines) stay in
+    let parts = or_parts (ends_model line) (list_any ends_model lines) stay in
     let here = or_parts (is_model (kind line)) (is_end (kind line)) parts.0 in
     let there = neither lines parts.1 in
     (ap₂ (λ (a b : Bool). a || b) here.0 there.0, ap₂ (λ (a b : Bool). a || b) here.1 there.1)

@@ -102,26 +102,26 @@ alike Rise = refl
 alike Fall = refl
 alike Unsaid = refl
 
-abbrev same : Edged → Edged → Bool
-same one other = same_edge one.edge other.edge
+abbrev same_type : Edged → Edged → Bool
+same_type one other = same_edge one.edge other.edge
 
-unlike_none : (list : List Edged) → slice_get list 0 ≡ None → first_unlike same list ≡ None
+unlike_none : (list : List Edged) → slice_get list 0 ≡ None → first_unlike same_type list ≡ None
 unlike_none [] none = refl
 unlike_none (latch ∷ list) none = cc
 
-unlike_some : (list : List Edged) (first : Edged) → slice_get list 0 ≡ Some first → first_unlike same list ≡ option_map (λ other. record { first = first; other = other }) (find (λ other. not (same first other)) list)
+unlike_some : (list : List Edged) (first : Edged) → slice_get list 0 ≡ Some first → first_unlike same_type list ≡ option_map (λ other. record { first = first; other = other }) (find (λ other. not (same_type first other)) list)
 unlike_some [] first some = cc
 unlike_some (latch ∷ list) first some =
     let is : latch ≡ first = same_Some latch first some in
-    sym (ap (λ (b : Bool). option_map (λ (other : Edged). record { first = latch; other = other }) (cond (not b) (Some latch) (find (λ (other : Edged). not (same latch other)) list))) (alike latch.edge))
-    ∙ ap (λ (f : Edged). option_map (λ (other : Edged). record { first = f; other = other }) (find (λ (other : Edged). not (same f other)) (latch ∷ list))) is
+    sym (ap (λ (b : Bool). option_map (λ (other : Edged). record { first = latch; other = other }) (cond (not b) (Some latch) (find (λ (other : Edged). not (same_type latch other)) list))) (alike latch.edge))
+    ∙ ap (λ (f : Edged). option_map (λ (other : Edged). record { first = f; other = other }) (find (λ (other : Edged). not (same_type f other)) (latch ∷ list))) is
 
 module _ (design : Design) where
   abbrev IsText : Typed → Word → Type 0
   IsText found text = (path : Path) → slice_get (instances design) found.instance ≡ Some path → text ≡ printed (record { path = path; name = found.q.now })
 
-  by_cells : several_edges design ≡ first_unlike same (typed_of (cells design))
-  by_cells = ap (first_unlike same) (same_types design)
+  by_cells : several_edges design ≡ first_unlike same_type (typed_of (cells design))
+  by_cells = ap (first_unlike same_type) (same_types design)
 
   text_is : (latch : Edged) (found : Typed) (text : Word) → IsTyped design (Some latch) (Some found) → ((path : Path) → slice_get (instances design) found.instance ≡ Some path → text ≡ printed (record { path = path; name = found.q.now })) → text ≡ printed latch.net
   text_is latch found text typed is = is latch.net.path typed.0 ∙ ap (λ (w : Word). printed (record { path = latch.net.path; name = w })) typed.1

@@ -181,11 +181,11 @@ setting_with settle quick = record { ordered = ordered; board = board_with settl
 abbrev count : ℕ → ℕ → ℕ
 count net node = count_by (brings net node) wires
 
-abbrev needed : ℕ → ℕ → ℕ
-needed net node = if is_needed toggle (1 ∷ 2 ∷ []) net node then 1 else 0
+abbrev toggle_needs : ℕ → ℕ → ℕ
+toggle_needs net node = if is_needed toggle (1 ∷ 2 ∷ []) net node then 1 else 0
 
 -- no wire brings a net to a node that isn't there, and it needs none
-far_node : (net node : ℕ) → 3 ≤ node → count net node ≡ needed net node
+far_node : (net node : ℕ) → 3 ≤ node → count net node ≡ toggle_needs net node
 far_node net node far =
     let zero_ : eqb 0 node ≡ false = unequal 0 node (omega arith) in
     let one_ : eqb 1 node ≡ false = unequal 1 node (omega arith) in
@@ -194,14 +194,14 @@ far_node net node far =
     simp (zero_, one_, two_, host, and-false)
 
 -- a net that isn't there has no wire, and no node needs it
-far_net : (net node : ℕ) → 3 ≤ net → count net node ≡ needed net node
+far_net : (net node : ℕ) → 3 ≤ net → count net node ≡ toggle_needs net node
 far_net net node far =
     let zero_ : eqb 0 net ≡ false = unequal 0 net (omega arith) in
     let one_ : eqb 1 net ≡ false = unequal 1 net (omega arith) in
     let two_ : eqb 2 net ≡ false = unequal 2 net (omega arith) in
     simp (zero_, one_, two_, and-false)
 
-one_wire : (net node : ℕ) → count net node ≡ needed net node
+one_wire : (net node : ℕ) → count net node ≡ toggle_needs net node
 one_wire zero zero = refl
 one_wire zero (suc zero) = refl
 one_wire zero (suc (suc zero)) = refl

@@ -11,23 +11,23 @@ use Rattle.vw_slots.specs.declared.slot.Taken.{Taken}
 use Rattle.vw_slots.specs.Slots.{is_taken}
 
 -- how many of the slots pass a test
-abbrev number : (Taken → Bool) → List Taken → ℕ
-number test [] = 0
-number test (slot ∷ taken) = one_if (test slot) + number test taken
+abbrev slots_passing : (Taken → Bool) → List Taken → ℕ
+slots_passing test [] = 0
+slots_passing test (slot ∷ taken) = one_if (test slot) + slots_passing test taken
 
-number-le : (test : Taken → Bool) (taken : List Taken) → number test taken ≤ length taken
+number-le : (test : Taken → Bool) (taken : List Taken) → slots_passing test taken ≤ length taken
 number-le test [] = omega arith
 number-le test (slot ∷ taken) = omega (arith, one_if-le (test slot), number-le test taken)
 
-number-add : (one other both : Taken → Bool) → ((slot : Taken) → one_if (one slot) + one_if (other slot) ≤ one_if (both slot)) → (taken : List Taken) → number one taken + number other taken ≤ number both taken
+number-add : (one other both : Taken → Bool) → ((slot : Taken) → one_if (one slot) + one_if (other slot) ≤ one_if (both slot)) → (taken : List Taken) → slots_passing one taken + slots_passing other taken ≤ slots_passing both taken
 number-add one other both apart [] = omega arith
 number-add one other both apart (slot ∷ taken) = omega (arith, apart slot, number-add one other both apart taken)
 
-number-some : (one other : Taken → Bool) → ((slot : Taken) → one slot ≡ true → other slot ≡ true) → (taken : List Taken) → list_any one taken ≡ true → 1 ≤ number other taken
+number-some : (one other : Taken → Bool) → ((slot : Taken) → one slot ≡ true → other slot ≡ true) → (taken : List Taken) → list_any one taken ≡ true → 1 ≤ slots_passing other taken
 number-some one other follows [] some = absurd (false≢true some)
 number-some one other follows (slot ∷ taken) some =
-    let here = λ (is : one slot ≡ true). let counts : one_if (other slot) ≡ 1 = ap one_if (follows slot is) in let whole : 1 ≤ number other (slot ∷ taken) = omega arith in whole in
-    let later = λ (is : list_any one taken ≡ true). let whole : 1 ≤ number other (slot ∷ taken) = omega (arith, number-some one other follows taken is) in whole in
+    let here = λ (is : one slot ≡ true). let counts : one_if (other slot) ≡ 1 = ap one_if (follows slot is) in let whole : 1 ≤ slots_passing other (slot ∷ taken) = omega arith in whole in
+    let later = λ (is : list_any one taken ≡ true). let whole : 1 ≤ slots_passing other (slot ∷ taken) = omega (arith, number-some one other follows taken is) in whole in
     ⊎_elim here later (or_cases (one slot) (list_any one taken) some)
 
 -- whether a microcycle is one of so many, from one on
@@ -40,12 +40,12 @@ within_more from count at = grind (arith, nat_tests)
 -- pigeonhole: as many slots are taken as there are microcycles in which one is
 pub as_many_taken : (taken : List Taken) (link from count : ℕ) → ((at : ℕ) → from ≤ at → at < from + count → is_taken taken link 0 at ≡ true) → count ≤ length taken
 as_many_taken taken link from count all = omega (arith, as_many count all, number-le (λ slot. is_within from count slot.at) taken) where
-  as_many : (count : ℕ) → ((at : ℕ) → from ≤ at → at < from + count → is_taken taken link 0 at ≡ true) → count ≤ number (λ slot. is_within from count slot.at) taken
+  as_many : (count : ℕ) → ((at : ℕ) → from ≤ at → at < from + count → is_taken taken link 0 at ≡ true) → count ≤ slots_passing (λ slot. is_within from count slot.at) taken
   as_many zero all = omega arith
   as_many (suc count) all =
-      let before : count ≤ number (λ slot. is_within from count slot.at) taken = as_many count (λ at past early. all at past (omega arith)) in
-      let one : 1 ≤ number (λ slot. slot.at == from + count) taken = number-some (λ slot. (slot.link == link && slot.at == (from + count)) && slot.pin == 0) (λ slot. slot.at == from + count) (λ slot is. (and_parts (slot.link == link) (slot.at == (from + count)) (and_parts (slot.link == link && slot.at == (from + count)) (slot.pin == 0) is).0).1) taken (all (from + count) (omega arith) (omega arith)) in
-      let both : number (λ slot. is_within from count slot.at) taken + number (λ slot. slot.at == from + count) taken ≤ number (λ slot. is_within from (suc count) slot.at) taken = number-add (λ slot. is_within from count slot.at) (λ slot. slot.at == from + count) (λ slot. is_within from (suc count) slot.at) (λ slot. within_more from count slot.at) taken in
+      let before : count ≤ slots_passing (λ slot. is_within from count slot.at) taken = as_many count (λ at past early. all at past (omega arith)) in
+      let one : 1 ≤ slots_passing (λ slot. slot.at == from + count) taken = number-some (λ slot. (slot.link == link && slot.at == (from + count)) && slot.pin == 0) (λ slot. slot.at == from + count) (λ slot is. (and_parts (slot.link == link) (slot.at == (from + count)) (and_parts (slot.link == link && slot.at == (from + count)) (slot.pin == 0) is).0).1) taken (all (from + count) (omega arith) (omega arith)) in
+      let both : slots_passing (λ slot. is_within from count slot.at) taken + slots_passing (λ slot. slot.at == from + count) taken ≤ slots_passing (λ slot. is_within from (suc count) slot.at) taken = number-add (λ slot. is_within from count slot.at) (λ slot. slot.at == from + count) (λ slot. is_within from (suc count) slot.at) (λ slot. within_more from count slot.at) taken in
       omega arith
 
 -- the next pin is taken, and those below it are
