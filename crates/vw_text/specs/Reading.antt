@@ -11,7 +11,7 @@ use Rattle.vw_text.specs.WordLines.{word_lines_of}
 abbrev pub lines_left : LineReader → List Line
 lines_left r = word_lines_of (joined_lines r.number (map bare (text_lines r.rest.now)))
 
--- the first of them was read, and less of the text is left; or there was none
+-- the first of them was read, and less of the text is left; or there was none, and there is none now
 abbrev pub ReadsNext : LineReader → Option Line → LineReader → Type 0
-ReadsNext old None new = lines_left old ≡ []
+ReadsNext old None new = (lines_left old ≡ []) × (lines_left new ≡ [])
 ReadsNext old (Some line) new = (lines_left old ≡ line ∷ lines_left new) × (length new.rest.now < length old.rest.now)

@@ -1,4 +1,4 @@
-ghost use Rattle.std.specs.Prelude.{◌≡◌, ◌+◌, ◌<◌, ◌^◌, length, IfOk};
+ghost use Rattle.std.specs.Prelude.{◌≡◌, ◌+◌, ◌<◌, ◌^◌, length, IfOk, OnErr};
 ghost use Rattle.vw_text.specs.WordLines.{word_lines};
 
 use crate::bare::{bare, before_backslash};
@@ -31,12 +31,14 @@ impl<'a> LineReader<'a> {
         }
     }
 
-    /// The next logical line with words; nothing where none is left. It takes memory for its words.
+    /// The next logical line with words; nothing where none is left, and then none comes later either. It takes
+    /// memory for its words; where there is none, no line is lost.
     ///
     /// A `#` begins a comment to the end of a physical line. Then the blanks at the end are taken off (bytes 9, 11,
     /// 12, 13 and 32). A line that then ends with `\` goes on with the next one. Words are separated by blanks.
     pub fn next_line(&mut self, alloc: Global) -> Result<Option<Line>, AllocError>
-        ensures { IfOk result (λ line. ReadsNext self.old line self.new) }
+        ensures read { IfOk result (λ line. ReadsNext self.old line self.new) }
+        ensures kept { OnErr result (lines_left self.new ≡ lines_left self.old) }
     {
         if self.rest.is_empty() {
             return Ok(None);
@@ -63,9 +65,9 @@ impl<'a> LineReader<'a> {
                 number = next;
             }
         }
+        let words = words_of(alloc, &front)?;
         self.rest = rest;
         self.number = next;
-        let words = words_of(alloc, &front)?;
         if words.is_empty() {
             return Ok(None);
         }

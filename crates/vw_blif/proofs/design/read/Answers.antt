@@ -15,7 +15,7 @@ loop-reader-init c =
 
 pub returns-in_err-reader-2-clause-fault : goal.returns-in_err-reader-2-clause-fault
 returns-in_err-reader-2-clause-fault c =
-    let next = rw c.in-Some.is at c.in_ok-line.ensures in
+    let next = rw c.in-Some.is at c.in_ok-line.ensures.read in
     let kept = subst (λ (ls : List Line). IsReadSoFar (word_lines c.args.text.now) ls c.loop-reader.reader) next.0 c.loop-reader.invariant in
     let p = err_from_is_err_and c.from_residual-in_err-reader-2.result c.from_residual-in_err-reader-2.ensures.1 in
     rw (p.1, p.2) (has_fault c.args.text.now (lines_left c.next_line.new.self) c.in-Some.line c.loop-reader.reader c.in_err-reader-2.field-0.0
@@ -23,7 +23,7 @@ returns-in_err-reader-2-clause-fault c =
 
 pub make-requires-clause-few : goal.make-requires-clause-few
 make-requires-clause-few c =
-    let none = rw c.in_default.is at c.in_ok-line.ensures in
-    let kept = subst (λ (ls : List Line). IsReadSoFar (word_lines c.args.text.now) ls c.loop-reader.reader) none c.loop-reader.invariant in
+    let none = rw c.in_default.is at c.in_ok-line.ensures.read in
+    let kept = subst (λ (ls : List Line). IsReadSoFar (word_lines c.args.text.now) ls c.loop-reader.reader) none.0 c.loop-reader.invariant in
     has_few c.args.text.now c.loop-reader.reader c.of.result (omega (c.if-text-gt-TEXT_LIMIT.false, arith)) kept
     (subst (λ (models : List Model). IsRead c.loop-reader.reader models) (sym c.of.ensures) c.in_ok-models.ensures)

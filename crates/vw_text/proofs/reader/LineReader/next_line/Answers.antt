@@ -1,5 +1,5 @@
 -- The start of the loop, and a logical line without words.
-use Rattle.std.proofs.Common.{rules, ◌≡◌, ◌+◌, ◌++◌, ◌∷◌, true, eqb, length, map, sym, ◌∙◌, ap, arith}
+use Rattle.std.proofs.Common.{rules, ◌≡◌, ◌+◌, ◌++◌, ◌∷◌, true, eqb, length, map, refl, sym, ◌∙◌, ap, arith}
 use Rattle.vw_text.specs.Physical.{text_lines}
 use Rattle.vw_text.specs.Bare.{bare}
 use Rattle.vw_text.specs.Logical.{continued, joined_lines}
@@ -15,6 +15,7 @@ loop-rest-init c =
       whole = ap (λ front. word_lines_of (continued number front (joined_lines number lines))) c.new-front.ensures.items ∙ fresh number lines;
       counted = omega arith;
       shorter = omega arith;
+      kept = refl;
     }
 
 pub loop-rest-preserved : goal.loop-rest-preserved
@@ -33,4 +34,5 @@ loop-rest-preserved c =
           ∙ ap (λ lines. word_lines_of (continued c.loop-rest.number front (joined_lines next lines))) cut ∙ c.loop-rest.invariant.whole;
       counted = omega arith;
       shorter = omega arith;
+      kept = c.loop-rest.invariant.kept;
     }
