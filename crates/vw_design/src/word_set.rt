@@ -12,7 +12,7 @@ use std::hash::{BuildHasherDefault, DefaultHasher};
 use vw_outside::Name;
 
 /// A set of words that lie elsewhere. Its hasher is SipHash: whoever writes a text chooses its words, and under the map's
-/// own hasher any number of words are easily found that collide.
+/// own hasher it is easy to find many words that collide.
 #[derive(Drop)]
 pub struct WordSet<'a> {
     pub words: HashMap<&'a [u8], (), BuildHasherDefault<DefaultHasher>>,

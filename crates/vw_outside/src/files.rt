@@ -20,8 +20,9 @@ struct Opened<F: Drop> {
 }
 
 /// The regular files of the machine, by their paths. The last file that was opened stays open until another name
-/// is read or a read fails, so that one reading sees one file. A name that isn't UTF-8, or that stands for anything
-/// but a regular file, is a fault; what isn't a regular file is not opened. Contracts see the count of faults.
+/// is read or a read fails, so that one reading sees one file. A name is looked up before it is opened. One that
+/// isn't UTF-8, or that then stands for anything but a regular file, is a fault and isn't opened. Contracts see the
+/// count of faults.
 #[derive(Drop)]
 pub struct FileShelf<R: Files + Drop> {
     alloc: Global,

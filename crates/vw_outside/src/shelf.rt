@@ -11,9 +11,9 @@ pub trait Shelf {
     ghost seen: { Self → SeenShelf };
 
     /// Reads bytes of the text from a place on (counted from 0) into the front of `into`, and says how many.
-    /// It says 0 only where `into` is empty or the place is at or past the end. A read that succeeds leaves the
-    /// shelf as it was. One that fails counts a fault at this name, at no other name that is held, and leaves
-    /// what is told.
+    /// Of a text that is held, it says 0 only where `into` is empty or the place is at or past the end. A read that
+    /// succeeds leaves the shelf as it was. One that fails counts a fault at this name, at no other name that is
+    /// held, and leaves what is told.
     fn read(&mut self, name: &Name, from: u64, into: &mut [u8]) -> Result<usize, Failed>
         ensures { ReadEnds name.now from into.new (seen self.old) (seen self.new) result };
 }
