@@ -9,7 +9,7 @@ use vw_net::{Mark, Sequence};
 use vw_outside::Name;
 
 /// What a character of a row asks of its input.
-fn mark_of(byte: u8) -> Mark
+fn mark_of_byte(byte: u8) -> Mark
     ensures { result ≡ mark_of_byte byte }
 {
     match byte {
@@ -49,7 +49,7 @@ fn are_marks(word: &[u8]) -> bool
 fn marks_of_word(alloc: Global, word: &[u8]) -> Result<Vec<Mark>, AllocError>
     ensures { IfOk result (λ marks. marks.items ≡ map mark_of_byte word.now) }
 {
-    word.iter().map(|byte| mark_of(*byte)).collect(alloc)
+    word.iter().map(|byte| mark_of_byte(*byte)).collect(alloc)
 }
 
 /// Whether words are a row of a table with so many inputs.

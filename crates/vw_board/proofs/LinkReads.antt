@@ -79,7 +79,7 @@ reads_more chips lines place links line link within_ here so_far reads =
     record { rest = rw add-one (so_far.rest ∙ rest); are = rw add-one are; separate = separate_push chips links line link so_far.separate reads }
 
 -- a line at fault is the first
-pub first_at : (chips : ℕ) (lines : List Line) (place : ℕ) (links : List Link) (line : Line) (fault : BoardFault) → place < length lines → get_or lines place line ≡ line → ReadsSoFar chips lines place links → link_fault chips links line ≡ Some fault → first_link_fault chips [] lines ≡ Some fault
-first_at chips lines place links line fault within_ here so_far at_fault =
+pub first_link_fault_at : (chips : ℕ) (lines : List Line) (place : ℕ) (links : List Link) (line : Line) (fault : BoardFault) → place < length lines → get_or lines place line ≡ line → ReadsSoFar chips lines place links → link_fault chips links line ≡ Some fault → first_link_fault chips [] lines ≡ Some fault
+first_link_fault_at chips lines place links line fault within_ here so_far at_fault =
     let next : drop place lines ≡ line ∷ drop (suc place) lines = drop-cons lines place line within_ ∙ ap (λ (first : Line). first ∷ drop (suc place) lines) here in
     so_far.rest ∙ ap (first_link_fault chips links) next ∙ ap (λ (found : Option BoardFault). option_or found (first_link_fault chips (links ++ link_of line ∷ []) (drop (suc place) lines))) at_fault

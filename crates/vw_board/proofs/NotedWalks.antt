@@ -15,14 +15,14 @@ abbrev pub IsFirstPassing : (ℕ → Bool) → ℕ → Option ℕ → Type 0
 IsFirstPassing test limit None = (number : ℕ) → number < limit → test number ≡ false
 IsFirstPassing test limit (Some value) = (value < limit) × (test value ≡ true) × ((number : ℕ) → number < value → test number ≡ false)
 
-one_more : (test : ℕ → Bool) (limit : ℕ) (before : Option ℕ) → IsFirstPassing test limit before → (passes : Bool) → test limit ≡ passes → IsFirstPassing test (suc limit) (option_or before (if passes then Some limit else None))
-one_more test limit (Some value) first passes here = (omega (arith, first.0), first.1, first.2)
-one_more test limit None none true here = (omega arith, here, none)
-one_more test limit None none false here = λ number below. ⊎_elim (none number) (λ past. let same : limit ≡ number = omega arith in subst (λ (n : ℕ). test n ≡ false) same here) (cases_lt number limit)
+least_further : (test : ℕ → Bool) (limit : ℕ) (before : Option ℕ) → IsFirstPassing test limit before → (passes : Bool) → test limit ≡ passes → IsFirstPassing test (suc limit) (option_or before (if passes then Some limit else None))
+least_further test limit (Some value) first passes here = (omega (arith, first.0), first.1, first.2)
+least_further test limit None none true here = (omega arith, here, none)
+least_further test limit None none false here = λ number below. ⊎_elim (none number) (λ past. let same : limit ≡ number = omega arith in subst (λ (n : ℕ). test n ≡ false) same here) (cases_lt number limit)
 
 pub first_passing : (test : ℕ → Bool) (limit : ℕ) → IsFirstPassing test limit (first_below test limit)
 first_passing test zero = λ number below. absurd (omega arith)
-first_passing test (suc limit) = one_more test limit (first_below test limit) (first_passing test limit) (test limit) refl
+first_passing test (suc limit) = least_further test limit (first_below test limit) (first_passing test limit) (test limit) refl
 
 module _ (board : Board) (from to : ℕ) (from_node : from ≤ board.chips) (to_node : to ≤ board.chips) where
   abbrev test : ℕ → Bool

@@ -19,7 +19,7 @@ pub struct BoardHead {
 }
 
 /// Whether a line has this many words, at least one, and begins with a word.
-pub fn has_form(line: &Line, word: &[u8], count: usize) -> bool
+pub fn has_words(line: &Line, word: &[u8], count: usize) -> bool
     requires { 0 < count }
     ensures { result ≡ has_words word.now count line.now }
 {
@@ -72,7 +72,7 @@ fn header(
     let Some(line) = lines.get(place) else {
         return Err(BoardFault::BadLine(next_number(lines)));
     };
-    if !has_form(line, word, 2) {
+    if !has_words(line, word, 2) {
         return Err(BoardFault::BadLine(line.number()));
     }
     match number_within(line, 1, least, greatest) {

@@ -19,7 +19,7 @@ use Rattle.vw_design.specs.Accepted.{HasNoModelFault, IsAccepted}
 use Rattle.vw_design.specs.Flattened.{number_of_source, number_of}
 use Rattle.vw_design.proofs.ListElements.{Has, Has-left, Has-right, Has-append, Has-filter, Has-flat_map, from-flat_map, Has-map, from-map, some-place, none-find, Has-Contains}
 use Rattle.vw_design.proofs.Names.{equal_names, has_name-Has, Has-has_name, name_same}
-use Rattle.vw_design.proofs.Ways.{claim_at}
+use Rattle.vw_design.proofs.Ways.{claim_of_model}
 use Rattle.vw_design.proofs.PlacedInstances.{faultless_site}
 use Rattle.vw_design.proofs.FlatValues.{place_within, site_of_place}
 
@@ -39,11 +39,11 @@ module _ (design : Design) where
       → (source : Source) → follow_turn (follow design turns) (turn_by design path name claim) ≡ Some source → IsPossibleSource design source
   by_claim turns further path name None is source found = absurd (none-some source found)
   by_claim turns further [] name (Some port) is source found =
-      let at = claim_at design name port (model_at design []) is in
+      let at = claim_of_model design name port (model_at design []) is in
       subst (IsPossibleSource design) (same_Some (at_port name) source found) (at.0, at.1, at.2)
   by_claim turns further (place ∷ path) name (Some port) is source found = turned_up turns further path (actual_of design place path name) source found
   by_claim turns further path name (Some (driven number)) is source found =
-      let at = claim_at design name (driven number) (model_at design path) is in
+      let at = claim_of_model design name (driven number) (model_at design path) is in
       let item : item_at design path number ≡ Some at.2.0 = ap (λ (m : Option Model). slice_get (items_of m) number) at.1 ∙ at.2.1 in
       subst (IsPossibleSource design) (same_Some (at_cell path number) source found) (at.2.0, item, at.2.2)
   by_claim turns further path name (Some (bound place formal)) is source found = further (place ∷ path) formal source found

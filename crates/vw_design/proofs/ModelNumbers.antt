@@ -15,10 +15,10 @@ use Rattle.vw_design.proofs.Names.{same_name, equal_names, has_name-Has}
 use Rattle.vw_design.proofs.ListPlaces.{at_within}
 
 -- where names differ, the first model with the name of a model is that model
-name_at : (models : List Model) (k : ℕ) (model : Model) → slice_get models k ≡ Some model → Has model.name (map (λ m. m.name) models)
-name_at [] k model at = absurd (none-some model at)
-name_at (first ∷ models) zero model at = inl (ap (λ (m : Model). m.name) (same_Some first model at))
-name_at (first ∷ models) (suc k) model at = inr (name_at models k model at)
+name_listed : (models : List Model) (k : ℕ) (model : Model) → slice_get models k ≡ Some model → Has model.name (map (λ m. m.name) models)
+name_listed [] k model at = absurd (none-some model at)
+name_listed (first ∷ models) zero model at = inl (ap (λ (m : Model). m.name) (same_Some first model at))
+name_listed (first ∷ models) (suc k) model at = inr (name_listed models k model at)
 
 place_at : (models : List Model) (k : ℕ) (model : Model) → are_distinct (map (λ m. m.name) models) ≡ true → slice_get models k ≡ Some model → position_or_len (λ m. bytes_eq m.name model.name) models ≡ k
 place_at [] k model distinct at = absurd (none-some model at)
@@ -32,7 +32,7 @@ place_at (first ∷ models) (suc k) model distinct at =
         → cond (not b) (1 + position_or_len (λ (m : Model). bytes_eq m.name model.name) models) 0 ≡ suc k
     by true is fresh rest =
         let among = has_name-Has (map (λ (m : Model). m.name) models) first.name
-        (subst (λ (w : Word). Has w (map (λ (m : Model). m.name) models)) (sym (same_name first.name model.name is)) (name_at models k model at)) in
+        (subst (λ (w : Word). Has w (map (λ (m : Model). m.name) models)) (sym (same_name first.name model.name is)) (name_listed models k model at)) in
         absurd (true≢false (sym among ∙ fresh))
     by false is fresh rest = omega (arith, rest)
 

@@ -95,14 +95,14 @@ module _ (design : Design) where
       )
 
 -- so the first place of a path is its place
-first_of : (list : List Path) → ArePathsOnce list → (place : ℕ) (path : Path) → slice_get list place ≡ Some path → first_place (λ other. bytes_eq other path) list ≡ Some place
-first_of [] apart place path at = absurd (none-some path at)
-first_of (first ∷ list) apart zero path at =
+first_path_of : (list : List Path) → ArePathsOnce list → (place : ℕ) (path : Path) → slice_get list place ≡ Some path → first_place (λ other. bytes_eq other path) list ≡ Some place
+first_path_of [] apart place path at = absurd (none-some path at)
+first_path_of (first ∷ list) apart zero path at =
     ap (λ (b : Bool). cond b (Some 0) (option_map (λ (n : ℕ). suc n) (first_place (λ (other : Path). bytes_eq other path) list))) (equal_names first path (same_Some first path at))
-first_of (first ∷ list) apart (suc place) path at =
+first_path_of (first ∷ list) apart (suc place) path at =
     let fails : bytes_eq first path ≡ false = false_from_ne_true (bytes_eq first path) (λ same. apart.0 path (Has-at path list place at) (same_name first path same)) in
     ap (λ (b : Bool). cond b (Some 0) (option_map (λ (n : ℕ). suc n) (first_place (λ (other : Path). bytes_eq other path) list))) fails
-    ∙ ap (option_map (λ (n : ℕ). suc n)) (first_of list apart.1 place path at)
+    ∙ ap (option_map (λ (n : ℕ). suc n)) (first_path_of list apart.1 place path at)
 
 pub instance_once : (design : Design) (place : ℕ) (path : Path) → slice_get (instances design) place ≡ Some path → first_place (λ other. bytes_eq other path) (instances design) ≡ Some place
-instance_once design place path at = first_of (instances design) (instances_apart design) place path at
+instance_once design place path at = first_path_of (instances design) (instances_apart design) place path at

@@ -145,25 +145,25 @@ module _ (design : Design) where
   sites_apart = apart_below (65 + length design.models) []
 
 -- where no two are, the first place of an item is its place
-first_of : (list : List Site) → AreSitesOnce list → (place : ℕ) (site : Site) → slice_get list place ≡ Some site → first_place (is_site_of site.path site.number) list ≡ Some place
-first_of [] apart place site at = absurd (none-some site at)
-first_of (first ∷ list) apart zero site at =
+first_site_of : (list : List Site) → AreSitesOnce list → (place : ℕ) (site : Site) → slice_get list place ≡ Some site → first_place (is_site_of site.path site.number) list ≡ Some place
+first_site_of [] apart place site at = absurd (none-some site at)
+first_site_of (first ∷ list) apart zero site at =
     let same : first ≡ site = same_Some first site at in
     let passes : is_site_of site.path site.number first ≡ true =
     subst (λ (s : Site). is_site_of site.path site.number s ≡ true) (sym same)
     (and_from (bytes_eq site.path site.path) (eqb site.number site.number) (name_same site.path) (eq-eqb site.number site.number refl)) in
     ap (λ (b : Bool). cond b (Some 0) (option_map (λ (at : ℕ). suc at) (first_place (is_site_of site.path site.number) list))) passes
-first_of (first ∷ list) apart (suc place) site at =
+first_site_of (first ∷ list) apart (suc place) site at =
     let fails : is_site_of site.path site.number first ≡ false =
     false_from_ne_true (is_site_of site.path site.number first) (λ passes.
     let parts = and_parts (bytes_eq first.path site.path) (eqb first.number site.number) passes in
     apart.0 site (Has-at site list place at) (same_name first.path site.path parts.0) (eqb-true first.number site.number parts.1)) in
     ap (λ (b : Bool). cond b (Some 0) (option_map (λ (at : ℕ). suc at) (first_place (is_site_of site.path site.number) list))) fails
-    ∙ ap (option_map (λ (at : ℕ). suc at)) (first_of list apart.1 place site at)
+    ∙ ap (option_map (λ (at : ℕ). suc at)) (first_site_of list apart.1 place site at)
 
 -- so it is for the sites and the cells of a design
 pub site_once : (design : Design) (place : ℕ) (site : Site) → slice_get (sites design) place ≡ Some site → place_of_site (sites design) site.path site.number ≡ Some place
-site_once design place site at = first_of (sites design) (sites_apart design) place site at
+site_once design place site at = first_site_of (sites design) (sites_apart design) place site at
 
 pub cell_once : (design : Design) (place : ℕ) (site : Site) → slice_get (cells design) place ≡ Some site → place_of_site (cells design) site.path site.number ≡ Some place
-cell_once design place site at = first_of (cells design) (apart_filter (λ (s : Site). is_cell s.item) (sites design) (sites_apart design)) place site at
+cell_once design place site at = first_site_of (cells design) (apart_filter (λ (s : Site). is_cell s.item) (sites design) (sites_apart design)) place site at

@@ -25,17 +25,17 @@ record GoesAlong (design : Design) (found : ℕ → Path → Word → Option Sou
   along : (turns : ℕ) (path : Path) (name : Word) → found (suc turns) path name ≡ follow_turn (found turns) (turn design path name)
 
 -- the first claim on a net is one of its model
-pub claim_at : (design : Design) (name : Word) (claim : Claim) (model : Option Model) → first_claim design model name ≡ Some claim → (found : Model) × (model ≡ Some found) × IsClaim design found name claim
-claim_at design name claim None is = absurd (none-some claim is)
-claim_at design name claim (Some model) is = (model, refl, claim_is design model name claim (Has-at claim (claims design model name) 0 is))
+pub claim_of_model : (design : Design) (name : Word) (claim : Claim) (model : Option Model) → first_claim design model name ≡ Some claim → (found : Model) × (model ≡ Some found) × IsClaim design found name claim
+claim_of_model design name claim None is = absurd (none-some claim is)
+claim_of_model design name claim (Some model) is = (model, refl, claim_is design model name claim (Has-at claim (claims design model name) 0 is))
 
 -- what is bound to a formal leads to an output of an instance, which is no port
 pub no_port : (design : Design) → IsOneWay design → (place : ℕ) (path : Path) (name formal : Word) → first_claim design (model_at design path) name ≡ Some (bound place formal)
     → first_claim design (model_at design (place ∷ path)) formal ≡ Some port → ⊥
 no_port design one place path name formal is port_too =
-    let here = claim_at design name (bound place formal) (model_at design path) is in
+    let here = claim_of_model design name (bound place formal) (model_at design path) is in
     let stands : model_at design (place ∷ path) ≡ Some here.2.0 = ap (option_and_then (model_placed design place)) here.1 ∙ here.2.1 in
-    let there = claim_at design formal port (model_at design (place ∷ path)) port_too in
+    let there = claim_of_model design formal port (model_at design (place ∷ path)) port_too in
     let no = one.one_way place path there.0 formal there.1 (subst_outputs here.2.0 there.0 (same_Some here.2.0 there.0 (sym stands ∙ there.1)) formal here.2.2) in
     true≢false (sym there.2 ∙ no)
   where

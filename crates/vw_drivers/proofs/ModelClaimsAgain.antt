@@ -15,16 +15,16 @@ use Rattle.vw_design.specs.Paths.{Word, model_named, model_outputs}
 use Rattle.vw_design.specs.Claims.{and_behind}
 use Rattle.vw_design.specs.NetFaults.{bound_actual, claimed_by, first_again}
 use Rattle.vw_net.proofs.FirstOptions.{or_assoc, or_nothing}
-use Rattle.vw_drivers.specs.declared.claim.Again.{Again}
+use Rattle.vw_drivers.specs.declared.claim.RepeatedClaim.{RepeatedClaim}
 use Rattle.vw_drivers.specs.declared.claim.Claim.TheVariants.{Bound}
 use Rattle.vw_drivers.specs.declared.model_claims.ModelClaims.{ModelClaims}
 use Rattle.vw_drivers.specs.Firsts.{First}
 use Rattle.vw_drivers.specs.Steps.GatheredClaims.{has_claim, port_first, binds_made, item_made, with_claim, with_all, with_items, ports_only}
-use Rattle.vw_drivers.specs.Claimed.{IsAgain}
+use Rattle.vw_drivers.specs.Claimed.{IsRepeatedClaim}
 use Rattle.vw_drivers.proofs.FirstClaims.{all_firsts}
 use Rattle.vw_drivers.proofs.ClaimLookups.{claimed_names, has_first_more, has_firsts_more}
 
-abbrev pub again_of : ℕ → Word → Again
+abbrev pub again_of : ℕ → Word → RepeatedClaim
 again_of item name = record { item = item; name = name }
 
 -- the names that an item claims
@@ -73,7 +73,7 @@ all_known item more claims before knows = λ name.
     ∙ ap (λ (firsts : List First). has_claim firsts name) (sym (all_firsts item more claims))
 
 -- the first item from a number on that claims again
-again_from : Design → ℕ → List Word → List Item → Option Again
+again_from : Design → ℕ → List Word → List Item → Option RepeatedClaim
 again_from design number before [] = None
 again_from design number before (item ∷ items) =
     option_or (option_map (again_of number) (first_again before (claimed_by design item))) (again_from design (suc number) (before ++ claimed_by design item) items)
@@ -88,7 +88,7 @@ items_again design number places (item ∷ items) claims before knows =
     let known : HaveSameNames (before ++ claimed_by design item) (with_all number made claims).firsts = λ name.
     ap (λ (list : List Word). has_name (before ++ list) name) (sym names) ∙ all_known number made claims before knows name in
     items_again design (suc number) (and_behind item places) items (with_all number made claims) (before ++ claimed_by design item) known
-    ∙ ap (λ (again : Option Again). option_or again (again_from design (suc number) (before ++ claimed_by design item) items))
+    ∙ ap (λ (again : Option RepeatedClaim). option_or again (again_from design (suc number) (before ++ claimed_by design item) items))
     (all_again number made claims before knows ∙ ap (λ (list : List Word). option_or claims.again (option_map (again_of number) (first_again before list))) names)
     ∙ or_assoc claims.again (option_map (again_of number) (first_again before (claimed_by design item))) (again_from design (suc number) (before ++ claimed_by design item) items)
 
@@ -97,7 +97,7 @@ abbrev again_behind : Design → List Word → List Item → ℕ → Item → Op
 again_behind design before items k item = first_again (before ++ flat_map (claimed_by design) (take k items)) (claimed_by design item)
 
 -- it is the first one
-abbrev IsFrom : Design → ℕ → List Word → List Item → Option Again → Type 0
+abbrev IsFrom : Design → ℕ → List Word → List Item → Option RepeatedClaim → Type 0
 IsFrom design number before items None = (k : ℕ) (item : Item) → slice_get items k ≡ Some item → again_behind design before items k item ≡ None
 IsFrom design number before items (Some again) =
     (k : ℕ) × (again.item ≡ number + k)
@@ -113,7 +113,7 @@ module _ (design : Design) where
   next_behind before first items k item =
       ap (λ (list : List Word). first_again list (claimed_by design item)) (sym (append_assoc before (claimed_by design first) (flat_map (claimed_by design) (take k items))))
 
-  none_here : (number : ℕ) (before : List Word) (first : Item) (items : List Item) → first_again before (claimed_by design first) ≡ None → (again : Option Again)
+  none_here : (number : ℕ) (before : List Word) (first : Item) (items : List Item) → first_again before (claimed_by design first) ≡ None → (again : Option RepeatedClaim)
       → IsFrom design (suc number) (before ++ claimed_by design first) items again → IsFrom design number before (first ∷ items) again
   none_here number before first items none None is = none_of where
     none_of : (k : ℕ) (item : Item) → slice_get (first ∷ items) k ≡ Some item → again_behind design before (first ∷ items) k item ≡ None
@@ -144,7 +144,7 @@ ports_names : (names : List Word) → claimed_names (map port_first names) ≡ n
 ports_names [] = refl
 ports_names (name ∷ names) = ap (λ (list : List Word). name ∷ list) (ports_names names)
 
-from_first : (design : Design) (model : Model) (again : Option Again) → IsFrom design 0 (model.inputs ++ model.clocks) model.items again → IsAgain design (Some model) again
+from_first : (design : Design) (model : Model) (again : Option RepeatedClaim) → IsFrom design 0 (model.inputs ++ model.clocks) model.items again → IsRepeatedClaim design (Some model) again
 from_first design model None is = is
 from_first design model (Some again) is =
     let ports = model.inputs ++ model.clocks in
@@ -157,10 +157,10 @@ from_first design model (Some again) is =
       λ number item below at. is.3 number item (omega (arith, same, below)) at,
     )
 
-pub gathered_again : (design : Design) (model : Model) → IsAgain design (Some model) (with_items design 0 0 model.items (ports_only model)).again
+pub gathered_again : (design : Design) (model : Model) → IsRepeatedClaim design (Some model) (with_items design 0 0 model.items (ports_only model)).again
 gathered_again design model =
     let ports = model.inputs ++ model.clocks in
     let known : HaveSameNames ports (ports_only model).firsts = λ name.
     sym (has_firsts_more [] (map port_first ports) name ∙ ap (λ (names : List Word). has_name names name) (ports_names ports)) in
-    subst (IsAgain design (Some model)) (sym (items_again design 0 0 model.items (ports_only model) ports known))
+    subst (IsRepeatedClaim design (Some model)) (sym (items_again design 0 0 model.items (ports_only model) ports known))
     (from_first design model (again_from design 0 ports model.items) (from_is design 0 ports model.items))

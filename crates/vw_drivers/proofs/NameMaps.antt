@@ -38,9 +38,9 @@ put_step true false x old new put is = ap is_some put
 put_step false true x old new put is = ap is_some put ∙ is
 put_step false false x old new put is = ap is_some put ∙ is
 
-pub one_more : {X : Type 0} (names : List Word) (i : ℕ) (word : Word) → i < length names → word ≡ get_or names i word → (name : Word) (x : X) (old new : Option X)
+pub one_more_name : {X : Type 0} (names : List Word) (i : ℕ) (word : Word) → i < length names → word ≡ get_or names i word → (name : Word) (x : X) (old new : Option X)
     → new ≡ cond (bytes_eq word name) (Some x) old → is_some old ≡ has_name (take i names) name → is_some new ≡ has_name (take (i + 1) names) name
-one_more names i word within is name x old new put had =
+one_more_name names i word within is name x old new put had =
     put_step (bytes_eq word name) (has_name (take i names) name) x old new put had
     ∙ sym (list_any-append (λ (other : Word). bytes_eq other name) (take i names) (word ∷ []))
     ∙ ap (λ (w : Word). has_name (take i names ++ w ∷ []) name) is

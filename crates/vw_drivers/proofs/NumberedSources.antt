@@ -26,8 +26,8 @@ use Rattle.vw_drivers.proofs.LedClaims.{led_is}
 use Rattle.vw_drivers.proofs.PortRows.{meant_port, port_is}
 
 -- a name with a claim has a number
-has_number : (firsts : List First) (name : Word) (claim : Claim) → claim_named firsts name ≡ Some claim → (number : ℕ) × (number_named firsts name ≡ Some number)
-has_number firsts name claim is = by (number_named firsts name) refl is where
+numbered_claim : (firsts : List First) (name : Word) (claim : Claim) → claim_named firsts name ≡ Some claim → (number : ℕ) × (number_named firsts name ≡ Some number)
+numbered_claim firsts name claim is = by (number_named firsts name) refl is where
   by : (found : Option ℕ) → number_named firsts name ≡ found → option_and_then (claim_at firsts) found ≡ Some claim → (number : ℕ) × (number_named firsts name ≡ Some number)
   by None found none = absurd (none-some claim none)
   by (Some number) found some = (number, found)
@@ -41,7 +41,7 @@ module _ (design : Design) (faultless : HasNoModelFault design) (tables : Tables
       ap (λ (b : Bool). slice_get ((if b then port ∷ [] else []) ++ flat_map (λ (entry : Numbered). item_claims design name entry.number entry.before entry.item) (numbered 0 0 root.items)) 0) is in
       let kind : claim_named claims.0.firsts name ≡ Some ClaimedPort =
       meant_port root.items (claim_named claims.0.firsts name) (claims.2.firsts name ∙ ap (option_map (λ (c : NamedClaim). Some c)) first) in
-      let named = has_number claims.0.firsts name ClaimedPort kind in
+      let named = numbered_claim claims.0.firsts name ClaimedPort kind in
       (named.0, ap (λ (c : Option ModelClaims). number_named (unwrap_or (option_map (λ (f : ModelClaims). f.firsts) c) []) name) claims.1 ∙ named.1)
 
   has_numbers : (source : PathSource) → IsPossibleSource design source → is_none (source_of design (root_firsts tables) (Some source)) ≡ is_none (Some source)

@@ -9,7 +9,7 @@ use Rattle.vw_design.specs.Claims.{Claim as NamedClaim, port, driven, bound, fir
 use Rattle.vw_design.specs.NetFaults.{claimed_by, claimed_before, first_again}
 use Rattle.vw_drivers.specs.declared.claim.Claim.{Claim}
 use Rattle.vw_drivers.specs.declared.claim.Claim.TheVariants.{Port, Driven, Bound}
-use Rattle.vw_drivers.specs.declared.claim.Again.{Again}
+use Rattle.vw_drivers.specs.declared.claim.RepeatedClaim.{RepeatedClaim}
 use Rattle.vw_drivers.specs.declared.model_claims.ModelClaims.{ModelClaims}
 use Rattle.vw_drivers.specs.Firsts.{claim_named}
 
@@ -28,10 +28,10 @@ abbrev pub again_at : Design → Option Model → ℕ → Item → Option Word
 again_at design model number item = first_again (claimed_before design model number) (claimed_by design item)
 
 -- the first item that claims again, with the name; none does where there is none
-abbrev pub IsAgain : Design → Option Model → Option Again → Type 0
-IsAgain design model None =
+abbrev pub IsRepeatedClaim : Design → Option Model → Option RepeatedClaim → Type 0
+IsRepeatedClaim design model None =
     (number : ℕ) (item : Item) → slice_get (items_of model) number ≡ Some item → again_at design model number item ≡ None
-IsAgain design model (Some again) =
+IsRepeatedClaim design model (Some again) =
     ((item : Item) × (slice_get (items_of model) again.item ≡ Some item) × (again_at design model again.item item ≡ Some again.name))
     × ((number : ℕ) (item : Item) → number < again.item → slice_get (items_of model) number ≡ Some item
     → again_at design model number item ≡ None)
@@ -40,4 +40,4 @@ IsAgain design model (Some again) =
 pub record AreClaims (design : Design) (model : Option Model) (claims : ModelClaims) : Type 0 where
   pub firsts : (name : Word) → option_map (meant (items_of model)) (claim_named claims.firsts name)
       ≡ option_map (λ claim. Some claim) (first_claim design model name)
-  pub again : IsAgain design model claims.again
+  pub again : IsRepeatedClaim design model claims.again

@@ -16,12 +16,12 @@ pub enum Claim {
 
 /// A claim on a name that a port or an earlier item of the model has claimed, or the item itself before.
 #[derive(Drop)]
-pub struct Again {
+pub struct RepeatedClaim {
     pub item: u32,
     pub name: Name,
 }
 
-impl Again {
+impl RepeatedClaim {
     /// The number of the item that claims again, from 0.
     pub fn item(&self) -> u32
         ensures { result ≡ self.now.item }

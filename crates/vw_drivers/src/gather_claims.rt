@@ -7,7 +7,7 @@ ghost use Rattle.vw_drivers.specs.Outputs.{AreOutputs};
 ghost use Rattle.vw_drivers.specs.Steps.GatheredClaims.{model_outputs_at, port_first, with_firsts, binds_made, item_made, with_claim, with_all, with_items, ports_only, IsModelNumber};
 ghost use Rattle.vw_drivers.specs.Claimed.{AreClaims};
 
-use crate::claim::{Again, Claim};
+use crate::claim::{Claim, RepeatedClaim};
 use crate::firsts::Firsts;
 use crate::model_claims::ModelClaims;
 use crate::model_outputs::Outputs;
@@ -65,7 +65,7 @@ impl ModelClaims {
         let is_new = self.firsts.add(alloc, name.as_slice(), claim)?;
         if !is_new && self.again.is_none() {
             let name = name.copy(alloc)?;
-            self.again = Some(Again { item, name });
+            self.again = Some(RepeatedClaim { item, name });
         }
         Ok(())
     }

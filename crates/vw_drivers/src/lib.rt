@@ -19,7 +19,7 @@ mod reads;
 mod source;
 mod tables;
 
-pub use claim::{Again, Claim};
+pub use claim::{Claim, RepeatedClaim};
 pub use drivers::Drivers;
 pub use firsts::Firsts;
 pub use gather_claims::claims_of;

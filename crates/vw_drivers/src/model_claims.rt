@@ -2,14 +2,14 @@
 ghost use Rattle.std.specs.Prelude.{◌≡◌, ◌<◌, length, option_map, IfSome};
 ghost use Rattle.vw_drivers.specs.Firsts.{claim_at, number_named};
 
-use crate::claim::{Again, Claim};
+use crate::claim::{Claim, RepeatedClaim};
 use crate::firsts::Firsts;
 
 /// The first claim on each claimed name of a model, and the first item that claims a name again.
 #[derive(Drop)]
 pub struct ModelClaims {
     pub firsts: Firsts,
-    pub again: Option<Again>,
+    pub again: Option<RepeatedClaim>,
 }
 
 impl ModelClaims {
@@ -37,7 +37,7 @@ impl ModelClaims {
     }
 
     /// The first item that claims a name again, with the first such name; nothing where no item does.
-    pub fn again(&self) -> Option<&Again>
+    pub fn again(&self) -> Option<&RepeatedClaim>
         ensures { option_map (λ again. again.now) result ≡ self.now.again }
     {
         self.again.as_ref()

@@ -11,7 +11,7 @@ use vw_design::Design;
 use vw_outside::Name;
 
 /// A set of names that lie elsewhere. Its hasher is SipHash: whoever writes a text chooses its names, and under the map's
-/// own hasher any number of names are easily found that collide. Contracts see it as a list of its names, in some order.
+/// own hasher it is easy to find many names that collide. Contracts see it as a list of its names, in some order.
 #[derive(Drop)]
 pub struct Outputs<'a> {
     names: HashMap<&'a [u8], (), BuildHasherDefault<DefaultHasher>>,

@@ -43,7 +43,7 @@ fn claim_in(claims: &[ModelClaims], model: Option<u32>, number: u32) -> Option<C
 }
 
 /// The way from a formal, by the number and the kind of the first claim on it, and by that of its actual.
-fn way_from(number: Option<u32>, claim: Option<Claim>, actual: Option<u32>) -> Way
+fn way_by(number: Option<u32>, claim: Option<Claim>, actual: Option<u32>) -> Way
     ensures { result ≡ way_by number claim actual }
 {
     match (number, claim) {
@@ -59,7 +59,7 @@ fn bind_way(own: &ModelClaims, claims: &[ModelClaims], model: Option<u32>, bind:
     let number = number_in_firsts(claims, model, bind.formal().as_slice());
     let claim = number.and_then(|number| claim_in(claims, model, number));
     let actual = own.first(bind.actual().as_slice());
-    way_from(number, claim, actual)
+    way_by(number, claim, actual)
 }
 
 /// The ways from the formals of bindings.

@@ -70,7 +70,7 @@ fn driver_by(columns: &Columns, source: Option<Source>) -> Option<Driver>
 }
 
 /// The number of the first claim on a name of an instance.
-fn number_of(tables: &Tables, instance: u32, name: &Name) -> Option<u32>
+fn claim_number(tables: &Tables, instance: u32, name: &Name) -> Option<u32>
     ensures { result ≡ number_named (instance_firsts tables.now instance) name.now }
 {
     let entry = tables.instances().get(instance as usize)?;
@@ -187,7 +187,7 @@ impl Elaborated {
             → result ≡ driver_of self.now (driver self.now path name.now) }
     {
         let tables = &self.parts.tables;
-        let claim = number_of(tables, instance, name);
+        let claim = claim_number(tables, instance, name);
         let source = self.parts.drivers.source(tables, instance, claim);
         driver_by(&self.columns, source)
     }

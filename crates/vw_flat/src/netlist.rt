@@ -17,7 +17,7 @@ use vw_elab::Elaborated;
 use vw_net::{Cell, Flat, Sequence};
 
 /// The cells: the gates and latches of all instances in preorder.
-fn cells_of(alloc: Global, elaborated: &Elaborated) -> Result<Vec<Cell>, AllocError>
+fn netlist_cells(alloc: Global, elaborated: &Elaborated) -> Result<Vec<Cell>, AllocError>
     ensures are { IfOk result (λ made.
         AllZip (λ site cell. IsCellOf elaborated.now site.path site.item cell)
         (cells elaborated.now) made.items) }
@@ -57,7 +57,7 @@ pub fn flatten(alloc: Global, elaborated: &Elaborated) -> Result<Flat, AllocErro
 {
     elaborated.is_accepted();
     histories_agree();
-    let cells = cells_of(alloc, elaborated)?;
+    let cells = netlist_cells(alloc, elaborated)?;
     let outputs = output_numbers(alloc, elaborated)?;
     Ok(Flat::make(
         elaborated.columns(),

@@ -52,7 +52,7 @@ impl Cut {
     }
 
     /// How many nets of a vertex no other vertex of its chip has.
-    fn freed(&self, level: &Level, vertex: u32) -> u32 {
+    fn nets_freed(&self, level: &Level, vertex: u32) -> u32 {
         let own = self.chip_of.at(vertex);
         let mut freed: u32 = 0;
         for net in level.of_vertex.row(vertex) {
@@ -71,7 +71,7 @@ impl Cut {
     /// Of two chips: how many nets of a vertex are on the other one or leave its own with it, each counted for both.
     pub fn better_nets(&self, level: &Level, vertex: u32) -> u32 {
         let own = self.chip_of.at(vertex);
-        let mut better = self.freed(level, vertex);
+        let mut better = self.nets_freed(level, vertex);
         for net in level.of_vertex.row(vertex) {
             if self.count(*net, 1u32.saturating_sub(own)) > 0 {
                 better = better.saturating_add(1);
@@ -139,7 +139,7 @@ impl Cut {
     fn consider(&mut self, level: &Level, vertex: u32, loss: u32) -> bool {
         let own = self.chip_of.at(vertex);
         let is_over = self.is_over(own);
-        let freed = self.freed(level, vertex);
+        let freed = self.nets_freed(level, vertex);
         if freed == 0 && !is_over {
             return false;
         }

@@ -31,9 +31,9 @@ impl Level {
             of_cell.end_row()?;
             weights.push(1)?;
         }
-        let of_net = of_cell.turned(alloc, nets)?;
+        let of_net = of_cell.transposed(alloc, nets)?;
         let map = NumberList::below(alloc, weights.len())?;
-        merged(alloc, &of_net, &map, weights)
+        merged_level(alloc, &of_net, &map, weights)
     }
 
     /// How many vertices there are.
@@ -53,7 +53,7 @@ impl Level {
         for vertex in 0..self.vertices() {
             weights.set(map.at(vertex), self.weights.at(vertex));
         }
-        merged(alloc, &self.of_net, map, weights)
+        merged_level(alloc, &self.of_net, map, weights)
     }
 
     /// The level of which each vertex is a cluster, given the cluster of each vertex and how many there are.
@@ -67,13 +67,13 @@ impl Level {
         for vertex in 0..self.vertices() {
             weights.add(map.at(vertex), self.weights.at(vertex));
         }
-        merged(alloc, &self.of_net, map, weights)
+        merged_level(alloc, &self.of_net, map, weights)
     }
 }
 
 /// The level of these nets, with the new number of each vertex, and the new weights. A vertex whose new number has no weight
 /// is left out, and so is a net that keeps a single vertex.
-fn merged(
+fn merged_level(
     alloc: Global,
     nets: &NumberRows,
     map: &NumberList,
@@ -92,7 +92,7 @@ fn merged(
         }
         of_net.end_row_of_two()?;
     }
-    let of_vertex = of_net.turned(alloc, weights.len())?;
+    let of_vertex = of_net.transposed(alloc, weights.len())?;
     Ok(Level {
         of_net,
         of_vertex,

@@ -69,7 +69,7 @@ impl NumberRows {
     }
 
     /// For each number below a limit, the rows in which it stands.
-    pub fn turned(&self, alloc: Global, limit: u32) -> Result<NumberRows, AllocError> {
+    pub fn transposed(&self, alloc: Global, limit: u32) -> Result<NumberRows, AllocError> {
         let starts = self.sorted_starts(alloc, limit)?;
         let mut next = self.sorted_starts(alloc, limit)?;
         let mut items = NumberList::zeros(alloc, self.items.len())?;

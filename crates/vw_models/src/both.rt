@@ -7,7 +7,7 @@ ghost use Rattle.vw_models.specs.Steps.PlacedModels.{IsPlacement, placed_models}
 ghost use Rattle.vw_models.specs.Steps.Formals.{IsBothWays};
 ghost use Rattle.vw_models.specs.PlacedFaults.{named_output};
 
-use crate::formals::ports_of;
+use crate::formals::ports_of_model;
 use crate::output_of::OutputOf;
 use crate::placement::{Placement, placed_models};
 use std::alloc::{AllocError, Global};
@@ -59,7 +59,7 @@ fn first_both(
 fn both_of(alloc: Global, model: &Model) -> Result<Option<&Name>, AllocError>
     ensures { IfOk result (IsBothWays model.now) }
 {
-    let ports = ports_of(alloc, model)?;
+    let ports = ports_of_model(alloc, model)?;
     Ok(ports.first_in(model.outputs()))
 }
 

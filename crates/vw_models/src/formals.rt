@@ -9,7 +9,7 @@ use std::alloc::{AllocError, Global};
 use vw_design::{Design, Model, WordSet};
 
 /// The inputs and clocks of a model.
-pub fn ports_of(alloc: Global, model: &Model) -> Result<WordSet<'_>, AllocError>
+pub fn ports_of_model(alloc: Global, model: &Model) -> Result<WordSet<'_>, AllocError>
     ensures { IfOk result (λ ports. (name : Word)
         → has_word ports.words name ≡ is_port model.now name) }
 {
@@ -23,7 +23,7 @@ pub fn ports_of(alloc: Global, model: &Model) -> Result<WordSet<'_>, AllocError>
 fn formals_of(alloc: Global, model: &Model) -> Result<WordSet<'_>, AllocError>
     ensures { IfOk result (AreFormals model.now) }
 {
-    let mut formals = ports_of(alloc, model)?;
+    let mut formals = ports_of_model(alloc, model)?;
     formals.add_all(model.outputs())?;
     Ok(formals)
 }

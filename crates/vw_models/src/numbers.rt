@@ -1,7 +1,7 @@
 //! Numbers of models by their names.
 ghost use Rattle.std.specs.Prelude.{◌≡◌, length, map, IfOk};
 ghost use Rattle.vw_design.specs.Paths.{placings};
-ghost use Rattle.vw_models.specs.Steps.Names.{number_in, AreNumbers};
+ghost use Rattle.vw_models.specs.Steps.Names.{model_number_in, AreNumbers};
 
 use std::alloc::{AllocError, Global};
 use std::collections::HashMap;
@@ -10,7 +10,7 @@ use vw_design::{Design, Item};
 use vw_net::Sequence;
 
 /// The number of each model. The hasher is SipHash: whoever writes a text chooses its names, and under the map's own
-/// hasher any number of names are easily found that collide.
+/// hasher it is easy to find many names that collide.
 #[derive(Drop)]
 pub struct Numbers<'a> {
     pub names: HashMap<&'a [u8], u32, BuildHasherDefault<DefaultHasher>>,
@@ -31,7 +31,7 @@ impl<'a> Numbers<'a> {
 
     /// The number of the model of a name.
     pub fn number(&self, name: &[u8]) -> Option<u32>
-        ensures { result ≡ number_in self.now.names name.now }
+        ensures { result ≡ model_number_in self.now.names name.now }
     {
         self.names.get(name).copied()
     }
@@ -43,7 +43,7 @@ impl<'a> Numbers<'a> {
         items: &[Item],
     ) -> Result<Sequence<Option<u32>>, AllocError>
         ensures { IfOk result (λ targets.
-            targets ≡ map (λ placing. number_in self.now.names placing.model)
+            targets ≡ map (λ placing. model_number_in self.now.names placing.model)
             (placings items.now)) }
     {
         let mut targets = Vec::new(alloc);

@@ -10,9 +10,9 @@ use Rattle.vw_design.specs.Paths.{Word, Path, model_at, items_of}
 use Rattle.vw_design.specs.PathValue.{item_at, place_of_site}
 use Rattle.vw_design.specs.Preorder.{instances, sites}
 use Rattle.vw_design.proofs.ListPlaces.{at_within}
-use Rattle.vw_drivers.specs.declared.claim.Again.{Again}
+use Rattle.vw_drivers.specs.declared.claim.RepeatedClaim.{RepeatedClaim}
 use Rattle.vw_drivers.specs.declared.model_claims.ModelClaims.{ModelClaims}
-use Rattle.vw_drivers.specs.Claimed.{IsAgain}
+use Rattle.vw_drivers.specs.Claimed.{IsRepeatedClaim}
 use Rattle.vw_instances.specs.declared.sizes.Before.{Before}
 use Rattle.vw_instances.specs.declared.tables.Placed.{Placed}
 use Rattle.vw_instances.specs.Tables.{IsEntryAt}
@@ -45,14 +45,14 @@ module _ (design : Design) (path : Path) where
       let placed = heavier placed_one (model_weight design placed_one (64 + length design.models - length path)) (items_of (model_at design path)) n k more in
       omega (arith, cells, placed)
 
-  pub none_again : IsAgain design (model_at design path) None → AreNone design path
+  pub none_again : IsRepeatedClaim design (model_at design path) None → AreNone design path
   none_again none number position name claimed = none-some name (sym (none number claimed.item claimed.item_is) ∙ claimed.again)
 
   module _ (base : ℕ) (place_is : (place : ℕ) (item : Item) → item_at design path place ≡ Some item → place_of_site (sites design) path place ≡ Some (base + weights place)) where
-    pub first_claimed : (again : Again) → IsAgain design (model_at design path) (Some again) → IsClaimedAt design path again.item (base + weights again.item) again.name
+    pub first_claimed : (again : RepeatedClaim) → IsRepeatedClaim design (model_at design path) (Some again) → IsClaimedAt design path again.item (base + weights again.item) again.name
     first_claimed again is = record { item = is.0.0; item_is = is.0.1; again = is.0.2; place = place_is again.item is.0.0 is.0.1 }
 
-    pub first_least : (again : Again) → IsAgain design (model_at design path) (Some again) → AreFrom design path (base + weights again.item)
+    pub first_least : (again : RepeatedClaim) → IsRepeatedClaim design (model_at design path) (Some again) → AreFrom design path (base + weights again.item)
     first_least again is number position name claimed = ⊎_elim
         (λ before. absurd (none-some name (sym (is.1 number claimed.item before claimed.item_is) ∙ claimed.again)))
         (λ behind.
@@ -65,14 +65,14 @@ module _ (design : Design) (tables : Tables) (are : AreTables design tables) (in
   abbrev pub entry : (found : Placed) × (slice_get tables.instances instance ≡ Some found) × IsEntryAt design (instances design) instance path found
   entry = are.placed.each instance path listed
 
-  pub again_is : IsAgain design (model_at design path) (again_by tables instance)
+  pub again_is : IsRepeatedClaim design (model_at design path) (again_by tables instance)
   again_is =
       let found = are.claims entry.0.model entry.2.model entry.2.model_is in
       let same : again_by tables instance ≡ found.0.again =
       ap (option_and_then (λ (e : Placed). option_and_then (λ (claims : ModelClaims). claims.again) (slice_get tables.claims e.model))) entry.1
       ∙ ap (option_and_then (λ (claims : ModelClaims). claims.again)) found.1 in
-      subst (λ (again : Option Again). IsAgain design (model_at design path) again) (sym same)
-      (subst (λ (model : Option Model). IsAgain design model found.0.again) (sym entry.2.stands) found.2.again)
+      subst (λ (again : Option RepeatedClaim). IsRepeatedClaim design (model_at design path) again) (sym same)
+      (subst (λ (model : Option Model). IsRepeatedClaim design model found.0.again) (sym entry.2.stands) found.2.again)
 
   pub position_is : (place : ℕ) (item : Item) → item_at design path place ≡ Some item → position_by tables instance place ≡ Some (entry.0.cells + instance + weights design path place)
   position_is place item at =

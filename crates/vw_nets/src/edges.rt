@@ -5,7 +5,7 @@ ghost use Rattle.vw_design.specs.NetFaults.{several_edges};
 ghost use Rattle.vw_design.specs.Paths.{Path};
 ghost use Rattle.vw_design.specs.PathValue.{item_at};
 ghost use Rattle.vw_design.specs.Preorder.{instances};
-ghost use Rattle.vw_nets.specs.Steps.Edges.{differs, IsTyped, other_edge, first_other};
+ghost use Rattle.vw_nets.specs.Steps.Edges.{edge_differs, IsTyped, other_edge, first_other};
 ghost use Rattle.vw_nets.specs.Nets.{AreNets, latches_pair};
 
 use crate::nets::{Nets, Pair};
@@ -32,7 +32,7 @@ impl<'a> Nets<'a> {
         let Some(first) = self.first_typed(Edge::Unsaid) else {
             return Ok(None);
         };
-        // From the start again: the latches before the first one write no type, and it differs from itself in none.
+        // From the start again: the latches before the first one write no type, and it edge_differs from itself in none.
         let Some(other) = self.first_typed(first.edge) else {
             return Ok(None);
         };
@@ -81,7 +81,7 @@ impl<'a> Nets<'a> {
 
 /// Whether a latch writes a type other than this one.
 fn is_other_edge(edge: Edge, written: Edge) -> bool
-    ensures { result ≡ differs edge written }
+    ensures { result ≡ edge_differs edge written }
 {
     match written {
         Edge::Rise => !matches!(edge, Edge::Rise),

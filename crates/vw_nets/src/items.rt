@@ -20,7 +20,7 @@ impl<'a> Nets<'a> {
     }
 
     /// The numbers of the first claims on what the item of a cell reads.
-    pub(crate) fn numbers_of(&self, cell: CellSite) -> Option<&'a [Option<u32>]>
+    pub(crate) fn numbers_by(&self, cell: CellSite) -> Option<&'a [Option<u32>]>
         ensures { option_map (λ numbers. numbers.now) result ≡ numbers_by self.now.tables.now cell }
     {
         let entry = self.tables.instances().get(cell.instance as usize)?;
@@ -31,14 +31,14 @@ impl<'a> Nets<'a> {
 }
 
 /// The number at a place.
-pub(crate) fn number_at(numbers: &[Option<u32>], place: usize) -> Option<u32>
+pub(crate) fn number_in_row(numbers: &[Option<u32>], place: usize) -> Option<u32>
     ensures { result ≡ option_and_then (λ number. number) (slice_get numbers.now place) }
 {
     numbers.get(place).copied().flatten()
 }
 
 /// The control of an item.
-pub(crate) fn control_of(item: &Item) -> Option<&Name>
+pub(crate) fn written_control(item: &Item) -> Option<&Name>
     ensures { option_to_list (lent result) ≡ controls_of item.now }
 {
     match item {

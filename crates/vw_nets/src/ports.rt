@@ -10,7 +10,7 @@ ghost use Rattle.vw_drivers.specs.Tables.{root_firsts};
 ghost use Rattle.vw_nets.specs.Nets.{AreNets};
 ghost use Rattle.vw_nets.specs.Steps.Ports.{port_number, item_ports, has_number, root_ports};
 
-use crate::items::{control_of, number_at};
+use crate::items::{number_in_row, written_control};
 use crate::nets::Nets;
 use std::alloc::{AllocError, Global};
 use vw_design::Model;
@@ -45,11 +45,11 @@ impl<'a> Nets<'a> {
             ≡ map (λ (number : ℕ). Some number) (option_to_list result) }
     {
         let item = self.item_found(cell)?;
-        let numbers = self.numbers_of(cell)?;
-        match control_of(item) {
+        let numbers = self.numbers_by(cell)?;
+        match written_control(item) {
             Some(_) => port_of(
                 self.drivers
-                    .source(self.tables, cell.instance, number_at(numbers, 1)),
+                    .source(self.tables, cell.instance, number_in_row(numbers, 1)),
             ),
             None => None,
         }

@@ -12,7 +12,7 @@ ghost use Rattle.vw_drivers.specs.Tables.{instance_firsts};
 ghost use Rattle.vw_nets.specs.Nets.{AreNets, printed_net};
 ghost use Rattle.vw_nets.specs.Steps.Wanted.{wants, FindsAmong, HasMarksOf, wanted_names, wanted_among, wanted_read, first_wanted};
 
-use crate::items::{control_of, number_at};
+use crate::items::{number_in_row, written_control};
 use crate::nets::Nets;
 use crate::print::print_net;
 use crate::wanted::Wanted;
@@ -70,7 +70,7 @@ impl<'a> Nets<'a> {
             names.now (lent result) }
     {
         for (place, name) in names.iter().enumerate() {
-            let number = number_at(numbers, place);
+            let number = number_in_row(numbers, place);
             if self.is_wanted(instance, number, wanted) {
                 return Some(name);
             }
@@ -93,7 +93,7 @@ impl<'a> Nets<'a> {
     {
         match item {
             Item::Names { ins, .. } => self.first_among(instance, ins.as_slice(), numbers, wanted),
-            Item::Latch { d, .. } => self.only(instance, d, number_at(numbers, 0), wanted),
+            Item::Latch { d, .. } => self.only(instance, d, number_in_row(numbers, 0), wanted),
             Item::Sub { .. } => None,
         }
     }
@@ -111,8 +111,8 @@ impl<'a> Nets<'a> {
         ensures { FindsAmong self.now wanted.now instance (reads_of item.now) numbers.now
             (controls_of item.now) (lent result) }
     {
-        match control_of(item) {
-            Some(control) => self.only(instance, control, number_at(numbers, 1), wanted),
+        match written_control(item) {
+            Some(control) => self.only(instance, control, number_in_row(numbers, 1), wanted),
             None => None,
         }
     }
@@ -151,7 +151,7 @@ impl<'a> Nets<'a> {
             ≡ wanted_among self.now.design.now wanted.now path (wanted_names wanted.now item) }
     {
         let item = self.item_found(cell)?;
-        let numbers = self.numbers_of(cell)?;
+        let numbers = self.numbers_by(cell)?;
         self.read_found(cell.instance, item, numbers, wanted)
     }
 

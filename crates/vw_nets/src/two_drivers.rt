@@ -9,7 +9,7 @@ ghost use Rattle.vw_nets.specs.Steps.Seconds.{again_by, position_by, is_earlier,
 use crate::nets::Nets;
 use crate::print::print_net;
 use std::alloc::{AllocError, Global};
-use vw_drivers::Again;
+use vw_drivers::RepeatedClaim;
 use vw_instances::entries_give_numbers;
 use vw_outside::Name;
 
@@ -70,7 +70,7 @@ impl<'a> Nets<'a> {
     }
 
     /// The first item of the model of an instance that claims a name again.
-    fn again_in(&self, instance: u32) -> Option<&'a Again>
+    fn again_in(&self, instance: u32) -> Option<&'a RepeatedClaim>
         ensures { option_map (λ again. again.now) result ≡ again_by self.now.tables.now instance }
     {
         let entry = self.tables.instances().get(instance as usize)?;

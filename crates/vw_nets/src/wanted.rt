@@ -22,14 +22,14 @@ impl<'a> Wanted<'a> {
     {
         match self {
             Wanted::Undriven => source.is_none(),
-            Wanted::Gated => is_cell(source),
+            Wanted::Gated => is_cell_number(source),
             Wanted::ClockPort(marks) => is_marked(marks, source),
         }
     }
 }
 
 /// Whether a driver is a gate or a latch.
-fn is_cell(source: Option<Source>) -> bool
+fn is_cell_number(source: Option<Source>) -> bool
     ensures { result ≡ is_cell_number source }
 {
     matches!(source, Some(Source::Cell(_)))

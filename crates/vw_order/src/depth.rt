@@ -59,7 +59,7 @@ impl Depth {
     {
         for place in self.cursors[number as usize]..digraph.places(number) {
             if let Some(read) = digraph.read(number, place) {
-                if !self.is_done(read) {
+                if !self.is_finished(read) {
                     return Some(Ahead {
                         place,
                         number: read,
@@ -71,7 +71,7 @@ impl Depth {
     }
 
     /// Whether a number is done.
-    fn is_done(&self, number: u32) -> bool
+    fn is_finished(&self, number: u32) -> bool
         requires { number < vec_len self.now.marks }
         ensures { result
             ≡ is_done_mark (slice_index_or self.now.marks.items number Progress.Fresh) }
@@ -80,7 +80,7 @@ impl Depth {
     }
 
     /// Whether a number is open.
-    pub fn is_open(&self, number: u32) -> bool
+    pub fn is_on_stack(&self, number: u32) -> bool
         requires { number < vec_len self.now.marks }
         ensures { result
             ≡ is_open_mark (slice_index_or self.now.marks.items number Progress.Fresh) }

@@ -34,7 +34,7 @@ fn go_on<D: Digraph>(
             depth.finish(number)?;
             continue;
         };
-        if depth.is_open(ahead.number) {
+        if depth.is_on_stack(ahead.number) {
             let circle = round(alloc, depth.stack.as_slice(), number, ahead.number)?;
             return Ok(Some(circle));
         }

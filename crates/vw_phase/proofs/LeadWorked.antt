@@ -30,8 +30,8 @@ done_other tasks count sends place within differs done =
     ⊎_elim (λ before. before) (λ here. let its = is_task-true sends place (task_at tasks count) here in absurd (differs its.0 its.1)) (or_cases (is_done tasks count sends place) (is_task sends place (task_at tasks count)) (sym (is_done-more tasks count sends place within) ∙ done))
 
 -- a gate of the order drives its net
-pub gate_at : (ordered : Ordered) (place : ℕ) → place < length ordered.order → is_gate (driving_cell ordered.flat (ordered.flat.inputs + slice_index ordered.order place)) ≡ true
-gate_at ordered place within =
+pub gate_in_order : (ordered : Ordered) (place : ℕ) → place < length ordered.order → is_gate (driving_cell ordered.flat (ordered.flat.inputs + slice_index ordered.order place)) ≡ true
+gate_in_order ordered place within =
     let number = slice_index ordered.order place in
     let no_input : nat_lt (ordered.flat.inputs + number) ordered.flat.inputs ≡ false = le-ltb _ _ (omega arith) in
     let its_number : (ordered.flat.inputs + number) - ordered.flat.inputs ≡ number = omega arith in
@@ -99,7 +99,7 @@ module _ (ordered : Ordered) (board : Board) (chip_of : List ℕ) (routes : List
       long = way.fit.long;
       long_more = ap (λ hops. length hops.items) has.hops ∙ way.fit.long;
       leads_same = λ net home. other_lead net (λ same.
-          let found = home (ap (λ (n : ℕ). is_gate (driving_cell ordered.flat n)) same ∙ gate_at ordered own own_within) in
+          let found = home (ap (λ (n : ℕ). is_gate (driving_cell ordered.flat n)) same ∙ gate_in_order ordered own own_within) in
           let places : found.0 ≡ own = one_place ordered found.0 own found.1 own_within (let numbers : slice_index ordered.order found.0 ≡ slice_index ordered.order own = omega (arith, found.2, same) in numbers) in
           true≢false (sym (ap (is_done tasks count false) (sym places) ∙ found.3) ∙ own_not_done));
       hops_same = λ number done. ap (λ hops. slice_index_or hops.items number []) has.hops;
@@ -147,7 +147,7 @@ module _ (ordered : Ordered) (board : Board) (chip_of : List ℕ) (routes : List
       none = λ number not. ap (λ hops. slice_index_or hops.items number []) has.hops ∙ way.none number (not_done_before tasks count true number within not);
       sent = λ number route is done. off number route is (no_sending number done) (way.sent number route is (no_sending number done));
       worked = worked_at;
-      zero = λ net no. other_lead net (λ same. true≢false (sym (ap (λ (n : ℕ). is_gate (driving_cell ordered.flat n)) same ∙ gate_at ordered own own_within) ∙ no)) ∙ way.zero net no;
+      zero = λ net no. other_lead net (λ same. true≢false (sym (ap (λ (n : ℕ). is_gate (driving_cell ordered.flat n)) same ∙ gate_in_order ordered own own_within) ∙ no)) ∙ way.zero net no;
       last = rw (has.last, has.hops) way.last;
       size = rw (has.table, has.hops) way.size;
       slots = rw (has.table, has.hops) way.slots;

@@ -27,10 +27,10 @@ ends_low board place default within =
     (omega (arith, ends.0, board.few_chips), omega (arith, ends.1, board.few_chips))
 
 -- the link before the place
-pub one_more : (links : List Link) (left : ℕ) (numbers : List ℕ) (default : Link) (at value : ℕ) → 0 < left → left ≤ length links
+pub one_more_link : (links : List Link) (left : ℕ) (numbers : List ℕ) (default : Link) (at value : ℕ) → 0 < left → left ≤ length links
     → (get_or links (left - 1) default).from < 33 → (get_or links (left - 1) default).to < 33 → at ≡ (get_or links (left - 1) default).from * 33 + (get_or links (left - 1) default).to
     → value ≡ left - 1 → HasFrom links left numbers → HasFrom links (left - 1) (set numbers at value)
-one_more links left numbers default at value some within from_low to_low is_at is_value has = record {
+one_more_link links left numbers default at value some within from_low to_low is_at is_value has = record {
   long = length-set numbers at value ∙ has.long;
   there = λ from to low is.
       let place = left - 1 in

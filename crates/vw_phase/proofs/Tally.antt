@@ -69,11 +69,11 @@ module _ (board : Board) where
   in_more : (taken : List Taken) (hop other : Hop) → is_in (taken ++ taken_by board other ∷ []) hop ≡ (is_in taken hop || takes_slot other hop)
   in_more taken hop other = list_any-append (λ slot. (eqb slot.link (hop_link board hop) && eqb slot.at hop.at) && eqb slot.pin hop.pin) taken (taken_by board other ∷ []) ∙ ap (λ (bit : Bool). is_in taken hop || bit) (or-false (takes_slot other hop))
 
-  one_more : (before own : Bool) → (own ≡ true → before ≡ false) → one_if before + one_if own ≡ one_if (before || own)
-  one_more true true apart = absurd (true≢false (apart refl))
-  one_more true false apart = refl
-  one_more false true apart = refl
-  one_more false false apart = refl
+  one_more_bit : (before own : Bool) → (own ≡ true → before ≡ false) → one_if before + one_if own ≡ one_if (before || own)
+  one_more_bit true true apart = absurd (true≢false (apart refl))
+  one_more_bit true false apart = refl
+  one_more_bit false true apart = refl
+  one_more_bit false false apart = refl
 
   -- one more hop is one more taken slot
   tally_one : (count : Hop → ℕ) (taken : List Taken) (other : Hop) → has_link board.links other.from other.to ≡ true → (is_in taken other ≡ true → ⊥) → ((hop : Hop) → count hop ≡ one_if (is_in taken hop)) → (hop : Hop) → count hop + one_if (share_pin hop other) ≡ one_if (is_in (taken ++ taken_by board other ∷ []) hop)
@@ -84,7 +84,7 @@ module _ (board : Board) where
       let same : is_in taken other ≡ is_in taken hop = ap₂ (λ (place at : ℕ). is_taken taken place other.pin at) (eqb-true (hop_link board other) (hop_link board hop) slot.0) (eqb-true other.at hop.at slot.1) ∙ ap (λ (pin : ℕ). is_taken taken (hop_link board hop) pin hop.at) (eqb-true other.pin hop.pin parts.1) in
       let not_before = λ (before : is_in taken hop ≡ true). free (same ∙ before) in
       let whole : is_in taken hop ≡ false = ⊎_elim (λ before. absurd (not_before before)) (λ none. none) (cases_Bool (is_in taken hop)) in whole in
-      ap₂ (λ (a : ℕ) (bit : Bool). a + one_if bit) (tally hop) (shares hop other there) ∙ one_more (is_in taken hop) (takes_slot other hop) apart ∙ ap one_if (sym (in_more taken hop other))
+      ap₂ (λ (a : ℕ) (bit : Bool). a + one_if bit) (tally hop) (shares hop other there) ∙ one_more_bit (is_in taken hop) (takes_slot other hop) apart ∙ ap one_if (sym (in_more taken hop other))
 
   pub tally_sent : (count : Hop → ℕ) (taken : List Taken) (ready from : ℕ) (further : List ℕ) (hops : List Hop) → AreLinked board.links from further → AreSent board taken ready (steps_of (from ∷ further)) hops → ((hop : Hop) → count hop ≡ one_if (is_in taken hop)) → (hop : Hop) → count hop + uses hop hops ≡ one_if (is_in (taken ++ map (taken_by board) hops) hop)
   tally_sent count taken ready from [] [] linked sent tally hop =

@@ -1,4 +1,4 @@
-//! The chips of a placement, numbered anew.
+//! The chips of a placement, numbered_anew anew.
 ghost use Rattle.std.specs.Prelude.{◌≡◌, ◌≤◌, ◌+◌, ℕ, length, map, IfOk, IfErr};
 ghost use Rattle.std.specs.List.{All};
 ghost use Rattle.vw_plan.specs.Good.{IsChip, NoExchangeHelps, NoMoveHelps, cells_on};
@@ -52,7 +52,7 @@ fn best_numbers(
 }
 
 /// The placement with each chip's number by a list of nodes.
-fn numbered(alloc: Global, at: &[u32], chip_of: &[u32]) -> Result<Sequence<u32>, AllocError>
+fn numbered_anew(alloc: Global, at: &[u32], chip_of: &[u32]) -> Result<Sequence<u32>, AllocError>
     requires { All (λ chip. chip + 1 ≤ length at.now) chip_of.now }
     ensures { IfOk result (λ new. new ≡ map (moved at.now) chip_of.now) }
 {
@@ -82,7 +82,7 @@ fn placed(
     let needs = needed(alloc, ordered, chip_of)?;
     let table = traffic(alloc, ordered.flat(), chip_of, needs.as_slice())?;
     let at = best_numbers(alloc, board, distances, &table)?;
-    numbered(alloc, &at, chip_of)
+    numbered_anew(alloc, &at, chip_of)
 }
 
 /// Numbers the chips of a placement anew, so that no exchange of what is on two chips shortens the way of the needed

@@ -147,8 +147,8 @@ hop_count-nil = refl
 -- ---- the states of a plan that is being read
 
 -- the wires that follow, by what stands in the state
-pub moved : (part other : Option UnfinishedWire) → part ≡ other → (left : ℕ) (done all : List Wire) (lines : List (List ℕ)) → FollowsPart part left done all lines → FollowsPart other left done all lines
-moved part_ other same left done all lines follows = subst (λ (p : Option UnfinishedWire). FollowsPart p left done all lines) same follows
+pub same_part : (part other : Option UnfinishedWire) → part ≡ other → (left : ℕ) (done all : List Wire) (lines : List (List ℕ)) → FollowsPart part left done all lines → FollowsPart other left done all lines
+same_part part_ other same left done all lines follows = subst (λ (p : Option UnfinishedWire). FollowsPart p left done all lines) same follows
 
 module _ (state : BodyState) (fits : Fits state) (part : UnfinishedWire) (is : state.part ≡ Some part) where
   abbrev with_part : UnfinishedWire → BodyState
@@ -158,7 +158,7 @@ module _ (state : BodyState) (fits : Fits state) (part : UnfinishedWire) (is : s
   part_fits = subst FitsPart is fits.part
 
   pub refuses_hop : (line : List ℕ) → 1 ≤ part.left → IsNoHopLine line → RefusesLine state line
-  refuses_hop line some none content more in_range is_left = refused_hop part state.left state.wires content.wires line more some in_range.wires none (moved state.part (Some part) is state.left state.wires content.wires (line ∷ more) is_left.wires)
+  refuses_hop line some none content more in_range is_left = refused_hop part state.left state.wires content.wires line more some in_range.wires none (same_part state.part (Some part) is state.left state.wires content.wires (line ∷ more) is_left.wires)
 
   pub takes_hop : (line : List ℕ) (hop : Hop) → 1 ≤ part.left → IsHopLine line hop → TakesPlanLine state line (with_part (part_with_hop part hop))
   takes_hop line hop some is_hop = record { fits = new_fits; stays = stays; makes = makes } where
@@ -177,10 +177,10 @@ module _ (state : BodyState) (fits : Fits state) (part : UnfinishedWire) (is : s
     }
 
     stays : (content : Content) (more : List (List ℕ)) → IsInRange content → IsRestOfPlan state content (line ∷ more) → IsRestOfPlan (with_part (part_with_hop part hop)) content more
-    stays content more in_range is_left = record { chip_of = is_left.chip_of; period = is_left.period; wires = follows_hop part state.left state.wires content.wires line more hop is_hop some in_range.wires (moved state.part (Some part) old state.left state.wires content.wires (line ∷ more) is_left.wires) }
+    stays content more in_range is_left = record { chip_of = is_left.chip_of; period = is_left.period; wires = follows_hop part state.left state.wires content.wires line more hop is_hop some in_range.wires (same_part state.part (Some part) old state.left state.wires content.wires (line ∷ more) is_left.wires) }
 
     makes : (content : Content) (more : List (List ℕ)) → IsRestOfPlan (with_part (part_with_hop part hop)) content more → IsRestOfPlan state content (line ∷ more)
-    makes content more is_left = record { chip_of = is_left.chip_of; period = is_left.period; wires = moved (Some part) state.part (sym old) state.left state.wires content.wires (line ∷ more) (follows_hop_back part state.left state.wires content.wires line more hop is_hop some is_left.wires) }
+    makes content more is_left = record { chip_of = is_left.chip_of; period = is_left.period; wires = same_part (Some part) state.part (sym old) state.left state.wires content.wires (line ∷ more) (follows_hop_back part state.left state.wires content.wires line more hop is_hop some is_left.wires) }
 
   -- a wire that has all its hops, among the others
   abbrev done : BodyState
@@ -206,10 +206,10 @@ module _ (state : BodyState) (fits : Fits state) (part : UnfinishedWire) (is : s
     }
 
     stays : (content : Content) (more : List (List ℕ)) → IsRestOfPlan state content more → IsRestOfPlan done content more
-    stays content more is_left = record { chip_of = is_left.chip_of; period = is_left.period; wires = closed_wires part full state.left state.wires content.wires more (moved state.part (Some part) old state.left state.wires content.wires more is_left.wires) }
+    stays content more is_left = record { chip_of = is_left.chip_of; period = is_left.period; wires = closed_wires part full state.left state.wires content.wires more (same_part state.part (Some part) old state.left state.wires content.wires more is_left.wires) }
 
     makes : (content : Content) (more : List (List ℕ)) → IsRestOfPlan done content more → IsRestOfPlan state content more
-    makes content more is_left = record { chip_of = is_left.chip_of; period = is_left.period; wires = moved (Some part) state.part (sym old) state.left state.wires content.wires more (opened_wires part full state.left state.wires content.wires more is_left.wires) }
+    makes content more is_left = record { chip_of = is_left.chip_of; period = is_left.period; wires = same_part (Some part) state.part (sym old) state.left state.wires content.wires more (opened_wires part full state.left state.wires content.wires more is_left.wires) }
 
 module _ (state : BodyState) (fits : Fits state) (is : state.part ≡ None) where
   abbrev with_wire : UnfinishedWire → BodyState
@@ -219,7 +219,7 @@ module _ (state : BodyState) (fits : Fits state) (is : state.part ≡ None) wher
   all_hops = let hops : hop_count state.wires + (0 + (state.room + 1)) ≡ 2 ^ 30 = subst (λ (p : Option UnfinishedWire). hop_count state.wires + (part_hops p + (state.room + 1)) ≡ 2 ^ 30) is fits.hops in omega arith
 
   pub refuses_wire : (line : List ℕ) → 1 ≤ state.left → IsNoWireHeadLine state.room line → RefusesLine state line
-  refuses_wire line some none content more in_range is_left = refused_wire state.left state.wires content.wires line more state.room some all_hops in_range.wires in_range.few_hops none (moved state.part None is state.left state.wires content.wires (line ∷ more) is_left.wires)
+  refuses_wire line some none content more in_range is_left = refused_wire state.left state.wires content.wires line more state.room some all_hops in_range.wires in_range.few_hops none (same_part state.part None is state.left state.wires content.wires (line ∷ more) is_left.wires)
 
   pub takes_wire : (line : List ℕ) (net to count : ℕ) → 1 ≤ state.left → line ≡ number_line (codes "wire") (net ∷ to ∷ count ∷ []) → net < 2 ^ 32 → to < 2 ^ 32 → count ≤ state.room → TakesPlanLine state line (with_wire (record { net = net; to = to; hops = []; left = count }))
   takes_wire line net to count some is_line net_fits to_fits few = record { fits = new_fits; stays = stays; makes = makes } where
@@ -241,10 +241,10 @@ module _ (state : BodyState) (fits : Fits state) (is : state.part ≡ None) wher
     small = let all : hop_count state.wires + (state.room + 1) ≡ 2 ^ 30 = all_hops in omega arith
 
     stays : (content : Content) (more : List (List ℕ)) → IsInRange content → IsRestOfPlan state content (line ∷ more) → IsRestOfPlan (with_wire (record { net = net; to = to; hops = []; left = count })) content more
-    stays content more in_range is_left = record { chip_of = is_left.chip_of; period = is_left.period; wires = follows_wire state.left state.wires content.wires line more net to count is_line some net_fits to_fits small in_range.wires in_range.few_hops (moved state.part None old state.left state.wires content.wires (line ∷ more) is_left.wires) }
+    stays content more in_range is_left = record { chip_of = is_left.chip_of; period = is_left.period; wires = follows_wire state.left state.wires content.wires line more net to count is_line some net_fits to_fits small in_range.wires in_range.few_hops (same_part state.part None old state.left state.wires content.wires (line ∷ more) is_left.wires) }
 
     makes : (content : Content) (more : List (List ℕ)) → IsRestOfPlan (with_wire (record { net = net; to = to; hops = []; left = count })) content more → IsRestOfPlan state content (line ∷ more)
-    makes content more is_left = record { chip_of = is_left.chip_of; period = is_left.period; wires = moved None state.part (sym old) state.left state.wires content.wires (line ∷ more) (follows_wire_back state.left state.wires content.wires line more net to count is_line some net_fits to_fits small is_left.wires) }
+    makes content more is_left = record { chip_of = is_left.chip_of; period = is_left.period; wires = same_part None state.part (sym old) state.left state.wires content.wires (line ∷ more) (follows_wire_back state.left state.wires content.wires line more net to count is_line some net_fits to_fits small is_left.wires) }
 
 -- a wire of its parts
 pub wire_of_parts : (wire : Wire) (net to : ℕ) (hops : List Hop) → wire.net ≡ net → wire.to ≡ to → wire.hops ≡ hops → wire ≡ record { net = net; to = to; hops = hops }

@@ -13,7 +13,7 @@ use Rattle.vw_plantext.specs.Steps.Cuts.{IsOneLine, IsLineCut}
 use Rattle.vw_plantext.specs.Steps.Bodies.{UnfinishedWire, BodyState, FollowsWires, IsRestOfPlan, part_hops, part_count, is_complete, is_complete_but, RefusesLine}
 use Rattle.vw_plantext.specs.Steps.Starts.{IsReadTo, IsFaultOfText}
 use Rattle.vw_plantext.specs.Steps.Finished.{content_read, EndsPlan, EndsBadly, IsSpelled}
-use Rattle.vw_plantext.proofs.HopAndWireLines.{moved}
+use Rattle.vw_plantext.proofs.HopAndWireLines.{same_part}
 use Rattle.vw_plantext.proofs.Faults.{first_bad}
 use Rattle.vw_plantext.proofs.ReadSoFar.{whole_more, fault_line}
 
@@ -38,10 +38,10 @@ module _ (text : List ℕ) (state : BodyState) (rest : List ℕ) (number : ℕ) 
   are = complete_parts state.part state.left complete
 
   end_left : (content : Content) (more : List (List ℕ)) → IsRestOfPlan state content more → more ≡ codes "end" ∷ []
-  end_left content more is_left = only_end state.left state.wires content.wires more are.all (moved state.part None are.none state.left state.wires content.wires more is_left.wires)
+  end_left content more is_left = only_end state.left state.wires content.wires more are.all (same_part state.part None are.none state.left state.wires content.wires more is_left.wires)
 
   read_is_left : IsRestOfPlan state (content_read state) (codes "end" ∷ [])
-  read_is_left = record { chip_of = refl; period = refl; wires = moved None state.part (sym are.none) state.left state.wires state.wires (codes "end" ∷ []) (record { rest = []; count = sym are.all; are = sym (append-nil state.wires); lines_are = refl }) }
+  read_is_left = record { chip_of = refl; period = refl; wires = same_part None state.part (sym are.none) state.left state.wires state.wires (codes "end" ∷ []) (record { rest = []; count = sym are.all; are = sym (append-nil state.wires); lines_are = refl }) }
 
   all_lines : to.lines ++ codes "end" ∷ [] ≡ plan_lines (content_read state)
   all_lines = to.read.makes (content_read state) (codes "end" ∷ []) read_is_left

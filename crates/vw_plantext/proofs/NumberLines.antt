@@ -49,10 +49,10 @@ record AreDecimals (words : List (List ℕ)) (numbers : List ℕ) : Type 0 where
   are : words ≡ map decimal numbers
   small : AreSmall numbers
 
-one_more : (word : List ℕ) (words : List (List ℕ)) (first : Option ℕ) (rest : Option (List ℕ)) (numbers : List ℕ) → spelled_number word ≡ first → ((more : List ℕ) → rest ≡ Some more → AreDecimals words more) → with_next_number first rest ≡ Some numbers → AreDecimals (word ∷ words) numbers
-one_more word words None rest numbers is behind found = absurd (cc)
-one_more word words (Some number) None numbers is behind found = absurd (cc)
-one_more word words (Some number) (Some more) numbers is behind found =
+one_more_number : (word : List ℕ) (words : List (List ℕ)) (first : Option ℕ) (rest : Option (List ℕ)) (numbers : List ℕ) → spelled_number word ≡ first → ((more : List ℕ) → rest ≡ Some more → AreDecimals words more) → with_next_number first rest ≡ Some numbers → AreDecimals (word ∷ words) numbers
+one_more_number word words None rest numbers is behind found = absurd (cc)
+one_more_number word words (Some number) None numbers is behind found = absurd (cc)
+one_more_number word words (Some number) (Some more) numbers is behind found =
     let here : IsDecimal word number = decimal-number_of word number is in
     let there : AreDecimals words more = behind more refl in
     let same : number ∷ more ≡ numbers = ap (λ (o : Option (List ℕ)). unwrap_or o []) found in
@@ -65,7 +65,7 @@ decimals_found [] numbers found =
     let none : [] ≡ numbers = ap (λ (o : Option (List ℕ)). unwrap_or o []) found in
     let whole : AreDecimals [] [] = record { are = refl; small = All-nil (λ n. n < 2 ^ 64) } in
     subst (AreDecimals []) none whole
-decimals_found (word ∷ words) numbers found = one_more word words (spelled_number word) (numbers_of words) numbers refl (decimals_found words) found
+decimals_found (word ∷ words) numbers found = one_more_number word words (spelled_number word) (numbers_of words) numbers refl (decimals_found words) found
 
 -- words joined by spaces
 join-decimals : (word : List ℕ) (numbers : List ℕ) → join_with_byte 32 (word ∷ map decimal numbers) ≡ word ++ numbers_text numbers

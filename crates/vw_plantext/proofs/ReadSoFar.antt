@@ -18,7 +18,7 @@ use Rattle.vw_plantext.specs.declared.start.PlanHead.{PlanHead}
 use Rattle.vw_plantext.proofs.NumberLines.{number_line_injective}
 use Rattle.vw_plantext.proofs.Lines.{small_head, small_chips, hop_count-cons}
 use Rattle.vw_plantext.proofs.Spellings.{plain_plan, plain_chips}
-use Rattle.vw_plantext.proofs.HopAndWireLines.{hop_count-append, moved}
+use Rattle.vw_plantext.proofs.HopAndWireLines.{hop_count-append, same_part}
 use Rattle.vw_plantext.proofs.Faults.{can_stand_front, no_further_line, bad_line}
 
 -- a wire without hops, and a hop
@@ -61,7 +61,7 @@ module _ (lines : List (List ℕ)) (state : BodyState) (read : HasRead lines sta
           short = read.fits.short;
         };
         rest = body_lines rest;
-        begins = read.makes (content_with (state.wires ++ rest)) (body_lines rest) (record { chip_of = refl; period = refl; wires = moved None state.part (sym is) state.left state.wires (state.wires ++ rest) (body_lines rest) follows });
+        begins = read.makes (content_with (state.wires ++ rest)) (body_lines rest) (record { chip_of = refl; period = refl; wires = same_part None state.part (sym is) state.left state.wires (state.wires ++ rest) (body_lines rest) follows });
       }
 
   -- further hops, and such wires, can follow
@@ -89,7 +89,7 @@ module _ (lines : List (List ℕ)) (state : BodyState) (read : HasRead lines sta
           short = read.fits.short;
         };
         rest = map hop_line hops ++ body_lines rest;
-        begins = read.makes (content_with all) (map hop_line hops ++ body_lines rest) (record { chip_of = refl; period = refl; wires = moved (Some part) state.part (sym is) state.left state.wires all (map hop_line hops ++ body_lines rest) follows });
+        begins = read.makes (content_with all) (map hop_line hops ++ body_lines rest) (record { chip_of = refl; period = refl; wires = same_part (Some part) state.part (sym is) state.left state.wires all (map hop_line hops ++ body_lines rest) follows });
       }
 
   by_part : (part : Option UnfinishedWire) → state.part ≡ part → CanStand lines

@@ -13,9 +13,9 @@ pub has_neither : (p q : ℕ → Bool) (bytes : List ℕ) → HasNo (λ b. p b |
 has_neither p q bytes none = (λ k d inside. (or_parts _ _ (none k d inside)).0, λ k d inside. (or_parts _ _ (none k d inside)).1)
 
 -- the first place that passes
-pub first_found : (test : ℕ → Bool) (bytes : List ℕ) (at : ℕ) → at < length bytes
+pub cut_at_found : (test : ℕ → Bool) (bytes : List ℕ) (at : ℕ) → at < length bytes
     → ((k : ℕ) → 0 ≤ k → k < at → test (slice_index bytes k) ≡ true → ⊥) → test (slice_index bytes at) ≡ true → position_or_len test bytes ≡ at
-first_found test bytes at within before found =
+cut_at_found test bytes at within before found =
     position_or_len_is test bytes at 0 (omega arith) (λ k below. false_from_ne_true _ (before k (omega arith) below)) (λ _. found)
 
 -- no place passes

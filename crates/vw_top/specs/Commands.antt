@@ -25,7 +25,7 @@ use Rattle.vw_plantext.proofs.OnePlan.{spelled_unrefused as plan_unrefused}
 use Rattle.vw_check.specs.declared.fault.PlanFault.{PlanFault}
 use Rattle.vw_check.specs.Faults.{plan_fault}
 use Rattle.vw_check.proofs.SoundPlans.{faultless}
-use Rattle.vw_run.proofs.Fits.{fits}
+use Rattle.vw_run.proofs.Fits.{sound_plans_fit}
 use Rattle.vw_rows.specs.declared.stimulus.StimFault.{StimFault}
 use Rattle.vw_run.specs.declared.fault.CompileFault.TheVariants.{TooManyCells}
 use Rattle.vw_rows.specs.Stimulus.{stimulus_rows}
@@ -95,7 +95,7 @@ abbrev pub HasRoom : Ordered → Board → Type 0
 HasRoom ordered board = length ordered.flat.cells ≤ board.chips * board.cells
 
 abbrev pub good_apart : (ordered : Ordered) (board : Board) (plan : Plan) (reason : Reason) → IsGood (setting_of ordered board plan) → RefusesFit ordered board reason → ⊥
-good_apart ordered board plan reason good refused = omega (arith, fits (setting_of ordered board plan) good.sound, refused.1)
+good_apart ordered board plan reason good refused = omega (arith, sound_plans_fit (setting_of ordered board plan) good.sound, refused.1)
 
 abbrev pub room_apart : (ordered : Ordered) (board : Board) (reason : Reason) → HasRoom ordered board → RefusesFit ordered board reason → ⊥
 room_apart ordered board reason room refused = omega (arith, room, refused.1)

@@ -9,9 +9,9 @@ abbrev pub opened : {A : Type 0} → Option (Box Block A) → Option Block
 opened None = None
 opened (Some b) = Some b.value
 
-abbrev pub open_name : Option Block → List Word
-open_name None = []
-open_name (Some b) = b.name ∷ []
+abbrev pub open_model_name : Option Block → List Word
+open_model_name None = []
+open_model_name (Some b) = b.name ∷ []
 
 abbrev pub names_so_far : List Model → Option Block → List Word
-names_so_far models open_ = map (λ model. model.name) models ++ open_name open_
+names_so_far models open_ = map (λ model. model.name) models ++ open_model_name open_

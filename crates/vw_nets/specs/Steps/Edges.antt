@@ -10,10 +10,10 @@ use Rattle.vw_design.specs.Preorder.{instances, cells}
 use Rattle.vw_nets.specs.declared.edges.Typed.{Typed}
 
 -- whether a type that is written is another one
-abbrev pub differs : Edge → Edge → Bool
-differs edge Rise = not (same_edge edge Rise)
-differs edge Fall = not (same_edge edge Fall)
-differs edge Unsaid = false
+abbrev pub edge_differs : Edge → Edge → Bool
+edge_differs edge Rise = not (same_edge edge Rise)
+edge_differs edge Fall = not (same_edge edge Fall)
+edge_differs edge Unsaid = false
 
 -- a latch by the number of its instance
 abbrev pub IsTyped : Design → Option Edged → Option Typed → Type 0

@@ -5,13 +5,13 @@ use Rattle.vw_design.specs.declared.design.Design.{Design}
 use Rattle.vw_design.specs.Paths.{Word, Path, model_at}
 use Rattle.vw_design.specs.PathValue.{item_at, place_of_site}
 use Rattle.vw_design.specs.Preorder.{instances, sites}
-use Rattle.vw_drivers.specs.declared.claim.Again.{Again}
+use Rattle.vw_drivers.specs.declared.claim.RepeatedClaim.{RepeatedClaim}
 use Rattle.vw_drivers.specs.Claimed.{again_at}
 use Rattle.vw_drivers.specs.declared.tables.Tables.{Tables}
 use Rattle.vw_nets.specs.declared.two_drivers.Second.{Second}
 
 -- the first item of the model of an instance that claims again, and the place of an item of an instance, by the tables
-abbrev pub again_by : Tables → ℕ → Option Again
+abbrev pub again_by : Tables → ℕ → Option RepeatedClaim
 again_by tables instance =
     option_and_then (λ entry. option_and_then (λ claims. claims.again) (slice_get tables.claims entry.model)) (slice_get tables.instances instance)
 

@@ -1,13 +1,13 @@
 use Rattle.std.proofs.Common.{◌≡◌, ◌+◌, eqb, length, ◌∙◌, arith}
 use Rattle.std.specs.List.{position_or_len}
 use Rattle.std.proofs.lemmas.List.{take_rest}
-use Rattle.vw_text.proofs.FoundBytes.{first_found, none_found}
+use Rattle.vw_text.proofs.FoundBytes.{cut_at_found, none_found}
 use Rattle.vw_blif.proofs.Sides.{formal_is, actual_is, none_behind, both_there}
 use Rattle.vw_blif.proofs.bind.sides.Goals as goal
 use Rattle.vw_blif.proofs.bind.sides.Goals.{In-Some}
 
 cut_is : (c : In-Some) → position_or_len (λ b. eqb b 61) c.args.word.now ≡ c.in-Some.cut
-cut_is c = let h = c.in-Some.ensures in first_found (λ b. eqb b 61) c.args.word.now _ h.0.high h.0.before h.1
+cut_is c = let h = c.in-Some.ensures in cut_at_found (λ b. eqb b 61) c.args.word.now _ h.0.high h.0.before h.1
 
 pub returns-in_default : goal.returns-in_default
 returns-in_default c =

@@ -7,7 +7,7 @@ use Rattle.vw_design.specs.Preorder.{Site, cells}
 use Rattle.vw_flat.specs.Steps.Numbers.{nets, IsCellAt}
 use Rattle.vw_flat.proofs.Items.{cell_is}
 use Rattle.vw_flat.proofs.LongerLists.{all_more, zip_more}
-use Rattle.vw_flat.proofs.netlist.cells_of.Goals as goal
+use Rattle.vw_flat.proofs.netlist.netlist_cells.Goals as goal
 
 -- one cell more
 pub loop-cell-preserved : goal.loop-cell-preserved

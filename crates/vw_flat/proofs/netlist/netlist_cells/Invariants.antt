@@ -4,7 +4,7 @@ use Rattle.vw_net.specs.Cells.{IsWellFormed}
 use Rattle.vw_design.specs.Flattened.{IsCellOf}
 use Rattle.vw_design.specs.Preorder.{cells}
 use Rattle.vw_flat.specs.Steps.Numbers.{nets}
-use Rattle.vw_flat.proofs.netlist.cells_of.Given as goal
+use Rattle.vw_flat.proofs.netlist.netlist_cells.Given as goal
 
 -- so many cells are there
 abbrev pub invariant-loop-cell : goal.invariant-loop-cell

@@ -96,19 +96,19 @@ loop-number-preserved-in_default-ahead g c =
           (moved graph c.requires.within depth.marks.items depth.cursors.items depth.order.items stack number far),
     )
 
-pub is_open-requires : goal.is_open-requires
-is_open-requires g c =
-    omega (arith, (top g (goal.at.is_open-requires g c).In-Some).read_in c.in-Some-ahead.ahead.place c.in-Some-ahead.ahead.number c.in-Some-ahead.ensures.1)
+pub is_on_stack-requires : goal.is_on_stack-requires
+is_on_stack-requires g c =
+    omega (arith, (top g (goal.at.is_on_stack-requires g c).In-Some).read_in c.in-Some-ahead.ahead.place c.in-Some-ahead.ahead.number c.in-Some-ahead.ensures.1)
 
-pub returns-then-is_open : goal.returns-then-is_open
-returns-then-is_open g c =
+pub returns-then-is_on_stack : goal.returns-then-is_on_stack
+returns-then-is_on_stack g c =
     let graph = g.D.Digraph.graph c.args.digraph.now in
     let depth = c.loop-number.depth in
     let stack = c.pop.new.self.items in
     let number = c.in-Some.number in
     let next = c.in-Some-ahead.ahead in
-    let far = far g (goal.at.returns-then-is_open g c).In-Some in
-    let on = open_is (get_or depth.marks.items next.number Fresh) (sym c.is_open.ensures ∙ c.if-is_open.true) in
+    let far = far g (goal.at.returns-then-is_on_stack g c).In-Some in
+    let on = open_is (get_or depth.marks.items next.number Fresh) (sym c.is_on_stack.ensures ∙ c.if-is_on_stack.true) in
     let is : c.in_ok-circle.circle.items ≡ round_from next.number stack ++ number ∷ [] =
     ◌∙◌ {b = round_from next.number c.as_slice.result.now ++ number ∷ []} c.in_ok-circle.ensures (ap (λ (l : List ℕ). round_from next.number l ++ number ∷ []) c.as_slice.ensures.value) in
     subst (λ (l : List ℕ). IsNumberCircle graph l) (sym is) (circled graph c.requires.within depth.marks.items depth.cursors.items depth.order.items stack number far next c.in-Some-ahead.ensures on)
@@ -143,7 +143,7 @@ loop-number-preserved g c =
     let next = c.in-Some-ahead.ahead in
     let far = far g (goal.at.loop-number-preserved g c).In-Some in
     let new = c.in_ok-open_ahead.ensures in
-    let off = open_not (get_or depth.marks.items next.number Fresh) (sym c.is_open.ensures ∙ c.if-is_open.false) in (
+    let off = open_not (get_or depth.marks.items next.number Fresh) (sym c.is_on_stack.ensures ∙ c.if-is_on_stack.false) in (
       same_search graph _ _ _ _ _ _ _ _ (opened_on graph c.requires.within depth.marks.items depth.cursors.items depth.order.items stack number far next c.in-Some-ahead.ensures off) new.marks new.cursors new.order new.stack,
       kept c.args.depth.now depth c.open_ahead.new.self stack depth.order.items (stack ++ number ∷ next.number ∷ []) number c.in-Some.ensures.items new.order new.stack c.loop-number.invariant.1
           (joined graph c.requires.within depth.marks.items depth.cursors.items depth.order.items stack number far next c.in-Some-ahead.ensures),

@@ -1,7 +1,7 @@
 use Rattle.std.proofs.Common.{◌≡◌, ◌≤◌, ◌+◌, ◌-◌, ◌*◌, ◌∙◌, ℕ, List, length, get_or, ap, ap₂, refl, arith}
 use Rattle.vw_plan.specs.declared.link.Link.{Link}
 use Rattle.vw_plan.proofs.FewLinks.{few_links_on}
-use Rattle.vw_phase.proofs.LinkNumbers.{all_numbers, ends_low, none_from, one_more}
+use Rattle.vw_phase.proofs.LinkNumbers.{all_numbers, ends_low, none_from, one_more_link}
 use Rattle.vw_phase.proofs.links.link_numbers.Goals as goal
 
 -- a board has few links
@@ -18,7 +18,7 @@ loop-number-preserved c =
     let low = ends_low c.args.board.now (left - 1) none (omega arith) in
     let from : c.from.result ≡ (get_or links (left - 1) none).from = c.from.ensures ∙ ap (λ (list : List Link). (get_or list (left - 1) none).from) c.links-links.ensures in
     let to : c.to.result ≡ (get_or links (left - 1) none).to = c.to.ensures ∙ ap (λ (list : List Link). (get_or list (left - 1) none).to) c.links-links.ensures in
-    one_more links left c.loop-number.numbers.items none (c.from.result * 33 + c.to.result) (left - 1) c.loop-number-test.true within low.0 low.1 (ap₂ (λ (one other : ℕ). one * 33 + other) from to) refl c.loop-number.invariant
+    one_more_link links left c.loop-number.numbers.items none (c.from.result * 33 + c.to.result) (left - 1) c.loop-number-test.true within low.0 low.1 (ap₂ (λ (one other : ℕ). one * 33 + other) from to) refl c.loop-number.invariant
 
 -- at the front all links are in
 pub returns : goal.returns

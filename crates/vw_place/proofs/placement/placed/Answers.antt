@@ -15,12 +15,12 @@ pub returns-clause-renumbered : goal.returns-clause-renumbered
 returns-clause-renumbered c =
     let nodes : IsNodeList c.args.board.now c.in_ok-at.at.items = c.in_ok-at.ensures.list in
     let same : c.deref-2.result.now ≡ c.in_ok-at.at.items = c.deref-2.ensures.value in
-    IfOk-weaker c.numbered.result (λ new. new ≡ map (moved c.deref-2.result.now) c.args.chip_of.now) (IsRenumbered c.args.board.now c.args.chip_of.now) (λ new is. record {
+    IfOk-weaker c.numbered_anew.result (λ new. new ≡ map (moved c.deref-2.result.now) c.args.chip_of.now) (IsRenumbered c.args.board.now c.args.chip_of.now) (λ new is. record {
       to = moved c.in_ok-at.at.items;
       from = nodes.from;
       numbering = nodes.numbering;
       moved = is ∙ ap (λ (list : List ℕ). map (moved list) c.args.chip_of.now) same;
-    }) c.numbered.ensures
+    }) c.numbered_anew.ensures
 
 pub returns-clause-exchanges : goal.returns-clause-exchanges
 returns-clause-exchanges c =
@@ -32,7 +32,7 @@ returns-clause-exchanges c =
     let traffic : IsTraffic flat chip_of c.in_ok-table.table.items = subst (λ (own : Flat). IsTraffic own chip_of c.in_ok-table.table.items) c.flat.ensures c.in_ok-table.ensures in
     let none : NoneIsUseful (way c.in_ok-table.table.items board) (board.chips + 1) at = subst (λ (table : List ℕ). NoneIsUseful (way table board) (board.chips + 1) at) c.deref.ensures.value c.in_ok-at.ensures.none in
     let helps = none_helps flat board chip_of (low_chips board chip_of c.requires.chips) c.in_ok-table.table.items traffic at c.in_ok-at.ensures.list none in
-    IfOk-weaker c.numbered.result (λ new. new ≡ map (moved c.deref-2.result.now) chip_of) (NoExchangeHelps flat board) (λ new is. subst (λ (list : List ℕ). NoExchangeHelps flat board list) (sym (is ∙ ap (λ (list : List ℕ). map (moved list) chip_of) same)) helps) c.numbered.ensures
+    IfOk-weaker c.numbered_anew.result (λ new. new ≡ map (moved c.deref-2.result.now) chip_of) (NoExchangeHelps flat board) (λ new is. subst (λ (list : List ℕ). NoExchangeHelps flat board list) (sym (is ∙ ap (λ (list : List ℕ). map (moved list) chip_of) same)) helps) c.numbered_anew.ensures
 
 pub returns-clause-moves : goal.returns-clause-moves
 returns-clause-moves c moves =
@@ -42,4 +42,4 @@ returns-clause-moves c moves =
     let at = c.in_ok-at.at.items in
     let same : c.deref-2.result.now ≡ at = c.deref-2.ensures.value in
     let kept = moves_moved flat board at c.in_ok-at.ensures.list chip_of (low_chips board chip_of c.requires.chips) moves in
-    IfOk-weaker c.numbered.result (λ new. new ≡ map (moved c.deref-2.result.now) chip_of) (NoMoveHelps flat board) (λ new is. subst (λ (list : List ℕ). NoMoveHelps flat board list) (sym (is ∙ ap (λ (list : List ℕ). map (moved list) chip_of) same)) kept) c.numbered.ensures
+    IfOk-weaker c.numbered_anew.result (λ new. new ≡ map (moved c.deref-2.result.now) chip_of) (NoMoveHelps flat board) (λ new is. subst (λ (list : List ℕ). NoMoveHelps flat board list) (sym (is ∙ ap (λ (list : List ℕ). map (moved list) chip_of) same)) kept) c.numbered_anew.ensures

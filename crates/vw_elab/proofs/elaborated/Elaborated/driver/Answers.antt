@@ -14,4 +14,4 @@ returns c =
     let is = c.self.invariant in
     let is_source = c.source-source.ensures inside.design is.accepted.models is.parts.tables is.parts.drivers in
     subst (λ (design : Design). (path : Path) → slice_get (instances design) c.args.instance ≡ Some path → c.driver_by.result ≡ driver_of design (driver design path c.args.name.now)) c.self.view_is
-    (λ path listed. c.driver_by.ensures ∙ driver_found inside.design inside.parts.tables inside.columns is.columns c.args.instance c.number_of-claim.result c.source-source.result is_source path c.args.name.now listed c.number_of-claim.ensures)
+    (λ path listed. c.driver_by.ensures ∙ driver_found inside.design inside.parts.tables inside.columns is.columns c.args.instance c.claim_number-claim.result c.source-source.result is_source path c.args.name.now listed c.claim_number-claim.ensures)

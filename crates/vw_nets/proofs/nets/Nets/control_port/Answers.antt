@@ -18,7 +18,7 @@ returns-in-Some c = λ path item listed at.
     let control = c.in-Some.field-0.now in
     let same = item_here design tables c.requires.tables cell path item listed at c.in_ok-item.item.now c.in_ok-item.ensures in
     let is : control ∷ [] ≡ controls_of item = c.in-Some.ensures ∙ ap controls_of same in
-    let number = c.number_at.ensures ∙ numbers_here design tables c.requires.tables cell path item listed at numbers c.in_ok-numbers.ensures 1 control (control_read item control is) in
+    let number = c.number_in_row.ensures ∙ numbers_here design tables c.requires.tables cell path item listed at numbers c.in_ok-numbers.ensures 1 control (control_read item control is) in
     let source = c.source.ensures design c.requires.faultless c.requires.tables c.requires.drivers in
     ap (map (number_named root)) (ports_here design path item control is)
     ∙ source_port root design c.source.result (driver design path control) (source.is path control listed number) (source.none path control listed number)

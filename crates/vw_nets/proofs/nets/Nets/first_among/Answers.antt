@@ -11,7 +11,7 @@ returns-then-is_wanted c = λ path listed are.
     let names = c.args.names.now in
     let i = c.loop-place.place in
     let name = c.index-names-place.result in
-    let number = c.number_at-number.ensures ∙ are i name (slice_get_read names (length names) i name refl c.loop-place-test.true c.index-names-place.is) in
+    let number = c.number_in_row-number.ensures ∙ are i name (slice_get_read names (length names) i name refl c.loop-place-test.true c.index-names-place.is) in
     find_now (λ (w : Word). wants c.args.self.now.design.now c.args.wanted.now (driver c.args.self.now.design.now path w)) names i name c.loop-place-test.true c.index-names-place.is
     (sym (c.is_wanted.ensures path name listed number) ∙ c.if-is_wanted.true) (c.loop-place.invariant path listed are)
 
@@ -20,6 +20,6 @@ loop-place-preserved c = λ path listed are.
     let names = c.args.names.now in
     let i = c.loop-place.place in
     let name = c.index-names-place.result in
-    let number = c.number_at-number.ensures ∙ are i name (slice_get_read names (length names) i name refl c.loop-place-test.true c.index-names-place.is) in
+    let number = c.number_in_row-number.ensures ∙ are i name (slice_get_read names (length names) i name refl c.loop-place-test.true c.index-names-place.is) in
     find_next (λ (w : Word). wants c.args.self.now.design.now c.args.wanted.now (driver c.args.self.now.design.now path w)) names i name c.loop-place-test.true c.index-names-place.is
     (sym (c.is_wanted.ensures path name listed number) ∙ c.if-is_wanted.false) (c.loop-place.invariant path listed are)

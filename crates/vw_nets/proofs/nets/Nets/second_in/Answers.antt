@@ -4,8 +4,8 @@ use Rattle.vw_design.specs.declared.item.Item.{Item}
 use Rattle.vw_design.specs.Paths.{Word, model_at}
 use Rattle.vw_design.specs.PathValue.{item_at, place_of_site}
 use Rattle.vw_design.specs.Preorder.{sites}
-use Rattle.vw_drivers.specs.declared.claim.Again.{Again}
-use Rattle.vw_drivers.specs.Claimed.{IsAgain}
+use Rattle.vw_drivers.specs.declared.claim.RepeatedClaim.{RepeatedClaim}
+use Rattle.vw_drivers.specs.Claimed.{IsRepeatedClaim}
 use Rattle.vw_nets.specs.Steps.Seconds.{position_by, IsClaimedAt, AreFrom}
 use Rattle.vw_nets.proofs.InstanceClaimsAgain.{weights, entry, again_is, position_is, first_claimed, first_least}
 use Rattle.vw_nets.proofs.nets.Nets.second_in.Goals as goal
@@ -16,7 +16,7 @@ returns-in_err-position c = λ path listed.
     let tables = c.args.self.now.tables.now in
     let k = c.args.instance in
     let again = c.in_ok-again.again.now in
-    let is : IsAgain design (model_at design path) (Some again) = subst (λ (found : Option Again). IsAgain design (model_at design path) found) (sym c.in_ok-again.ensures) (again_is design tables c.requires.tables k path listed) in
+    let is : IsRepeatedClaim design (model_at design path) (Some again) = subst (λ (found : Option RepeatedClaim). IsRepeatedClaim design (model_at design path) found) (sym c.in_ok-again.ensures) (again_is design tables c.requires.tables k path listed) in
     absurd (none-some _ (c.in_err-position.ensures ∙ ap (position_by tables k) c.item.ensures ∙ position_is design tables c.requires.tables k path listed again.item is.0.0 is.0.1))
 
 pub returns : goal.returns
@@ -25,7 +25,7 @@ returns c = λ path listed.
     let tables = c.args.self.now.tables.now in
     let k = c.args.instance in
     let again = c.in_ok-again.again.now in
-    let is : IsAgain design (model_at design path) (Some again) = subst (λ (found : Option Again). IsAgain design (model_at design path) found) (sym c.in_ok-again.ensures) (again_is design tables c.requires.tables k path listed) in
+    let is : IsRepeatedClaim design (model_at design path) (Some again) = subst (λ (found : Option RepeatedClaim). IsRepeatedClaim design (model_at design path) found) (sym c.in_ok-again.ensures) (again_is design tables c.requires.tables k path listed) in
     let at = entry design tables c.requires.tables k path listed in
     let base = at.0.cells + k in
     let places : (place : ℕ) (item : Item) → item_at design path place ≡ Some item → place_of_site (sites design) path place ≡ Some (base + weights design path place) =
