@@ -14,4 +14,4 @@ mod walks;
 pub use board_text::read;
 pub use distances::Distances;
 pub use fault::BoardFault;
-pub use laws::{board_faults_are_single, boards_spell_once};
+pub use laws::{board_faults_are_single, boards_spell_once, first_steps_are_one};

@@ -33,7 +33,7 @@ fits_route links from wire number hop =
     (hop.from == begins_at from wire.hops number && has_link links hop.from hop.to)
     && (nat_lt (suc number) (length wire.hops) || hop.to == wire.to)
 
--- the first hop of a wire that breaks its route; hop 0 where there is none
+-- the first hop of a wire that breaks its route, or none; a wire without hops breaks it at hop 0
 abbrev pub broken_wire : Setting → ℕ → Wire → Option PlanFault
 broken_wire setting number wire =
     if length wire.hops == 0 then Some (BrokenRoute number 0)

@@ -5,14 +5,13 @@ use Rattle.vw_net.specs.declared.cell.Init.TheVariants.{Free}
 use Rattle.vw_net.specs.declared.cover.Mark.TheVariants.{Zero as AskZero, One as AskOne}
 use Rattle.vw_net.specs.declared.cover.Cover.{Cover}
 use Rattle.vw_design.specs.declared.item.Edge.TheVariants.{Rise}
-use Rattle.vw_design.specs.declared.item.Item.{Item}
 use Rattle.vw_design.specs.declared.item.Item.TheVariants.{Names, Latch, Sub}
 use Rattle.vw_design.specs.declared.model.Model.{Model}
 use Rattle.vw_design.specs.declared.design.Design.{Design}
-use Rattle.vw_design.specs.Paths.{Word, printed}
+use Rattle.vw_design.specs.Paths.{printed}
 use Rattle.vw_design.specs.Drivers.{driver}
 use Rattle.vw_design.specs.Preorder.{sites, cells}
-use Rattle.vw_design.specs.Reads.{net_at}
+use Rattle.vw_design.specs.Reads.{net_at, driven_name}
 use Rattle.vw_design.specs.Clocks.{clock_ports, columns}
 use Rattle.vw_design.specs.PathValue.{path_value}
 use Rattle.vw_design.specs.PathHistory.{path_history}
@@ -100,13 +99,8 @@ unfolding reached clock_ports sites driver
 placed_fine = refl
 
 -- what its cells drive, as it is printed
-driven_name : Item → Word
-driven_name (Names line ins out cover) = out
-driven_name (Latch line d q edge control init) = q
-driven_name (Sub line model binds) = []
-
 placed_cells : map (λ site. printed (net_at site.path (driven_name site.item))) (cells placed_twice) ≡ codes "1/t" ∷ codes "1/o" ∷ codes "2/t" ∷ codes "2/o" ∷ codes "y" ∷ []
-unfolding sites digits driven_name
+unfolding sites digits
 placed_cells = refl
 
 placed_outputs : (path_history placed_twice false ((false ∷ false ∷ []) ∷ (false ∷ true ∷ []) ∷ (true ∷ false ∷ []) ∷ (true ∷ true ∷ []) ∷ [])).outputs ≡ high ∷ low ∷ low ∷ low ∷ []

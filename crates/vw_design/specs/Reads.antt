@@ -1,4 +1,5 @@
--- The nets that are read: inputs of gates, data inputs and controls of latches, and last the outputs of the root.
+-- The name that an item drives. The nets that are read: inputs of gates, data inputs and controls of latches, and last
+-- the outputs of the root.
 use Rattle.std.specs.Prelude.{List, [], ◌∷◌, ◌++◌, map, option_to_list, flat_map}
 use Rattle.vw_design.specs.declared.item.Item.{Item}
 use Rattle.vw_design.specs.declared.item.Item.TheVariants.{Names, Latch, Sub}
@@ -8,6 +9,12 @@ use Rattle.vw_design.specs.Preorder.{Site, sites}
 
 abbrev pub net_at : Path → Word → Net
 net_at path name = record { path = path; name = name }
+
+-- the name that a gate or a latch drives; a placed model drives none by itself
+abbrev pub driven_name : Item → Word
+driven_name (Names line ins out cover) = out
+driven_name (Latch line d q edge control init) = q
+driven_name (Sub line model binds) = []
 
 -- what an item reads as data, and its control
 abbrev pub data_of : Item → List Word

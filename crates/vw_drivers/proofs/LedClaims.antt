@@ -77,7 +77,7 @@ root_number : (path : Path) (number : ℕ) (before : List Site) → path ≡ [] 
 root_number [] number before is none weight = weight ∙ ap (weight_of placed_one) none
 root_number (place ∷ path) number before is none weight = cc
 
-later_number : (listed : List Path) (number place : ℕ) (up path : Path) (entry : Placed) → path ≡ place ∷ up → IsPlacedBy listed number path entry → number ≡ 0 → ⊥
+later_number : (listed : List Path) (number place : ℕ) (up path : Path) (entry : Placed) → path ≡ place ∷ up → IsPlacedBy listed number path entry.parent entry.place → number ≡ 0 → ⊥
 later_number listed number place up [] entry is by zero_is = cc
 later_number listed number place up (at ∷ path) entry is by zero_is = omega (arith, by.2, zero_is)
 

@@ -1,5 +1,5 @@
 -- What the tables of a design have of an instance and of a cell.
-use Rattle.std.proofs.Common.{◌≡◌, ◌<◌, ℕ, List, [], ◌∷◌, map, Option, Some, option_map, option_and_then, get_or, slice_get, sym, ◌∙◌, ap, subst, arith}
+use Rattle.std.proofs.Common.{◌≡◌, ◌<◌, ℕ, List, [], map, Option, Some, option_map, option_and_then, get_or, slice_get, sym, ◌∙◌, ap, subst, arith}
 use Rattle.std.proofs.lemmas.Option.{same_Some, slice_get-map, slice_get-get_or, get_or_from_slice_get}
 use Rattle.vw_design.specs.declared.item.Item.{Item}
 use Rattle.vw_design.specs.declared.model.Model.{Model}
@@ -18,7 +18,6 @@ use Rattle.vw_drivers.specs.Names.{reads_of, firsts_of}
 use Rattle.vw_instances.specs.declared.tables.Placed.{Placed}
 use Rattle.vw_instances.specs.declared.tables.CellSite.{CellSite}
 use Rattle.vw_instances.specs.Tables.{ArePlaced, AreCellSites, IsCellSite}
-use Rattle.vw_instances.specs.Tables as walks
 use Rattle.vw_drivers.specs.declared.source.Source.{Source}
 use Rattle.vw_drivers.specs.declared.tables.Tables.{Tables}
 use Rattle.vw_drivers.specs.Tables.{root_firsts, instance_firsts}
@@ -29,7 +28,7 @@ use Rattle.vw_elab.specs.declared.elaborated.Instance.{Instance}
 use Rattle.vw_elab.specs.declared.elaborated.Reading.{Reading}
 use Rattle.vw_elab.specs.declared.parts.Parts.{Parts}
 use Rattle.vw_elab.specs.Steps.DesignParts.{AreDesignParts}
-use Rattle.vw_elab.specs.Numbers.{IsPlacedBy, IsInstance, driver_of}
+use Rattle.vw_elab.specs.Numbers.{IsInstance, driver_of}
 use Rattle.vw_elab.specs.Steps.ByColumns.{driver_by, reading_of}
 use Rattle.vw_elab.proofs.PortColumns.{by_columns}
 
@@ -38,11 +37,6 @@ abbrev pub instance_of : Placed → Instance
 instance_of entry = record { model = entry.model; parent = entry.parent; place = entry.place }
 
 module _ (design : Design) where
-  placed_by : (number : ℕ) (path : Path) (entry : Placed) → walks.IsPlacedBy (instances design) number path entry
-      → IsPlacedBy design number path (instance_of entry)
-  placed_by number [] entry by = by
-  placed_by number (place ∷ path) entry by = by
-
   pub instance_is : (table : List Placed) → ArePlaced design table → (number : ℕ) (path : Path) → slice_get (instances design) number ≡ Some path
       → (entry : Placed) → slice_get table number ≡ Some entry → IsInstance design number (instance_of entry)
   instance_is table are number path listed entry at =
@@ -50,7 +44,7 @@ module _ (design : Design) where
       let same : found.0 ≡ entry = same_Some found.0 entry (sym found.1 ∙ at) in
       let stands = found.2.stands in
       subst (λ (e : Placed). IsInstance design number (instance_of e)) same
-      (record { path = path; listed = listed; model = found.2.model_is ∙ sym stands; by = placed_by number path found.0 found.2.by })
+      (record { path = path; listed = listed; model = found.2.model_is ∙ sym stands; by = found.2.by })
 
   -- the driver of a source
   pub driver_found : (tables : Tables) (numbers : Columns) → AreColumns design (root_firsts tables) numbers

@@ -1,27 +1,22 @@
 -- Instances, sites and drivers of a design by numbers. Source: this project.
-use Rattle.std.specs.Prelude.{◌≡◌, ◌<◌, ℕ, [], ◌∷◌, Option, Some, None, option_map, slice_get}
+use Rattle.std.specs.Prelude.{◌≡◌, ℕ, Option, Some, None, option_map, slice_get}
 use Rattle.vw_design.specs.declared.design.Design.{Design}
 use Rattle.vw_design.specs.Paths.{Path, model_at}
 use Rattle.vw_design.specs.Drivers.{Source, at_port, at_cell}
 use Rattle.vw_design.specs.Preorder.{instances, cells}
 use Rattle.vw_design.specs.Clocks.{columns}
 use Rattle.vw_design.specs.PathValue.{place_of_name, place_of_site}
+use Rattle.vw_instances.specs.Tables.{IsPlacedBy}
 use Rattle.vw_elab.specs.declared.driver.Driver.{Driver}
 use Rattle.vw_elab.specs.declared.driver.Driver.TheVariants.{Column, Clock, Cell}
 use Rattle.vw_elab.specs.declared.elaborated.Instance.{Instance}
-
--- by which instance, and at which place there, an instance is placed; the root is by none
-abbrev pub IsPlacedBy : Design → ℕ → Path → Instance → Type 0
-IsPlacedBy design number [] instance = (instance.parent ≡ 0) × (instance.place ≡ 0)
-IsPlacedBy design number (place ∷ path) instance =
-    (instance.place ≡ place) × (slice_get (instances design) instance.parent ≡ Some path) × (instance.parent < number)
 
 -- the instance with a number, which is its place in preorder
 pub record IsInstance (design : Design) (number : ℕ) (instance : Instance) : Type 0 where
   pub path : Path
   pub listed : slice_get (instances design) number ≡ Some path
   pub model : slice_get design.models instance.model ≡ model_at design path
-  pub by : IsPlacedBy design number path instance
+  pub by : IsPlacedBy (instances design) number path instance.parent instance.place
 
 -- a port of the root is a column, by its place among the columns, or else a clock port
 abbrev pub of_port : Option ℕ → Driver

@@ -2,7 +2,7 @@
 ghost use Rattle.std.specs.Prelude.{◌≡◌, ◌<◌, Some, slice_get, option_map, IfOk};
 ghost use Rattle.vw_design.specs.Limits.{cell_count};
 ghost use Rattle.vw_design.specs.Preorder.{cells};
-ghost use Rattle.vw_flat.specs.Printed.{driven_name, printed_site};
+ghost use Rattle.vw_flat.specs.Printed.{printed_site};
 
 use crate::cell::item_at_cell;
 use std::alloc::{AllocError, Global};

@@ -62,7 +62,7 @@ not_later first models distinct model k same at =
     let has : has_name names first.name ≡ true = ap (λ (m : Model). has_name names m.name) same ∙ has_name-Has names model.name (Has-map (λ (m : Model). m.name) model models (Has-at model models k at)) in
     true≢false (sym parts.0 ∙ ap not has)
 
-number_once : (models : List Model) → are_distinct (map (λ m. m.name) models) ≡ true → (i j : ℕ) (model : Model) → slice_get models i ≡ Some model → slice_get models j ≡ Some model → i ≡ j
+pub number_once : (models : List Model) → are_distinct (map (λ m. m.name) models) ≡ true → (i j : ℕ) (model : Model) → slice_get models i ≡ Some model → slice_get models j ≡ Some model → i ≡ j
 number_once [] distinct i j model one other = absurd (none-some model one)
 number_once (first ∷ models) distinct zero zero model one other = refl
 number_once (first ∷ models) distinct zero (suc j) model one other = absurd (not_later first models distinct model j (same_Some first model one) other)
@@ -112,16 +112,17 @@ module _ (design : Design) (once : (place : ℕ) (path : Path) → slice_get (in
   listed_once : (i j : ℕ) (path : Path) → slice_get (instances design) i ≡ Some path → slice_get (instances design) j ≡ Some path → i ≡ j
   listed_once i j path one other = same_Some i j (sym (once i path one) ∙ once j path other)
 
-  by_once : (number : ℕ) (path : Path) (one other : Placed) → IsPlacedBy (instances design) number path one → IsPlacedBy (instances design) number path other → (one.parent ≡ other.parent) × (one.place ≡ other.place)
-  by_once number [] one other is are = (is.0 ∙ sym are.0, is.1 ∙ sym are.1)
-  by_once number (place ∷ path) one other is are = (listed_once one.parent other.parent path is.1 are.1, is.0 ∙ sym are.0)
+  -- an instance is placed by one, at one place
+  pub by_once : (number : ℕ) (path : Path) (parent at other_parent other_at : ℕ) → IsPlacedBy (instances design) number path parent at → IsPlacedBy (instances design) number path other_parent other_at → (parent ≡ other_parent) × (at ≡ other_at)
+  by_once number [] parent at other_parent other_at is are = (is.0 ∙ sym are.0, is.1 ∙ sym are.1)
+  by_once number (place ∷ path) parent at other_parent other_at is are = (listed_once parent other_parent path is.1 are.1, is.0 ∙ sym are.0)
 
   entry_once : (number : ℕ) (path : Path) (one other : Placed) → IsEntryAt design (instances design) number path one → IsEntryAt design (instances design) number path other → one ≡ other
   entry_once number path one other is are =
       let models : is.model ≡ are.model = same_Some is.model are.model (sym is.stands ∙ are.stands) in
       let model : one.model ≡ other.model =
       number_once design.models design.named one.model other.model are.model (is.model_is ∙ ap (λ (m : Model). Some m) models) are.model_is in
-      let by : (one.parent ≡ other.parent) × (one.place ≡ other.place) = by_once number path one other is.by are.by in
+      let by : (one.parent ≡ other.parent) × (one.place ≡ other.place) = by_once number path one.parent one.place other.parent other.place is.by are.by in
       let before : is.at.before ≡ are.at.before =
       before_once path is.at.before are.at.before (sites_below design (65 + length design.models - length path) path ++ is.at.after) (sites_below design (65 + length design.models - length path) path ++ are.at.after) (sym is.at.split ∙ are.at.split) is.at.just_behind are.at.just_behind (sym is.at.number_is ∙ are.at.number_is) in
       let cells : one.cells ≡ other.cells = is.at.cells_before ∙ ap (weight_of cell_one) before ∙ sym are.at.cells_before in

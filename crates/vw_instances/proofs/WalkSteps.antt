@@ -33,9 +33,9 @@ pub record IsCellItem (item : Item) : Type 0 where
 
 -- an entry among longer lists of paths
 still_by : (listed longer : List Path) → ((number : ℕ) (path : Path) → slice_get listed number ≡ Some path → slice_get longer number ≡ Some path)
-    → (number : ℕ) (path : Path) (entry : Placed) → IsPlacedBy listed number path entry → IsPlacedBy longer number path entry
-still_by listed longer still number [] entry is = is
-still_by listed longer still number (place ∷ path) entry is = (is.0, still entry.parent path is.1, is.2)
+    → (number : ℕ) (path : Path) (parent at : ℕ) → IsPlacedBy listed number path parent at → IsPlacedBy longer number path parent at
+still_by listed longer still number [] parent at is = is
+still_by listed longer still number (place ∷ path) parent at is = (is.0, still parent path is.1, is.2)
 
 module _ (design : Design) (table : List Placed) (made : List CellSite) (frames : List Frame) (frame : Frame) (walk : IsUnderWay design table made (frames ++ (frame ∷ [])))
     (path : Path) (front : List Item) (levels : List FrameLevel) (below : AllZip (IsFrame design (listed_with walk.done) (length walk.done)) levels (reverse frames)) where
@@ -102,7 +102,7 @@ module _ (design : Design) (table : List Placed) (made : List CellSite) (frames 
 
     still_placed : (number : ℕ) (p : Path) (entry : Placed) → IsEntryAt design (listed_with walk.done) number p entry → IsEntryAt design (listed_with more_done) number p entry
     still_placed number p entry is =
-        record { model = is.model; stands = is.stands; model_is = is.model_is; by = still_by (listed_with walk.done) (listed_with more_done) still number p entry is.by; at = is.at }
+        record { model = is.model; stands = is.stands; model_is = is.model_is; by = still_by (listed_with walk.done) (listed_with more_done) still number p entry.parent entry.place is.by; at = is.at }
 
     still_cell : (s : Site) (entry : CellSite) → IsCellSite (listed_with walk.done) s entry → IsCellSite (listed_with more_done) s entry
     still_cell s entry is = record { instance_is = still entry.instance s.path is.instance_is; item_is = is.item_is }

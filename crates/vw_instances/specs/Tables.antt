@@ -17,10 +17,9 @@ pub record AreNumbered {A B : Type 0} (Related : ℕ → A → B → Type 0) (xs
       → (y : B) × (slice_get ys number ≡ Some y) × Related number x y
 
 -- by which instance, and at which place there, a path is placed, among listed paths; the root is by none
-abbrev pub IsPlacedBy : List Path → ℕ → Path → Placed → Type 0
-IsPlacedBy listed number [] entry = (entry.parent ≡ 0) × (entry.place ≡ 0)
-IsPlacedBy listed number (place ∷ path) entry =
-    (entry.place ≡ place) × (slice_get listed entry.parent ≡ Some path) × (entry.parent < number)
+abbrev pub IsPlacedBy : List Path → ℕ → Path → ℕ → ℕ → Type 0
+IsPlacedBy listed number [] parent at = (parent ≡ 0) × (at ≡ 0)
+IsPlacedBy listed number (place ∷ path) parent at = (at ≡ place) × (slice_get listed parent ≡ Some path) × (parent < number)
 
 -- what stands before the items of an instance: nothing at the root, else the site that places it comes last
 abbrev pub IsJustBehind : Path → List Site → Type 0
@@ -43,7 +42,7 @@ pub record IsEntryAt (design : Design) (listed : List Path) (number : ℕ) (path
   pub model : Model
   pub stands : model_at design path ≡ Some model
   pub model_is : slice_get design.models entry.model ≡ Some model
-  pub by : IsPlacedBy listed number path entry
+  pub by : IsPlacedBy listed number path entry.parent entry.place
   pub at : StandsAt design path entry.cells number
 
 -- the entries of all instances, in preorder

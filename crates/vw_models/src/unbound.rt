@@ -15,7 +15,7 @@ use vw_net::Sequence;
 use vw_outside::Name;
 
 /// The first input or clock of a placed model that isn't bound, and the line of the item. Inputs come before clocks. At
-/// each item it looks at no more ports than twice the bindings, and one.
+/// each item it looks at no more than 2n + 1 ports, where n is the number of bindings.
 pub fn unbound_input(
     alloc: Global,
     design: &Design,

@@ -16,7 +16,7 @@ module _ (design : Design) (table : List Placed) (are : ArePlaced design table) 
       let found = are.each k path listed in
       subst (λ (e : Placed). IsEntryAt design (instances design) k path e) (same_Some found.0 entry (sym found.1 ∙ at)) found.2
 
-  by_parent : (k : ℕ) (path : Path) (entry : Placed) → IsPlacedBy (instances design) k path entry → k ≢ 0 → entry.parent < k
+  by_parent : (k : ℕ) (path : Path) (entry : Placed) → IsPlacedBy (instances design) k path entry.parent entry.place → k ≢ 0 → entry.parent < k
   by_parent k [] entry by some = omega (arith, by.0)
   by_parent k (place ∷ path) entry by some = by.2
 
@@ -33,7 +33,7 @@ module _ (design : Design) (table : List Placed) (are : ArePlaced design table) 
       → (rest : Path) × (slice_get (instances design) entry.parent ≡ Some rest) × (path ≡ entry.place ∷ rest)
   one_up k [] entry listed at some = absurd (some (root_first k listed))
   one_up k (place ∷ path) entry listed at some =
-      let by : IsPlacedBy (instances design) k (place ∷ path) entry = (entry_is k (place ∷ path) entry listed at).by in
+      let by : IsPlacedBy (instances design) k (place ∷ path) entry.parent entry.place = (entry_is k (place ∷ path) entry listed at).by in
       (path, by.1, ap (λ (p : ℕ). p ∷ path) (sym by.0))
 
   -- the places so far, then those of the instance that was reached

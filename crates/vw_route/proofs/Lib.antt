@@ -1,1 +1,2 @@
 pub mod FirstSteps
+mod OneRoute

@@ -1,6 +1,8 @@
 //! Shortest walks between the nodes of a board.
 #![tactic(auto)]
 
+mod laws;
 mod route;
 
+pub use laws::routes_are_one;
 pub use route::walk;

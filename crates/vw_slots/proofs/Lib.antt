@@ -3,3 +3,4 @@ pub mod Chained
 pub mod TakenSlots
 pub mod Taking
 pub mod KeptSlots
+mod OneFirstFree

@@ -1,9 +1,11 @@
 //! Which pins of the links of a board are taken in which microcycle, and the earliest free one.
 #![tactic(auto)]
 
+mod laws;
 mod moment;
 mod slot;
 mod slot_table;
 
+pub use laws::first_slots_are_one;
 pub use slot::{Slot, Taken};
 pub use slot_table::SlotTable;
