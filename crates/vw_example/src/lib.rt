@@ -24,10 +24,12 @@ fn name_of(alloc: Global, bytes: &[u8]) -> Result<Name, AllocError>
 }
 
 /// Runs `sim` over two texts in memory. After status 0, out is the trace of the design over the stimulus. After 1, the
-/// design text has no design that runs, and after 5, the stimulus has a fault.
+/// design text has no design that runs, and after 5, the stimulus has a fault; then err is the message, and out is
+/// empty. Where there is no memory for the whole message, the call ends with an error.
 pub fn simulate(alloc: Global, design: Vec<u8>, stimulus: Vec<u8>) -> Result<Simulated, AllocError>
     ensures { IfOk result (λ simulated.
-        IsOutcome design.items stimulus.items simulated.out.items simulated.status) }
+        IsOutcome design.items stimulus.items simulated.out.items simulated.err.items
+        simulated.status) }
 {
     let files = vec![in alloc;
         Held::make(name_of(alloc, b"design")?, design),
@@ -44,6 +46,9 @@ pub fn simulate(alloc: Global, design: Vec<u8>, stimulus: Vec<u8>) -> Result<Sim
     let status = virtual_wires(alloc, &words, &mut shelf, &mut out, &mut err);
     call_statuses();
     sim_statuses();
+    if err.faults > 0 {
+        return Err(AllocError);
+    }
     Ok(Simulated {
         status,
         out: out.bytes().to_vec(alloc)?,

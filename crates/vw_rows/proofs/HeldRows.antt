@@ -4,7 +4,7 @@ use Rattle.std.specs.List.{All}
 use Rattle.std.proofs.lemmas.List.{append_assoc, append-nil, length-append, length-replicate, replicate-append-replicate}
 use Rattle.std.proofs.lemmas.List.Elements.{All-set, All-append, All-replicate}
 use Rattle.vw_rows.specs.declared.run.Run.{Run}
-use Rattle.vw_rows.specs.Runs.{rows_of_runs}
+use Rattle.vw_rows.specs.Steps.Runs.{rows_of_runs}
 use Rattle.vw_rows.specs.Stimulus.{last_row, row_before}
 
 pub last_row-append : (row : List Bool) (xs ys : List (List Bool)) → last_row row (xs ++ ys) ≡ last_row (last_row row xs) ys

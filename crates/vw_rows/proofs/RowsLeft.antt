@@ -2,7 +2,7 @@
 use Rattle.std.proofs.Common.{◌≡◌, ℕ, suc, ◌+◌, ◌-◌, ◌<◌, List, [], ◌∷◌, ◌++◌, replicate, slice_get, Option, Some, unwrap_or, sym, subst, ◌∙◌, ap, arith}
 use Rattle.std.proofs.lemmas.Option.{none-some}
 use Rattle.vw_rows.specs.declared.run.Run.{Run}
-use Rattle.vw_rows.specs.Runs.{rows_of_runs, rows_left}
+use Rattle.vw_rows.specs.Steps.Runs.{rows_of_runs, rows_left}
 
 taken : (run : Run) (runs : List Run) (gone : ℕ) → gone < run.times → rows_left (run ∷ runs) gone ≡ run.row ∷ rows_left (run ∷ runs) (gone + 1)
 taken run runs gone some =

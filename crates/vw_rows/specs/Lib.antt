@@ -1,5 +1,4 @@
 pub mod Stimulus
-pub mod Runs
 pub mod Steps
 pub mod Trace
 pub mod Written

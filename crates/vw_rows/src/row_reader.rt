@@ -1,6 +1,6 @@
 //! Rows that are read in batches.
 ghost use Rattle.std.specs.Prelude.{◌≡◌, [], ◌∷◌, List, Bool, Option, length, ◌+◌, take, drop, IfOk, IfErr, OnOk};
-ghost use Rattle.vw_rows.specs.Runs.{rows_of_runs};
+ghost use Rattle.vw_rows.specs.Steps.Runs.{rows_of_runs};
 ghost use Rattle.vw_rows.specs.Steps.Reading.{ReadsRow};
 
 use crate::run::Run;
@@ -17,7 +17,7 @@ pub struct RowReader<'a> {
 
 impl<'a> Model for RowReader<'a> {
     ghost use Rattle.std.specs.Prelude.{Bool, List};
-    ghost use Rattle.vw_rows.specs.Runs.{rows_left};
+    ghost use Rattle.vw_rows.specs.Steps.Runs.{rows_left};
 
     ghost Value = { List (List Bool) };
 

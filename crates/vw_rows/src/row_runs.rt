@@ -19,7 +19,7 @@ pub struct RowRuns {
 impl Model for RowRuns {
     ghost use Rattle.std.specs.Prelude.{◌≡◌, ◌<◌, Bool, List, length};
     ghost use Rattle.std.specs.List.{All};
-    ghost use Rattle.vw_rows.specs.Runs.{rows_of_runs};
+    ghost use Rattle.vw_rows.specs.Steps.Runs.{rows_of_runs};
 
     ghost Value = { List (List Bool) };
 

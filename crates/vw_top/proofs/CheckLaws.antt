@@ -23,9 +23,9 @@ use Rattle.vw_top.specs.Designs.{IsNetlistOf, RefusesDesign}
 use Rattle.vw_top.specs.Course.{Course, Outside, outside, MayWrite, MayRefuse, MayRead, writing, refusing, missing, ComesTo}
 use Rattle.vw_top.specs.Statuses.{Statuses}
 use Rattle.vw_top.specs.Commands.{RefusesBoard, RefusesPlanText, RefusesPlan, plan_text_apart, check_course, check_board_course, check_plan_course, sound_text}
-use Rattle.vw_top.specs.CommandStatuses.{CountsFaultAt, YieldsAt}
+use Rattle.vw_top.specs.CommandStatuses.{AreSpelledOn, CountsFaultAt, YieldsAt}
 use Rattle.vw_top.specs.CheckStatuses.{AreSpelled, IsNoPlanText, HasPlanFault, IsNoPlan, IsSoundPlan, HoldTexts, CheckStatuses}
-use Rattle.vw_top.proofs.CourseEnds.{none_counted, refused_with, refused_or_stopped, refused_one_of, fault_at, yields_at, absent_leaves, part_of, carried_out}
+use Rattle.vw_top.proofs.CourseEnds.{refused_with, refused_or_stopped, refused_one_of, fault_at, yields_at, absent_leaves, part_of, carried_out}
 use Rattle.vw_top.proofs.ReadsAndRefusals.{IsOneOf, ReadsOnly, reads_one_of, RefusesWith}
 use Rattle.vw_top.proofs.FirstFile.{its_text, no_text, at_held, at_absent, first_reads, first_refuses, first_refused, first_comes, first_absent}
 use Rattle.vw_top.proofs.SecondFile.{second_refused, second_comes, second_absent}
@@ -114,12 +114,12 @@ module _ (design board plan : List ℕ) (told : List ℕ → Told) where
 
   -- ---- what it comes to
 
-  comes_to_no_text : (d b p : List ℕ) (ordered : Ordered) (its : Board) → told design ≡ held d → told board ≡ held b → told plan ≡ held p → IsNetlistOf d ordered → SpellsBoard b its → IsNoPlanText p → ComesTo refusing course told
-  comes_to_no_text d b p ordered its d_is b_is p_is netlist board_is none =
+  comes_to_no_text : (d b p : List ℕ) (ordered : Ordered) (its : Board) → told design ≡ held d → told board ≡ held b → told plan ≡ held p → AreSpelledOn d b ordered its → IsNoPlanText p → ComesTo refusing course told
+  comes_to_no_text d b p ordered its d_is b_is p_is are none =
       at_held (told design) d _ _ d_is (inr (
-        (ordered, netlist),
+        (ordered, are.netlist),
         λ other other_is.
-            at_held (told board) b _ _ b_is (inr ((its, board_is), λ another another_is. at_held (told plan) p _ _ p_is (inl (refl, none.0, none.1)))),
+            at_held (told board) b _ _ b_is (inr ((its, are.board_is), λ another another_is. at_held (told plan) p _ _ p_is (inl (refl, none.0, none.1)))),
       ))
 
   comes_to_unsound : (d b p : List ℕ) (fault : PlanFault) → told design ≡ held d → told board ≡ held b → told plan ≡ held p → HasPlanFault d b p fault → ComesTo refusing course told
@@ -157,12 +157,12 @@ module _ (design board plan : List ℕ) (told : List ℕ → Told) where
             )),
       ))
 
-  comes_to_no_plan_file : (d b : List ℕ) (ordered : Ordered) (its : Board) → told design ≡ held d → told board ≡ held b → IsNetlistOf d ordered → SpellsBoard b its → told plan ≡ absent → ComesTo missing course told
-  comes_to_no_plan_file d b ordered its d_is b_is netlist board_is is =
+  comes_to_no_plan_file : (d b : List ℕ) (ordered : Ordered) (its : Board) → told design ≡ held d → told board ≡ held b → AreSpelledOn d b ordered its → told plan ≡ absent → ComesTo missing course told
+  comes_to_no_plan_file d b ordered its d_is b_is are is =
       at_held (told design) d _ _ d_is (inr (
-        (ordered, netlist),
+        (ordered, are.netlist),
         λ other other_is.
-            at_held (told board) b _ _ b_is (inr ((its, board_is), λ another another_is. at_absent (told plan) _ _ is refl)),
+            at_held (told board) b _ _ b_is (inr ((its, are.board_is), λ another another_is. at_absent (told plan) _ _ is refl)),
       ))
 
 module _ (design board plan : List ℕ) (before after : Outside) (status : ℕ) (table : Statuses (check_course design board plan) before after status) where
@@ -211,11 +211,11 @@ module _ (design board plan : List ℕ) (before after : Outside) (status : ℕ) 
         },
       )
 
-  four_comes : (d b : List ℕ) (ordered : Ordered) (its : Board) (reason : Reason) → told design ≡ held d → told board ≡ held b → IsNetlistOf d ordered → SpellsBoard b its → WhyRefused design board plan told reason → reason_status reason ≡ 4
-  four_comes d b ordered its reason held_d held_b netlist board_is (bad_design text text_is refused) = absurd (no_refused_design (told design) d text ordered reason held_d netlist text_is refused)
-  four_comes d b ordered its reason held_d held_b netlist board_is (bad_board text_d text other d_is other_is b_is refused) = absurd (no_refused_board (told board) b text its reason held_b board_is b_is refused)
-  four_comes d b ordered its reason held_d held_b netlist board_is (bad_text text_d text_b text other content d_is other_is b_is content_is p_is refused) = text_status text reason refused
-  four_comes d b ordered its reason held_d held_b netlist board_is (unsound text_d text_b text_p other spelled content d_is b_is p_is are refused) = plan_status (setting_of other spelled content) reason refused
+  four_comes : (d b : List ℕ) (ordered : Ordered) (its : Board) (reason : Reason) → told design ≡ held d → told board ≡ held b → AreSpelledOn d b ordered its → WhyRefused design board plan told reason → reason_status reason ≡ 4
+  four_comes d b ordered its reason held_d held_b are (bad_design text text_is refused) = absurd (no_refused_design (told design) d text ordered reason held_d are.netlist text_is refused)
+  four_comes d b ordered its reason held_d held_b are (bad_board text_d text other d_is other_is b_is refused) = absurd (no_refused_board (told board) b text its reason held_b are.board_is b_is refused)
+  four_comes d b ordered its reason held_d held_b are (bad_text text_d text_b text other content d_is other_is b_is content_is p_is refused) = text_status text reason refused
+  four_comes d b ordered its reason held_d held_b are (unsound text_d text_b text_p other spelled content d_is b_is p_is other_are refused) = plan_status (setting_of other spelled content) reason refused
 
   -- ---- what is written is of the one plan of the texts
 
@@ -245,13 +245,13 @@ module _ (design board plan : List ℕ) (before after : Outside) (status : ℕ) 
     no_board_comes = λ d b ordered held_two netlist. second_comes judged_netlist (λ ordered. judged_board) (λ (is : 1 ≡ 3). omega arith) (lit< tt) (lit< tt) files.Design files.Board design board (λ ordered its. check_plan_course ordered its plan) table d ordered held_two.design_held netlist (λ other is text reason bad. bad) b held_two.board_held;
     no_plan = λ d b p held_all.
         refused_with table 4 (IsNoPlan d b p) (lit< tt) (lit< tt) (λ reason may. why_four d b p reason held_all (its_why reason may));
-    no_plan_text_comes = λ d b p ordered its held_all netlist board_is none.
+    no_plan_text_comes = λ d b p ordered its held_all are none.
         refused_or_stopped table 4 (YieldsAt (design ∷ board ∷ plan ∷ []) before after status)
-        (λ reason may. four_comes d b ordered its reason held_all.design_held held_all.board_held netlist board_is (its_why reason may))
-        yields (comes_to_no_text design board plan told d b p ordered its held_all.design_held held_all.board_held held_all.plan_held netlist board_is none);
+        (λ reason may. four_comes d b ordered its reason held_all.design_held held_all.board_held are (its_why reason may))
+        yields (comes_to_no_text design board plan told d b p ordered its held_all.design_held held_all.board_held held_all.plan_held are none);
     unsound_comes = λ d b p fault held_all has.
         refused_or_stopped table 4 (YieldsAt (design ∷ board ∷ plan ∷ []) before after status)
-        (λ reason may. four_comes d b has.ordered has.board reason held_all.design_held held_all.board_held has.are.netlist has.are.board_is (its_why reason may))
+        (λ reason may. four_comes d b has.ordered has.board reason held_all.design_held held_all.board_held (record { netlist = has.are.netlist; board_is = has.are.board_is }) (its_why reason may))
         yields (comes_to_unsound design board plan told d b p fault held_all.design_held held_all.board_held held_all.plan_held has);
     read_fault = read_fault;
     others = (
@@ -264,10 +264,10 @@ module _ (design board plan : List ℕ) (before after : Outside) (status : ℕ) 
         (comes_to_sound design board plan told d b p its held_all.design_held held_all.board_held held_all.plan_held is);
     absent_design = first_absent judged_netlist files.Design design (λ ordered. check_board_course ordered board plan) table;
     absent_board = second_absent judged_netlist (λ ordered. judged_board) (λ (is : 1 ≡ 3). omega arith) (lit< tt) (lit< tt) files.Design files.Board design board (λ ordered its. check_plan_course ordered its plan) table;
-    absent_plan = λ d b ordered its held_d held_b netlist board_is gone.
+    absent_plan = λ d b ordered its held_two are gone.
         absent_leaves table (λ text may. let w = what design board plan told text may in no_text (told plan) w.p gone w.p_is)
-        (comes_to_no_plan_file design board plan told d b ordered its held_d held_b netlist board_is gone);
-    complete = λ d b p its held_all is no_fault no_write.
-        carried_out table (λ seven. none_counted before after (design ∷ board ∷ plan ∷ []) no_fault (read_fault seven)) no_write
+        (comes_to_no_plan_file design board plan told d b ordered its held_two.design_held held_two.board_held are gone);
+    complete = λ d b p its held_all is.
+        carried_out table (design ∷ board ∷ plan ∷ []) read_fault
         (comes_to_sound design board plan told d b p its held_all.design_held held_all.board_held held_all.plan_held is);
   }

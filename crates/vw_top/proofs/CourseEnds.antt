@@ -7,7 +7,7 @@ use Rattle.vw_top.specs.declared.reason.Reason.{Reason}
 use Rattle.vw_top.specs.Reasons.{reason_status}
 use Rattle.vw_top.specs.Course.{Course, Outside, MayWrite, MayRefuse, MayRead, writing, refusing, missing, ComesTo}
 use Rattle.vw_top.specs.Statuses.{Statuses, IsWantOfMemory, LeavesPart}
-use Rattle.vw_top.specs.CommandStatuses.{IsOneMore, CountsFaultAt, NoFaultAt, YieldsAt}
+use Rattle.vw_top.specs.CommandStatuses.{IsOneMore, CountsFaultAt, NoFaultAt, YieldsAt, EndsAbsent, CompletesAt}
 use Rattle.vw_top.proofs.CourseLaws.{none_written}
 use Rattle.vw_top.proofs.ReadsAndRefusals.{IsOneOf, RefusesWith, refuses_one_of}
 
@@ -20,7 +20,7 @@ module _ (before after : Outside) where
   counted_at name counted (one ∷ others) (inr is) = inr (counted_at name counted others is)
 
   -- and then its count rose
-  pub none_counted : (names : List (List ℕ)) → NoFaultAt names before after → CountsFaultAt names before after → ⊥
+  none_counted : (names : List (List ℕ)) → NoFaultAt names before after → CountsFaultAt names before after → ⊥
   none_counted [] none counted = counted
   none_counted (name ∷ names) none (inl counted) = none.0 counted.here
   none_counted (name ∷ names) none (inr counted) = none_counted names none.1 counted
@@ -67,12 +67,12 @@ module _ {course : Course} {before after : Outside} {status : ℕ} (table : Stat
       (λ (some : (text : List ℕ) × MayWrite course before.shelf.told text × WrotePart text before.out after.out). absurd (none some.0 some.1))
       want.part
 
-  missing_leaves : ((text : List ℕ) → MayWrite course before.shelf.told text → ⊥) → (status ≡ 7) ⊎ (status ≡ 9) → (after.out ≡ before.out) × ((status ≡ 7) ⊎ (status ≡ 9))
+  missing_leaves : ((text : List ℕ) → MayWrite course before.shelf.told text → ⊥) → (status ≡ 7) ⊎ (status ≡ 9) → EndsAbsent before after status
   missing_leaves none (inl is) = ((table.read_fault is).leaves, inl is)
   missing_leaves none (inr is) = (want_untouched (table.want_of_memory is) none, inr is)
 
   -- a file that is absent leaves out as it was
-  pub absent_leaves : ((text : List ℕ) → MayWrite course before.shelf.told text → ⊥) → ComesTo missing course before.shelf.told → (after.out ≡ before.out) × ((status ≡ 7) ⊎ (status ≡ 9))
+  pub absent_leaves : ((text : List ℕ) → MayWrite course before.shelf.told text → ⊥) → ComesTo missing course before.shelf.told → EndsAbsent before after status
   absent_leaves none comes = missing_leaves none (table.absent_file comes)
 
   -- out has a part of the one text that can be written
@@ -91,5 +91,6 @@ module _ {course : Course} {before after : Outside} {status : ℕ} (table : Stat
   completes no_read no_write (inr (inr (inr is))) = inr is
 
   -- where no count rose, the command is carried out, unless memory runs out
-  pub carried_out : (status ≡ 7 → ⊥) → (IsOneMore before.out.faults after.out.faults → ⊥) → ComesTo writing course before.shelf.told → (status ≡ 0) ⊎ (status ≡ 9)
-  carried_out no_read no_write comes = completes no_read no_write (table.accepted comes)
+  pub carried_out : (names : List (List ℕ)) → (status ≡ 7 → CountsFaultAt names before after) → ComesTo writing course before.shelf.told → CompletesAt names before after status
+  carried_out names read_fault comes = λ no_fault no_write.
+      completes (λ seven. none_counted before after names no_fault (read_fault seven)) no_write (table.accepted comes)

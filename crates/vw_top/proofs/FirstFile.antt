@@ -6,7 +6,7 @@ use Rattle.vw_top.specs.declared.reason.Reason.{Reason}
 use Rattle.vw_top.specs.Reasons.{reason_status}
 use Rattle.vw_top.specs.Course.{Course, reads, judges, Outside, MayRefuse, MayRead, AtFile}
 use Rattle.vw_top.specs.Statuses.{Statuses}
-use Rattle.vw_top.specs.CommandStatuses.{Holds, YieldsAt}
+use Rattle.vw_top.specs.CommandStatuses.{Holds, YieldsAt, EndsAbsent}
 use Rattle.vw_top.proofs.CourseEnds.{refused_with, refused_or_stopped, yields_at, absent_leaves}
 use Rattle.vw_top.proofs.ReadsAndRefusals.{IsOneOf, ReadsOnly, reads_more, RefusesWith, refuses_one_of, refuses_more}
 
@@ -24,10 +24,6 @@ at_held told bytes Absent Held is here = subst (λ (t : Told). AtFile t Absent H
 
 pub at_absent : (told : Told) (Absent : Type 0) (Held : List ℕ → Type 0) → told ≡ absent → Absent → AtFile told Absent Held
 at_absent told Absent Held is here = subst (λ (t : Told). AtFile t Absent Held) (sym is) here
-
--- out is as it was, and a read failed or memory ran out
-abbrev pub EndsAbsent : Outside → Outside → ℕ → Type 0
-EndsAbsent before after status = (after.out ≡ before.out) × ((status ≡ 7) ⊎ (status ≡ 9))
 
 -- what is good and bad of the text of a file, and the status of what is bad
 pub record Judged (A : Type 0) (number : ℕ) : Type 1 where

@@ -18,12 +18,12 @@ use Rattle.vw_top.specs.Designs.{IsNetlistOf, RefusesDesign}
 use Rattle.vw_top.specs.Course.{Course, Outside, outside, MayWrite, MayRefuse, MayRead, writing, refusing, ComesTo}
 use Rattle.vw_top.specs.Statuses.{Statuses, LeavesPart}
 use Rattle.vw_top.specs.Commands.{RefusesBoard, RefusesFit, HasRoom, plan_course, plan_board_course, good_course, text_of_plan}
-use Rattle.vw_top.specs.CommandStatuses.{CountsFaultAt, HoldTwo, YieldsAt}
-use Rattle.vw_top.specs.PlanStatuses.{AreSpelledOn, IsGoodPlan, HaveRoom, HaveNoRoom, PlanStatuses}
+use Rattle.vw_top.specs.CommandStatuses.{AreSpelledOn, CountsFaultAt, HoldTwo, YieldsAt}
+use Rattle.vw_top.specs.PlanStatuses.{IsGoodPlan, HaveRoom, HaveNoRoom, PlanStatuses}
 use Rattle.vw_top.proofs.FirstFile.{its_text, at_held, first_reads, first_refuses, first_refused, first_comes, first_absent}
 use Rattle.vw_top.proofs.SecondFile.{second_refused, second_comes, second_absent}
 use Rattle.vw_top.proofs.JudgedTexts.{judged_netlist, judged_board, status_one, board_status, netlist_same, no_refused_design, no_refused_board}
-use Rattle.vw_top.proofs.CourseEnds.{none_counted, refused_with, refused_or_stopped, refused_one_of, fault_at, yields_at, carried_out}
+use Rattle.vw_top.proofs.CourseEnds.{refused_with, refused_or_stopped, refused_one_of, fault_at, yields_at, carried_out}
 use Rattle.vw_top.proofs.ReadsAndRefusals.{IsOneOf, ReadsOnly, reads_one_of, RefusesWith}
 
 fit_status : (ordered : Ordered) (board : Board) (reason : Reason) → RefusesFit ordered board reason → reason_status reason ≡ 6
@@ -206,7 +206,7 @@ module _ (design board : List ℕ) (before after : Outside) (status : ℕ) (tabl
         (table.part (comes_to_room design board told d b held_two.design_held held_two.board_held has));
     absent_design = first_absent judged_netlist files.Design design (λ ordered. plan_board_course ordered board) table;
     absent_board = second_absent judged_netlist (λ ordered. judged_board) (λ (is : 1 ≡ 3). omega arith) (lit< tt) (lit< tt) files.Design files.Board design board good_course table;
-    complete = λ d b held_two has no_fault no_write.
-        carried_out table (λ seven. none_counted before after (design ∷ board ∷ []) no_fault (read_fault seven)) no_write
+    complete = λ d b held_two has.
+        carried_out table (design ∷ board ∷ []) read_fault
         (comes_to_room design board told d b held_two.design_held held_two.board_held has);
   }

@@ -7,10 +7,10 @@ use Rattle.vw_top.specs.declared.reason.Reason.{Reason}
 use Rattle.vw_top.specs.Reasons.{reason_status}
 use Rattle.vw_top.specs.Course.{Course, Outside, MayRefuse, MayRead}
 use Rattle.vw_top.specs.Statuses.{Statuses}
-use Rattle.vw_top.specs.CommandStatuses.{Holds, YieldsAt}
+use Rattle.vw_top.specs.CommandStatuses.{Holds, YieldsAt, EndsAbsent}
 use Rattle.vw_top.proofs.CourseEnds.{refused_with, refused_or_stopped, yields_at, absent_leaves}
 use Rattle.vw_top.proofs.ReadsAndRefusals.{IsOneOf, RefusesWith, refuses_one_of}
-use Rattle.vw_top.proofs.FirstFile.{its_text, no_text, at_held, at_absent, EndsAbsent, Judged, first_stage}
+use Rattle.vw_top.proofs.FirstFile.{its_text, no_text, at_held, at_absent, Judged, first_stage}
 
 -- something good of the first text for which the second one is bad
 pub record HasBadSecond {A B : Type 0} {number other_number : ℕ} (judged : Judged A number) (other_judged : A → Judged B other_number) (first_told : Told) (text : List ℕ) : Type 0 where

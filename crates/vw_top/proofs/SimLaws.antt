@@ -21,7 +21,7 @@ use Rattle.vw_top.proofs.FirstFile.{its_text, at_held, Judged, first_reads, firs
 use Rattle.vw_top.proofs.SecondFile.{second_refused, second_comes, second_absent}
 use Rattle.vw_top.proofs.JudgedTexts.{judged_design}
 use Rattle.vw_top.proofs.StageLaws.{same_outside}
-use Rattle.vw_top.proofs.CourseEnds.{none_counted, refused_one_of, fault_at, want_untouched, part_of, carried_out}
+use Rattle.vw_top.proofs.CourseEnds.{refused_one_of, fault_at, want_untouched, part_of, carried_out}
 
 -- designs of one text are one, and so are their rows
 same_design : (d : List ℕ) (spelled other : Spelled) → IsDesignOf d spelled → IsDesignOf d other → other ≡ spelled
@@ -132,10 +132,8 @@ module _ (design stimulus : List ℕ) (unknown : Bool) (before after : Outside) 
         (comes_to_trace design stimulus unknown told accepted.design_text accepted.stimulus_text spelled rows accepted.design_held accepted.stimulus_held accepted.is accepted.read);
     absent_design = first_absent judged_design files.Design design (λ spelled. sim_rows_course spelled stimulus unknown) table;
     absent_stimulus = λ d spelled held_d its_design. second_absent judged_design judged_rows (λ (is : 1 ≡ 5). omega arith) (lit< tt) (lit< tt) files.Design files.Stimulus design stimulus (λ spelled rows. writes (trace_of unknown spelled rows)) table d spelled held_d its_design;
-    complete = λ spelled rows accepted no_fault no_write.
-        carried_out table
-        (λ seven. none_counted before after (design ∷ stimulus ∷ []) no_fault (read_fault seven))
-        no_write
+    complete = λ spelled rows accepted.
+        carried_out table (design ∷ stimulus ∷ []) read_fault
         (comes_to_trace design stimulus unknown told accepted.design_text accepted.stimulus_text spelled rows accepted.design_held accepted.stimulus_held accepted.is accepted.read);
   }
 

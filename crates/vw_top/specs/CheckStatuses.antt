@@ -9,17 +9,16 @@ use Rattle.vw_board.specs.BoardText.{Spells as SpellsBoard}
 use Rattle.vw_plantext.specs.PlanText.{Spells as SpellsPlan}
 use Rattle.vw_check.specs.declared.fault.PlanFault.{PlanFault}
 use Rattle.vw_check.specs.Faults.{plan_fault}
-use Rattle.vw_outside.specs.Told.{absent}
-use Rattle.vw_outside.specs.Writes.{appended}
 use Rattle.vw_top.specs.declared.reason.Reason.{Reason}
 use Rattle.vw_top.specs.Designs.{IsNetlistOf, IsNoDesign}
-use Rattle.vw_top.specs.Course.{Outside, outside}
+use Rattle.vw_top.specs.Course.{Outside}
 use Rattle.vw_top.specs.Statuses.{LeavesPart}
 use Rattle.vw_top.specs.Commands.{RefusesPlanText, sound_text}
-use Rattle.vw_top.specs.CommandStatuses.{HoldTwo, Holds, IsNoBoard, IsOneMore, CountsFaultAt, NoFaultAt, YieldsAt}
+use Rattle.vw_top.specs.CommandStatuses.{Holds, IsAbsent, HoldTwo, IsNoBoard, AreSpelledOn, WritesAlone, CountsFaultAt, YieldsAt, EndsAbsent, CompletesAt}
 
 -- a netlist of the design of a text, and the board and the plan of two others
-pub record AreSpelled (d b p : List ℕ) (ordered : Ordered) (board : Board) (plan : Plan) : Type 0 where
+pub record AreSpelled (d b p : List ℕ)
+    (ordered : Ordered) (board : Board) (plan : Plan) : Type 0 where
   pub netlist : IsNetlistOf d ordered
   pub board_is : SpellsBoard b board
   pub plan_is : SpellsPlan p plan
@@ -47,41 +46,53 @@ pub record IsSoundPlan (d b p : List ℕ) (plan : Plan) : Type 0 where
   pub are : AreSpelled d b p ordered board plan
   pub sound : IsSound (setting_of ordered board plan)
 
--- the three texts are held
-pub record HoldTexts (design board plan : List ℕ) (before : Outside) (d b p : List ℕ) : Type 0 where
-  pub design_held : Holds before design d
-  pub board_held : Holds before board b
-  pub plan_held : Holds before plan p
+module _ (design board plan : List ℕ) where
+  -- the files of `check`
+  abbrev pub its_files : List (List ℕ)
+  its_files = design ∷ board ∷ plan ∷ []
 
-pub record CheckStatuses (design board plan : List ℕ) (before after : Outside) (status : ℕ) : Type 0 where
-  -- 0: the plan is sound, its size is written, and nothing else changed
-  pub done : (d b p : List ℕ) → HoldTexts design board plan before d b p → status ≡ 0
-      → (its : Plan) × IsSoundPlan d b p its × (after ≡ outside before.shelf (appended before.out (sound_text its)))
-  -- 1: exactly where the design text has a fault, or its design has one, or a loop
-  pub no_design : (d : List ℕ) → Holds before design d → status ≡ 1 → IsNoDesign d
-  pub no_design_comes : (d : List ℕ) → Holds before design d → IsNoDesign d → (status ≡ 1) ⊎ YieldsAt (design ∷ []) before after status
-  -- 3: exactly where the board text has a fault
-  pub no_board : (b : List ℕ) → Holds before board b → status ≡ 3 → IsNoBoard b
-  pub no_board_comes : (d b : List ℕ) (ordered : Ordered) → HoldTwo design board before d b → IsNetlistOf d ordered → IsNoBoard b
-      → (status ≡ 3) ⊎ YieldsAt (design ∷ board ∷ []) before after status
-  -- 4: exactly where the plan text has a fault, or its plan isn't sound
-  pub no_plan : (d b p : List ℕ) → HoldTexts design board plan before d b p → status ≡ 4 → IsNoPlan d b p
-  pub no_plan_text_comes : (d b p : List ℕ) (ordered : Ordered) (its : Board) → HoldTexts design board plan before d b p → IsNetlistOf d ordered → SpellsBoard b its → IsNoPlanText p
-      → (status ≡ 4) ⊎ YieldsAt (design ∷ board ∷ plan ∷ []) before after status
-  pub unsound_comes : (d b p : List ℕ) (fault : PlanFault) → HoldTexts design board plan before d b p → HasPlanFault d b p fault
-      → (status ≡ 4) ⊎ YieldsAt (design ∷ board ∷ plan ∷ []) before after status
-  -- 7: a fault was counted at one of the three files, over every shelf
-  pub read_fault : status ≡ 7 → CountsFaultAt (design ∷ board ∷ plan ∷ []) before after
-  -- these aren't statuses of `check`
-  pub others : (status ≢ 2) × (status ≢ 5) × (status ≢ 6)
-  -- whatever the status, out has a part of what status 0 would have written
-  pub part : (d b p : List ℕ) (its : Plan) → HoldTexts design board plan before d b p → IsSoundPlan d b p its → LeavesPart (sound_text its) before.out after.out
-  -- a file that is told to be absent
-  pub absent_design : before.shelf.told design ≡ absent → (after.out ≡ before.out) × ((status ≡ 7) ⊎ (status ≡ 9))
-  pub absent_board : (d : List ℕ) (ordered : Ordered) → Holds before design d → IsNetlistOf d ordered → before.shelf.told board ≡ absent
-      → (after.out ≡ before.out) × ((status ≡ 7) ⊎ (status ≡ 9))
-  pub absent_plan : (d b : List ℕ) (ordered : Ordered) (its : Board) → Holds before design d → Holds before board b → IsNetlistOf d ordered → SpellsBoard b its → before.shelf.told plan ≡ absent
-      → (after.out ≡ before.out) × ((status ≡ 7) ⊎ (status ≡ 9))
-  -- where no count rose, a sound plan is accepted, unless memory runs out
-  pub complete : (d b p : List ℕ) (its : Plan) → HoldTexts design board plan before d b p → IsSoundPlan d b p its
-      → NoFaultAt (design ∷ board ∷ plan ∷ []) before after → (IsOneMore before.out.faults after.out.faults → ⊥) → (status ≡ 0) ⊎ (status ≡ 9)
+  -- the three texts are held
+  pub record HoldTexts (before : Outside) (d b p : List ℕ) : Type 0 where
+    pub design_held : Holds before design d
+    pub board_held : Holds before board b
+    pub plan_held : Holds before plan p
+
+  pub record CheckStatuses (before after : Outside) (status : ℕ) : Type 0 where
+    -- 0: the plan is sound, its size is written, and nothing else changed
+    pub done : (d b p : List ℕ) → HoldTexts before d b p → status ≡ 0
+        → (its : Plan) × IsSoundPlan d b p its × WritesAlone (sound_text its) before after
+    -- 1: exactly where the design text has a fault, or its design has one, or a loop
+    pub no_design : (d : List ℕ) → Holds before design d → status ≡ 1 → IsNoDesign d
+    pub no_design_comes : (d : List ℕ) → Holds before design d → IsNoDesign d
+        → (status ≡ 1) ⊎ YieldsAt (design ∷ []) before after status
+    -- 3: exactly where the board text has a fault
+    pub no_board : (b : List ℕ) → Holds before board b → status ≡ 3 → IsNoBoard b
+    pub no_board_comes : (d b : List ℕ) (ordered : Ordered)
+        → HoldTwo design board before d b → IsNetlistOf d ordered → IsNoBoard b
+        → (status ≡ 3) ⊎ YieldsAt (design ∷ board ∷ []) before after status
+    -- 4: exactly where the plan text has a fault, or its plan isn't sound
+    pub no_plan : (d b p : List ℕ) → HoldTexts before d b p → status ≡ 4 → IsNoPlan d b p
+    pub no_plan_text_comes : (d b p : List ℕ) (ordered : Ordered) (its : Board)
+        → HoldTexts before d b p → AreSpelledOn d b ordered its → IsNoPlanText p
+        → (status ≡ 4) ⊎ YieldsAt its_files before after status
+    pub unsound_comes : (d b p : List ℕ) (fault : PlanFault)
+        → HoldTexts before d b p → HasPlanFault d b p fault
+        → (status ≡ 4) ⊎ YieldsAt its_files before after status
+    -- 7: a fault was counted at one of the three files, over every shelf
+    pub read_fault : status ≡ 7 → CountsFaultAt its_files before after
+    -- these aren't statuses of `check`
+    pub others : (status ≢ 2) × (status ≢ 5) × (status ≢ 6)
+    -- whatever the status, out has a part of what status 0 would have written
+    pub part : (d b p : List ℕ) (its : Plan) → HoldTexts before d b p → IsSoundPlan d b p its
+        → LeavesPart (sound_text its) before.out after.out
+    -- a file that is told to be absent
+    pub absent_design : IsAbsent before design → EndsAbsent before after status
+    pub absent_board : (d : List ℕ) (ordered : Ordered)
+        → Holds before design d → IsNetlistOf d ordered → IsAbsent before board
+        → EndsAbsent before after status
+    pub absent_plan : (d b : List ℕ) (ordered : Ordered) (its : Board)
+        → HoldTwo design board before d b → AreSpelledOn d b ordered its → IsAbsent before plan
+        → EndsAbsent before after status
+    -- where no count rose, a sound plan is accepted, unless memory runs out
+    pub complete : (d b p : List ℕ) (its : Plan) → HoldTexts before d b p → IsSoundPlan d b p its
+        → CompletesAt its_files before after status

@@ -1,18 +1,25 @@
-use Rattle.std.proofs.Common.{◌≡◌, ℕ, Bool, false, List, [], ◌∷◌, ◌++◌, Some, refl, sym, ◌∙◌, ap, subst, rules}
+use Rattle.std.proofs.Common.{◌≡◌, ◌<◌, ℕ, Bool, false, List, [], ◌∷◌, ◌++◌, length, take, Some, Ok, Err, refl, sym, ◌∙◌, ap, ap₂, subst, inl, inr, arith, rules}
 use Rattle.std.specs.Prelude.{codes, option_map}
+use Rattle.vw_design.specs.Clocks.{columns}
+use Rattle.vw_rows.specs.Stimulus.{stimulus_rows}
 use Rattle.vw_outside.specs.declared.held.Held.{Held}
-use Rattle.vw_outside.specs.Told.{held}
+use Rattle.vw_outside.specs.Told.{Told, held, IsTextOf}
 use Rattle.vw_outside.specs.Files.{told_in}
 use Rattle.vw_outside.specs.Memory.{seen_shelf, seen_sink}
-use Rattle.vw_outside.specs.Writes.{SeenSink, appended}
+use Rattle.vw_outside.specs.Writes.{SeenSink, appended, faulted, seen_bytes}
+use Rattle.vw_top.specs.declared.stop.Stop.TheVariants.{ReadFault, WriteFault, NoMemory}
+use Rattle.vw_top.specs.declared.reason.Reason.{Reason}
+use Rattle.vw_top.specs.declared.endings.Unfinished.TheVariants.{Stopped, Refused}
+use Rattle.vw_top.specs.Reasons.{reason_status, reason_line}
+use Rattle.vw_top.specs.Designs.{IsDesignOf, RefusesDesign}
 use Rattle.vw_top.specs.Words.{Spelled, spelled_by}
 use Rattle.vw_top.specs.Words as words
-use Rattle.vw_top.specs.Course.{Outside, outside}
+use Rattle.vw_top.specs.Course.{Answer, Outside, outside, Follows}
 use Rattle.vw_top.specs.Commands.{sim_course, course_of, trace_of}
-use Rattle.vw_top.specs.Endings.{IsCallOf}
+use Rattle.vw_top.specs.Endings.{Ends, IsCallOf, IsReported}
 use Rattle.vw_top.specs.Statuses.{Statuses}
 use Rattle.vw_top.specs.SimStatuses.{SimStatuses}
-use Rattle.vw_example.specs.Outcome.{IsOutcome}
+use Rattle.vw_example.specs.Outcome.{HasBadDesign, HasBadRows, IsOutcome}
 use Rattle.vw_example.proofs.simulate.Goals as goal
 
 -- what two files of these names hold
@@ -37,6 +44,70 @@ its_sim = words.sim (codes "design") (codes "stimulus") false
 spells_sim : spelled_by (codes "sim" ∷ codes "design" ∷ codes "stimulus" ∷ []) ≡ its_sim
 spells_sim = refl
 
+-- what was reported to a sink without bytes, where no write to it failed
+whole_line : (before after : SeenSink) (line err : List ℕ) → before ≡ seen_bytes [] 0 → after ≡ seen_bytes err 0 → IsReported line before after → err ≡ line
+whole_line before after line err none some (inl same) =
+    whole_text before after line err (ap (λ (sink : SeenSink). sink.told) none) (ap (λ (sink : SeenSink). sink.told) some) same
+whole_line before after line err none some (inr (count, most, same)) =
+    let wrong : 0 ≡ 1 = ap (λ (sink : SeenSink). sink.faults) (sym some ∙ same ∙ ap (λ (sink : SeenSink). faulted (appended sink (take count line))) none) in absurd (omega (arith, wrong))
+
+-- a design text is refused with status 1
+design_status : (design : List ℕ) (reason : Reason) → RefusesDesign design reason → reason_status reason ≡ 1
+design_status design reason (inl refused) = ap reason_status refused.1
+design_status design reason (inr (spelled, is, inl refused)) = ap reason_status refused.1
+design_status design reason (inr (spelled, is, inr (accepted, refused))) = ap reason_status refused.1
+
+module _ (design stimulus out err : List ℕ) (before after : Outside) (err_before err_after : SeenSink) (status : ℕ)
+    (design_held : before.shelf.told (codes "design") ≡ held design) (stimulus_held : before.shelf.told (codes "stimulus") ≡ held stimulus)
+    (none : before.out.told ≡ Some []) (some : after.out.told ≡ Some out) (unsaid : err_before ≡ seen_bytes [] 0) (said : err_after ≡ seen_bytes err 0) where
+  -- what err has after each status, and what is refused
+  record IsHeard : Type 0 where
+    done : status ≡ 0 → err ≡ []
+    no_design : status ≡ 1 → HasBadDesign design out err
+    no_rows : status ≡ 5 → HasBadRows design stimulus out err
+
+  stopped : 6 < status → IsHeard
+  stopped more = record { done = λ is. absurd (omega (arith, more, is)); no_design = λ is. absurd (omega (arith, more, is)); no_rows = λ is. absurd (omega (arith, more, is)) }
+
+  no_trace : after ≡ before → out ≡ []
+  no_trace same = let told : Some out ≡ Some [] = sym some ∙ ap (λ (o : Outside). o.out.told) same ∙ none in cc
+
+  -- by the answer of the call
+  heard : (answer : Answer) → Follows (course_of its_sim) before after answer → Ends answer err_before err_after status → IsHeard
+  heard (Ok done) follows (zero, same) = record {
+    done = λ is. let told : Some err ≡ Some [] = ap (λ (sink : SeenSink). sink.told) (sym said ∙ same ∙ unsaid) in cc;
+    no_design = λ is. absurd (omega (arith, zero, is));
+    no_rows = λ is. absurd (omega (arith, zero, is));
+  }
+  heard (Err (Stopped (ReadFault file))) follows (seven, line) = stopped (omega (arith, seven))
+  heard (Err (Stopped WriteFault)) follows (eight, line) = stopped (omega (arith, eight))
+  heard (Err (Stopped NoMemory)) follows (nine, line) = stopped (omega (arith, nine))
+  heard (Err (Refused refusal)) (inl wrong) ends = absurd wrong
+  heard (Err (Refused refusal)) (inr (text, may, inl (same, bad))) (its_status, line) =
+      let refused = subst (λ (t : List ℕ). RefusesDesign t refusal.reason) (subst (λ (t : Told). IsTextOf t text) design_held may) bad in
+      let one = its_status ∙ design_status design refusal.reason refused in
+      record {
+        done = λ is. absurd (omega (arith, one, is));
+        no_design = λ is. record { reason = refusal.reason; refused = refused; no_trace = no_trace same; message = whole_line err_before err_after (reason_line refusal.reason) err unsaid said line };
+        no_rows = λ is. absurd (omega (arith, one, is));
+      }
+  heard (Err (Refused refusal)) (inr (text, may, inr (spelled, its, inl wrong))) ends = absurd wrong
+  heard (Err (Refused refusal)) (inr (text, may, inr (spelled, its, inr (other, may_other, inl (same, (fault, reason, read)))))) (its_status, line) =
+      let five = its_status ∙ ap reason_status reason in
+      record {
+        done = λ is. absurd (omega (arith, five, is));
+        no_design = λ is. absurd (omega (arith, five, is));
+        no_rows = λ is. record {
+          spelled = spelled;
+          fault = fault;
+          is = subst (λ (t : List ℕ). IsDesignOf t spelled) (subst (λ (t : Told). IsTextOf t text) design_held may) its;
+          read = subst (λ (t : List ℕ). stimulus_rows (length (columns spelled)) t ≡ Err fault) (subst (λ (t : Told). IsTextOf t other) stimulus_held may_other) read;
+          no_trace = no_trace same;
+          message = whole_line err_before err_after (reason_line refusal.reason) err unsaid said line ∙ ap reason_line reason;
+        };
+      }
+  heard (Err (Refused refusal)) (inr (text, may, inr (spelled, its, inr (other, may_other, inr (rows, are, wrong))))) ends = absurd wrong
+
 -- what the two laws say, of every call and of those of `sim`
 abbrev CallLaw : Type 0
 CallLaw = (spelled : Spelled) (before after : Outside) (err_before err_after : SeenSink) (status : ℕ) → IsCallOf (course_of spelled) before after err_before err_after status → Statuses (course_of spelled) before after status
@@ -44,12 +115,13 @@ CallLaw = (spelled : Spelled) (before after : Outside) (err_before err_after : S
 abbrev SimLaw : Type 0
 SimLaw = (design stimulus : List ℕ) (unknown : Bool) (before after : Outside) (status : ℕ) → Statuses (sim_course design stimulus unknown) before after status → SimStatuses design stimulus unknown before after status
 
-outcome : CallLaw → SimLaw → (its_words : List (List ℕ)) (before after : Outside) (err_before err_after : SeenSink) (status : ℕ) (design stimulus out : List ℕ) → its_words ≡ codes "sim" ∷ codes "design" ∷ codes "stimulus" ∷ []
+outcome : CallLaw → SimLaw → (its_words : List (List ℕ)) (before after : Outside) (err_before err_after : SeenSink) (status : ℕ) (design stimulus out err : List ℕ) → its_words ≡ codes "sim" ∷ codes "design" ∷ codes "stimulus" ∷ []
     → IsCallOf (course_of (spelled_by its_words)) before after err_before err_after status → before.shelf.told (codes "design") ≡ held design → before.shelf.told (codes "stimulus") ≡ held stimulus
-    → before.out.told ≡ Some [] → after.out.told ≡ Some out → IsOutcome design stimulus out status
-outcome statuses_of_call statuses_of_sim its_words before after err_before err_after status design stimulus out are its_call design_held stimulus_held none some =
+    → before.out.told ≡ Some [] → after.out.told ≡ Some out → err_before ≡ seen_bytes [] 0 → err_after ≡ seen_bytes err 0 → IsOutcome design stimulus out err status
+outcome statuses_of_call statuses_of_sim its_words before after err_before err_after status design stimulus out err are its_call design_held stimulus_held none some unsaid said =
     let call : IsCallOf (course_of its_sim) before after err_before err_after status = subst (λ (spelled : Spelled). IsCallOf (course_of spelled) before after err_before err_after status) (ap spelled_by are ∙ spells_sim) its_call in
     let table = statuses_of_sim (codes "design") (codes "stimulus") false before after status (statuses_of_call its_sim before after err_before err_after status call) in
+    let its = heard design stimulus out err before after err_before err_after status design_held stimulus_held none some unsaid said call.answer call.follows call.ends in
     record {
       done = λ is.
           let done = table.done design stimulus design_held stimulus_held is in
@@ -59,11 +131,10 @@ outcome statuses_of_call statuses_of_sim its_words before after err_before err_a
             is = done.2;
             read = done.3;
             trace = whole_text before.out after.out (trace_of false done.0 done.1) out none some (ap (λ (o : Outside). o.out) done.4);
+            no_message = its.done is;
           };
-      no_design = table.no_design design design_held;
-      no_rows = λ is.
-          let bad = table.no_rows design stimulus design_held stimulus_held is in
-          record { spelled = bad.0; fault = bad.1; is = bad.2; read = bad.3 };
+      no_design = its.no_design;
+      no_rows = its.no_rows;
       others = table.others;
     }
 
@@ -76,5 +147,9 @@ returns c =
     let both = hold_both c.new-shelf.result.files.items c.make.result c.make-2.result c.args.design.items c.args.stimulus.items files_are (c.make.ensures.name ∙ c.in_ok-name_of.ensures) (c.make-2.ensures.name ∙ c.in_ok-name_of-2.ensures) c.make.ensures.bytes c.make-2.ensures.bytes in
     let copied : c.in_ok-to_vec.field-0.items ≡ c.bytes.result.now = search rules in
     let out : c.virtual_wires-status.new.out.written.items ≡ c.in_ok-to_vec.field-0.items = sym (copied ∙ c.bytes.ensures) in
-    outcome c.call_statuses.ensures c.sim_statuses.ensures c.deref.result.now before after (seen_sink c.new-err.result) (seen_sink c.virtual_wires-status.new.err) c.virtual_wires-status.result c.args.design.items c.args.stimulus.items c.in_ok-to_vec.field-0.items words_are c.virtual_wires-status.ensures
-    both.design_held both.stimulus_held (ap Some c.new-out.ensures.written) (ap Some out)
+    let copied_err : c.in_ok-to_vec-2.field-0.items ≡ c.bytes-2.result.now = search rules in
+    let err : c.virtual_wires-status.new.err.written.items ≡ c.in_ok-to_vec-2.field-0.items = sym (copied_err ∙ c.bytes-2.ensures) in
+    let no_fault : c.virtual_wires-status.new.err.faults ≡ 0 = omega (arith, c.if-err-gt0.false) in
+    outcome c.call_statuses.ensures c.sim_statuses.ensures c.deref.result.now before after (seen_sink c.new-err.result) (seen_sink c.virtual_wires-status.new.err) c.virtual_wires-status.result c.args.design.items c.args.stimulus.items
+    c.in_ok-to_vec.field-0.items c.in_ok-to_vec-2.field-0.items words_are c.virtual_wires-status.ensures both.design_held both.stimulus_held (ap Some c.new-out.ensures.written) (ap Some out)
+    (ap₂ seen_bytes c.new-err.ensures.written c.new-err.ensures.faults) (ap₂ seen_bytes err no_fault)

@@ -1,6 +1,6 @@
 -- what is left is the same
 use Rattle.std.proofs.Common.{◌≡◌, length}
-use Rattle.vw_rows.specs.Runs.{rows_left}
+use Rattle.vw_rows.specs.Steps.Runs.{rows_left}
 use Rattle.vw_rows.proofs.row_reader.RowReader.next_row.Given as goal
 
 abbrev pub invariant-loop-run : goal.invariant-loop-run
