@@ -7,7 +7,7 @@ use Rattle.std.proofs.lemmas.Slice.Eq.{bytes_eq-Decides}
 use Rattle.vw_outside.specs.Told.{absent, held}
 use Rattle.vw_outside.specs.Faults.{one_more}
 use Rattle.vw_outside.specs.Reads.{CountsFault}
-use Rattle.vw_outside.specs.Files.{told_in, faults_in, seen_files}
+use Rattle.vw_outside.specs.HeldTexts.{told_in, faults_in, seen_files}
 use Rattle.vw_outside.specs.Steps.TextPlaces.{text_place}
 use Rattle.vw_outside.specs.declared.held.Held.{Held}
 

@@ -2,6 +2,6 @@ pub mod Told
 pub mod Faults
 pub mod Reads
 pub mod Writes
-pub mod Files
+pub mod HeldTexts
 pub mod Memory
 pub mod Steps

@@ -4,7 +4,7 @@ use Rattle.vw_outside.specs.declared.memory_shelf.MemShelf.{MemShelf}
 use Rattle.vw_outside.specs.declared.memory_sink.MemSink.{MemSink}
 use Rattle.vw_outside.specs.Reads.{SeenShelf}
 use Rattle.vw_outside.specs.Writes.{SeenSink, seen_bytes}
-use Rattle.vw_outside.specs.Files.{seen_files}
+use Rattle.vw_outside.specs.HeldTexts.{seen_files}
 
 abbrev pub seen_shelf : MemShelf → SeenShelf
 seen_shelf shelf = seen_files shelf.files.items shelf.others

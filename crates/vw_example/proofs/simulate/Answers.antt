@@ -4,7 +4,7 @@ use Rattle.vw_design.specs.Clocks.{columns}
 use Rattle.vw_rows.specs.Stimulus.{stimulus_rows}
 use Rattle.vw_outside.specs.declared.held.Held.{Held}
 use Rattle.vw_outside.specs.Told.{Told, held, IsTextOf}
-use Rattle.vw_outside.specs.Files.{told_in}
+use Rattle.vw_outside.specs.HeldTexts.{told_in}
 use Rattle.vw_outside.specs.Memory.{seen_shelf, seen_sink}
 use Rattle.vw_outside.specs.Writes.{SeenSink, appended, faulted, seen_bytes}
 use Rattle.vw_top.specs.declared.stop.Stop.TheVariants.{ReadFault, WriteFault, NoMemory}
