@@ -77,7 +77,7 @@ CompletesAt names before after status =
 
 -- ---- words that spell no command
 
--- where words spell no command: status 2, unless memory runs out; the shelf and out are as they were
+-- where words spell no command: status 2, unless memory runs out; shelf and out are as they were
 pub record UsageStatuses (before after : Outside) (status : ℕ) : Type 0 where
   pub comes : (status ≡ 2) ⊎ (status ≡ 9)
   pub leaves : after ≡ before
