@@ -5,7 +5,7 @@ ghost use Rattle.vw_design.specs.Accepted.{HasNoModelFault};
 ghost use Rattle.vw_drivers.specs.Tables.{AreTables};
 ghost use Rattle.vw_drivers.specs.Drivers.{AreDrivers, IsSource};
 
-use crate::led::lead;
+use crate::led::led_driver;
 use crate::outputs::outputs_by;
 use crate::ports::ports_by;
 use crate::source::Source;
@@ -46,6 +46,6 @@ impl Drivers {
             → IsSource design tables.now instance claim result }
     {
         let outputs = self.outputs.as_slice();
-        lead(tables, outputs, self.ports.as_slice(), instance, claim)
+        led_driver(tables, outputs, self.ports.as_slice(), instance, claim)
     }
 }

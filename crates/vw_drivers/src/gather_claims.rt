@@ -9,22 +9,13 @@ ghost use Rattle.vw_drivers.specs.Claimed.{AreClaims};
 
 use crate::claim::{Claim, RepeatedClaim};
 use crate::firsts::Firsts;
+use crate::item_numbers::{small, target_behind};
 use crate::model_claims::ModelClaims;
 use crate::model_outputs::Outputs;
 use std::alloc::{AllocError, Global};
 use vw_design::{Bind, Design, Item, Model};
 use vw_net::Sequence;
 use vw_outside::Name;
-
-/// The number as one of 32 bits. A model of 2 ^ 32 items or bindings has no room.
-fn small(number: usize) -> Result<u32, AllocError>
-    ensures { IfOk result (λ small. small ≡ number) }
-{
-    if number >= 1 << 32 {
-        return Err(AllocError);
-    }
-    Ok(number as u32)
-}
 
 /// How many `.subckt` items stand behind an item, given how many stood before it.
 fn behind(item: &Item, before: usize) -> usize
@@ -35,13 +26,6 @@ fn behind(item: &Item, before: usize) -> usize
         Item::Sub { .. } => before + 1,
         _ => before,
     }
-}
-
-/// The number of the model that stands at the place behind so many places.
-fn target_at(placed: &[Option<u32>], before: usize) -> Option<u32>
-    ensures { result ≡ option_and_then (λ target. target) (slice_get placed.now before) }
-{
-    placed.get(before).copied().flatten()
 }
 
 impl ModelClaims {
@@ -159,7 +143,7 @@ impl ModelClaims {
         let mut before = 0;
         for (index, item) in items.iter().enumerate() {
             let number = small(index)?;
-            let target = target_at(placed, before);
+            let target = target_behind(placed, before);
             self.add_item(alloc, design, outputs, target, number, before, item)?;
             before = behind(item, before);
         }

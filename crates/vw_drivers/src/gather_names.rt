@@ -14,7 +14,7 @@ use vw_design::{Design, Item};
 use vw_net::Sequence;
 
 /// The claims on the names of the items of a model with these claims, which place the models with these numbers.
-fn model_names(
+fn gathered_names(
     alloc: Global,
     own: &ModelClaims,
     claims: &[ModelClaims],
@@ -47,7 +47,7 @@ pub fn names_of(
     let mut names = Vec::with_capacity(alloc, models.len())?;
     for number in 0..models.len() {
         let placed = targets[number].as_slice();
-        names.push(model_names(
+        names.push(gathered_names(
             alloc,
             &claims[number],
             claims,

@@ -87,7 +87,7 @@ fn led_by(
 }
 
 /// The driver of the nets of an instance on which the first claim has this number, by the rows of drivers.
-pub fn lead(
+pub fn led_driver(
     tables: &Tables,
     outputs: &[Sequence<Option<Source>>],
     ports: &[Sequence<Option<Source>>],

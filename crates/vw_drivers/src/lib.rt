@@ -8,6 +8,7 @@ mod drivers;
 mod firsts;
 mod gather_claims;
 mod gather_names;
+mod item_numbers;
 mod led;
 mod model_claims;
 mod model_names;

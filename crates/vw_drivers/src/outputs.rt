@@ -3,7 +3,7 @@ ghost use Rattle.std.specs.Prelude.{◌≡◌, ◌≤◌, ℕ, length, map, IfOk
 ghost use Rattle.vw_drivers.specs.Drivers.{HasOutputs};
 ghost use Rattle.vw_drivers.specs.Steps.FoundDrivers.{OfTables, output_led, outputs_made};
 
-use crate::led::{lead, ways_into};
+use crate::led::{led_driver, ways_into};
 use crate::model_names::Way;
 use crate::source::Source;
 use crate::tables::Tables;
@@ -21,7 +21,7 @@ fn output_at(
     ensures { result ≡ output_led tables.now outputs.now instance way }
 {
     match way {
-        Way::Output(claim) => lead(tables, outputs, &[], instance, claim),
+        Way::Output(claim) => led_driver(tables, outputs, &[], instance, claim),
         Way::Port { .. } => None,
     }
 }

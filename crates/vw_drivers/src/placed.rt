@@ -5,28 +5,12 @@ ghost use Rattle.vw_drivers.specs.Names.{firsts_of, way_by, way_of};
 ghost use Rattle.vw_drivers.specs.Steps.GatheredNames.{placed_made, placed_from};
 
 use crate::claim::Claim;
+use crate::item_numbers::{small, target_behind};
 use crate::model_claims::ModelClaims;
 use crate::model_names::{PlacedNames, Way};
 use std::alloc::{AllocError, Global};
 use vw_design::{Bind, Item};
 use vw_net::Sequence;
-
-/// The number as one of 32 bits. A model of 2 ^ 32 items has no room.
-fn small(number: usize) -> Result<u32, AllocError>
-    ensures { IfOk result (λ small. small ≡ number) }
-{
-    if number >= 1 << 32 {
-        return Err(AllocError);
-    }
-    Ok(number as u32)
-}
-
-/// The number of the model that stands at the place behind so many places.
-fn target_at(targets: &[Option<u32>], before: usize) -> Option<u32>
-    ensures { result ≡ option_and_then (λ target. target) (slice_get targets.now before) }
-{
-    targets.get(before).copied().flatten()
-}
 
 /// The number of the first claim on a name in the model with a number.
 fn number_in_firsts(claims: &[ModelClaims], model: Option<u32>, name: &[u8]) -> Option<u32>
@@ -116,7 +100,7 @@ pub fn items_placed(
 {
     let mut placed = Vec::new(alloc);
     for (number, item) in items.iter().enumerate() {
-        let model = target_at(targets, placed.len());
+        let model = target_behind(targets, placed.len());
         add_placed(alloc, &mut placed, own, claims, model, number, item)?;
     }
     Ok(placed)

@@ -3,7 +3,7 @@ ghost use Rattle.std.specs.Prelude.{◌≡◌, ◌<◌, ℕ, length, IfOk, OnOk,
 ghost use Rattle.vw_drivers.specs.Drivers.{HasOutputs, HasPorts};
 ghost use Rattle.vw_drivers.specs.Steps.FoundDrivers.{OfTables, with_port, with_way, with_ways, ports_made};
 
-use crate::led::{lead, ways_into};
+use crate::led::{led_driver, ways_into};
 use crate::model_names::Way;
 use crate::source::Source;
 use crate::tables::Tables;
@@ -37,7 +37,11 @@ fn put_way(
     match way {
         Way::Output(_) => Ok(()),
         Way::Port { port, actual } => {
-            put(row, port, lead(tables, outputs, ports, parent, actual))
+            put(
+                row,
+                port,
+                led_driver(tables, outputs, ports, parent, actual),
+            )
         }
     }
 }

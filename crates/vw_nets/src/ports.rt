@@ -47,7 +47,7 @@ impl<'a> Nets<'a> {
         let item = self.item_found(cell)?;
         let numbers = self.numbers_by(cell)?;
         match written_control(item) {
-            Some(_) => port_of(
+            Some(_) => port_number(
                 self.drivers
                     .source(self.tables, cell.instance, number_in_row(numbers, 1)),
             ),
@@ -89,7 +89,7 @@ impl<'a> Nets<'a> {
 }
 
 /// The port that a driver is, by the number of its claim.
-fn port_of(source: Option<Source>) -> Option<u32>
+fn port_number(source: Option<Source>) -> Option<u32>
     ensures { result ≡ port_number source }
 {
     match source {

@@ -22,16 +22,16 @@ loop-number-preserved c =
     let model = c.index-models-number.result in
     let own = c.index-claims-number.result in
     let row = c.index-targets-number.result in
-    let names = c.in_ok-model_names.field-0 in
+    let names = c.in_ok-gathered_names.field-0 in
     let within : i < length design.models = omega (arith, c.loop-number-test.true, ap (λ (models : List Model). length models) c.models-models.ensures) in
     let at_model : slice_get design.models i ≡ Some model =
     ap (λ (models : List Model). slice_get models i) (sym c.models-models.ensures) ∙ slice_get_read c.models-models.result.now (length c.models-models.result.now) i model refl c.loop-number-test.true c.index-models-number.is in
     let at_own = slice_get_read claims (length claims) i own refl (omega (arith, within, c.requires.claims)) c.index-claims-number.is in
     let at_row = slice_get_read targets (length targets) i row refl (row_within design targets c.requires.targets claims c.requires.claims i within) c.index-targets-number.is in
     let reads : names.reads ≡ map (λ (item : Item). map (number_named own.firsts) (reads_of item)) model.items =
-    c.in_ok-model_names.ensures.reads ∙ ap (map (λ (item : Item). map (number_named own.firsts) (reads_of item))) c.items.ensures in
+    c.in_ok-gathered_names.ensures.reads ∙ ap (map (λ (item : Item). map (number_named own.firsts) (reads_of item))) c.items.ensures in
     let placed : names.placed ≡ placed_from own.firsts claims row 0 0 model.items =
-    c.in_ok-model_names.ensures.placed
+    c.in_ok-gathered_names.ensures.placed
     ∙ ap₂ (λ (numbers : List (Option ℕ)) (items : List Item). placed_from own.firsts claims numbers 0 0 items) c.as_slice-placed.ensures c.items.ensures in
     record {
       length_is = ap length c.in_ok-push.ensures.items ∙ length-append c.loop-number.names.items (names ∷ []) ∙ omega (arith, c.loop-number.invariant.length_is);

@@ -7,5 +7,5 @@ use Rattle.vw_drivers.proofs.drivers.Drivers.source.Goals as goal
 pub returns : goal.returns
 returns c = λ design faultless tables drivers.
     subst (IsSource design c.args.tables.now c.args.instance c.args.claim)
-    (sym (c.lead.ensures ∙ ap₂ (λ (outputs ports : DriverRows). led c.args.tables.now outputs ports c.args.instance c.args.claim) c.as_slice-outputs.ensures c.as_slice.ensures))
+    (sym (c.led_driver.ensures ∙ ap₂ (λ (outputs ports : DriverRows). led c.args.tables.now outputs ports c.args.instance c.args.claim) c.as_slice-outputs.ensures c.as_slice.ensures))
     (source_is design faultless c.args.tables.now tables c.args.self.now drivers c.args.instance c.args.claim)

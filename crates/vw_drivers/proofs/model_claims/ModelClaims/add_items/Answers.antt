@@ -19,7 +19,7 @@ add_item-requires-clause-target c =
     let cut : drop i items ≡ item ∷ drop (i + 1) items = drop_more items i item c.loop-index-test.true ∙ ap (λ (x : Item). x ∷ drop (i + 1) items) (sym c.index-items-index.is) in
     let left : AreModelNumbers design (placings (item ∷ drop (i + 1) items)) (drop before placed) =
     subst (λ (list : List Item). AreModelNumbers design (placings list) (drop before placed)) cut c.loop-index.invariant.placed in
-    subst (IsModelNumber design item) (sym c.target_at-target.ensures) (target_here design item (drop (i + 1) items) placed before left)
+    subst (IsModelNumber design item) (sym c.target_behind-target.ensures) (target_here design item (drop (i + 1) items) placed before left)
 
 pub loop-index-preserved : goal.loop-index-preserved
 loop-index-preserved c =
