@@ -22,4 +22,4 @@ returns-in-Some c = λ path item listed at.
     let source = c.source.ensures design c.requires.faultless c.requires.tables c.requires.drivers in
     ap (map (number_named root)) (ports_here design path item control is)
     ∙ source_port root design c.source.result (driver design path control) (source.is path control listed number) (source.none path control listed number)
-    ∙ ap (λ (p : Option ℕ). somes (option_to_list p)) (sym c.port_of.ensures)
+    ∙ ap (λ (p : Option ℕ). somes (option_to_list p)) (sym c.port_number.ensures)
