@@ -13,7 +13,7 @@ use Rattle.vw_check.specs.Faults.{plan_fault}
 use Rattle.vw_check.proofs.SoundPlans.{sound, faultless}
 use Rattle.vw_check.proofs.SameNetlist.{fault_same}
 use Rattle.vw_outside.specs.Told.{Told, absent, held, IsTextOf}
-use Rattle.vw_outside.specs.Writes.{appended}
+use Rattle.vw_outside.specs.Writes.{SeenSink, appended}
 use Rattle.vw_top.specs.declared.stop.File.{File}
 use Rattle.vw_top.specs.declared.stop.File.TheVariants as files
 use Rattle.vw_top.specs.declared.reason.Reason.{Reason}
@@ -165,7 +165,7 @@ module _ (design board plan : List ℕ) (told : List ℕ → Told) where
             at_held (told board) b _ _ b_is (inr ((its, are.board_is), λ another another_is. at_absent (told plan) _ _ is refl)),
       ))
 
-module _ (design board plan : List ℕ) (before after : Outside) (status : ℕ) (table : Statuses (check_course design board plan) before after status) where
+module _ (design board plan : List ℕ) (before after : Outside) (err_before err_after : SeenSink) (status : ℕ) (table : Statuses (check_course design board plan) before after err_before err_after status) where
   abbrev told : List ℕ → Told
   told = before.shelf.told
 

@@ -27,7 +27,7 @@ module _ (before after : Outside) where
 
 -- ---- what the table says
 
-module _ {course : Course} {before after : Outside} {status : ℕ} (table : Statuses course before after status) where
+module _ {course : Course} {before after : Outside} {err_before err_after : SeenSink} {status : ℕ} (table : Statuses course before after err_before err_after status) where
   -- what every reason with this status says, where the call ended with it
   pub refused_with : (number : ℕ) (P : Type 0) → 0 < number → number < 7 → ((reason : Reason) → MayRefuse course before.shelf.told reason → reason_status reason ≡ number → P)
       → status ≡ number → P
@@ -60,7 +60,7 @@ module _ {course : Course} {before after : Outside} {status : ℕ} (table : Stat
   yields_at names which (inr is) = inl is
 
   -- want of memory leaves out as it was, where nothing can be written
-  pub want_untouched : IsWantOfMemory course before after → ((text : List ℕ) → MayWrite course before.shelf.told text → ⊥) → after.out ≡ before.out
+  pub want_untouched : IsWantOfMemory course before after err_before err_after → ((text : List ℕ) → MayWrite course before.shelf.told text → ⊥) → after.out ≡ before.out
   want_untouched want none =
       ⊎_elim
       (λ (same : after.out ≡ before.out). same)

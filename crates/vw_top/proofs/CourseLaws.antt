@@ -12,22 +12,23 @@ use Rattle.vw_top.specs.declared.refusal.Refusal.{Refusal}
 use Rattle.vw_top.specs.declared.endings.Unfinished.TheVariants.{Stopped, Refused}
 use Rattle.vw_top.specs.Reasons.{reason_status}
 use Rattle.vw_top.specs.Course.{Course, writes, refuses, reads, makes, Outside, Answer, Follows, EndsWriting, EndsRefused, EndsReading, MayWrite, MayRefuse, AtFile, Outcome, writing, refusing, missing, ComesTo}
-use Rattle.vw_top.specs.Endings.{Ends, IsCallOf}
+use Rattle.vw_top.specs.Stops.{stop_line}
+use Rattle.vw_top.specs.Endings.{Ends, IsReported, IsCallOf}
 use Rattle.vw_top.specs.Steps.Unfinished.{answer_status}
 use Rattle.vw_top.specs.Statuses.{IsDone, IsReadFault, IsWriteFault, IsWantOfMemory, LeavesPart, Statuses}
 
 -- ---- what each way to end says of the course
 
-module _ (before after : Outside) where
-  pub done_by : (course : Course) → Follows course before after (Ok tt) → IsDone course before after
-  done_by (writes text) ends = record { text = text; may = refl; leaves = ends }
-  done_by (refuses reason) ends = absurd ends
-  done_by (reads file name next) (inl ends) = absurd ends
-  done_by (reads file name next) (inr (text, is, goes)) =
-      let done = done_by (next text) goes in record { text = done.text; may = (text, is, done.may); leaves = done.leaves }
-  done_by (makes A Good Bad Comes apart sure next) (inl ends) = absurd ends
-  done_by (makes A Good Bad Comes apart sure next) (inr (x, good, goes)) =
-      let done = done_by (next x good) goes in record { text = done.text; may = (x, good, done.may); leaves = done.leaves }
+module _ (before after : Outside) (err_before err_after : SeenSink) where
+  pub done_by : err_after ≡ err_before → (course : Course) → Follows course before after (Ok tt) → IsDone course before after err_before err_after
+  done_by silent (writes text) ends = record { text = text; may = refl; leaves = ends; silent = silent }
+  done_by silent (refuses reason) ends = absurd ends
+  done_by silent (reads file name next) (inl ends) = absurd ends
+  done_by silent (reads file name next) (inr (text, is, goes)) =
+      let done = done_by silent (next text) goes in record { text = done.text; may = (text, is, done.may); leaves = done.leaves; silent = silent }
+  done_by silent (makes A Good Bad Comes apart sure next) (inl ends) = absurd ends
+  done_by silent (makes A Good Bad Comes apart sure next) (inr (x, good, goes)) =
+      let done = done_by silent (next x good) goes in record { text = done.text; may = (x, good, done.may); leaves = done.leaves; silent = silent }
 
   refused_by : (course : Course) (refusal : Refusal) → Follows course before after (Err (Refused refusal)) → MayRefuse course before.shelf.told refusal.reason × (after ≡ before)
   refused_by (writes text) refusal ends = absurd ends
@@ -39,35 +40,36 @@ module _ (before after : Outside) where
   refused_by (makes A Good Bad Comes apart sure next) refusal (inr (x, good, goes)) =
       let refused = refused_by (next x good) refusal goes in (inr (x, good, refused.0), refused.1)
 
-  read_by : (course : Course) (file : File) → Follows course before after (Err (Stopped (ReadFault file))) → IsReadFault course before after
-  read_by (writes text) file ends = absurd ends
-  read_by (refuses reason) file ends = absurd ends
-  read_by (reads file name next) other (inl ends) =
-      record { file = other; name = name; may = inl (ends.0, refl); counted = ends.1; leaves = ends.2 }
-  read_by (reads file name next) other (inr (text, is, goes)) =
-      let fault = read_by (next text) other goes in
-      record { file = fault.file; name = fault.name; may = inr (text, is, fault.may); counted = fault.counted; leaves = fault.leaves }
-  read_by (makes A Good Bad Comes apart sure next) file (inl ends) = absurd ends
-  read_by (makes A Good Bad Comes apart sure next) file (inr (x, good, goes)) =
-      let fault = read_by (next x good) file goes in
-      record { file = fault.file; name = fault.name; may = (x, good, fault.may); counted = fault.counted; leaves = fault.leaves }
+  read_by : (course : Course) (file : File) → IsReported (stop_line (ReadFault file)) err_before err_after → Follows course before after (Err (Stopped (ReadFault file)))
+      → IsReadFault course before after err_before err_after
+  read_by (writes text) file message ends = absurd ends
+  read_by (refuses reason) file message ends = absurd ends
+  read_by (reads file name next) other message (inl ends) =
+      record { file = other; name = name; may = inl (ends.0, refl); counted = ends.1; leaves = ends.2; message = message }
+  read_by (reads file name next) other message (inr (text, is, goes)) =
+      let fault = read_by (next text) other message goes in
+      record { file = fault.file; name = fault.name; may = inr (text, is, fault.may); counted = fault.counted; leaves = fault.leaves; message = fault.message }
+  read_by (makes A Good Bad Comes apart sure next) file message (inl ends) = absurd ends
+  read_by (makes A Good Bad Comes apart sure next) file message (inr (x, good, goes)) =
+      let fault = read_by (next x good) file message goes in
+      record { file = fault.file; name = fault.name; may = (x, good, fault.may); counted = fault.counted; leaves = fault.leaves; message = fault.message }
 
-  write_by : (course : Course) → Follows course before after (Err (Stopped WriteFault)) → IsWriteFault course before after
-  write_by (writes text) ends = record { text = text; may = refl; counted = ends.1; leaves = ends.0 }
-  write_by (refuses reason) ends = absurd ends
-  write_by (reads file name next) (inl ends) = absurd ends
-  write_by (reads file name next) (inr (text, is, goes)) =
-      let fault = write_by (next text) goes in
-      record { text = fault.text; may = (text, is, fault.may); counted = fault.counted; leaves = fault.leaves }
-  write_by (makes A Good Bad Comes apart sure next) (inl ends) = absurd ends
-  write_by (makes A Good Bad Comes apart sure next) (inr (x, good, goes)) =
-      let fault = write_by (next x good) goes in
-      record { text = fault.text; may = (x, good, fault.may); counted = fault.counted; leaves = fault.leaves }
+  write_by : IsReported (stop_line WriteFault) err_before err_after → (course : Course) → Follows course before after (Err (Stopped WriteFault)) → IsWriteFault course before after err_before err_after
+  write_by message (writes text) ends = record { text = text; may = refl; counted = ends.1; leaves = ends.0; message = message }
+  write_by message (refuses reason) ends = absurd ends
+  write_by message (reads file name next) (inl ends) = absurd ends
+  write_by message (reads file name next) (inr (text, is, goes)) =
+      let fault = write_by message (next text) goes in
+      record { text = fault.text; may = (text, is, fault.may); counted = fault.counted; leaves = fault.leaves; message = message }
+  write_by message (makes A Good Bad Comes apart sure next) (inl ends) = absurd ends
+  write_by message (makes A Good Bad Comes apart sure next) (inr (x, good, goes)) =
+      let fault = write_by message (next x good) goes in
+      record { text = fault.text; may = (x, good, fault.may); counted = fault.counted; leaves = fault.leaves; message = message }
 
   -- where nothing changed
-  unchanged : (course : Course) → after ≡ before → IsWantOfMemory course before after
-  unchanged course same =
-      record { part = inl (ap (λ (o : Outside). o.out) same); leaves = ap (λ (o : Outside). o.shelf) same }
+  unchanged : IsReported (stop_line NoMemory) err_before err_after → (course : Course) → after ≡ before → IsWantOfMemory course before after err_before err_after
+  unchanged message course same =
+      record { part = inl (ap (λ (o : Outside). o.out) same); leaves = ap (λ (o : Outside). o.shelf) same; message = message }
 
   -- a part of a text of a later course is one of this course
   some_part : {May More : List ℕ → Type 0} → (after.out ≡ before.out) ⊎ ((text : List ℕ) × May text × WrotePart text before.out after.out)
@@ -75,19 +77,19 @@ module _ (before after : Outside) where
   some_part (inl same) further = inl same
   some_part (inr (text, may, part)) further = inr (text, further text may, part)
 
-  memory_by : (course : Course) → Follows course before after (Err (Stopped NoMemory)) → IsWantOfMemory course before after
-  memory_by (writes text) ends = record { part = inr (text, refl, ends.1); leaves = ends.0 }
-  memory_by (refuses reason) ends = unchanged (refuses reason) ends
-  memory_by (reads file name next) (inl ends) = unchanged (reads file name next) ends
-  memory_by (reads file name next) (inr (text, is, goes)) =
-      let want = memory_by (next text) goes in
+  memory_by : IsReported (stop_line NoMemory) err_before err_after → (course : Course) → Follows course before after (Err (Stopped NoMemory)) → IsWantOfMemory course before after err_before err_after
+  memory_by message (writes text) ends = record { part = inr (text, refl, ends.1); leaves = ends.0; message = message }
+  memory_by message (refuses reason) ends = unchanged message (refuses reason) ends
+  memory_by message (reads file name next) (inl ends) = unchanged message (reads file name next) ends
+  memory_by message (reads file name next) (inr (text, is, goes)) =
+      let want = memory_by message (next text) goes in
       let further : (t : List ℕ) → MayWrite (next text) before.shelf.told t → MayWrite (reads file name next) before.shelf.told t = λ t may. (text, is, may) in
-      record { part = some_part want.part further; leaves = want.leaves }
-  memory_by (makes A Good Bad Comes apart sure next) (inl ends) = unchanged (makes A Good Bad Comes apart sure next) ends
-  memory_by (makes A Good Bad Comes apart sure next) (inr (x, good, goes)) =
-      let want = memory_by (next x good) goes in
+      record { part = some_part want.part further; leaves = want.leaves; message = message }
+  memory_by message (makes A Good Bad Comes apart sure next) (inl ends) = unchanged message (makes A Good Bad Comes apart sure next) ends
+  memory_by message (makes A Good Bad Comes apart sure next) (inr (x, good, goes)) =
+      let want = memory_by message (next x good) goes in
       let further : (t : List ℕ) → MayWrite (next x good) before.shelf.told t → MayWrite (makes A Good Bad Comes apart sure next) before.shelf.told t = λ t may. (x, good, may) in
-      record { part = some_part want.part further; leaves = want.leaves }
+      record { part = some_part want.part further; leaves = want.leaves; message = message }
 
 -- a call that is refused could have ended for want of memory
 module _ (before after : Outside) where
@@ -171,9 +173,9 @@ whole_part text before after all = inl (length text, omega arith, all ∙ ap (ap
 pub none_written : (text : List ℕ) (before after : SeenSink) → after ≡ before → LeavesPart text before after
 none_written text before after same = inl (0, omega arith, same ∙ sym (appended-nil before))
 
-module _ (course : Course) (before after : Outside) where
+module _ (course : Course) (before after : Outside) (err_before err_after : SeenSink) where
   -- out as it was, or a part of a text, where memory ran out
-  memory_part : IsWantOfMemory course before after
+  memory_part : IsWantOfMemory course before after err_before err_after
       → (after.out ≡ before.out) ⊎ ((text : List ℕ) × MayWrite course before.shelf.told text × LeavesPart text before.out after.out)
   memory_part want =
       ⊎_elim
@@ -181,9 +183,10 @@ module _ (course : Course) (before after : Outside) where
       (λ (some : (text : List ℕ) × MayWrite course before.shelf.told text × WrotePart text before.out after.out). inr (some.0, some.1, inl some.2))
       want.part
 
-  statuses : (answer : Answer) → Follows course before after answer → Statuses course before after (answer_status answer)
-  statuses (Ok done) follows =
-      let is = done_by before after course follows in
+  statuses : (answer : Answer) → Follows course before after answer → Ends answer err_before err_after (answer_status answer)
+      → Statuses course before after err_before err_after (answer_status answer)
+  statuses (Ok done) follows ends =
+      let is = done_by before after err_before err_after ends.1 course follows in
       record {
         done = λ status. is;
         refused = λ some few. absurd (omega arith);
@@ -196,8 +199,8 @@ module _ (course : Course) (before after : Outside) where
         rejected = λ comes. absurd (let wrong = outcome_agrees refusing before after (Ok tt) course comes follows in cc);
         absent_file = λ comes. absurd (let wrong = outcome_agrees missing before after (Ok tt) course comes follows in cc);
       }
-  statuses (Err (Stopped WriteFault)) follows =
-      let is = write_by before after course follows in
+  statuses (Err (Stopped WriteFault)) follows ends =
+      let is = write_by before after err_before err_after ends.1 course follows in
       record {
         done = λ status. absurd (omega arith);
         refused = λ some few. absurd (omega arith);
@@ -210,8 +213,8 @@ module _ (course : Course) (before after : Outside) where
         rejected = λ comes. absurd (let wrong = outcome_agrees refusing before after (Err (Stopped WriteFault)) course comes follows in cc);
         absent_file = λ comes. absurd (let wrong = outcome_agrees missing before after (Err (Stopped WriteFault)) course comes follows in cc);
       }
-  statuses (Err (Stopped NoMemory)) follows =
-      let is = memory_by before after course follows in
+  statuses (Err (Stopped NoMemory)) follows ends =
+      let is = memory_by before after err_before err_after ends.1 course follows in
       record {
         done = λ status. absurd (omega arith);
         refused = λ some few. absurd (omega arith);
@@ -224,8 +227,8 @@ module _ (course : Course) (before after : Outside) where
         rejected = λ comes. inr (inr refl);
         absent_file = λ comes. inr refl;
       }
-  statuses (Err (Stopped (ReadFault file))) follows =
-      let is = read_by before after course file follows in
+  statuses (Err (Stopped (ReadFault file))) follows ends =
+      let is = read_by before after err_before err_after course file ends.1 follows in
       record {
         done = λ status. absurd (omega arith);
         refused = λ some few. absurd (omega arith);
@@ -238,12 +241,12 @@ module _ (course : Course) (before after : Outside) where
         rejected = λ comes. inr (inl refl);
         absent_file = λ comes. inl refl;
       }
-  statuses (Err (Refused refusal)) follows =
-      let is = refused_by before after course refusal follows in
+  statuses (Err (Refused refusal)) follows ends =
+      let is = refused_by before after err_before err_after course refusal follows in
       let its = refusal_status refusal.reason in
       record {
         done = λ status. absurd (omega arith);
-        refused = λ some few. record { reason = refusal.reason; its_status = refl; may = is.0; leaves = is.1 };
+        refused = λ some few. record { reason = refusal.reason; its_status = refl; may = is.0; leaves = is.1; message = ends.1 };
         read_fault = λ status. absurd (omega arith);
         write_fault = λ status. absurd (omega arith);
         want_of_memory = λ status. absurd (omega arith);
@@ -255,10 +258,12 @@ module _ (course : Course) (before after : Outside) where
       }
 
   -- the status of a call is that of its answer
-  status_is : (err_before err_after : SeenSink) (status : ℕ) (answer : Answer) → Ends answer err_before err_after status → status ≡ answer_status answer
-  status_is err_before err_after status (Ok done) ends = ends.0
-  status_is err_before err_after status (Err unfinished) ends = ends.0
+  status_is : (status : ℕ) (answer : Answer) → Ends answer err_before err_after status → status ≡ answer_status answer
+  status_is status (Ok done) ends = ends.0
+  status_is status (Err unfinished) ends = ends.0
 
-  pub call_table : (err_before err_after : SeenSink) (status : ℕ) → IsCallOf course before after err_before err_after status → Statuses course before after status
-  call_table err_before err_after status call =
-      subst (λ (n : ℕ). Statuses course before after n) (sym (status_is err_before err_after status call.answer call.ends)) (statuses call.answer call.follows)
+  pub call_table : (status : ℕ) → IsCallOf course before after err_before err_after status → Statuses course before after err_before err_after status
+  call_table status call =
+      let same = status_is status call.answer call.ends in
+      subst (λ (n : ℕ). Statuses course before after err_before err_after n) (sym same)
+      (statuses call.answer call.follows (subst (λ (n : ℕ). Ends call.answer err_before err_after n) same call.ends))

@@ -1,6 +1,7 @@
 -- What the table of statuses says of the first file of a command, whichever file it is.
 use Rattle.std.proofs.Common.{◌≡◌, ◌<◌, ◌⊎◌, ℕ, List, [], ◌∷◌, refl, sym, subst, inl, inr}
 use Rattle.vw_outside.specs.Told.{Told, absent, held, IsTextOf}
+use Rattle.vw_outside.specs.Writes.{SeenSink}
 use Rattle.vw_top.specs.declared.stop.File.{File}
 use Rattle.vw_top.specs.declared.reason.Reason.{Reason}
 use Rattle.vw_top.specs.Reasons.{reason_status}
@@ -47,7 +48,7 @@ module _ {A : Type 0} {number : ℕ} (judged : Judged A number) (file : File) (n
   pub first_refuses : (numbers : List ℕ) → ((x : A) → RefusesWith numbers (next x)) → RefusesWith (number ∷ numbers) first_stage
   first_refuses numbers all = λ text. (λ reason bad. inl (judged.its_status text reason bad), λ x good. refuses_more number numbers (next x) (all x))
 
-  module _ {before after : Outside} {status : ℕ} (table : Statuses first_stage before after status) where
+  module _ {before after : Outside} {err_before err_after : SeenSink} {status : ℕ} (table : Statuses first_stage before after err_before err_after status) where
     abbrev told : List ℕ → Told
     told = before.shelf.told
 

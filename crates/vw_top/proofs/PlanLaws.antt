@@ -8,7 +8,7 @@ use Rattle.vw_board.specs.BoardText.{Spells as SpellsBoard}
 use Rattle.vw_board.proofs.OneBoard.{accepted_once}
 use Rattle.vw_run.specs.declared.fault.CompileFault.TheVariants.{TooManyCells}
 use Rattle.vw_outside.specs.Told.{Told, held, IsTextOf}
-use Rattle.vw_outside.specs.Writes.{appended}
+use Rattle.vw_outside.specs.Writes.{SeenSink, appended}
 use Rattle.vw_top.specs.declared.stop.File.{File}
 use Rattle.vw_top.specs.declared.stop.File.TheVariants as files
 use Rattle.vw_top.specs.declared.reason.Reason.{Reason}
@@ -126,7 +126,7 @@ module _ (design board : List ℕ) (told : List ℕ → Told) where
             )),
       ))
 
-module _ (design board : List ℕ) (before after : Outside) (status : ℕ) (table : Statuses (plan_course design board) before after status) where
+module _ (design board : List ℕ) (before after : Outside) (err_before err_after : SeenSink) (status : ℕ) (table : Statuses (plan_course design board) before after err_before err_after status) where
   abbrev told : List ℕ → Told
   told = before.shelf.told
 

@@ -2,6 +2,7 @@
 -- first text gave.
 use Rattle.std.proofs.Common.{◌≡◌, ◌≢◌, ◌<◌, ◌⊎◌, ℕ, List, [], ◌∷◌, refl, sym, ◌∙◌, subst, inl, inr}
 use Rattle.vw_outside.specs.Told.{Told, absent, held, IsTextOf}
+use Rattle.vw_outside.specs.Writes.{SeenSink}
 use Rattle.vw_top.specs.declared.stop.File.{File}
 use Rattle.vw_top.specs.declared.reason.Reason.{Reason}
 use Rattle.vw_top.specs.Reasons.{reason_status}
@@ -29,7 +30,7 @@ module _ {A B : Type 0} {number other_number : ℕ} (judged : Judged A number) (
   abbrev pub two_stages : Course
   two_stages = first_stage judged file name second_stage
 
-  module _ {before after : Outside} {status : ℕ} (table : Statuses two_stages before after status) where
+  module _ {before after : Outside} {err_before err_after : SeenSink} {status : ℕ} (table : Statuses two_stages before after err_before err_after status) where
     abbrev told : List ℕ → Told
     told = before.shelf.told
 

@@ -3,7 +3,7 @@ use Rattle.std.proofs.Common.{◌≡◌, ◌<◌, ◌⊎◌, ℕ, Bool, List, []
 use Rattle.vw_design.specs.declared.design.Design.{Design as Spelled}
 use Rattle.vw_design.specs.Clocks.{columns}
 use Rattle.vw_outside.specs.Told.{Told, held, IsTextOf}
-use Rattle.vw_outside.specs.Writes.{appended}
+use Rattle.vw_outside.specs.Writes.{SeenSink, appended}
 use Rattle.vw_rows.specs.Stimulus.{stimulus_rows}
 use Rattle.vw_top.specs.declared.stop.File.{File}
 use Rattle.vw_top.specs.declared.stop.File.TheVariants as files
@@ -76,7 +76,7 @@ module _ (design stimulus : List ℕ) (unknown : Bool) (told : List ℕ → Told
         at_held (told stimulus) s _ _ s_is (inr ((rows, ap (λ (one : Spelled). stimulus_rows (length (columns one)) s) (same_design d spelled other its_design its) ∙ said), λ these are. refl)),
   ))
 
-module _ (design stimulus : List ℕ) (unknown : Bool) (before after : Outside) (status : ℕ) (table : Statuses (sim_course design stimulus unknown) before after status) where
+module _ (design stimulus : List ℕ) (unknown : Bool) (before after : Outside) (err_before err_after : SeenSink) (status : ℕ) (table : Statuses (sim_course design stimulus unknown) before after err_before err_after status) where
   abbrev told : List ℕ → Told
   told = before.shelf.told
 
@@ -138,11 +138,11 @@ module _ (design stimulus : List ℕ) (unknown : Bool) (before after : Outside) 
   }
 
 -- words that spell no command
-module _ (place : ℕ) (before after : Outside) (status : ℕ) (table : Statuses (refuses (Usage place)) before after status) where
-  refusal_ends : IsRefused (refuses (Usage place)) before after status → UsageStatuses before after status
+module _ (place : ℕ) (before after : Outside) (err_before err_after : SeenSink) (status : ℕ) (table : Statuses (refuses (Usage place)) before after err_before err_after status) where
+  refusal_ends : IsRefused (refuses (Usage place)) before after err_before err_after status → UsageStatuses before after status
   refusal_ends refusal = record { comes = inl (refusal.its_status ∙ ap reason_status refusal.may); leaves = refusal.leaves }
 
-  want_ends : IsWantOfMemory (refuses (Usage place)) before after → status ≡ 9 → UsageStatuses before after status
+  want_ends : IsWantOfMemory (refuses (Usage place)) before after err_before err_after → status ≡ 9 → UsageStatuses before after status
   want_ends want is =
       record { comes = inr is; leaves = same_outside before after want.leaves (want_untouched table want (λ text may. may)) }
 

@@ -1,4 +1,4 @@
-use Rattle.std.proofs.Common.{◌≡◌, ◌<◌, ℕ, Bool, false, List, [], ◌∷◌, ◌++◌, length, take, Some, Ok, Err, refl, sym, ◌∙◌, ap, ap₂, subst, inl, inr, arith, rules}
+use Rattle.std.proofs.Common.{◌≡◌, ℕ, Bool, false, List, [], ◌∷◌, ◌++◌, length, take, Some, Err, refl, sym, ◌∙◌, ap, ap₂, subst, inl, inr, arith, rules}
 use Rattle.std.specs.Prelude.{codes, option_map}
 use Rattle.vw_design.specs.Clocks.{columns}
 use Rattle.vw_rows.specs.Stimulus.{stimulus_rows}
@@ -7,17 +7,15 @@ use Rattle.vw_outside.specs.Told.{Told, held, IsTextOf}
 use Rattle.vw_outside.specs.HeldTexts.{told_in}
 use Rattle.vw_outside.specs.Memory.{seen_shelf, seen_sink}
 use Rattle.vw_outside.specs.Writes.{SeenSink, appended, faulted, seen_bytes}
-use Rattle.vw_top.specs.declared.stop.Stop.TheVariants.{ReadFault, WriteFault, NoMemory}
 use Rattle.vw_top.specs.declared.reason.Reason.{Reason}
-use Rattle.vw_top.specs.declared.endings.Unfinished.TheVariants.{Stopped, Refused}
 use Rattle.vw_top.specs.Reasons.{reason_status, reason_line}
 use Rattle.vw_top.specs.Designs.{IsDesignOf, RefusesDesign}
 use Rattle.vw_top.specs.Words.{Spelled, spelled_by}
 use Rattle.vw_top.specs.Words as words
-use Rattle.vw_top.specs.Course.{Answer, Outside, outside, Follows}
+use Rattle.vw_top.specs.Course.{Outside, outside, MayRefuse}
 use Rattle.vw_top.specs.Commands.{sim_course, course_of, trace_of}
-use Rattle.vw_top.specs.Endings.{Ends, IsCallOf, IsReported}
-use Rattle.vw_top.specs.Statuses.{Statuses}
+use Rattle.vw_top.specs.Endings.{IsCallOf, IsReported}
+use Rattle.vw_top.specs.Statuses.{IsRefused, Statuses}
 use Rattle.vw_top.specs.SimStatuses.{SimStatuses}
 use Rattle.vw_example.specs.Outcome.{HasBadDesign, HasBadRows, IsOutcome}
 use Rattle.vw_example.proofs.simulate.Goals as goal
@@ -60,68 +58,68 @@ design_status design reason (inr (spelled, is, inr (accepted, refused))) = ap re
 module _ (design stimulus out err : List ℕ) (before after : Outside) (err_before err_after : SeenSink) (status : ℕ)
     (design_held : before.shelf.told (codes "design") ≡ held design) (stimulus_held : before.shelf.told (codes "stimulus") ≡ held stimulus)
     (none : before.out.told ≡ Some []) (some : after.out.told ≡ Some out) (unsaid : err_before ≡ seen_bytes [] 0) (said : err_after ≡ seen_bytes err 0) where
-  -- what err has after each status, and what is refused
-  record IsHeard : Type 0 where
-    done : status ≡ 0 → err ≡ []
-    no_design : status ≡ 1 → HasBadDesign design out err
-    no_rows : status ≡ 5 → HasBadRows design stimulus out err
-
-  stopped : 6 < status → IsHeard
-  stopped more = record { done = λ is. absurd (omega (arith, more, is)); no_design = λ is. absurd (omega (arith, more, is)); no_rows = λ is. absurd (omega (arith, more, is)) }
-
   no_trace : after ≡ before → out ≡ []
   no_trace same = let told : Some out ≡ Some [] = sym some ∙ ap (λ (o : Outside). o.out.told) same ∙ none in cc
 
-  -- by the answer of the call
-  heard : (answer : Answer) → Follows (course_of its_sim) before after answer → Ends answer err_before err_after status → IsHeard
-  heard (Ok done) follows (zero, same) = record {
-    done = λ is. let told : Some err ≡ Some [] = ap (λ (sink : SeenSink). sink.told) (sym said ∙ same ∙ unsaid) in cc;
-    no_design = λ is. absurd (omega (arith, zero, is));
-    no_rows = λ is. absurd (omega (arith, zero, is));
+  -- with status 1 it is the design that is refused
+  refused_design : (reason : Reason) → MayRefuse (course_of its_sim) before.shelf.told reason → reason_status reason ≡ 1 → RefusesDesign design reason
+  refused_design reason (text, may, inl bad) one = subst (λ (t : List ℕ). RefusesDesign t reason) (subst (λ (t : Told). IsTextOf t text) design_held may) bad
+  refused_design reason (text, may, inr (spelled, its, (other, may_other, inl (fault, is, read)))) one =
+      let wrong : 1 ≡ 5 = sym one ∙ ap reason_status is in absurd (omega (arith, wrong))
+  refused_design reason (text, may, inr (spelled, its, (other, may_other, inr (rows, are, wrong)))) one = absurd wrong
+
+  -- with status 5 it is the stimulus
+  refused_rows : (reason : Reason) → MayRefuse (course_of its_sim) before.shelf.told reason → reason_status reason ≡ 5 → out ≡ [] → err ≡ reason_line reason → HasBadRows design stimulus out err
+  refused_rows reason (text, may, inl bad) five none_out line =
+      let wrong : 5 ≡ 1 = sym five ∙ design_status text reason bad in absurd (omega (arith, wrong))
+  refused_rows reason (text, may, inr (spelled, its, (other, may_other, inl (fault, is, read)))) five none_out line = record {
+    spelled = spelled;
+    fault = fault;
+    is = subst (λ (t : List ℕ). IsDesignOf t spelled) (subst (λ (t : Told). IsTextOf t text) design_held may) its;
+    read = subst (λ (t : List ℕ). stimulus_rows (length (columns spelled)) t ≡ Err fault) (subst (λ (t : Told). IsTextOf t other) stimulus_held may_other) read;
+    no_trace = none_out;
+    message = line ∙ ap reason_line is;
   }
-  heard (Err (Stopped (ReadFault file))) follows (seven, line) = stopped (omega (arith, seven))
-  heard (Err (Stopped WriteFault)) follows (eight, line) = stopped (omega (arith, eight))
-  heard (Err (Stopped NoMemory)) follows (nine, line) = stopped (omega (arith, nine))
-  heard (Err (Refused refusal)) (inl wrong) ends = absurd wrong
-  heard (Err (Refused refusal)) (inr (text, may, inl (same, bad))) (its_status, line) =
-      let refused = subst (λ (t : List ℕ). RefusesDesign t refusal.reason) (subst (λ (t : Told). IsTextOf t text) design_held may) bad in
-      let one = its_status ∙ design_status design refusal.reason refused in
-      record {
-        done = λ is. absurd (omega (arith, one, is));
-        no_design = λ is. record { reason = refusal.reason; refused = refused; no_trace = no_trace same; message = whole_line err_before err_after (reason_line refusal.reason) err unsaid said line };
-        no_rows = λ is. absurd (omega (arith, one, is));
-      }
-  heard (Err (Refused refusal)) (inr (text, may, inr (spelled, its, inl wrong))) ends = absurd wrong
-  heard (Err (Refused refusal)) (inr (text, may, inr (spelled, its, inr (other, may_other, inl (same, (fault, reason, read)))))) (its_status, line) =
-      let five = its_status ∙ ap reason_status reason in
-      record {
-        done = λ is. absurd (omega (arith, five, is));
-        no_design = λ is. absurd (omega (arith, five, is));
-        no_rows = λ is. record {
-          spelled = spelled;
-          fault = fault;
-          is = subst (λ (t : List ℕ). IsDesignOf t spelled) (subst (λ (t : Told). IsTextOf t text) design_held may) its;
-          read = subst (λ (t : List ℕ). stimulus_rows (length (columns spelled)) t ≡ Err fault) (subst (λ (t : Told). IsTextOf t other) stimulus_held may_other) read;
-          no_trace = no_trace same;
-          message = whole_line err_before err_after (reason_line refusal.reason) err unsaid said line ∙ ap reason_line reason;
-        };
-      }
-  heard (Err (Refused refusal)) (inr (text, may, inr (spelled, its, inr (other, may_other, inr (rows, are, wrong))))) ends = absurd wrong
+  refused_rows reason (text, may, inr (spelled, its, (other, may_other, inr (rows, are, wrong)))) five none_out line = absurd wrong
+
+  module _ (table : Statuses (course_of its_sim) before after err_before err_after status) where
+    no_message : status ≡ 0 → err ≡ []
+    no_message is = let told : Some err ≡ Some [] = ap (λ (sink : SeenSink). sink.told) (sym said ∙ (table.done is).silent ∙ unsaid) in cc
+
+    -- the message of a refusal
+    line_of_refusal : (refused : IsRefused (course_of its_sim) before after err_before err_after status) → err ≡ reason_line refused.reason
+    line_of_refusal refused = whole_line err_before err_after (reason_line refused.reason) err unsaid said refused.message
+
+    bad_design : status ≡ 1 → HasBadDesign design out err
+    bad_design is =
+        let refused = table.refused (omega (arith, is)) (omega (arith, is)) in
+        record {
+          reason = refused.reason;
+          refused = refused_design refused.reason refused.may (sym refused.its_status ∙ is);
+          no_trace = no_trace refused.leaves;
+          message = line_of_refusal refused;
+        }
+
+    bad_rows : status ≡ 5 → HasBadRows design stimulus out err
+    bad_rows is =
+        let refused = table.refused (omega (arith, is)) (omega (arith, is)) in
+        refused_rows refused.reason refused.may (sym refused.its_status ∙ is) (no_trace refused.leaves) (line_of_refusal refused)
 
 -- what the two laws say, of every call and of those of `sim`
 abbrev CallLaw : Type 0
-CallLaw = (spelled : Spelled) (before after : Outside) (err_before err_after : SeenSink) (status : ℕ) → IsCallOf (course_of spelled) before after err_before err_after status → Statuses (course_of spelled) before after status
+CallLaw = (spelled : Spelled) (before after : Outside) (err_before err_after : SeenSink) (status : ℕ) → IsCallOf (course_of spelled) before after err_before err_after status → Statuses (course_of spelled) before after err_before err_after status
 
 abbrev SimLaw : Type 0
-SimLaw = (design stimulus : List ℕ) (unknown : Bool) (before after : Outside) (status : ℕ) → Statuses (sim_course design stimulus unknown) before after status → SimStatuses design stimulus unknown before after status
+SimLaw = (design stimulus : List ℕ) (unknown : Bool) (before after : Outside) (err_before err_after : SeenSink) (status : ℕ) → Statuses (sim_course design stimulus unknown) before after err_before err_after status
+    → SimStatuses design stimulus unknown before after status
 
 outcome : CallLaw → SimLaw → (its_words : List (List ℕ)) (before after : Outside) (err_before err_after : SeenSink) (status : ℕ) (design stimulus out err : List ℕ) → its_words ≡ codes "sim" ∷ codes "design" ∷ codes "stimulus" ∷ []
     → IsCallOf (course_of (spelled_by its_words)) before after err_before err_after status → before.shelf.told (codes "design") ≡ held design → before.shelf.told (codes "stimulus") ≡ held stimulus
     → before.out.told ≡ Some [] → after.out.told ≡ Some out → err_before ≡ seen_bytes [] 0 → err_after ≡ seen_bytes err 0 → IsOutcome design stimulus out err status
 outcome statuses_of_call statuses_of_sim its_words before after err_before err_after status design stimulus out err are its_call design_held stimulus_held none some unsaid said =
     let call : IsCallOf (course_of its_sim) before after err_before err_after status = subst (λ (spelled : Spelled). IsCallOf (course_of spelled) before after err_before err_after status) (ap spelled_by are ∙ spells_sim) its_call in
-    let table = statuses_of_sim (codes "design") (codes "stimulus") false before after status (statuses_of_call its_sim before after err_before err_after status call) in
-    let its = heard design stimulus out err before after err_before err_after status design_held stimulus_held none some unsaid said call.answer call.follows call.ends in
+    let its = statuses_of_call its_sim before after err_before err_after status call in
+    let table = statuses_of_sim (codes "design") (codes "stimulus") false before after err_before err_after status its in
     record {
       done = λ is.
           let done = table.done design stimulus design_held stimulus_held is in
@@ -131,10 +129,10 @@ outcome statuses_of_call statuses_of_sim its_words before after err_before err_a
             is = done.2;
             read = done.3;
             trace = whole_text before.out after.out (trace_of false done.0 done.1) out none some (ap (λ (o : Outside). o.out) done.4);
-            no_message = its.done is;
+            no_message = no_message design stimulus out err before after err_before err_after status design_held stimulus_held none some unsaid said its is;
           };
-      no_design = its.no_design;
-      no_rows = its.no_rows;
+      no_design = bad_design design stimulus out err before after err_before err_after status design_held stimulus_held none some unsaid said its;
+      no_rows = bad_rows design stimulus out err before after err_before err_after status design_held stimulus_held none some unsaid said its;
       others = table.others;
     }
 
