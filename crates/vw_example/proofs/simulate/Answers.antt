@@ -105,6 +105,15 @@ module _ (design stimulus out err : List ℕ) (before after : Outside) (err_befo
         let refused = table.refused (omega (arith, is)) (omega (arith, is)) in
         refused_rows refused.reason refused.may (sym refused.its_status ∙ is) (no_trace refused.leaves) (line_of_refusal refused)
 
+  -- what err has after each status, and what was refused
+  record IsHeard : Type 0 where
+    no_message : status ≡ 0 → err ≡ []
+    no_design : status ≡ 1 → HasBadDesign design out err
+    no_rows : status ≡ 5 → HasBadRows design stimulus out err
+
+  heard : Statuses (course_of its_sim) before after err_before err_after status → IsHeard
+  heard table = record { no_message = no_message table; no_design = bad_design table; no_rows = bad_rows table }
+
 -- what the two laws say, of every call and of those of `sim`
 abbrev CallLaw : Type 0
 CallLaw = (spelled : Spelled) (before after : Outside) (err_before err_after : SeenSink) (status : ℕ) → IsCallOf (course_of spelled) before after err_before err_after status → Statuses (course_of spelled) before after err_before err_after status
@@ -120,6 +129,7 @@ outcome statuses_of_call statuses_of_sim its_words before after err_before err_a
     let call : IsCallOf (course_of its_sim) before after err_before err_after status = subst (λ (spelled : Spelled). IsCallOf (course_of spelled) before after err_before err_after status) (ap spelled_by are ∙ spells_sim) its_call in
     let its = statuses_of_call its_sim before after err_before err_after status call in
     let table = statuses_of_sim (codes "design") (codes "stimulus") false before after err_before err_after status its in
+    let heard = heard design stimulus out err before after err_before err_after status design_held stimulus_held none some unsaid said its in
     record {
       done = λ is.
           let done = table.done design stimulus design_held stimulus_held is in
@@ -129,10 +139,10 @@ outcome statuses_of_call statuses_of_sim its_words before after err_before err_a
             is = done.2;
             read = done.3;
             trace = whole_text before.out after.out (trace_of false done.0 done.1) out none some (ap (λ (o : Outside). o.out) done.4);
-            no_message = no_message design stimulus out err before after err_before err_after status design_held stimulus_held none some unsaid said its is;
+            no_message = heard.no_message is;
           };
-      no_design = bad_design design stimulus out err before after err_before err_after status design_held stimulus_held none some unsaid said its;
-      no_rows = bad_rows design stimulus out err before after err_before err_after status design_held stimulus_held none some unsaid said its;
+      no_design = heard.no_design;
+      no_rows = heard.no_rows;
       others = table.others;
     }
 
