@@ -32,7 +32,7 @@ impl<'a> Nets<'a> {
         let Some(first) = self.first_typed(Edge::Unsaid) else {
             return Ok(None);
         };
-        // From the start again: the latches before the first one write no type, and it edge_differs from itself in none.
+        // From the start again: the latches before the first one write no type, and it differs from itself in none.
         let Some(other) = self.first_typed(first.edge) else {
             return Ok(None);
         };

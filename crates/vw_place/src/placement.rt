@@ -1,4 +1,4 @@
-//! The chips of a placement, numbered_anew anew.
+//! The chips of a placement, numbered anew.
 ghost use Rattle.std.specs.Prelude.{◌≡◌, ◌≤◌, ◌+◌, ℕ, length, map, IfOk, IfErr};
 ghost use Rattle.std.specs.List.{All};
 ghost use Rattle.vw_plan.specs.Good.{IsChip, NoExchangeHelps, NoMoveHelps, cells_on};
