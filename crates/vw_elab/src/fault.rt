@@ -60,7 +60,7 @@ impl<T: Drop> From<AllocFailed<T>> for DesignFault {
 }
 
 /// The message of a fault at a line: its number, the line, what is wrong, and a name.
-fn at_line(
+fn at_line_of_name(
     alloc: Global,
     fault: u32,
     line: u64,
@@ -183,15 +183,15 @@ impl DesignFault {
         ensures { IfOk result (λ line. line.items ≡ fault_text self.now) }
     {
         match self {
-            DesignFault::UnknownModel(line) => at_line(alloc, 13, *line, b"unknown model", b""),
+            DesignFault::UnknownModel(line) => at_line_of_name(alloc, 13, *line, b"unknown model", b""),
             DesignFault::RecursiveModel(names) => {
                 line_of_names(alloc, b"design 14: recursive models", names.as_slice())
             }
             DesignFault::UnknownFormal(line, formal) => {
-                at_line(alloc, 15, *line, b"unknown formal ", formal.as_slice())
+                at_line_of_name(alloc, 15, *line, b"unknown formal ", formal.as_slice())
             }
             DesignFault::UnboundInput(line, formal) => {
-                at_line(alloc, 16, *line, b"unbound input ", formal.as_slice())
+                at_line_of_name(alloc, 16, *line, b"unbound input ", formal.as_slice())
             }
             DesignFault::BothWays(model, name) => of_both_ways(alloc, model, name),
             DesignFault::TooBig(quantity, limit) => of_limit(alloc, *quantity, *limit),

@@ -17,7 +17,7 @@ pub struct Simulated {
 }
 
 /// The name of these bytes.
-fn name_of(alloc: Global, bytes: &[u8]) -> Result<Name, AllocError>
+fn owned_name(alloc: Global, bytes: &[u8]) -> Result<Name, AllocError>
     ensures { IfOk result (λ name. name ≡ bytes.now) }
 {
     Ok(Name::of(bytes.to_vec(alloc)?))
@@ -32,13 +32,13 @@ pub fn simulate(alloc: Global, design: Vec<u8>, stimulus: Vec<u8>) -> Result<Sim
         simulated.status) }
 {
     let files = vec![in alloc;
-        Held::make(name_of(alloc, b"design")?, design),
-        Held::make(name_of(alloc, b"stimulus")?, stimulus),
+        Held::make(owned_name(alloc, b"design")?, design),
+        Held::make(owned_name(alloc, b"stimulus")?, stimulus),
     ]?;
     let words = vec![in alloc;
-        name_of(alloc, b"sim")?,
-        name_of(alloc, b"design")?,
-        name_of(alloc, b"stimulus")?,
+        owned_name(alloc, b"sim")?,
+        owned_name(alloc, b"design")?,
+        owned_name(alloc, b"stimulus")?,
     ]?;
     let mut shelf = MemShelf::new(files, 65_536, Vec::new(alloc));
     let mut out = MemSink::new(alloc, 65_536, Vec::new(alloc));

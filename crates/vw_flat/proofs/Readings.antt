@@ -27,7 +27,7 @@ use Rattle.vw_drivers.specs.Names.{reads_of}
 use Rattle.vw_elab.specs.declared.driver.Driver.{Driver}
 use Rattle.vw_elab.specs.declared.driver.Driver.TheVariants as drivers
 use Rattle.vw_elab.specs.Numbers.{of_port, driver_of}
-use Rattle.vw_flat.specs.Steps.Numbers.{number_by, HasNumber, nets, item_with_numbers, numbers_at}
+use Rattle.vw_flat.specs.Steps.Numbers.{number_by, HasNumber, net_count, item_with_numbers, numbers_at}
 use Rattle.vw_flat.proofs.Items.{some_model}
 
 module _ (design : Design) where
@@ -47,10 +47,10 @@ module _ (design : Design) where
   pub record IsNumbered (net : Net) (count : ℕ) (driven : Option Driver) : Type 0 where
     pub has : HasNumber count driven
     pub number : (n : ℕ) → number_by count driven ≡ Some n → number_of design net.path net.name ≡ Some n
-    pub fits : (n : ℕ) → number_by count driven ≡ Some n → n < nets design
+    pub fits : (n : ℕ) → number_by count driven ≡ Some n → n < net_count design
 
   module _ (accepted : IsAccepted design) where
-    few_nets : nets design < 2 ^ 32
+    few_nets : net_count design < 2 ^ 32
     few_nets = omega (arith, few_columns design, accepted.models.small.inputs, accepted.models.small.cells)
 
     pub numbered : (net : Net) → Has net (data_reads design) → (count : ℕ) → count ≡ length (columns design)
@@ -66,7 +66,7 @@ module _ (design : Design) where
             fits = omega (arith, found.2, few_nets);
           };
           number = λ n same. sym agree ∙ same;
-          fits = λ n same. subst (λ (k : ℕ). k < nets design) (same_Some found.0 n (sym found.1 ∙ sym agree ∙ same)) found.2;
+          fits = λ n same. subst (λ (k : ℕ). k < net_count design) (same_Some found.0 n (sym found.1 ∙ sym agree ∙ same)) found.2;
         }
 
   -- what a cell reads as data, by its place

@@ -4,7 +4,7 @@ ghost use Rattle.std.specs.List.{All};
 ghost use Rattle.vw_net.specs.Cells.{IsWellFormed};
 ghost use Rattle.vw_design.specs.Limits.{cell_count};
 ghost use Rattle.vw_design.specs.Preorder.{cells};
-ghost use Rattle.vw_flat.specs.Steps.Numbers.{nets, item_with_numbers, numbers_at, IsCellAt};
+ghost use Rattle.vw_flat.specs.Steps.Numbers.{net_count, item_with_numbers, numbers_at, IsCellAt};
 
 use crate::number::number_read;
 use std::alloc::{AllocError, Global};
@@ -34,7 +34,7 @@ fn numbers_read(
     ensures numbers { IfOk result (λ numbers. map (λ number. Some number) numbers.items
         ≡ numbers_at elaborated.now (slice_get (cells elaborated.now) cell)) }
     ensures fit { IfOk result
-        (λ numbers. All (λ number. number < nets elaborated.now) numbers.items) }
+        (λ numbers. All (λ number. number < net_count elaborated.now) numbers.items) }
 {
     let mut numbers = Vec::with_capacity(alloc, count as usize)?;
     for input in 0..count {
@@ -52,7 +52,7 @@ pub fn cell_of(
 ) -> Result<Cell, AllocError>
     requires { item_with_numbers (slice_get (cells elaborated.now) cell) ≡ Some item.now }
     ensures is { IfOk result (IsCellAt elaborated.now (slice_get (cells elaborated.now) cell)) }
-    ensures fits { IfOk result (IsWellFormed (nets elaborated.now)) }
+    ensures fits { IfOk result (IsWellFormed (net_count elaborated.now)) }
 {
     match item {
         Item::Names { cover, .. } => {

@@ -7,7 +7,7 @@ ghost use Rattle.vw_design.specs.Flattened.{number_of, IsCellOf, IsFlatOf};
 ghost use Rattle.vw_design.specs.PathHistory.{path_history};
 ghost use Rattle.vw_design.specs.Preorder.{cells};
 ghost use Rattle.vw_design.specs.Reads.{root_outputs};
-ghost use Rattle.vw_flat.specs.Steps.Numbers.{nets};
+ghost use Rattle.vw_flat.specs.Steps.Numbers.{net_count};
 
 use crate::cell::{cell_of, item_at_cell};
 use crate::number::number_output;
@@ -21,7 +21,7 @@ fn netlist_cells(alloc: Global, elaborated: &Elaborated) -> Result<Vec<Cell>, Al
     ensures are { IfOk result (λ made.
         AllZip (λ site cell. IsCellOf elaborated.now site.path site.item cell)
         (cells elaborated.now) made.items) }
-    ensures fit { IfOk result (λ made. All (IsWellFormed (nets elaborated.now)) made.items) }
+    ensures fit { IfOk result (λ made. All (IsWellFormed (net_count elaborated.now)) made.items) }
 {
     let mut made = Vec::with_capacity(alloc, elaborated.cells() as usize)?;
     for cell in 0..elaborated.cells() {
@@ -36,7 +36,7 @@ fn output_numbers(alloc: Global, elaborated: &Elaborated) -> Result<Vec<u32>, Al
     ensures are { IfOk result (λ outputs.
         map (λ net. number_of elaborated.now net.path net.name) (root_outputs elaborated.now)
         ≡ map (λ net. Some net) outputs.items) }
-    ensures fit { IfOk result (λ outputs. All (λ net. net < nets elaborated.now) outputs.items) }
+    ensures fit { IfOk result (λ outputs. All (λ net. net < net_count elaborated.now) outputs.items) }
 {
     let names = elaborated.design().models()[0].outputs();
     let mut outputs = Vec::with_capacity(alloc, names.len())?;

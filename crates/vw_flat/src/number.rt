@@ -3,7 +3,7 @@ ghost use Rattle.std.specs.Prelude.{◌≡◌, ◌<◌, [], Some, length, slice_
 ghost use Rattle.vw_design.specs.Preorder.{cells};
 ghost use Rattle.vw_design.specs.Reads.{root_outputs};
 ghost use Rattle.vw_design.specs.Flattened.{number_of};
-ghost use Rattle.vw_flat.specs.Steps.Numbers.{number_by, HasNumber, nets, numbers_at};
+ghost use Rattle.vw_flat.specs.Steps.Numbers.{number_by, HasNumber, net_count, numbers_at};
 
 use vw_elab::{Driver, Elaborated};
 use vw_outside::Name;
@@ -27,7 +27,7 @@ pub fn number_read(elaborated: &Elaborated, cell: u32, input: u32) -> u32
     ensures number { slice_get (numbers_at elaborated.now (slice_get
         (cells elaborated.now) cell)) input
         ≡ Some (Some result) }
-    ensures fits { result < nets elaborated.now }
+    ensures fits { result < net_count elaborated.now }
 {
     elaborated.is_accepted();
     number(elaborated.columns(), elaborated.read(cell, input))
@@ -38,7 +38,7 @@ pub fn number_output(elaborated: &Elaborated, place: usize, name: &Name) -> u32
     requires { slice_get (root_outputs elaborated.now) place
         ≡ Some (record { path = []; name = name.now }) }
     ensures number { number_of elaborated.now [] name.now ≡ Some result }
-    ensures fits { result < nets elaborated.now }
+    ensures fits { result < net_count elaborated.now }
 {
     elaborated.is_accepted();
     number(elaborated.columns(), elaborated.driver(0, name))

@@ -25,15 +25,15 @@ module _ (design : Design) (counts : List ℕ) (each : length counts ≡ length 
   within_of name None is = tt
   within_of name (Some number) is = omega (arith, is.0, each)
 
-  count_of : (name : Word) (number : Option ℕ) → IsNumberOfModel design name number → count_at counts number ≡ count_in design counts name
-  count_of name None is = ⊎_elim
+  count_at_in : (name : Word) (number : Option ℕ) → IsNumberOfModel design name number → count_at counts number ≡ count_in design counts name
+  count_at_in name None is = ⊎_elim
       (λ within. absurd (inside (at_within design.models (place_in_file design name) (omega (arith, within, each)))))
       (λ past. sym (get_or_past counts (place_in_file design name) 0 past))
       (cases_lt (place_in_file design name) (length counts))
     where
       inside : (model : Model) × (slice_get design.models (place_in_file design name) ≡ Some model) → ⊥
       inside model = none-some model.0 (sym is ∙ model_of_place design name ∙ model.1)
-  count_of name (Some number) is =
+  count_at_in name (Some number) is =
       let model = at_within design.models number is.0 in
       let named : model.0.name ≡ name = name_of_named design name model.0 (sym is.1 ∙ model.1) in
       ap (λ (n : ℕ). get_or counts n 0) (sym (place_of_model design number model.0 model.1) ∙ ap (place_in_file design) named)
@@ -57,7 +57,7 @@ module _ (design : Design) (counts : List ℕ) (each : length counts ≡ length 
         by (Sub line name binds) there = ⊎_elim
             (λ inside.
             let cut = subst (λ (l : List (Option ℕ)). AreAlong design (Sub line name binds ∷ drop (i + 1) items) l) (drop_more targets place None inside) there in
-            record { inside = omega (arith, inside); within = within_of name (get_or targets place None) cut.0; below = count_of name (get_or targets place None) cut.0; rest = cut.1 })
+            record { inside = omega (arith, inside); within = within_of name (get_or targets place None) cut.0; below = count_at_in name (get_or targets place None) cut.0; rest = cut.1 })
             (λ past. absurd (none_along design line name binds (drop (i + 1) items) (subst (λ (l : List (Option ℕ)). AreAlong design (Sub line name binds ∷ drop (i + 1) items) l) (drop_all place targets past) there)))
             (cases_lt place (length targets))
 

@@ -32,7 +32,7 @@ pub fn target_in(item: &Item, targets: &[Option<u32>], place: usize) -> Option<u
 }
 
 /// The count of the model with a number; 0 where there is none.
-pub fn count_of(counts: &[u32], target: Option<u32>) -> u32
+pub fn count_at(counts: &[u32], target: Option<u32>) -> u32
     requires { IsWithinModels (length counts.now) target }
     ensures { result ≡ count_at counts.now target }
 {
@@ -58,7 +58,7 @@ fn amount_of(
     let mut place = 0;
     for item in items {
         let target = target_in(item, targets, place);
-        let below = count_of(counts, target);
+        let below = count_at(counts, target);
         total = measure.merge(total, measure.of_item(item, below));
         place += places(item);
     }

@@ -5,7 +5,7 @@ ghost use Rattle.vw_design.specs.ModelNumbers.{AreTargets, AreModelNumbers};
 ghost use Rattle.vw_design.specs.Paths.{placings};
 ghost use Rattle.vw_instances.specs.Steps.Counting.{AreEntries};
 
-use crate::amounts::{count_of, target_in};
+use crate::amounts::{count_at, target_in};
 use crate::counting_tables::CountingTables;
 use crate::measure::{Measure, places};
 use crate::sizes::Before;
@@ -33,9 +33,9 @@ fn entries_of(
     for item in items {
         entries.push(Before { cells, instances })?;
         let target = target_in(item, targets, place);
-        let more_cells = count_of(tables.cells.as_slice(), target);
+        let more_cells = count_at(tables.cells.as_slice(), target);
         cells = Measure::Cells.merge(cells, Measure::Cells.of_item(item, more_cells));
-        let more = count_of(tables.instances.as_slice(), target);
+        let more = count_at(tables.instances.as_slice(), target);
         instances = Measure::Instances.merge(instances, Measure::Instances.of_item(item, more));
         place += places(item);
     }

@@ -15,7 +15,7 @@ use Rattle.vw_plan.specs.Routes.{AreRoutes, steps_of}
 use Rattle.vw_phase.specs.declared.draft.Draft.{Draft}
 use Rattle.vw_phase.specs.declared.task.Task.{Task}
 use Rattle.vw_phase.specs.Steps.Along.{AreSent}
-use Rattle.vw_phase.specs.Steps.Drafts.{HasLead, hops_at, limit}
+use Rattle.vw_phase.specs.Steps.Drafts.{HasLead, hops_at, moment_limit}
 use Rattle.vw_phase.specs.Steps.Underway.{AreTasks, IsSentOff, IsUnderway, is_done, is_task, lead_at_place, task_at}
 use Rattle.vw_phase.proofs.DoneTasks.{done_at, is_done-more, is_task-true, kind_at, not_done_before}
 use Rattle.vw_phase.proofs.UntouchedMoments.{AreUntouched, IsHomeDone, RestsOnDone, place_kept, ready_kept}
@@ -105,8 +105,8 @@ module _ (ordered : Ordered) (board : Board) (chip_of : List ℕ) (routes : List
       hops_same = λ number done. ap (λ hops. slice_index_or hops.items number []) has.hops;
     }
 
-    low : lead_at_place ordered board chip_of routes draft.hops.items draft.leads.items own ≤ limit (length draft.table.taken)
-    low = read_low ordered.flat board chip_of routes draft.hops.items draft.leads.items (limit (length draft.table.taken)) way.fit.long way.fit.early.sent way.fit.early.soon (slice_index chip_of (slice_index ordered.order own)) (slice_get ordered.flat.cells (slice_index ordered.order own))
+    low : lead_at_place ordered board chip_of routes draft.hops.items draft.leads.items own ≤ moment_limit (length draft.table.taken)
+    low = read_low ordered.flat board chip_of routes draft.hops.items draft.leads.items (moment_limit (length draft.table.taken)) way.fit.long way.fit.early.sent way.fit.early.soon (slice_index chip_of (slice_index ordered.order own)) (slice_get ordered.flat.cells (slice_index ordered.order own))
 
     off : (number : ℕ) (route : Route) → slice_get routes number ≡ Some route → is_done tasks count true number ≡ true → IsSentOff ordered board chip_of routes draft route (hops_at draft number) → IsSentOff ordered board chip_of routes new route (hops_at new number)
     off number route is done sent = record {
@@ -139,7 +139,7 @@ module _ (ordered : Ordered) (board : Board) (chip_of : List ℕ) (routes : List
         widths = ap (λ table. table.widths) has.table ∙ way.fit.widths;
         early = record {
           few = rw has.table way.fit.early.few;
-          soon = rw (has.table, has.leads) (All-set (λ lead. lead ≤ limit (length draft.table.taken)) draft.leads.items own_net _ low way.fit.early.soon);
+          soon = rw (has.table, has.leads) (All-set (λ lead. lead ≤ moment_limit (length draft.table.taken)) draft.leads.items own_net _ low way.fit.early.soon);
           sent = rw (has.table, has.hops) way.fit.early.sent;
           last = rw (has.table, has.last) way.fit.early.last;
         };

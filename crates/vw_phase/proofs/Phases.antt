@@ -11,7 +11,7 @@ use Rattle.vw_net.specs.Lists.{greatest}
 use Rattle.vw_plan.specs.Needs.{depth}
 use Rattle.vw_phase.specs.declared.draft.Draft.{Draft}
 use Rattle.vw_phase.specs.declared.task.Task.{Task}
-use Rattle.vw_phase.specs.Steps.Drafts.{limit}
+use Rattle.vw_phase.specs.Steps.Drafts.{moment_limit}
 use Rattle.vw_phase.proofs.DoneTasks.{at_most, done_route}
 use Rattle.vw_phase.specs.Steps.Underway.{AreTasks, IsUnderway, is_done, start_by, task_at}
 
@@ -52,7 +52,7 @@ module _ (ordered : Ordered) (board : Board) (chip_of : List ℕ) (routes : List
   deep_from at late inside = ⊎_elim (λ same. subst (λ (n : ℕ). its ≤ (task_at tasks n).depth) same (omega arith)) (λ apart. ⊎_elim (λ less. (at_most ordered chip_of routes tasks are count at less inside).depths) (λ more. absurd (omega (arith, more, late))) apart) (cases_order count at)
 
   -- another level and start
-  other_phase : (level start next : ℕ) → Way level start → level ≤ its → next ≡ start_by ordered.flat board chip_of its routes draft.hops.items → next ≤ limit (length draft.table.taken) → Way its next
+  other_phase : (level start next : ℕ) → Way level start → level ≤ its → next ≡ start_by ordered.flat board chip_of its routes draft.hops.items → next ≤ moment_limit (length draft.table.taken) → Way its next
   other_phase level start next way deeper is early = record {
     fit = way.fit;
     none = way.none;

@@ -23,7 +23,7 @@ use Rattle.vw_phase.specs.declared.draft.Draft.{Draft}
 use Rattle.vw_phase.specs.declared.task.Task.{Task}
 use Rattle.vw_phase.specs.Steps.Along.{AreSent, hop_link, taken_by}
 use Rattle.vw_phase.specs.Steps.Done.{all_hops, uses}
-use Rattle.vw_phase.specs.Steps.Drafts.{Does, IsSentMore, hops_at, limit}
+use Rattle.vw_phase.specs.Steps.Drafts.{Does, IsSentMore, hops_at, moment_limit}
 use Rattle.vw_phase.specs.Steps.Leads.{usable_by}
 use Rattle.vw_phase.specs.Steps.Underway.{AreTasks, IsOfKind, IsSentOff, IsUnderway, is_done, is_task, ready_by, start_by, task_at}
 use Rattle.vw_phase.proofs.DoneTasks.{is_done-more, is_task-own, is_task-true, kind_at, not_done_before}
@@ -94,7 +94,7 @@ module _ (ordered : Ordered) (board : Board) (chip_of : List ℕ) (routes : List
       sent_hops = hops_at new number
 
       abbrev top : ℕ
-      top = limit (length new.table.taken)
+      top = moment_limit (length new.table.taken)
 
       deep_is : level ≡ depth ordered.flat chip_of route.net
       deep_is = kind.1 route there
@@ -122,8 +122,8 @@ module _ (ordered : Ordered) (board : Board) (chip_of : List ℕ) (routes : List
       taken_long : length new.table.taken ≡ length draft.table.taken + length sent_hops
       taken_long = let long : length (map (taken_by board) sent_hops) ≡ length sent_hops = length-map sent_hops (taken_by board) in omega (arith, ap length has.taken, length-append draft.table.taken (map (taken_by board) sent_hops), long)
 
-      ready_low : ready ≤ limit (length draft.table.taken) + 15
-      ready_low = omega (arith, way.begun, lead_low ordered.flat board chip_of routes draft.hops.items draft.leads.items (limit (length draft.table.taken)) way.fit.long way.fit.early.sent way.fit.early.soon (node_of ordered.flat chip_of route.net) route.net, settle_low board (is_gate (driving_cell ordered.flat route.net) && eqb (node_of ordered.flat chip_of route.net) (node_of ordered.flat chip_of route.net)))
+      ready_low : ready ≤ moment_limit (length draft.table.taken) + 15
+      ready_low = omega (arith, way.begun, lead_low ordered.flat board chip_of routes draft.hops.items draft.leads.items (moment_limit (length draft.table.taken)) way.fit.long way.fit.early.sent way.fit.early.soon (node_of ordered.flat chip_of route.net) route.net, settle_low board (is_gate (driving_cell ordered.flat route.net) && eqb (node_of ordered.flat chip_of route.net) (node_of ordered.flat chip_of route.net)))
 
       sent_low : All (λ hop. hop.at + 1 ≤ top) sent_hops
       sent_low place default early = omega (arith, has.soon place default early, ready_low, as_long, taken_long, early)
@@ -174,9 +174,9 @@ module _ (ordered : Ordered) (board : Board) (chip_of : List ℕ) (routes : List
           widths = has.widths ∙ way.fit.widths;
           early = record {
             few = omega (arith, taken_long, as_long, room ordered board chip_of routes tasks are are_routes count draft within level start way number route there none_yet);
-            soon = subst (λ leads. All (λ lead. lead ≤ top) leads.items) (sym has.leads) (All-weaker (λ lead. lead ≤ limit (length draft.table.taken)) (λ lead. lead ≤ top) (λ lead low. omega (arith, low, taken_long)) draft.leads.items way.fit.early.soon);
+            soon = subst (λ leads. All (λ lead. lead ≤ top) leads.items) (sym has.leads) (All-weaker (λ lead. lead ≤ moment_limit (length draft.table.taken)) (λ lead. lead ≤ top) (λ lead low. omega (arith, low, taken_long)) draft.leads.items way.fit.early.soon);
             sent = subst (All (All (λ hop. hop.at + 1 ≤ top))) (sym has.hops) (All-set (All (λ hop. hop.at + 1 ≤ top)) draft.hops.items number sent_hops sent_low
-                (All-weaker (All (λ hop. hop.at + 1 ≤ limit (length draft.table.taken))) (All (λ hop. hop.at + 1 ≤ top)) (λ hops low. All-weaker (λ hop. hop.at + 1 ≤ limit (length draft.table.taken)) (λ hop. hop.at + 1 ≤ top) (λ hop is. omega (arith, is, taken_long)) hops low) draft.hops.items way.fit.early.sent));
+                (All-weaker (All (λ hop. hop.at + 1 ≤ moment_limit (length draft.table.taken))) (All (λ hop. hop.at + 1 ≤ top)) (λ hops low. All-weaker (λ hop. hop.at + 1 ≤ moment_limit (length draft.table.taken)) (λ hop. hop.at + 1 ≤ top) (λ hop is. omega (arith, is, taken_long)) hops low) draft.hops.items way.fit.early.sent));
             last = omega (arith, has.last, way.fit.early.last, taken_long, last_low top sent_hops sent_low);
           };
         };

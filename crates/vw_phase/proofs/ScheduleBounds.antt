@@ -19,7 +19,7 @@ use Rattle.vw_plan.specs.Nets.{driving_cell, node_of}
 use Rattle.vw_plan.specs.Routes.{steps_of}
 use Rattle.vw_phase.specs.declared.draft.Draft.{Draft}
 use Rattle.vw_phase.specs.Steps.Done.{IsAlong, cell_moment, latest}
-use Rattle.vw_phase.specs.Steps.Drafts.{IsFit, limit}
+use Rattle.vw_phase.specs.Steps.Drafts.{IsFit, moment_limit}
 use Rattle.vw_phase.specs.Steps.Leads.{hops_to, lead_by, usable_by, wires_of}
 use Rattle.vw_phase.proofs.Scheduled.{last_within, latest_at_most}
 
@@ -54,7 +54,7 @@ hops_to_early bound node net (route ∷ routes) (sent ∷ hops) early =
 
 module _ (ordered : Ordered) (board : Board) (chip_of : List ℕ) (routes : List Route) (draft : Draft) (fit : IsFit ordered board routes draft) where
   abbrev last_moment : ℕ
-  last_moment = limit (length draft.table.taken)
+  last_moment = moment_limit (length draft.table.taken)
 
   pub lead_early : (node net : ℕ) → lead_by ordered.flat board chip_of routes draft.hops.items draft.leads.items node net ≤ last_moment
   lead_early node net =

@@ -17,7 +17,7 @@ pub fn next_line(text: &[u8]) -> Option<(&[u8], &[u8])>
 }
 
 /// The first word of a line, up to a space, and what stands behind the space, where there is one.
-fn first_word(line: &[u8]) -> (&[u8], Option<&[u8]>)
+fn cut_at_space(line: &[u8]) -> (&[u8], Option<&[u8]>)
     ensures { words_between_spaces line.now
         ≡ result.0.now ∷ words_behind (option_map (λ rest. rest.now) result.1) }
 {
@@ -34,12 +34,12 @@ pub fn read_numbers(line: &[u8], word: &[u8], numbers: &mut Vec<u64>) -> Result<
         ≡ (if fine then Some numbers.new.items else None)) }
 {
     numbers.clear();
-    let (first, mut rest) = first_word(line);
+    let (first, mut rest) = cut_at_space(line);
     if first != word {
         return Ok(false);
     }
     while let Some(behind) = rest {
-        let (digits, after) = first_word(behind);
+        let (digits, after) = cut_at_space(behind);
         let Some(number) = number_in(digits) else {
             return Ok(false);
         };

@@ -40,7 +40,7 @@ fn words(alloc: Global, environment: &impl Env) -> Result<Vec<Name>, AllocError>
 }
 
 /// Carries out the command of these words over the files of the machine, and gives the exit status.
-fn status_of(rt: &HostRuntime, words: &[Name]) -> u8 {
+fn exit_status(rt: &HostRuntime, words: &[Name]) -> u8 {
     let alloc = rt.alloc();
     let mut shelf = FileShelf::new(alloc, rt);
     let mut out = OutSink::new(rt);
@@ -50,7 +50,7 @@ fn status_of(rt: &HostRuntime, words: &[Name]) -> u8 {
 
 fn main(rt: HostRuntime) -> ExitCode {
     let status = match words(rt.alloc(), &rt) {
-        Ok(words) => status_of(&rt, &words),
+        Ok(words) => exit_status(&rt, &words),
         Err(_) => {
             let _ = put_all(&mut ErrSink::new(&rt), Stop::NoMemory.line());
             Stop::NoMemory.status()

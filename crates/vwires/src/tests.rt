@@ -24,7 +24,7 @@ fn status(rt: &HostRuntime, words: &[&[u8]]) -> Result<u8, AllocError> {
     for word in words {
         names.push(Name::of(word.to_vec(rt.alloc())?))?;
     }
-    Ok(status_of(rt, &names))
+    Ok(exit_status(rt, &names))
 }
 
 /// The exit status of a command on files of the machine with these texts.
@@ -37,7 +37,7 @@ fn status_on(rt: &HostRuntime, command: &[u8], texts: &[&[u8]]) -> Result<u8, Fa
         fs::write(rt, path.as_str(), *text)?;
         names.push(Name::of(path.into_bytes()))?;
     }
-    let found = status_of(rt, &names);
+    let found = exit_status(rt, &names);
     for place in 0..texts.len() {
         let path = format!(in rt.alloc(); "/tmp/vwires_{number}_{place}")?;
         fs::remove_file(rt, path.as_str())?;

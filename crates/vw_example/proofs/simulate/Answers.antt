@@ -150,9 +150,9 @@ pub returns : goal.returns
 returns c =
     let before : Outside = outside (seen_shelf c.new-shelf.result) (seen_sink c.new-out.result) in
     let after : Outside = outside (seen_shelf c.virtual_wires-status.new.shelf) (seen_sink c.virtual_wires-status.new.out) in
-    let words_are : c.deref.result.now ≡ codes "sim" ∷ codes "design" ∷ codes "stimulus" ∷ [] = cc (c.in_ok-name_of-3.ensures, c.in_ok-name_of-4.ensures, c.in_ok-name_of-5.ensures, c.in_ok-words.ensures.items) in
+    let words_are : c.deref.result.now ≡ codes "sim" ∷ codes "design" ∷ codes "stimulus" ∷ [] = cc (c.in_ok-owned_name-3.ensures, c.in_ok-owned_name-4.ensures, c.in_ok-owned_name-5.ensures, c.in_ok-words.ensures.items) in
     let files_are : c.new-shelf.result.files.items ≡ c.make.result ∷ c.make-2.result ∷ [] = c.new-shelf.ensures.files ∙ c.in_ok-files.ensures.items in
-    let both = hold_both c.new-shelf.result.files.items c.make.result c.make-2.result c.args.design.items c.args.stimulus.items files_are (c.make.ensures.name ∙ c.in_ok-name_of.ensures) (c.make-2.ensures.name ∙ c.in_ok-name_of-2.ensures) c.make.ensures.bytes c.make-2.ensures.bytes in
+    let both = hold_both c.new-shelf.result.files.items c.make.result c.make-2.result c.args.design.items c.args.stimulus.items files_are (c.make.ensures.name ∙ c.in_ok-owned_name.ensures) (c.make-2.ensures.name ∙ c.in_ok-owned_name-2.ensures) c.make.ensures.bytes c.make-2.ensures.bytes in
     let copied : c.in_ok-to_vec.field-0.items ≡ c.bytes.result.now = search rules in
     let out : c.virtual_wires-status.new.out.written.items ≡ c.in_ok-to_vec.field-0.items = sym (copied ∙ c.bytes.ensures) in
     let copied_err : c.in_ok-to_vec-2.field-0.items ≡ c.bytes-2.result.now = search rules in

@@ -24,8 +24,8 @@ pub record HasNumber (count : ℕ) (driver : Option Driver) : Type 0 where
   pub fits : number < 2 ^ 32
 
 -- how many nets the netlist has
-abbrev pub nets : Design → ℕ
-nets design = length (columns design) + length (cells design)
+abbrev pub net_count : Design → ℕ
+net_count design = length (columns design) + length (cells design)
 
 -- the item of a site, and the numbers of what it reads as data
 abbrev pub item_with_numbers : Option Site → Option Item

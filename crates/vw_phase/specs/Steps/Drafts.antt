@@ -14,15 +14,15 @@ use Rattle.vw_phase.specs.Steps.Along.{AreLinked, AreSent, taken_by}
 use Rattle.vw_phase.specs.Steps.Leads.{lead_by, usable_by}
 
 -- how late the moments of a draft may be that has so many taken slots
-abbrev pub limit : ℕ → ℕ
-limit taken = taken * 2 ^ 31
+abbrev pub moment_limit : ℕ → ℕ
+moment_limit taken = taken * 2 ^ 31
 
 -- few slots of a draft are taken, and its moments are early
 pub record IsEarly (draft : Draft) : Type 0 where
   pub few : length draft.table.taken < 2 ^ 30
-  pub soon : All (λ lead. lead ≤ limit (length draft.table.taken)) draft.leads.items
-  pub sent : All (All (λ hop. hop.at + 1 ≤ limit (length draft.table.taken))) draft.hops.items
-  pub last : draft.after ≤ limit (length draft.table.taken)
+  pub soon : All (λ lead. lead ≤ moment_limit (length draft.table.taken)) draft.leads.items
+  pub sent : All (All (λ hop. hop.at + 1 ≤ moment_limit (length draft.table.taken))) draft.hops.items
+  pub last : draft.after ≤ moment_limit (length draft.table.taken)
 
 -- nothing is done yet
 pub record IsUntouched (ordered : Ordered) (board : Board) (routes : List Route) (draft : Draft) : Type 0 where
@@ -80,5 +80,5 @@ IsReadyKind ordered board routes true number draft =
 
 pub record IsDraftReady (ordered : Ordered) (board : Board) (chip_of : List ℕ) (routes : List Route) (sends : Bool) (place start : ℕ) (draft : Draft) : Type 0 where
   pub fit : IsFit ordered board routes draft
-  pub begun : start ≤ limit (length draft.table.taken)
+  pub begun : start ≤ moment_limit (length draft.table.taken)
   pub its : IsReadyKind ordered board routes sends place draft

@@ -18,7 +18,7 @@ use Rattle.vw_phase.specs.declared.draft.Draft.{Draft}
 use Rattle.vw_phase.specs.declared.task.Task.{Task}
 use Rattle.vw_phase.specs.Steps.Along.{AreSent, hop_link, taken_by}
 use Rattle.vw_phase.specs.Steps.Done.{all_hops, uses}
-use Rattle.vw_phase.specs.Steps.Drafts.{IsFit, hops_at, limit}
+use Rattle.vw_phase.specs.Steps.Drafts.{IsFit, hops_at, moment_limit}
 use Rattle.vw_phase.specs.Steps.Leads.{lead_by, usable_by}
 use Rattle.vw_phase.specs.Steps.Tasks.{AreRising, rank}
 
@@ -92,6 +92,6 @@ pub record IsUnderway (ordered : Ordered) (board : Board) (chip_of : List ℕ) (
   pub size : length draft.table.taken ≡ length (all_hops draft.hops.items)
   pub slots : (hop : Hop) → uses hop (all_hops draft.hops.items) ≡ (if is_taken draft.table.taken (hop_link board hop) hop.pin hop.at then 1 else 0)
   pub begin : start ≡ start_by ordered.flat board chip_of level routes draft.hops.items
-  pub begun : start ≤ limit (length draft.table.taken)
+  pub begun : start ≤ moment_limit (length draft.table.taken)
   pub shallow : (place : ℕ) → place < count → (task_at tasks place).depth ≤ level
   pub deep : (place : ℕ) → count ≤ place → place < length tasks → level ≤ (task_at tasks place).depth

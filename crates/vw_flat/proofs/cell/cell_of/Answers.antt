@@ -1,7 +1,7 @@
 use Rattle.std.proofs.Common.{◌≡◌, ◌<◌, ℕ, List, Option, Some, length, sym, ◌∙◌, ap, subst}
 use Rattle.std.specs.List.{All}
 use Rattle.std.proofs.lemmas.List.{length-map}
-use Rattle.vw_flat.specs.Steps.Numbers.{nets}
+use Rattle.vw_flat.specs.Steps.Numbers.{net_count}
 use Rattle.vw_flat.proofs.Items.{never_placed}
 use Rattle.vw_flat.proofs.Readings.{gate_reads_all}
 use Rattle.vw_flat.proofs.cell.cell_of.Goals as goal
@@ -24,4 +24,4 @@ returns-in_ok-copy-in-Names-clause-fits c =
     let reads_all = gate_reads_all design c.args.cell c.args.item.now c.requires gate.line gate.ins gate.out gate.cover gate.is in
     let long : length numbers ≡ gate.cover.inputs =
     sym (length-map numbers (λ (n : ℕ). Some n)) ∙ ap (λ (list : List (Option ℕ)). length list) c.in_ok-ins-in-Names.ensures.numbers ∙ reads_all in
-    (ap (λ (list : List ℕ). length list) c.of.ensures ∙ long ∙ sym c.in_ok-copy-in-Names.ensures.inputs, subst (All (λ (n : ℕ). n < nets design)) (sym c.of.ensures) c.in_ok-ins-in-Names.ensures.fit)
+    (ap (λ (list : List ℕ). length list) c.of.ensures ∙ long ∙ sym c.in_ok-copy-in-Names.ensures.inputs, subst (All (λ (n : ℕ). n < net_count design)) (sym c.of.ensures) c.in_ok-ins-in-Names.ensures.fit)

@@ -1,7 +1,7 @@
 use Rattle.std.proofs.Common.{◌<◌, ◌++◌, ◌∷◌, [], ℕ, Some, map, slice_get, sym, ◌∙◌, ap}
 use Rattle.std.proofs.lemmas.List.{map-append}
 use Rattle.vw_design.specs.Preorder.{cells}
-use Rattle.vw_flat.specs.Steps.Numbers.{nets, numbers_at}
+use Rattle.vw_flat.specs.Steps.Numbers.{net_count, numbers_at}
 use Rattle.vw_flat.proofs.LongerLists.{take_more, all_more}
 use Rattle.vw_flat.proofs.cell.numbers_read.Goals as goal
 
@@ -16,5 +16,5 @@ loop-input-preserved c =
       numbers =
           ap (map (λ (n : ℕ). Some n)) c.in_ok-push.ensures.items ∙ map-append (λ (n : ℕ). Some n) old (number ∷ []) ∙ ap (λ ns. ns ++ Some number ∷ []) c.loop-input.invariant.numbers
           ∙ sym (take_more numbers c.loop-input.input (Some number) c.number_read.ensures.number);
-      fit = all_more (λ (n : ℕ). n < nets design) old c.push.new.self.items number c.loop-input.invariant.fit c.number_read.ensures.fits c.in_ok-push.ensures.items;
+      fit = all_more (λ (n : ℕ). n < net_count design) old c.push.new.self.items number c.loop-input.invariant.fit c.number_read.ensures.fits c.in_ok-push.ensures.items;
     }

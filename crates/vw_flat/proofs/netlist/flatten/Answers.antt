@@ -6,7 +6,7 @@ use Rattle.vw_design.specs.Flattened.{IsCellOf, IsFlatOf}
 use Rattle.vw_design.specs.Preorder.{Site, cells}
 use Rattle.vw_design.proofs.Sizes.{few_columns}
 use Rattle.vw_design.proofs.PairedLists.{AllZip-length}
-use Rattle.vw_flat.specs.Steps.Numbers.{nets}
+use Rattle.vw_flat.specs.Steps.Numbers.{net_count}
 use Rattle.vw_flat.proofs.netlist.flatten.Goals.{After-of}
 use Rattle.vw_flat.proofs.netlist.flatten.Goals as goal
 
@@ -27,14 +27,14 @@ make-requires-clause-few_cells c = omega (arith, counted (goal.at.make-requires-
 pub make-requires-clause-cells_fit : goal.make-requires-clause-cells_fit
 make-requires-clause-cells_fit c =
     let design = c.args.elaborated.now in
-    let same : nets design ≡ c.columns.result + length c.of.result = omega (arith, c.columns.ensures, counted (goal.at.make-requires-clause-cells_fit c).After-of) in
-    subst (λ (count : ℕ). All (IsWellFormed count) c.of.result) same (subst (All (IsWellFormed (nets design))) (sym c.of.ensures) c.in_ok-cells.ensures.fit)
+    let same : net_count design ≡ c.columns.result + length c.of.result = omega (arith, c.columns.ensures, counted (goal.at.make-requires-clause-cells_fit c).After-of) in
+    subst (λ (count : ℕ). All (IsWellFormed count) c.of.result) same (subst (All (IsWellFormed (net_count design))) (sym c.of.ensures) c.in_ok-cells.ensures.fit)
 
 pub make-requires-clause-outputs_fit : goal.make-requires-clause-outputs_fit
 make-requires-clause-outputs_fit c =
     let design = c.args.elaborated.now in
-    let same : nets design ≡ c.columns.result + length c.of.result = omega (arith, c.columns.ensures, counted (goal.at.make-requires-clause-outputs_fit c).After-of) in
-    subst (λ (count : ℕ). All (λ (net : ℕ). net < count) c.of-2.result) same (subst (All (λ (net : ℕ). net < nets design)) (sym c.of-2.ensures) c.in_ok-outputs.ensures.fit)
+    let same : net_count design ≡ c.columns.result + length c.of.result = omega (arith, c.columns.ensures, counted (goal.at.make-requires-clause-outputs_fit c).After-of) in
+    subst (λ (count : ℕ). All (λ (net : ℕ). net < count) c.of-2.result) same (subst (All (λ (net : ℕ). net < net_count design)) (sym c.of-2.ensures) c.in_ok-outputs.ensures.fit)
 
 -- the netlist has the history of the design
 pub returns-clause-history : goal.returns-clause-history

@@ -5,7 +5,7 @@ use Rattle.vw_design.specs.declared.model.Model.{Model}
 use Rattle.vw_design.specs.Paths.{Word, Net, model_at, model_outputs}
 use Rattle.vw_design.specs.Reads.{net_at, root_outputs}
 use Rattle.vw_design.specs.Flattened.{number_of}
-use Rattle.vw_flat.specs.Steps.Numbers.{nets}
+use Rattle.vw_flat.specs.Steps.Numbers.{net_count}
 use Rattle.vw_flat.proofs.LongerLists.{maps_more, all_more}
 use Rattle.vw_flat.proofs.netlist.output_numbers.Goals as goal
 
@@ -27,5 +27,5 @@ loop-place-preserved c =
       are =
           maps_more (λ (n : Net). number_of design n.path n.name) (λ (n : ℕ). Some n) (root_outputs design) c.loop-place.outputs.items c.push.new.self.items place (net_at [] name) c.number_output.result at
           c.number_output.ensures.number c.loop-place.invariant.are c.in_ok-push.ensures.items;
-      fit = all_more (λ (n : ℕ). n < nets design) c.loop-place.outputs.items c.push.new.self.items c.number_output.result c.loop-place.invariant.fit c.number_output.ensures.fits c.in_ok-push.ensures.items;
+      fit = all_more (λ (n : ℕ). n < net_count design) c.loop-place.outputs.items c.push.new.self.items c.number_output.result c.loop-place.invariant.fit c.number_output.ensures.fits c.in_ok-push.ensures.items;
     }

@@ -21,6 +21,6 @@ loop-item-preserved c =
       within = omega (arith, step.inside, c.places-place.ensures);
       left = subst (λ (n : ℕ). AreAlong design (drop (i + 1) items) (drop (place + n) targets)) (sym c.places-place.ensures) step.rest;
       total = amount_more c.args.measure (count_in design counts) items i item c.loop-item-test.true c.item-item.is
-          c.loop-item.total c.count_of-below.result c.of_item.result c.merge-total.result kept.total
-          (c.count_of-below.ensures ∙ ap (count_at counts) c.target_in-target.ensures ∙ step.below) c.of_item.ensures c.merge-total.ensures;
+          c.loop-item.total c.count_at-below.result c.of_item.result c.merge-total.result kept.total
+          (c.count_at-below.ensures ∙ ap (count_at counts) c.target_in-target.ensures ∙ step.below) c.of_item.ensures c.merge-total.ensures;
     }

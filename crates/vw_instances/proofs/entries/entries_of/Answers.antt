@@ -26,12 +26,12 @@ loop-item-preserved c =
       within = omega (arith, step.inside, c.places-place.ensures);
       left = subst (λ (n : ℕ). AreAlong design (drop (i + 1) items) (drop (place + n) targets)) (sym c.places-place.ensures) step.rest;
       cells = amount_more Cells (count_in design cells) items i item c.loop-item-test.true c.item-item.is
-          c.loop-item.cells c.count_of-more_cells.result c.of_item.result c.merge-cells.result kept.cells
-          (c.count_of-more_cells.ensures ∙ ap (λ (l : List ℕ). count_at l c.target_in-target.result) c.as_slice.ensures.value ∙ ap (count_at cells) c.target_in-target.ensures ∙ step.below)
+          c.loop-item.cells c.count_at-more_cells.result c.of_item.result c.merge-cells.result kept.cells
+          (c.count_at-more_cells.ensures ∙ ap (λ (l : List ℕ). count_at l c.target_in-target.result) c.as_slice.ensures.value ∙ ap (count_at cells) c.target_in-target.ensures ∙ step.below)
           c.of_item.ensures c.merge-cells.ensures;
       instances = amount_more Instances (count_in design instances) items i item c.loop-item-test.true c.item-item.is
-          c.loop-item.instances c.count_of-more.result c.of_item-in-loop-item.result c.merge-instances.result kept.instances
-          (c.count_of-more.ensures ∙ ap (λ (l : List ℕ). count_at l c.target_in-target.result) c.as_slice-in-loop-item.ensures.value ∙ ap (count_at instances) c.target_in-target.ensures ∙ other.below)
+          c.loop-item.instances c.count_at-more.result c.of_item-in-loop-item.result c.merge-instances.result kept.instances
+          (c.count_at-more.ensures ∙ ap (λ (l : List ℕ). count_at l c.target_in-target.result) c.as_slice-in-loop-item.ensures.value ∙ ap (count_at instances) c.target_in-target.ensures ∙ other.below)
           c.of_item-in-loop-item.ensures c.merge-instances.ensures;
       entries = one_more design tables items c.loop-item.entries.items i (record { cells = c.loop-item.cells; instances = c.loop-item.instances }) c.push.new.self.items kept.entries kept.cells kept.instances c.in_ok-push.ensures.items;
     }

@@ -1,5 +1,5 @@
 use Rattle.vw_plantext.proofs.CutAt.{word_cut, one_word}
-use Rattle.vw_plantext.proofs.line.first_word.Goals as goal
+use Rattle.vw_plantext.proofs.line.cut_at_space.Goals as goal
 
 pub returns-in-Some : goal.returns-in-Some
 returns-in-Some c =
