@@ -1,85 +1,100 @@
 ghost use Rattle.std.specs.Prelude.{◌≡◌};
 
-use crate::boards::{TRIANGLE, distances_of};
-use crate::same::are_bytes;
+use crate::boards::{TRIANGLE, board, distances_of};
+use crate::same::{are_bytes, are_numbers};
 use std::alloc::{AllocError, Global};
 use std::process::Abort;
 use std::test::Fail;
 use vw_board::{BoardFault, Distances, read};
-use vw_plan::{Board, Link};
+use vw_plan::Board;
 
-/// Three numbers with blanks between them.
-fn three(alloc: Global, first: u32, second: u32, third: u32) -> Result<String, AllocError> {
-    format!(in alloc; "{first} {second} {third}")
-}
-
-/// Adds a link behind a comma: its ends and its width.
-fn add_link(alloc: Global, line: &mut Vec<u8>, link: &Link) -> Result<(), AllocError> {
-    let numbers = three(alloc, link.from(), link.to(), link.width())?;
-    line.extend_from_slice(b", ")?;
-    line.extend_from_slice(numbers.as_bytes())
-}
-
-/// The numbers of a board and its links.
-fn board_line(alloc: Global, board: &Board) -> Result<Vec<u8>, AllocError> {
-    let numbers = three(alloc, board.chips(), board.cells(), board.settle())?;
-    let mut line = numbers.into_bytes();
+/// The chips, cells and settling time of a board, and of each link its ends and its width.
+fn numbers_of(alloc: Global, board: &Board) -> Result<Vec<u32>, AllocError> {
+    let mut numbers = [board.chips(), board.cells(), board.settle()].to_vec(alloc)?;
     for link in board.links() {
-        add_link(alloc, &mut line, link)?;
+        numbers.extend_from_slice(&[link.from(), link.to(), link.width()])?;
     }
-    Ok(line)
+    Ok(numbers)
 }
 
-/// What reading a text answers: the message of its fault, or its numbers and links.
-fn shown(alloc: Global, text: &[u8]) -> Result<Vec<u8>, AllocError> {
-    match read(alloc, text) {
-        Ok(board) => board_line(alloc, &board),
-        Err(fault) => fault.text(alloc),
-    }
+/// Asserts the numbers of the board of a text.
+fn is_read(rt: &impl Abort, alloc: Global, text: &[u8], wanted: &[u32]) -> Result<(), Fail> {
+    let board = board(alloc, text)?;
+    let found = numbers_of(alloc, &board)?;
+    are_numbers(rt, &found, wanted);
+    Ok(())
 }
 
-/// What is shown of a text that begins with a front.
-fn shown_behind(alloc: Global, front: &[u8], rest: &[u8]) -> Result<Vec<u8>, AllocError> {
-    let mut text = front.to_vec(alloc)?;
-    text.extend_from_slice(rest)?;
-    shown(alloc, &text)
-}
-
-/// Asserts what is shown of each text, which stands behind the same front.
-fn are_shown(
-    rt: &impl Abort,
-    alloc: Global,
-    front: &[u8],
-    table: &[(&[u8], &[u8])],
-) -> Result<(), Fail> {
-    for (rest, wanted) in table {
-        let found = shown_behind(alloc, front, rest)?;
-        are_bytes(rt, &found, wanted, rest);
+/// Asserts the numbers of the board of each text.
+fn are_read(rt: &impl Abort, alloc: Global, table: &[(&[u8], &[u32])]) -> Result<(), Fail> {
+    for (text, wanted) in table {
+        is_read(rt, alloc, text, wanted)?;
     }
     Ok(())
 }
 
+/// The message of the fault of a text; nothing where it has none.
+fn message(alloc: Global, text: &[u8]) -> Result<Vec<u8>, AllocError> {
+    match read(alloc, text) {
+        Ok(_) => Ok(Vec::new(alloc)),
+        Err(fault) => fault.text(alloc),
+    }
+}
+
+/// Asserts the message of a text that begins with a front.
+fn is_message(
+    rt: &impl Abort,
+    alloc: Global,
+    front: &[u8],
+    rest: &[u8],
+    wanted: &[u8],
+) -> Result<(), AllocError> {
+    let mut text = front.to_vec(alloc)?;
+    text.extend_from_slice(rest)?;
+    let found = message(alloc, &text)?;
+    are_bytes(rt, &found, wanted, rest);
+    Ok(())
+}
+
+/// Asserts the message of each text, which stands behind the same front.
+fn are_messages(
+    rt: &impl Abort,
+    alloc: Global,
+    front: &[u8],
+    table: &[(&[u8], &[u8])],
+) -> Result<(), AllocError> {
+    for (rest, wanted) in table {
+        is_message(rt, alloc, front, rest, wanted)?;
+    }
+    Ok(())
+}
+
+/// The numbers of the triangle.
+const TRIANGLE_NUMBERS: &[u32] = &[
+    2, 1, 0, 0, 1, 1, 0, 2, 1, 1, 0, 1, 1, 2, 1, 2, 0, 1, 2, 1, 1,
+];
+
 /// Texts without a fault.
-const READ: &[(&[u8], &[u8])] = &[
-    (TRIANGLE, b"2 1 0, 0 1 1, 0 2 1, 1 0 1, 1 2 1, 2 0 1, 2 1 1"),
+const READ: &[(&[u8], &[u32])] = &[
+    (TRIANGLE, TRIANGLE_NUMBERS),
     // comments, blanks and a continued line; the host has no limit of pins
     (
         b"# two chips\nboard 1\n\nchips \\\n 2\r\ncells 65536\nsettle 15\npins 2\nlink 0 1 1\nlink 1 0 1\nlink 2 0 1\nlink 0 2 1",
-        b"2 65536 15, 0 1 1, 1 0 1, 2 0 1, 0 2 1",
+        &[2, 65536, 15, 0, 1, 1, 1, 0, 1, 2, 0, 1, 0, 2, 1],
     ),
     (
         b"board 1\nchips 1\ncells 1\nsettle 0\npins 128\nlink 1 0 64\nlink 0 1 64\n",
-        b"1 1 0, 1 0 64, 0 1 64",
+        &[1, 1, 0, 1, 0, 64, 0, 1, 64],
     ),
     (
         b"board 1\nchips 1\ncells 1\nsettle 0\npins 4096\nlink 1 0 1\nlink 0 1 1\n",
-        b"1 1 0, 1 0 1, 0 1 1",
+        &[1, 1, 0, 1, 0, 1, 0, 1, 1],
     ),
 ];
 
 #[test]
 fn boards_are_read(rt: HostRuntime) -> Result<(), Fail> {
-    are_shown(&rt, rt.alloc(), b"", READ)
+    are_read(&rt, rt.alloc(), READ)
 }
 
 /// Texts with a line at fault.
@@ -131,7 +146,7 @@ const LINES: &[(&[u8], &[u8])] = &[
 
 #[test]
 fn each_line_at_fault_is_named(rt: HostRuntime) -> Result<(), Fail> {
-    are_shown(&rt, rt.alloc(), b"", LINES)
+    Ok(are_messages(&rt, rt.alloc(), b"", LINES)?)
 }
 
 /// Lines of links at fault.
@@ -170,39 +185,24 @@ const LINKS: &[(&[u8], &[u8])] = &[
 #[test]
 fn each_fault_of_links_is_named(rt: HostRuntime) -> Result<(), Fail> {
     let front = b"board 1\nchips 2\ncells 4\nsettle 0\npins 4\n";
-    are_shown(&rt, rt.alloc(), front, LINKS)
+    Ok(are_messages(&rt, rt.alloc(), front, LINKS)?)
 }
 
-/// What is shown of the triangle's text, with empty lines behind it up to so many bytes.
+/// The triangle's text, with empty lines behind it up to so many bytes.
 fn filled(alloc: Global, size: usize) -> Result<Vec<u8>, AllocError> {
     let mut text = TRIANGLE.to_vec(alloc)?;
     for _ in TRIANGLE.len()..size {
         text.push(b'\n')?;
     }
-    shown(alloc, &text)
-}
-
-/// Asserts what is shown of the triangle's text, filled up to so many bytes.
-fn is_filled(rt: &impl Abort, alloc: Global, size: usize, wanted: &[u8]) -> Result<(), AllocError> {
-    let found = filled(alloc, size)?;
-    are_bytes(rt, &found, wanted, b"filled");
-    Ok(())
+    Ok(text)
 }
 
 #[test]
 fn texts_up_to_the_limit_are_read(rt: HostRuntime) -> Result<(), Fail> {
-    is_filled(
-        &rt,
-        rt.alloc(),
-        1_048_576,
-        b"2 1 0, 0 1 1, 0 2 1, 1 0 1, 1 2 1, 2 0 1, 2 1 1",
-    )?;
-    is_filled(
-        &rt,
-        rt.alloc(),
-        1_048_577,
-        b"board 1: text longer than 1048576 bytes\n",
-    )?;
+    let longest = filled(rt.alloc(), 1_048_576)?;
+    is_read(&rt, rt.alloc(), &longest, TRIANGLE_NUMBERS)?;
+    let message = b"board 1: text longer than 1048576 bytes\n";
+    is_message(&rt, rt.alloc(), &longest, b"\n", message)?;
     Ok(())
 }
 
@@ -213,21 +213,19 @@ fn short_memory_is_named(rt: HostRuntime) -> Result<(), Fail> {
     Ok(())
 }
 
-/// Asserts that this number is found of two nodes.
-fn is_number(rt: &impl Abort, a: u32, b: u32, found: u32, wanted: u32) {
-    assert_eq!(rt; found, wanted, "{a} {b}");
-}
-
 /// Asserts how far apart two nodes are, and which node comes first on the way, where they aren't one.
 fn is_apart(rt: &impl Abort, distances: &Distances, chips: u32, row: (u32, u32, u32, u32))
     requires { distances.now.chips ≡ chips }
 {
     let (a, b, distance, first) = row;
     assert!(rt; a <= chips && b <= chips);
-    is_number(rt, a, b, distances.distance(a, b), distance);
-    if a != b {
-        is_number(rt, a, b, distances.first_step(a, b), first);
-    }
+    let found = distances.distance(a, b);
+    let step = if a == b {
+        first
+    } else {
+        distances.first_step(a, b)
+    };
+    are_numbers(rt, &[a, b, found, step], &[a, b, distance, first]);
 }
 
 /// Asserts how far apart nodes of a board are, and, where they are two, which node comes first on the way.

@@ -95,7 +95,7 @@ fn have_values(rt: &impl Abort, alloc: Global, lines: &[TableCase]) -> Result<()
     for (width, rows, text, matches) in lines {
         let on = value(alloc, *width, true, rows, text)?;
         let off = value(alloc, *width, false, rows, text)?;
-        assert!(rt; on == *matches && off != *matches, "of {width} inputs");
+        assert!(rt; on == *matches && off != *matches);
     }
     Ok(())
 }
@@ -131,7 +131,7 @@ const PARTS: &[(u32, u32, u32, bool)] = &[
 fn are_fit(rt: &impl Abort, alloc: Global, lines: &[(u32, u32, u32, bool)]) -> Result<(), Fail> {
     for (inputs, net, output, fits) in lines {
         let found = fit(alloc, *inputs, *net, *output)?;
-        assert!(rt; found == *fits, "{inputs} {net} {output}");
+        assert!(rt; found == *fits);
     }
     Ok(())
 }

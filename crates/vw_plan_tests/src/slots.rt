@@ -4,7 +4,7 @@ use crate::boards::board;
 use std::alloc::{AllocError, Global};
 use std::process::Abort;
 use std::test::Fail;
-use vw_slots::{Slot, SlotTable};
+use vw_slots::SlotTable;
 
 /// Two pins lead from the host to the chip, and one back.
 const BOARD: &[u8] = b"board 1\nchips 1\ncells 1\nsettle 0\npins 3\nlink 0 1 2\nlink 1 0 1\n";
@@ -27,11 +27,6 @@ fn table_of(alloc: Global, room: u64) -> Result<SlotTable, Fail>
     Ok(table)
 }
 
-/// Asserts that a slot is taken, where a link and the earliest microcycle are asked for.
-fn is_slot(rt: &impl Abort, found: Slot, wanted: Slot, link: u32, not_before: u64) {
-    assert_eq!(rt; found, wanted, "{link} {not_before}");
-}
-
 /// Takes slots in an empty table, and asserts what each row says.
 fn take(rt: &impl Abort, table: &mut SlotTable, rows: &[SlotCase])
     requires links { length table.old.widths ≡ 2 }
@@ -42,7 +37,7 @@ fn take(rt: &impl Abort, table: &mut SlotTable, rows: &[SlotCase])
     for (link, not_before, pin, at) in rows {
         assert!(rt; *link < 2 && *not_before <= 1 << 61);
         let slot = table.take_first(*link, *not_before);
-        is_slot(rt, slot, Slot::make(*pin, *at), *link, *not_before);
+        assert!(rt; slot.pin() == *pin && slot.at() == *at);
     }
     assert!(rt; table.taken().len() == rows.len());
 }
