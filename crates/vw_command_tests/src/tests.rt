@@ -245,28 +245,47 @@ fn stimuli_are_refused(
     Ok(())
 }
 
-/// Asserts, for each of these lists of words over the same texts, with which status, output and message a call ends.
-fn words_end<'a>(
+/// Asserts how a call with these words and texts ends.
+fn words_end_so(
     rt: &impl Abort,
     alloc: Global,
-    texts: &'a [(&'a str, &'a str)],
-    table: &'a [(&'a [&'a str], u8, &'a str, &'a str)],
+    words: &[&str],
+    texts: &[(&str, &str)],
+    end: End,
+) -> Result<(), Fail> {
+    let call = Call {
+        words,
+        texts,
+        most: MOST,
+        fault: Fault::None,
+    };
+    call_ends(rt, alloc, &call, end.err, end)
+}
+
+/// Asserts, for each of these lists of words over the same texts, with which status, output and message a call ends.
+fn words_end(
+    rt: &impl Abort,
+    alloc: Global,
+    texts: &[(&str, &str)],
+    table: &[(&[&str], u8, &str, &str)],
 ) -> Result<(), Fail> {
     for (words, status, out, err) in table {
-        let call = Call {
-            words,
-            texts,
-            most: MOST,
-            fault: Fault::None,
-        };
         let end = End {
             status: *status,
             out,
             err,
         };
-        call_ends(rt, alloc, &call, err, end)?;
+        words_end_so(rt, alloc, words, texts, end)?;
     }
     Ok(())
+}
+
+/// Asserts how a call ends, which its fault and the most bytes that a call takes tell from the others.
+fn fault_ends(rt: &impl Abort, alloc: Global, call: &Call, end: End) -> Result<(), Fail> {
+    let most = call.most;
+    let (read, write, message) = numbers_of(call.fault);
+    let on = format!(in alloc; "{most} bytes, read {read}, write {write}, message {message}")?;
+    call_ends(rt, alloc, call, on.as_str(), end)
 }
 
 /// Asserts, for each most number of bytes a call takes and each fault, with which status, output and message a call
@@ -279,8 +298,6 @@ fn faults_end<'a>(
     table: &[(u32, Fault, u8, &str, &str)],
 ) -> Result<(), Fail> {
     for (most, fault, status, out, err) in table {
-        let (read, write, message) = numbers_of(*fault);
-        let on = format!(in alloc; "{most} bytes, read {read}, write {write}, message {message}")?;
         let call = Call {
             words,
             texts,
@@ -292,7 +309,7 @@ fn faults_end<'a>(
             out,
             err,
         };
-        call_ends(rt, alloc, &call, on.as_str(), end)?;
+        fault_ends(rt, alloc, &call, end)?;
     }
     Ok(())
 }

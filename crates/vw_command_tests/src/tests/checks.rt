@@ -30,6 +30,24 @@ const SMALL_CHAIN: &str =
 const SLOW_TRIANGLE: &str =
     "board 1\nchips 2\ncells 1\nsettle 1\npins 4\nlink 0 1 1\nlink 0 2 1\nlink 1 0 1\nlink 1 2 1\nlink 2 0 1\nlink 2 1 1\n";
 
+/// Asserts how a check of a design, a board and a plan ends.
+fn check_ends(
+    rt: &impl Abort,
+    alloc: Global,
+    design: &str,
+    board: &str,
+    plan: &str,
+    end: End,
+) -> Result<(), Fail> {
+    let call = Call {
+        words: CHECK,
+        texts: &[("d", design), ("b", board), ("p", plan)],
+        most: MOST,
+        fault: Fault::None,
+    };
+    call_ends(rt, alloc, &call, plan, end)
+}
+
 /// Asserts, for each of these designs, boards and plans, with which status, output and message a check ends.
 fn checks_end(
     rt: &impl Abort,
@@ -37,18 +55,12 @@ fn checks_end(
     table: &[(&str, &str, &str, u8, &str, &str)],
 ) -> Result<(), Fail> {
     for (design, board, plan, status, out, err) in table {
-        let call = Call {
-            words: CHECK,
-            texts: &[("d", design), ("b", board), ("p", plan)],
-            most: MOST,
-            fault: Fault::None,
-        };
         let end = End {
             status: *status,
             out,
             err,
         };
-        call_ends(rt, alloc, &call, plan, end)?;
+        check_ends(rt, alloc, design, board, plan, end)?;
     }
     Ok(())
 }
