@@ -2,6 +2,7 @@ pub mod LastWord
 pub mod Repeats
 pub mod Sides
 pub mod Binds
+pub mod ItemSteps
 pub mod TableSteps
 pub mod DistinctSteps
 pub mod ReaderSteps

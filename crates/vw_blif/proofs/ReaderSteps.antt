@@ -1,5 +1,5 @@
 -- Models of a design that is being read.
-use Rattle.std.proofs.Common.{◌≡◌, List, [], ◌∷◌, ◌++◌, map, Option, Some, None, refl, sym, ◌∙◌, ap, append-nil, All}
+use Rattle.std.proofs.Common.{◌≡◌, List, [], ◌∷◌, ◌++◌, map, Option, Some, None, refl, sym, ◌∙◌, ap, append_assoc, append-nil, All}
 use Rattle.std.proofs.lemmas.List.{map-append}
 use Rattle.std.proofs.lemmas.List.Elements.{All-push}
 use Rattle.vw_design.specs.declared.model.Model.{Model}
@@ -9,8 +9,12 @@ use Rattle.vw_design.specs.Paths.{Word}
 use Rattle.vw_blif.specs.Spelled.{SpelledModel, spelled_model}
 use Rattle.vw_blif.specs.Designs.{blocks}
 use Rattle.vw_blif.specs.Steps.Names.{names_so_far}
-use Rattle.vw_blif.specs.Steps.Blocks.{block_made}
+use Rattle.vw_blif.specs.Steps.Blocks.{block_made, ClosesTable}
 use Rattle.vw_blif.specs.Steps.Readers.{models_with}
+
+-- a model makes the same whether its table is open or came to the items
+pub closed_made : (old new : Block) → ClosesTable old new → block_made new [] ≡ block_made old []
+closed_made old new closes = rw (closes.ports.name, closes.ports.inputs, closes.ports.outputs, closes.ports.clocks, closes.items, closes.table_) (simp append_assoc)
 
 -- the open model, or none, came to the models
 pub record Ended (models : List Model) (open_ : Option Block) (new : List Model) : Type 0 where

@@ -1,5 +1,5 @@
 //! Models, line by line.
-ghost use Rattle.std.specs.Prelude.{◌≡◌, [], IsTrue, IfOk, IfErr, OnOk};
+ghost use Rattle.std.specs.Prelude.{◌≡◌, [], None, IsTrue, IfOk, IfErr, OnOk};
 ghost use Rattle.std.specs.List.{list_all};
 ghost use Rattle.vw_design.specs.Shape.{IsWellMade, has_its_shape};
 
@@ -12,7 +12,6 @@ use crate::ports::Ports;
 use crate::table::Table;
 use bumpalo::Bump;
 use std::alloc::{AllocError, Global};
-use std::mem::replace;
 use vw_design::{Item, Model};
 use vw_net::Sequence;
 use vw_outside::Name;
@@ -35,7 +34,7 @@ impl<'a> Block<'a> {
     ghost use Rattle.vw_blif.specs.Kinds.{kind};
     ghost use Rattle.vw_blif.specs.declared.kind.Kind.{Kind};
     ghost use Rattle.vw_blif.specs.Spelled.{spelled_model};
-    ghost use Rattle.vw_blif.specs.Steps.Blocks.{IsNew, ClosesTable, HasItem, block_made, TakesLine, RefusesInModel};
+    ghost use Rattle.vw_blif.specs.Steps.Blocks.{IsNew, ClosesTable, block_made, TakesLine, RefusesInModel};
 
     /// A model of which nothing but the name was read.
     pub fn new(alloc: Global, name: Name) -> Result<Box<Self>, AllocError>
@@ -53,22 +52,12 @@ impl<'a> Block<'a> {
     }
 
     /// Puts the open table behind the items.
-    fn close(&mut self) -> Result<(), AllocError>
+    pub fn close(&mut self) -> Result<(), AllocError>
         ensures { OnOk result (ClosesTable self.old self.new) }
     {
         if let Some(table) = self.table.take() {
             self.items.push(close_table(table))?;
         }
-        Ok(())
-    }
-
-    /// Puts an item behind the others.
-    fn add_item(&mut self, item: Item) -> Result<(), AllocError>
-        requires { IsTrue (has_its_shape item) }
-        ensures { OnOk result (HasItem self.old item self.new) }
-    {
-        self.close()?;
-        self.items.push(item)?;
         Ok(())
     }
 
@@ -84,8 +73,7 @@ impl<'a> Block<'a> {
         ensures refuses { IfErr result (RefusesInModel self.old line.now) }
     {
         self.close()?;
-        let inputs = replace(&mut self.inputs, Ports::new(alloc));
-        self.inputs = inputs.add(alloc, arena, line)?;
+        self.inputs.extend(alloc, arena, line)?;
         Ok(())
     }
 
@@ -101,8 +89,7 @@ impl<'a> Block<'a> {
         ensures refuses { IfErr result (RefusesInModel self.old line.now) }
     {
         self.close()?;
-        let outputs = replace(&mut self.outputs, Ports::new(alloc));
-        self.outputs = outputs.add(alloc, arena, line)?;
+        self.outputs.extend(alloc, arena, line)?;
         Ok(())
     }
 
@@ -118,8 +105,7 @@ impl<'a> Block<'a> {
         ensures refuses { IfErr result (RefusesInModel self.old line.now) }
     {
         self.close()?;
-        let clocks = replace(&mut self.clocks, Ports::new(alloc));
-        self.clocks = clocks.add(alloc, arena, line)?;
+        self.clocks.extend(alloc, arena, line)?;
         Ok(())
     }
 
@@ -129,9 +115,8 @@ impl<'a> Block<'a> {
         ensures takes { OnOk result (TakesLine self.old line.now self.new) }
         ensures refuses { IfErr result (RefusesInModel self.old line.now) }
     {
-        let table = begin_table(alloc, line)?;
         self.close()?;
-        self.table = Some(table);
+        self.table = Some(begin_table(alloc, line)?);
         Ok(())
     }
 
@@ -145,8 +130,9 @@ impl<'a> Block<'a> {
         if words.len() < 2 || words.len() > 5 {
             return Err(TextFault::BadWords(line.number()));
         }
+        self.close()?;
         let latch = latch_of(alloc, line.number(), words)?;
-        self.add_item(latch)?;
+        self.items.push(latch)?;
         Ok(())
     }
 
@@ -160,8 +146,9 @@ impl<'a> Block<'a> {
         if words.is_empty() {
             return Err(TextFault::BadWords(line.number()));
         }
+        self.close()?;
         let place = subckt_of(alloc, line.number(), words)?;
-        self.add_item(place)?;
+        self.items.push(place)?;
         Ok(())
     }
 
@@ -178,12 +165,12 @@ impl<'a> Block<'a> {
         Ok(())
     }
 
-    /// The model, which has no further line.
-    pub fn finish(mut self) -> Result<Model, AllocError>
-        ensures model { IfOk result (λ model. spelled_model model ≡ block_made self.entry []) }
-        ensures well_made { IfOk result IsWellMade }
+    /// The model, which has no further line and no open table.
+    pub fn into_model(self) -> Model
+        requires { self.table ≡ None }
+        ensures model { spelled_model result ≡ block_made self.entry [] }
+        ensures well_made { IsWellMade result }
     {
-        self.close()?;
         let Block {
             name,
             inputs,
@@ -192,12 +179,12 @@ impl<'a> Block<'a> {
             items,
             table: _,
         } = self;
-        Ok(Model::make(
+        Model::make(
             name,
             Sequence::of(inputs.into_names()),
             Sequence::of(outputs.into_names()),
             Sequence::of(clocks.into_names()),
             Sequence::of(items),
-        ))
+        )
     }
 }

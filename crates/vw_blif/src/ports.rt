@@ -1,5 +1,5 @@
 //! The ports of a model.
-ghost use Rattle.std.specs.Prelude.{◌≡◌, [], IsTrue, IfOk, IfErr};
+ghost use Rattle.std.specs.Prelude.{◌≡◌, [], IsTrue, IfOk, IfErr, OnOk};
 ghost use Rattle.vw_design.specs.Distinct.{are_distinct};
 ghost use Rattle.vw_blif.specs.Steps.Seen.{Knows};
 
@@ -8,6 +8,7 @@ use crate::fault::TextFault;
 use crate::seen::Seen;
 use bumpalo::Bump;
 use std::alloc::Global;
+use std::mem::replace;
 use vw_outside::Name;
 use vw_text::Line;
 
@@ -34,7 +35,7 @@ impl<'a> Ports<'a> {
     }
 
     /// These ports and those of a line.
-    pub fn add(self, alloc: Global, arena: &'a Bump, line: &Line) -> Result<Self, TextFault>
+    fn add(self, alloc: Global, arena: &'a Bump, line: &Line) -> Result<Self, TextFault>
         ensures ports { IfOk result (AddsPorts self.entry line.now) }
         ensures fault { IfErr result (SaysPort self.entry line.now) }
     {
@@ -50,6 +51,16 @@ impl<'a> Ports<'a> {
             names.push(copy(alloc, word.as_slice())?)?;
         }
         Ok(Ports { names, seen })
+    }
+
+    /// Adds the ports of a line; no port is left where one can't be added.
+    pub fn extend(&mut self, alloc: Global, arena: &'a Bump, line: &Line) -> Result<(), TextFault>
+        ensures ports { OnOk result (AddsPorts self.old line.now self.new) }
+        ensures fault { IfErr result (SaysPort self.old line.now) }
+    {
+        let ports = replace(self, Ports::new(alloc));
+        *self = ports.add(alloc, arena, line)?;
+        Ok(())
     }
 
     /// The names of the ports, in order.

@@ -57,8 +57,9 @@ impl<'a> Reader<'a> {
             names,
             block,
         } = self;
-        if let Some(block) = block {
-            models.push(Box::into_inner(block).finish()?)?;
+        if let Some(mut block) = block {
+            block.close()?;
+            models.push(Box::into_inner(block).into_model())?;
         }
         Ok(Reader {
             models,
