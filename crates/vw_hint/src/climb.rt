@@ -12,7 +12,6 @@ const EVEN: u32 = 1 << 31;
 type Candidate = (u32, u32);
 
 /// A chain of moves under way.
-#[derive(Drop)]
 struct Climb {
     /// The gain of each vertex that may still move; 0 for one that has moved.
     gains: NumberList,
@@ -21,6 +20,18 @@ struct Climb {
     high: BinaryHeap<Candidate>,
     /// The vertices that have moved.
     moved: Vec<u32>,
+}
+
+// Written out: where a derived drop runs, each function takes it apart anew.
+impl Drop for Climb {
+    fn drop(self) {
+        let Climb {
+            gains: _,
+            low: _,
+            high: _,
+            moved: _,
+        } = self;
+    }
 }
 
 impl Climb {
@@ -98,26 +109,36 @@ impl Climb {
         Ok(())
     }
 
+    /// Changes the gains of the vertices that share nets with one that joins a chip or has left it: all vertices of a net that
+    /// has none there, and the only one there of a net that has one.
+    fn change_near(
+        &mut self,
+        level: &Level,
+        cut: &Cut,
+        vertex: u32,
+        chip: u32,
+        joins: bool,
+    ) -> Result<(), AllocError> {
+        let (more, less) = if joins { (1, 0) } else { (0, 1) };
+        for net in level.of_vertex.row(vertex) {
+            let near = level.of_net.row(*net);
+            match cut.count(*net, chip) {
+                0 => self.change_all(cut, near, None, more, less)?,
+                1 => self.change_all(cut, near, Some(chip), less, more)?,
+                _ => {}
+            }
+        }
+        Ok(())
+    }
+
     /// Moves a vertex to the other chip, and changes the gains of the vertices that share nets with it.
     fn shift(&mut self, level: &Level, cut: &mut Cut, vertex: u32) -> Result<(), AllocError> {
         let own = cut.chip_of.at(vertex);
         let other = 1u32.saturating_sub(own);
         self.gains.set(vertex, 0);
-        for net in level.of_vertex.row(vertex) {
-            match cut.count(*net, other) {
-                0 => self.change_all(cut, level.of_net.row(*net), None, 1, 0)?,
-                1 => self.change_all(cut, level.of_net.row(*net), Some(other), 0, 1)?,
-                _ => {}
-            }
-        }
+        self.change_near(level, cut, vertex, other, true)?;
         cut.shift(level, vertex, other);
-        for net in level.of_vertex.row(vertex) {
-            match cut.count(*net, own) {
-                0 => self.change_all(cut, level.of_net.row(*net), None, 0, 1)?,
-                1 => self.change_all(cut, level.of_net.row(*net), Some(own), 1, 0)?,
-                _ => {}
-            }
-        }
+        self.change_near(level, cut, vertex, own, false)?;
         self.moved.push(vertex)?;
         Ok(())
     }

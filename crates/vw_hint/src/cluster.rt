@@ -164,6 +164,23 @@ fn nth(place: u32, order: u32, vertices: u32) -> u32 {
     u32::try_from(number).unwrap_or(0)
 }
 
+/// The number of each vertex's cluster, given the vertex that names it, and how many clusters there are.
+fn numbered(alloc: Global, of: &NumberList) -> Result<(NumberList, u32), AllocError> {
+    let mut numbers = NumberList::zeros(alloc, of.len())?;
+    let mut many: u32 = 0;
+    for vertex in 0..of.len() {
+        if of.at(vertex) == vertex {
+            numbers.set(vertex, many);
+            many = many.saturating_add(1);
+        }
+    }
+    let mut map = NumberList::zeros(alloc, of.len())?;
+    for vertex in 0..of.len() {
+        map.set(vertex, numbers.at(of.at(vertex)));
+    }
+    Ok((map, many))
+}
+
 /// The cluster of each vertex by its number, and how many clusters there are. None weighs more than it may unless a vertex
 /// does.
 pub fn clustered(
@@ -176,17 +193,5 @@ pub fn clustered(
         let vertex = nth(place, limits.order, level.vertices());
         found.place(level, vertex, limits)?;
     }
-    let mut numbers = NumberList::zeros(alloc, level.vertices())?;
-    let mut many: u32 = 0;
-    for vertex in 0..level.vertices() {
-        if found.of.at(vertex) == vertex {
-            numbers.set(vertex, many);
-            many = many.saturating_add(1);
-        }
-    }
-    let mut map = NumberList::zeros(alloc, level.vertices())?;
-    for vertex in 0..level.vertices() {
-        map.set(vertex, numbers.at(found.of.at(vertex)));
-    }
-    Ok((map, many))
+    numbered(alloc, &found.of)
 }

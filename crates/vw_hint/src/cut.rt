@@ -4,7 +4,6 @@ use crate::numbers::NumberList;
 use std::alloc::{AllocError, Global};
 
 /// The chip of each vertex, from 0 on, and what the moves look up.
-#[derive(Drop)]
 pub struct Cut {
     chips: u32,
     /// How many cells each chip may have.
@@ -16,6 +15,20 @@ pub struct Cut {
     counts: NumberList,
     /// For each chip, how many nets of the vertex that is looked at have a vertex on it.
     there: NumberList,
+}
+
+// Written out: where a derived drop runs, each function takes it apart anew.
+impl Drop for Cut {
+    fn drop(self) {
+        let Cut {
+            chips: _,
+            rooms: _,
+            chip_of: _,
+            sizes: _,
+            counts: _,
+            there: _,
+        } = self;
+    }
 }
 
 impl Cut {
@@ -207,6 +220,19 @@ impl Cut {
             cost = cost.saturating_add(u64::from(over) * 1000);
         }
         cost
+    }
+
+    /// The chip of each vertex.
+    pub fn into_chip_of(self) -> NumberList {
+        let Cut {
+            chips: _,
+            rooms: _,
+            chip_of,
+            sizes: _,
+            counts: _,
+            there: _,
+        } = self;
+        chip_of
     }
 
     /// On how many chips the nets are, beyond one for each net.

@@ -6,10 +6,10 @@ use std::alloc::{AllocError, Global};
 
 /// The chips so far.
 #[derive(Drop)]
-struct Growth {
+struct Growth<'a> {
     chips: u32,
     /// How many cells each chip may have.
-    rooms: NumberList,
+    rooms: &'a NumberList,
     /// The chip of each vertex; the number of chips for one that has none.
     chip_of: NumberList,
     sizes: NumberList,
@@ -19,19 +19,15 @@ struct Growth {
     marks: NumberList,
 }
 
-impl Growth {
+impl<'a> Growth<'a> {
     /// No vertex has a chip.
-    fn of(alloc: Global, level: &Level, rooms: &NumberList) -> Result<Self, AllocError> {
+    fn of(alloc: Global, level: &Level, rooms: &'a NumberList) -> Result<Self, AllocError> {
         let vertices = level.vertices();
         let chips = rooms.len();
-        let mut chip_of = NumberList::zeros(alloc, vertices)?;
-        for vertex in 0..vertices {
-            chip_of.set(vertex, chips);
-        }
         Ok(Growth {
             chips,
-            rooms: rooms.copied(alloc)?,
-            chip_of,
+            rooms,
+            chip_of: NumberList::filled(alloc, vertices, chips)?,
             sizes: NumberList::zeros(alloc, chips)?,
             scores: NumberList::zeros(alloc, vertices)?,
             marks: NumberList::zeros(alloc, level.of_net.len())?,

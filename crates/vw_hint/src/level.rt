@@ -5,7 +5,6 @@ use std::alloc::{AllocError, Global};
 use vw_net::Sequence;
 
 /// Nets of at least two vertices.
-#[derive(Drop)]
 pub struct Level {
     /// The vertices of each net.
     pub of_net: NumberRows,
@@ -15,6 +14,17 @@ pub struct Level {
     pub weights: NumberList,
 }
 
+// Written out: where a derived drop runs, each function takes it apart anew.
+impl Drop for Level {
+    fn drop(self) {
+        let Level {
+            of_net: _,
+            of_vertex: _,
+            weights: _,
+        } = self;
+    }
+}
+
 impl Level {
     /// The level at which each vertex is a cell, given how many nets there are, and those of each cell.
     pub fn of_pins(
@@ -22,17 +32,10 @@ impl Level {
         nets: u32,
         of_cells: &[Sequence<u32>],
     ) -> Result<Self, AllocError> {
-        let mut of_cell = NumberRows::new(alloc)?;
-        let mut weights = NumberList::new(alloc);
-        for own in of_cells {
-            for net in own.as_slice() {
-                of_cell.push(*net)?;
-            }
-            of_cell.end_row()?;
-            weights.push(1)?;
-        }
+        let of_cell = pin_rows(alloc, of_cells)?;
         let of_net = of_cell.transposed(alloc, nets)?;
-        let map = NumberList::below(alloc, weights.len())?;
+        let map = NumberList::below(alloc, of_cell.len())?;
+        let weights = NumberList::filled(alloc, of_cell.len(), 1)?;
         merged_level(alloc, &of_net, &map, weights)
     }
 
@@ -71,6 +74,42 @@ impl Level {
     }
 }
 
+/// The nets of each cell, as rows.
+fn pin_rows(alloc: Global, of_cells: &[Sequence<u32>]) -> Result<NumberRows, AllocError> {
+    let mut of_cell = NumberRows::new(alloc)?;
+    for own in of_cells {
+        for net in own.as_slice() {
+            of_cell.push(*net)?;
+        }
+        of_cell.end_row()?;
+    }
+    Ok(of_cell)
+}
+
+/// The vertices of each of these nets by their new numbers, each once. A vertex whose new number is too great is left out,
+/// and so is a net that keeps a single vertex.
+fn merged_nets(
+    alloc: Global,
+    nets: &NumberRows,
+    map: &NumberList,
+    vertices: u32,
+) -> Result<NumberRows, AllocError> {
+    let mut of_net = NumberRows::new(alloc)?;
+    let mut seen = NumberList::zeros(alloc, vertices)?;
+    for net in 0..nets.len() {
+        let mark = net.saturating_add(1);
+        for vertex in nets.row(net) {
+            let new = map.at(*vertex);
+            if new < vertices && seen.at(new) != mark {
+                seen.set(new, mark);
+                of_net.push(new)?;
+            }
+        }
+        of_net.end_row_of_two()?;
+    }
+    Ok(of_net)
+}
+
 /// The level of these nets, with the new number of each vertex, and the new weights. A vertex whose new number has no weight
 /// is left out, and so is a net that keeps a single vertex.
 fn merged_level(
@@ -79,19 +118,7 @@ fn merged_level(
     map: &NumberList,
     weights: NumberList,
 ) -> Result<Level, AllocError> {
-    let mut of_net = NumberRows::new(alloc)?;
-    let mut seen = NumberList::zeros(alloc, weights.len())?;
-    for net in 0..nets.len() {
-        let mark = net.saturating_add(1);
-        for vertex in nets.row(net) {
-            let new = map.at(*vertex);
-            if new < weights.len() && seen.at(new) != mark {
-                seen.set(new, mark);
-                of_net.push(new)?;
-            }
-        }
-        of_net.end_row_of_two()?;
-    }
+    let of_net = merged_nets(alloc, nets, map, weights.len())?;
     let of_vertex = of_net.transposed(alloc, weights.len())?;
     Ok(Level {
         of_net,

@@ -2,9 +2,15 @@
 use std::alloc::{AllocError, Global};
 
 /// Numbers by their places. Past the end they are 0, and what is written there is lost.
-#[derive(Drop)]
 pub struct NumberList {
     items: Vec<u32>,
+}
+
+// Written out: where a derived drop runs, each function takes it apart anew.
+impl Drop for NumberList {
+    fn drop(self) {
+        let NumberList { items: _ } = self;
+    }
 }
 
 impl NumberList {
@@ -15,11 +21,16 @@ impl NumberList {
         }
     }
 
+    /// The same number so many times.
+    pub fn filled(alloc: Global, many: u32, number: u32) -> Result<Self, AllocError> {
+        Ok(NumberList {
+            items: vec![in alloc; number; many as usize]?,
+        })
+    }
+
     /// So many zeros.
     pub fn zeros(alloc: Global, many: u32) -> Result<Self, AllocError> {
-        Ok(NumberList {
-            items: vec![in alloc; 0; many as usize]?,
-        })
+        NumberList::filled(alloc, many, 0)
     }
 
     /// The numbers below a limit, in order.

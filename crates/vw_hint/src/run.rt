@@ -15,7 +15,6 @@ struct Coarser {
 }
 
 /// How a run goes.
-#[derive(Drop)]
 pub struct MultilevelRun {
     /// How many cells each chip may have at last.
     pub rooms: NumberList,
@@ -25,6 +24,18 @@ pub struct MultilevelRun {
     pub order: u32,
     /// The most cells of a cluster.
     pub most: u32,
+}
+
+// Written out: where a derived drop runs, each function takes it apart anew.
+impl Drop for MultilevelRun {
+    fn drop(self) {
+        let MultilevelRun {
+            rooms: _,
+            wide: _,
+            order: _,
+            most: _,
+        } = self;
+    }
 }
 
 impl MultilevelRun {
@@ -103,7 +114,7 @@ impl MultilevelRun {
             let cost = cut.cost();
             if cost < least || best.is_none() {
                 least = cost;
-                best = Some(cut.chip_of);
+                best = Some(cut.into_chip_of());
             }
         }
         match best {

@@ -12,13 +12,18 @@ use std::alloc::{AllocError, Global};
 use vw_net::Sequence;
 use vw_plan::Board;
 
-/// The same number for each of some chips.
-fn each(alloc: Global, chips: u32, number: u32) -> Result<NumberList, AllocError> {
-    let mut numbers = NumberList::zeros(alloc, chips)?;
-    for chip in 0..chips {
-        numbers.set(chip, number);
-    }
-    Ok(numbers)
+/// The cells on these chips, of which each has so much room, after sweeps.
+fn swept_cut(
+    alloc: Global,
+    top: &Level,
+    chips: u32,
+    room: u32,
+    chip_of: NumberList,
+) -> Result<Cut, AllocError> {
+    let rooms = NumberList::filled(alloc, chips, room)?;
+    let mut cut = Cut::of(alloc, top, &rooms, chip_of)?;
+    cut.sweeps(top);
+    Ok(cut)
 }
 
 /// The cells on chips as they follow each other, after sweeps. Many designs come in a good order.
@@ -31,9 +36,7 @@ fn in_order(alloc: Global, top: &Level, chips: u32, room: u32) -> Result<Cut, Al
             .unwrap_or(0);
         chip_of.push(u32::try_from(chip).unwrap_or(0))?;
     }
-    let mut cut = Cut::of(alloc, top, &each(alloc, chips, room)?, chip_of)?;
-    cut.sweeps(top);
-    Ok(cut)
+    swept_cut(alloc, top, chips, room, chip_of)
 }
 
 /// The cells on chips by halves of halves, after sweeps.
@@ -45,9 +48,7 @@ fn in_halves(
     tries: u32,
 ) -> Result<Cut, AllocError> {
     let chip_of = halved(alloc, top, chips, room, tries)?;
-    let mut cut = Cut::of(alloc, top, &each(alloc, chips, room)?, chip_of)?;
-    cut.sweeps(top);
-    Ok(cut)
+    swept_cut(alloc, top, chips, room, chip_of)
 }
 
 /// How much work a design is worth: how often each halving is tried, and how many runs fill all chips at once.
@@ -91,11 +92,26 @@ fn run_of(
         share / 12
     };
     Ok(MultilevelRun {
-        rooms: each(alloc, chips, board.cells())?,
-        wide: each(alloc, chips, wide)?,
+        rooms: NumberList::filled(alloc, chips, board.cells())?,
+        wide: NumberList::filled(alloc, chips, wide)?,
         order,
         most: most.max(2),
     })
+}
+
+/// The best cut that is found: the order of the cells, halves of halves, or one of the runs.
+fn best_cut(alloc: Global, top: &Level, board: &Board) -> Result<Cut, AllocError> {
+    let (tries, runs) = effort(top, board.chips());
+    let mut best = in_order(alloc, top, board.chips(), board.cells())?;
+    if tries > 0 {
+        let halves = in_halves(alloc, top, board.chips(), board.cells(), tries)?;
+        best = better(best, halves);
+    }
+    for order in 0..runs {
+        let run = run_of(alloc, order, runs, top.vertices(), board)?;
+        best = better(best, run.of(alloc, top)?);
+    }
+    Ok(best)
 }
 
 /// A chip for each cell: where it might be put. How good a partition is found rests on it, and nothing else does.
@@ -114,17 +130,7 @@ pub fn hint(
     ensures chips { IfOk result (λ wishes. All (IsChip board.now) wishes.items) }
 {
     let top = Level::of_pins(alloc, nets, of_cells)?;
-    let cells = top.vertices();
-    let (tries, runs) = effort(&top, board.chips());
-    let mut best = in_order(alloc, &top, board.chips(), board.cells())?;
-    if tries > 0 {
-        let halves = in_halves(alloc, &top, board.chips(), board.cells(), tries)?;
-        best = better(best, halves);
-    }
-    for order in 0..runs {
-        let run = run_of(alloc, order, runs, cells, board)?;
-        best = better(best, run.of(alloc, &top)?);
-    }
+    let best = best_cut(alloc, &top, board)?;
     wished(alloc, of_cells.len(), &best, board)
 }
 
