@@ -6,7 +6,7 @@ use Rattle.vw_plan.specs.Setting.{Setting}
 use Rattle.vw_check.specs.declared.fault.PlanFault.{PlanFault}
 use Rattle.vw_check.specs.Faults.{cell_fault, wire_fault, hop_fault, moment_fault, plan_fault}
 
-some_or : (found rest : Option PlanFault) → true ≡ is_some found → option_or found rest ≡ found
+pub some_or : (found rest : Option PlanFault) → true ≡ is_some found → option_or found rest ≡ found
 some_or None rest there = absurd (true≢false there)
 some_or (Some fault) rest there = refl
 

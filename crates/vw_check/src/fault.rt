@@ -94,10 +94,10 @@ fn of_clash(
 ) -> Result<Vec<u8>, AllocError>
     ensures { IfOk result (λ line. line.items ≡ fault_text (PinClash wire hop other clash)) }
 {
-    let line = format!(in alloc;
-        "plan 13: wire {wire} hop {hop} and wire {other} hop {clash} share a pin\n"
-    )?;
-    Ok(line.into_bytes())
+    let mut line = with_two(alloc, "plan 13: wire ", wire, " hop ", hop, "")?;
+    let rest = with_two(alloc, " and wire ", other, " hop ", clash, " share a pin\n")?;
+    line.extend_from_slice(&rest)?;
+    Ok(line)
 }
 
 /// The message of a wire that is sent too early.

@@ -14,7 +14,7 @@ use vw_net::Ordered;
 use vw_plan::{Board, Hop, Plan, Wire, node_of};
 
 /// What is asked of each hop.
-#[derive(Clone, Copy, Debug, PartialEq, Eq)]
+#[derive(Clone, Copy)]
 pub enum Rule {
     /// It begins where the hop before it ended, the first one at the net's node; a link leads where it goes; and the last one
     /// ends at the wire's node.

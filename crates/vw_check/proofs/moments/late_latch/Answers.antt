@@ -1,13 +1,17 @@
-use Rattle.std.proofs.Common.{◌≡◌, ◌+◌, ◌-◌, ◌∙◌, ℕ, List, Bool, true, false, None, ap, refl, sym, get_or, le-ltb, nat_le, nat_lt, arith}
-use Rattle.std.proofs.lemmas.Bool.{le-leb}
+use Rattle.std.proofs.Common.{◌≡◌, ◌<◌, ◌+◌, ◌-◌, ◌∙◌, ℕ, List, Bool, true, false, Some, None, ap, refl, sym, subst, length, get_or, le-ltb, nat_le, nat_lt, arith}
+use Rattle.std.proofs.lemmas.Bool.{le-leb, lt-leb}
+use Rattle.vw_net.specs.Cells.{IsWellFormed}
+use Rattle.vw_net.specs.declared.cell.Cell.{Cell}
+use Rattle.vw_net.specs.declared.cell.Cell.TheVariants.{Latch}
+use Rattle.vw_net.specs.declared.cell.Init.{Init}
 use Rattle.vw_net.specs.declared.flat.Flat.{Flat}
 use Rattle.vw_plan.specs.Lead.{usable}
 use Rattle.vw_plan.specs.Nets.{node_of}
-use Rattle.vw_plan.specs.Setting.{home, setting_of}
+use Rattle.vw_plan.specs.Setting.{Setting, home, setting_of}
 use Rattle.vw_check.specs.Firsts.{found_unless}
 use Rattle.vw_check.specs.MomentFaults.{late_cell, latch_moment}
 use Rattle.vw_check.specs.declared.fault.PlanFault.TheVariants.{LateLatch}
-use Rattle.vw_check.proofs.ListSearches.{search_on}
+use Rattle.vw_check.proofs.ListSearches.{search_ends, search_on}
 use Rattle.vw_check.proofs.moments.late_latch.Goals as goal
 use Rattle.vw_check.proofs.moments.late_latch.Goals.{in-Latch+else-period-usable, in_default}
 
@@ -18,6 +22,46 @@ node_of_cell flat chip_of number =
     let same : flat.inputs + number - flat.inputs ≡ number = omega arith in
     rw (behind, same) refl
 
+-- what the code finds usable on a latch's chip is the latch's moment
+moment : (setting : Setting) (chip_of : List ℕ) (number d found : ℕ) → chip_of ≡ setting.plan.chip_of → found ≡ usable setting (get_or chip_of number 0) d → found ≡ latch_moment setting number d
+moment setting chip_of number d found chips is =
+    let node : get_or chip_of number 0 ≡ home setting (setting.ordered.flat.inputs + number) = ap (λ (chips : List ℕ). get_or chips number 0) chips ∙ sym (node_of_cell setting.ordered.flat setting.plan.chip_of number) in
+    is ∙ ap (λ (one : ℕ). usable setting one d) node
+
+-- what a latch reads is a net
+latch_reads : (flat : Flat) (number : ℕ) (cell : Cell) (d : ℕ) (init : Init) → number < length flat.cells → cell ≡ get_or flat.cells number cell → cell ≡ Latch d init → d < flat.inputs + length flat.cells
+latch_reads flat number cell d init within here is =
+    let fit : IsWellFormed (flat.inputs + length flat.cells) (Latch d init) = subst (IsWellFormed (flat.inputs + length flat.cells)) (sym here ∙ is) (flat.cells_fit number cell within) in
+    fit.1 0 0 (omega arith)
+
+pub bounds-chip_of-number : goal.bounds-chip_of-number
+bounds-chip_of-number c = omega (arith, ap length c.cells-cell-items.ensures, ap (λ (flat : Flat). length flat.cells) c.flat.ensures, ap length c.chip_of.ensures)
+
+pub usable_at-usable-requires-clause-net : goal.usable_at-usable-requires-clause-net
+usable_at-usable-requires-clause-net c =
+    let listed = c.cells-cell-items.ensures ∙ ap (λ (flat : Flat). flat.cells) c.flat.ensures in
+    latch_reads c.args.ordered.now.flat c.loop-number.number c.cell-item.result c.in-Latch.d c.in-Latch.init (rw listed at c.loop-number-test.true) (rw listed at c.cell-item.is) c.in-Latch.is
+
+pub overflow_cast-result : goal.overflow_cast-result
+overflow_cast-result c = omega (arith, ap length c.cells-cell-items.ensures, ap (λ (flat : Flat). length flat.cells) c.flat.ensures, c.args.ordered.now.flat.few_cells)
+
+-- a latch that is late is the first of those that are looked for
+pub returns-then-period-usable : goal.returns-then-period-usable
+returns-then-period-usable c =
+    let setting = setting_of c.args.ordered.now c.args.board.now c.args.plan.now in
+    let number = c.loop-number.number in
+    let cells = setting.ordered.flat.cells in
+    let listed : c.cells-cell-items.result.now ≡ cells = c.cells-cell-items.ensures ∙ ap (λ flat. flat.cells) c.flat.ensures in
+    let at : c.usable_at-usable.result ≡ latch_moment setting number c.in-Latch.d = moment setting c.chip_of.result.now number c.in-Latch.d c.usable_at-usable.result c.chip_of.ensures c.usable_at-usable.ensures in
+    let late : nat_le c.usable_at-usable.result setting.plan.period ≡ false = lt-leb c.usable_at-usable.result setting.plan.period (omega (arith, c.period.ensures, c.if-period-usable.true)) in
+    let found : late_cell setting number c.cell-item.result ≡ Some (LateLatch number c.usable_at-usable.result) =
+    ap (late_cell setting number) c.in-Latch.is
+    ∙ ap (λ (one : ℕ). found_unless (nat_le one setting.plan.period) (LateLatch number one)) (sym at)
+    ∙ ap (λ (fits : Bool). found_unless fits (LateLatch number c.usable_at-usable.result)) late in
+    let within = rw listed at c.loop-number-test.true in
+    let here = rw listed at c.cell-item.is in
+    search_ends (late_cell setting) number cells c.cell-item.result within (LateLatch number c.usable_at-usable.result) (ap (late_cell setting number) (sym here) ∙ found) ∙ c.loop-number.invariant
+
 -- a cell that isn't late is none of those that are looked for
 pub loop-number-preserved : goal.loop-number-preserved
 loop-number-preserved c =
@@ -27,9 +71,8 @@ loop-number-preserved c =
     let listed : c.cells-cell-items.result.now ≡ cells = c.cells-cell-items.ensures ∙ ap (λ flat. flat.cells) c.flat.ensures in
     let none : late_cell setting number c.cell-item.result ≡ None = elim c.match-cell.branch [
       | in-Latch+else-period-usable w ↦
-          let node : get_or w.chip_of.result.now number 0 ≡ home setting (setting.ordered.flat.inputs + number) = ap (λ (chip_of : List ℕ). get_or chip_of number 0) w.chip_of.ensures ∙ sym (node_of_cell setting.ordered.flat setting.plan.chip_of number) in
-          let moment : w.usable_at-usable.result ≡ latch_moment setting number w.in-Latch.d = w.usable_at-usable.ensures ∙ ap (λ (one : ℕ). usable setting one w.in-Latch.d) node in
-          let in_time : nat_le (latch_moment setting number w.in-Latch.d) setting.plan.period ≡ true = le-leb (latch_moment setting number w.in-Latch.d) setting.plan.period (omega (arith, moment, w.period.ensures, w.if-period-usable.false)) in
+          let at : w.usable_at-usable.result ≡ latch_moment setting number w.in-Latch.d = moment setting w.chip_of.result.now number w.in-Latch.d w.usable_at-usable.result w.chip_of.ensures w.usable_at-usable.ensures in
+          let in_time : nat_le (latch_moment setting number w.in-Latch.d) setting.plan.period ≡ true = le-leb (latch_moment setting number w.in-Latch.d) setting.plan.period (omega (arith, at, w.period.ensures, w.if-period-usable.false)) in
           ap (late_cell setting number) w.in-Latch.is ∙ ap (λ (fits : Bool). found_unless fits (LateLatch number (latch_moment setting number w.in-Latch.d))) in_time
       | in_default w ↦ ap (late_cell setting number) w.in_default.is
     ] in
