@@ -1,0 +1,43 @@
+use Rattle.std.proofs.Common.{◌≡◌, ◌∙◌, ℕ, zero, suc, List, [], ap, refl, length, get_or, replicate, arith}
+use Rattle.std.proofs.Math.ListN.{length-replicate}
+use Rattle.std.proofs.lemmas.List.{length_push}
+use Rattle.std.proofs.lemmas.List.Elements.{All-nil, All-push}
+use Rattle.vw_plan.specs.Good.{IsChip}
+use Rattle.vw_part.specs.declared.load.Load.{Load}
+use Rattle.vw_part.specs.declared.pins.Pins.{Pins}
+use Rattle.vw_part.specs.Steps.Deals.{IsLoad}
+use Rattle.vw_part.proofs.deal.Deal.empty.Goals as goal
+
+none_anywhere : (many net : ℕ) → get_or (replicate many zero) net zero ≡ zero
+none_anywhere zero net = refl
+none_anywhere (suc many) zero = refl
+none_anywhere (suc many) (suc net) = none_anywhere many net
+
+empty_load : (pins : Pins) (load : Load) → load.cells ≡ 0 → load.counts.items ≡ replicate pins.nets 0 → IsLoad pins [] 0 load
+empty_load pins load cells counts = record {
+  cells = cells;
+  long = ap length counts ∙ length-replicate pins.nets 0;
+  counts = λ net. ap (λ (numbers : List ℕ). get_or numbers net 0) counts ∙ none_anywhere pins.nets net;
+}
+
+at_any_chip : (pins : Pins) (chip : ℕ) (load : Load) → IsLoad pins [] 0 load → IsLoad pins [] chip load
+at_any_chip pins chip load is = record { cells = is.cells; long = is.long; counts = is.counts }
+
+pub loop-chip-preserved : goal.loop-chip-preserved
+loop-chip-preserved c =
+    let pins = c.args.pins.now in
+    let loads = c.loop-chip.loads.items in
+    let load = c.in_ok-load.load in
+    let all = All-push (IsLoad pins [] 0) loads load c.loop-chip.invariant.0 (empty_load pins load c.in_ok-load.ensures.cells c.in_ok-load.ensures.counts) in
+    (rw c.in_ok-push.ensures.items all, ap (λ (loads : List Load). length loads) c.in_ok-push.ensures.items ∙ length_push loads load ∙ omega arith)
+
+pub returns-clause-deal : goal.returns-clause-deal
+returns-clause-deal c =
+    let none = c.in_ok-with_capacity.ensures.items in
+    record {
+      few = omega (arith, ap (λ (chips : List ℕ). length chips) none);
+      chips = rw none (All-nil (IsChip c.args.board.now));
+      room = λ chip. rw none (omega arith);
+      nodes = omega (arith, c.loop-chip.invariant.1, c.chips-chip-end.ensures);
+      loads = λ chip default low. rw none (at_any_chip c.args.pins.now chip (get_or c.loop-chip.loads.items chip default) (c.loop-chip.invariant.0 chip default (omega (arith, c.loop-chip.invariant.1, c.chips-chip-end.ensures))));
+    }
