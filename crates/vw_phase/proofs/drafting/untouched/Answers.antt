@@ -1,6 +1,18 @@
-use Rattle.std.proofs.Common.{◌≡◌, ◌+◌, ◌∙◌, ℕ, length, replicate, ap, ap₂, refl, arith}
+use Rattle.std.proofs.Common.{◌≡◌, ◌+◌, ◌∙◌, ℕ, List, [], length, replicate, ap, ap₂, refl, arith}
+use Rattle.std.proofs.lemmas.List.{length_push}
+use Rattle.std.proofs.lemmas.List.Elements.{All-push}
+use Rattle.vw_plan.specs.declared.wire.Hop.{Hop}
 use Rattle.vw_net.specs.declared.flat.Flat.{Flat}
 use Rattle.vw_phase.proofs.drafting.untouched.Goals as goal
+
+pub loop-preserved : goal.loop-preserved
+loop-preserved c =
+    let sent = c.loop.hops.items in
+    let none : c.of.result ≡ [] = c.of.ensures ∙ c.new.ensures.items in
+    record {
+      long = ap (λ (lists : List (List Hop)). length lists) c.in_ok-push.ensures.items ∙ length_push sent c.of.result ∙ omega (arith, c.loop.invariant.long);
+      none = rw c.in_ok-push.ensures.items (All-push (λ (hops : List Hop). hops ≡ []) sent c.of.result c.loop.invariant.none none);
+    }
 
 pub returns : goal.returns
 returns c =
