@@ -1,4 +1,5 @@
 pub mod Decimals
+pub mod WrittenLists
 pub mod NumberLines
 pub mod LineEnds
 pub mod Lines
