@@ -10,7 +10,7 @@ use crate::fault::BoardFault;
 use vw_text::{Line, number};
 
 /// The numbers of the first five lines.
-#[derive(Clone, Copy, Debug, PartialEq, Eq)]
+#[derive(Clone, Copy)]
 pub struct BoardHead {
     pub chips: u32,
     pub cells: u32,

@@ -9,7 +9,7 @@ use vw_plan::Route;
 use vw_wires::depth_table;
 
 /// One thing that is done. Tasks are ordered by depth; of one depth, the leads come before the hops.
-#[derive(Clone, Copy, Debug, PartialEq, Eq, PartialOrd, Ord)]
+#[derive(Clone, Copy, PartialEq, Eq, PartialOrd, Ord)]
 pub struct Task {
     /// The depth of the net.
     pub depth: u32,

@@ -9,7 +9,7 @@ use crate::line::{next_line, read_numbers};
 use std::alloc::{AllocError, Global};
 
 /// The numbers of cells and wires, and the period.
-#[derive(Clone, Copy, Debug, PartialEq, Eq)]
+#[derive(Clone, Copy)]
 pub struct PlanHead {
     pub cells: u64,
     pub wires: u64,
