@@ -1,6 +1,6 @@
 -- What the tables of a design have of an instance and of a cell.
-use Rattle.std.proofs.Common.{◌≡◌, ◌<◌, ℕ, List, [], map, Option, Some, option_map, option_and_then, get_or, slice_get, sym, ◌∙◌, ap, subst, arith}
-use Rattle.std.proofs.lemmas.Option.{same_Some, slice_get-map, slice_get-get_or, get_or_from_slice_get}
+use Rattle.std.proofs.Common.{◌≡◌, ◌<◌, ℕ, List, [], map, Option, Some, option_map, option_and_then, length, get_or, slice_get, refl, sym, ◌∙◌, ap, subst, arith}
+use Rattle.std.proofs.lemmas.Option.{same_Some, slice_get_read, slice_get-map, slice_get-get_or, get_or_from_slice_get}
 use Rattle.vw_design.specs.declared.item.Item.{Item}
 use Rattle.vw_design.specs.declared.model.Model.{Model}
 use Rattle.vw_design.specs.declared.design.Design.{Design}
@@ -31,6 +31,16 @@ use Rattle.vw_elab.specs.Steps.DesignParts.{AreDesignParts}
 use Rattle.vw_elab.specs.Numbers.{IsInstance, driver_of}
 use Rattle.vw_elab.specs.Steps.ByColumns.{driver_by, reading_of}
 use Rattle.vw_elab.proofs.PortColumns.{by_columns}
+
+-- what a table has at a number, where it is read through a reference
+pub listed_at : {X : Type 0} {table shown : List X} {number : ℕ} {x : X} → shown ≡ table → number < length shown → x ≡ get_or shown number x → slice_get table number ≡ Some x
+listed_at {shown = shown} {number = number} {x = x} same within at = ap (λ (list : List _). slice_get list number) (sym same) ∙ slice_get_read shown (length shown) number x refl within at
+
+-- what a cell reads, look-up by look-up
+pub reading_is : (parts : Parts) (cell input : ℕ) (site : CellSite) (entry : Placed) (names : ModelNames) (reads : List (Option ℕ)) (claim : Option ℕ)
+    → slice_get parts.cells cell ≡ Some site → slice_get parts.tables.instances site.instance ≡ Some entry → slice_get parts.tables.names entry.model ≡ Some names
+    → slice_get names.reads site.item ≡ Some reads → slice_get reads input ≡ Some claim → reading_of parts cell input ≡ Some (record { instance = site.instance; claim = claim })
+reading_is parts cell input site entry names reads claim first second third fourth last = rw (first, second, third, fourth, last) refl
 
 -- the instance of an entry
 abbrev pub instance_of : Placed → Instance

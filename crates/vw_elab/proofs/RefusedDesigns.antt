@@ -1,5 +1,7 @@
--- A design that is accepted isn't refused.
-use Rattle.std.proofs.Common.{◌≡◌, true, true≢false, sym}
+-- What refuses a design, and that an accepted one isn't refused.
+use Rattle.std.proofs.Common.{◌≡◌, Result, true, true≢false, sym}
+use Rattle.std.specs.Result.{IsErr, IsErrAnd}
+use Rattle.std.proofs.lemmas.Result.{err_from_is_err_and}
 use Rattle.vw_design.specs.declared.design.Design.{Design}
 use Rattle.vw_design.specs.Accepted.{IsAccepted, Fault, model_unknown, recursive, formal_unknown, input_unbound, output_both_ways, over_limit, net_undriven, driven_twice, clock_gated, clocks_differ, edges_differ, clock_read, IsFaultOf}
 use Rattle.vw_design.proofs.FaultLaws.{accepted_fine}
@@ -7,6 +9,12 @@ use Rattle.vw_instances.specs.Quantities.{counted_of}
 use Rattle.vw_elab.specs.declared.fault.DesignFault.{DesignFault}
 use Rattle.vw_elab.specs.declared.fault.DesignFault.TheVariants.{UnknownModel, RecursiveModel, UnknownFormal, UnboundInput, BothWays, TooBig, Undriven, TwoDrivers, GatedClock, SeveralClocks, SeveralEdges, ClockAsData, NoMemory}
 use Rattle.vw_elab.specs.Refusals.{IsRefusal, is_design_fault}
+use Rattle.vw_elab.specs.Steps.FaultSearch.{Judges}
+
+-- an error that refuses the design
+pub judged_by : {A : Type 0} (design : Design) (Good : A → Type 0) (result : Result A DesignFault) (fault : DesignFault)
+    → IsErr result × IsErrAnd result (λ told. told ≡ fault) → IsRefusal design fault → Judges design Good result
+judged_by design Good result fault told is = let p = err_from_is_err_and result told.1 in rw (p.1, p.2) is
 
 -- a refusal is a fault
 refusal_is : (design : Design) (fault : DesignFault) → is_design_fault fault ≡ true → IsRefusal design fault → (its : Fault) × IsFaultOf design its

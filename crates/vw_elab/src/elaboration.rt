@@ -4,11 +4,11 @@ ghost use Rattle.vw_design.specs.Accepted.{HasNoModelFault, IsAccepted};
 ghost use Rattle.vw_drivers.specs.Tables.{root_firsts};
 ghost use Rattle.vw_nets.specs.Columns.{AreColumns};
 ghost use Rattle.vw_elab.specs.Refusals.{IsRefusal};
-ghost use Rattle.vw_elab.specs.Steps.DesignParts.{AreDesignParts};
+ghost use Rattle.vw_elab.specs.Steps.DesignParts.{AreDesignParts, IsElaborated};
 
 use crate::elaborated::Elaborated;
 use crate::fault::DesignFault;
-use crate::models::{check_sizes, models_of};
+use crate::models::{Models, models_of};
 use crate::nets::check_nets;
 use crate::parts::Parts;
 use std::alloc::Global;
@@ -21,9 +21,8 @@ fn parts_of(alloc: Global, design: &Design) -> Result<Parts, DesignFault>
     ensures parts { IfOk result (AreDesignParts design.now) }
     ensures refused { IfErr result (IsRefusal design.now) }
 {
-    let models = models_of(alloc, design)?;
-    let sizes = check_sizes(alloc, design, &models)?;
-    let parts = Parts::of(alloc, design, &models, sizes)?;
+    let Models { targets, sizes } = models_of(alloc, design)?;
+    let parts = Parts::of(alloc, design, &targets, sizes)?;
     Ok(parts)
 }
 
@@ -41,6 +40,16 @@ fn columns_of(alloc: Global, design: &Design, parts: &Parts) -> Result<Columns, 
     Ok(columns)
 }
 
+/// The parts and the columns of a design, if it has no fault.
+fn parts_and_columns(alloc: Global, design: &Design) -> Result<(Parts, Columns), DesignFault>
+    ensures elaborated { IfOk result (λ found. IsElaborated design.now found.0 found.1) }
+    ensures refused { IfErr result (IsRefusal design.now) }
+{
+    let parts = parts_of(alloc, design)?;
+    let columns = columns_of(alloc, design, &parts)?;
+    Ok((parts, columns))
+}
+
 /// Numbers the instances, cells and drivers of a design, or says what is wrong with it. The faults are tried in the order
 /// of their numbers, each over the whole design before the next, and the first place counts. On a refusal the design is
 /// given up.
@@ -49,7 +58,6 @@ pub fn elaborate(alloc: Global, design: Design) -> Result<Elaborated, DesignFaul
     ensures accepted { IfOk result (λ _. IsAccepted design) }
     ensures refused { IfErr result (IsRefusal design) }
 {
-    let parts = parts_of(alloc, &design)?;
-    let columns = columns_of(alloc, &design, &parts)?;
+    let (parts, columns) = parts_and_columns(alloc, &design)?;
     Ok(Elaborated::of(design, parts, columns))
 }

@@ -183,7 +183,13 @@ impl DesignFault {
         ensures { IfOk result (λ line. line.items ≡ fault_text self.now) }
     {
         match self {
-            DesignFault::UnknownModel(line) => at_line_of_name(alloc, 13, *line, b"unknown model", b""),
+            DesignFault::UnknownModel(line) => at_line_of_name(
+                alloc,
+                13,
+                *line,
+                b"unknown model",
+                b"",
+            ),
             DesignFault::RecursiveModel(names) => {
                 line_of_names(alloc, b"design 14: recursive models", names.as_slice())
             }

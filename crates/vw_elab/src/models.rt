@@ -2,6 +2,7 @@
 ghost use Rattle.std.specs.Prelude.{◌≡◌, None};
 ghost use Rattle.vw_design.specs.ModelFaults.{unknown_model};
 ghost use Rattle.vw_design.specs.ModelNumbers.{AreTargets, AreModelMarks, IsModelOrder};
+ghost use Rattle.vw_design.specs.Accepted.{HasNoModelFault};
 ghost use Rattle.vw_instances.specs.Sizes.{AreSizes};
 ghost use Rattle.vw_elab.specs.Steps.FaultSearch.{Judges, HasKnownModels, HasBindings, AreModelTables};
 
@@ -15,13 +16,13 @@ use vw_models::{
 };
 use vw_net::Sequence;
 
-/// The models of a design by numbers.
+/// The models of a design by numbers, and its sizes.
 #[derive(Drop)]
 pub struct Models {
     /// For each model, the numbers of the models that its `.subckt` items name.
     pub targets: Vec<Sequence<Option<u32>>>,
-    /// The numbers of the models that are reached, each behind those that it places.
-    pub order: Sequence<u32>,
+    /// How many instances and cells there are, each number within its limit.
+    pub sizes: Sizes,
 }
 
 /// An order of the models that are reached.
@@ -72,25 +73,47 @@ fn check_bindings(
     Ok(())
 }
 
-/// The models of a design without a fault of its models' names and bindings.
+/// An order of the models that are reached, where their names and bindings have no fault.
+fn checked_order(
+    alloc: Global,
+    design: &Design,
+    targets: &[Sequence<Option<u32>>],
+) -> Result<Sequence<u32>, DesignFault>
+    requires { AreTargets design.now targets.now }
+    ensures { Judges design.now
+        (λ order. IsModelOrder design.now order × HasBindings design.now) result }
+{
+    let marks = marks_of(alloc, design, targets)?;
+    let order = order_of_models(alloc, design, targets, &marks)?;
+    check_bindings(alloc, design, targets, &marks)?;
+    Ok(order)
+}
+
+/// The sizes of a design, each within its limit.
+fn check_sizes(
+    alloc: Global,
+    design: &Design,
+    targets: &[Sequence<Option<u32>>],
+    order: &[u32],
+) -> Result<Sizes, DesignFault>
+    requires targets { AreTargets design.now targets.now }
+    requires order { IsModelOrder design.now order.now }
+    requires bindings { HasBindings design.now }
+    ensures { Judges design.now
+        (λ sizes. AreSizes design.now sizes × HasNoModelFault design.now) result }
+{
+    match sizes_of(alloc, design, targets, order)? {
+        Measured::Fits(sizes) => Ok(sizes),
+        Measured::TooBig(quantity) => Err(DesignFault::TooBig(quantity, quantity.limit())),
+    }
+}
+
+/// The models of a design without a fault of its models.
 pub fn models_of(alloc: Global, design: &Design) -> Result<Models, DesignFault>
     ensures { Judges design.now (AreModelTables design.now) result }
 {
     let targets = targets_of(alloc, design)?;
-    let marks = marks_of(alloc, design, &targets)?;
-    let order = order_of_models(alloc, design, &targets, &marks)?;
-    check_bindings(alloc, design, &targets, &marks)?;
-    Ok(Models { targets, order })
-}
-
-/// The sizes of a design, each within its limit.
-pub fn check_sizes(alloc: Global, design: &Design, models: &Models) -> Result<Sizes, DesignFault>
-    requires { AreModelTables design.now models.now }
-    ensures { Judges design.now (AreSizes design.now) result }
-{
-    let targets = models.targets.as_slice();
-    match sizes_of(alloc, design, targets, models.order.as_slice())? {
-        Measured::Fits(sizes) => Ok(sizes),
-        Measured::TooBig(quantity) => Err(DesignFault::TooBig(quantity, quantity.limit())),
-    }
+    let order = checked_order(alloc, design, &targets)?;
+    let sizes = check_sizes(alloc, design, &targets, order.as_slice())?;
+    Ok(Models { targets, sizes })
 }

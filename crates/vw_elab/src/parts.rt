@@ -1,12 +1,11 @@
 //! The tables of a design by numbers.
 ghost use Rattle.std.specs.Prelude.{◌≡◌, IfOk};
 ghost use Rattle.vw_design.specs.Accepted.{HasNoModelFault};
+ghost use Rattle.vw_design.specs.ModelNumbers.{AreTargets};
 ghost use Rattle.vw_nets.specs.Nets.{AreNets};
 ghost use Rattle.vw_instances.specs.Sizes.{AreSizes};
-ghost use Rattle.vw_elab.specs.Steps.FaultSearch.{AreModelTables};
 ghost use Rattle.vw_elab.specs.Steps.DesignParts.{AreDesignParts};
 
-use crate::models::Models;
 use std::alloc::{AllocError, Global};
 use vw_design::Design;
 use vw_drivers::{Drivers, Tables};
@@ -27,15 +26,14 @@ impl Parts {
     pub fn of(
         alloc: Global,
         design: &Design,
-        models: &Models,
+        targets: &[Sequence<Option<u32>>],
         sizes: Sizes,
     ) -> Result<Self, AllocError>
-        requires models { AreModelTables design.now models.now }
+        requires targets { AreTargets design.now targets.now }
         requires sizes { AreSizes design.now sizes }
         requires faultless { HasNoModelFault design.now }
         ensures { IfOk result (AreDesignParts design.now) }
     {
-        let targets = models.targets.as_slice();
         let walked = list_instances(alloc, design, targets, sizes.instances, sizes.cells)?;
         let tables = Tables::of(alloc, design, targets, walked.instances, sizes.before)?;
         let drivers = Drivers::of(alloc, design, &tables)?;

@@ -3,9 +3,10 @@ use Rattle.std.specs.Prelude.{◌≡◌, List, None, Result, Ok, Err}
 use Rattle.vw_design.specs.declared.design.Design.{Design}
 use Rattle.vw_design.specs.Paths.{Word}
 use Rattle.vw_design.specs.ModelFaults.{unknown_model, IsModelCircle, unknown_formal, unbound_input, both_ways}
-use Rattle.vw_design.specs.ModelNumbers.{AreTargets, IsModelOrder}
+use Rattle.vw_design.specs.ModelNumbers.{AreTargets}
 use Rattle.vw_design.specs.NetFaults.{undriven, two_drivers}
 use Rattle.vw_design.specs.Accepted.{HasNoModelFault}
+use Rattle.vw_instances.specs.Sizes.{AreSizes}
 use Rattle.vw_elab.specs.declared.fault.DesignFault.{DesignFault}
 use Rattle.vw_elab.specs.declared.models.Models.{Models}
 use Rattle.vw_elab.specs.Refusals.{IsRefusal}
@@ -22,11 +23,11 @@ pub record HasBindings (design : Design) : Type 0 where
   pub inputs_bound : unbound_input design ≡ None
   pub one_way : both_ways design ≡ None
 
--- the numbers of the models that models place, and an order of those that are reached
+-- the numbers of the models that models place, and the sizes of a design without a fault of its models
 pub record AreModelTables (design : Design) (models : Models) : Type 0 where
   pub targets : AreTargets design models.targets.items
-  pub order : IsModelOrder design models.order
-  pub bindings : HasBindings design
+  pub sizes : AreSizes design models.sizes
+  pub faultless : HasNoModelFault design
 
 -- each net that is read has one driver
 pub record HasDrivers (design : Design) : Type 0 where

@@ -1,14 +1,19 @@
-use Rattle.vw_design.proofs.Sizes.{small_of}
+use Rattle.std.proofs.lemmas.Result.{err_from_is_err_and}
 use Rattle.vw_elab.proofs.elaboration.parts_of.Goals as goal
 
-pub of-requires-clause-faultless : goal.of-requires-clause-faultless
-of-requires-clause-faultless c =
-    let models = c.in_ok-models.ensures in
-    record {
-      models_known = models.bindings.models.known;
-      no_circle = models.bindings.models.no_circle;
-      formals_known = models.bindings.formals_known;
-      inputs_bound = models.bindings.inputs_bound;
-      one_way = models.bindings.one_way;
-      small = small_of c.args.design.now c.in_ok-sizes.ensures.small;
-    }
+pub returns-in_err-targets : goal.returns-in_err-targets
+returns-in_err-targets c =
+    let p = err_from_is_err_and c.from_residual.result c.from_residual.ensures.1 in
+    rw (p.1, p.2) (record { faultless = tt; parts = tt; refused = c.in_err-targets.ensures })
+
+pub returns-in_err-parts : goal.returns-in_err-parts
+returns-in_err-parts c =
+    let p = err_from_is_err_and c.from_residual-in_err-parts.result c.from_residual-in_err-parts.ensures.1 in
+    rw (p.1, p.2) (record { faultless = tt; parts = tt; refused = tt })
+
+pub returns : goal.returns
+returns c = record {
+  faultless = c.in_ok-targets.ensures.faultless;
+  parts = c.in_ok-parts.ensures;
+  refused = tt;
+}
