@@ -1,3 +1,4 @@
+pub mod MadeLists
 pub mod PlacedItems
 pub mod AllNames
 pub mod NameMaps

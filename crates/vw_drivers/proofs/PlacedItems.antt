@@ -1,8 +1,8 @@
 -- The numbers of `.subckt` items, gathered item by item, are those of the model.
-use Rattle.std.proofs.Common.{◌≡◌, ◌<◌, ◌+◌, ℕ, zero, suc, List, [], ◌∷◌, ◌++◌, length, map, take, slice_get, Option, Some, None, option_map, option_and_then, refl, sym, ◌∙◌, ap, subst, arith}
+use Rattle.std.proofs.Common.{◌≡◌, ◌<◌, ◌+◌, ℕ, zero, suc, List, [], ◌∷◌, ◌++◌, length, get_or, map, take, drop, slice_get, Option, Some, None, option_map, option_and_then, append_assoc, refl, sym, ◌∙◌, ap, ap₂, subst, arith}
 use Rattle.std.specs.List.{AllZip}
 use Rattle.std.specs.Option.{unwrap_or}
-use Rattle.std.proofs.lemmas.List.{length-append}
+use Rattle.std.proofs.lemmas.List.{length-append, drop_more}
 use Rattle.std.proofs.lemmas.Option.{same_Some, none-some, slice_get_within}
 use Rattle.vw_design.specs.declared.item.Bind.{Bind}
 use Rattle.vw_design.specs.declared.item.Item.{Item}
@@ -32,6 +32,25 @@ made_length own claims model number (Sub line name binds) list =
 -- the number of the model at a place
 abbrev target_of : List (Option ℕ) → ℕ → Option ℕ
 target_of targets before = option_and_then (λ target. target) (slice_get targets before)
+
+-- so many were added, and the items that are left make the rest of the whole
+pub placed_further : (own : List First) (claims : List ModelClaims) (targets : List (Option ℕ)) (items : List Item) (i : ℕ) (item : Item) (list further whole : List PlacedNames)
+    → i < length items → item ≡ get_or items i item
+    → further ≡ list ++ placed_made own claims (option_and_then (λ target. target) (slice_get targets (length list))) i item
+    → list ++ placed_from own claims targets i (length list) (drop i items) ≡ whole
+    → further ++ placed_from own claims targets (i + 1) (length further) (drop (i + 1) items) ≡ whole
+placed_further own claims targets items i item list further whole within at more so_far =
+    let rest = drop (i + 1) items in
+    let target = target_of targets (length list) in
+    let before = and_behind item (length list) in
+    let next : i + 1 ≡ suc i = omega arith in
+    let long : length further ≡ before = ap length more ∙ made_length own claims target i item list in
+    let cut : drop i items ≡ item ∷ rest = drop_more items i item within ∙ ap (λ (first : Item). first ∷ rest) (sym at) in
+    ap₂ (λ (n b : ℕ). further ++ placed_from own claims targets n b rest) next long
+    ∙ ap (λ (front : List PlacedNames). front ++ placed_from own claims targets (suc i) before rest) more
+    ∙ append_assoc list (placed_made own claims target i item) (placed_from own claims targets (suc i) before rest)
+    ∙ ap (λ (left : List Item). list ++ placed_from own claims targets i (length list) left) (sym cut)
+    ∙ so_far
 
 -- an entry behind others: the item is so many further on
 pub record IsMade (own : List First) (claims : List ModelClaims) (targets : List (Option ℕ)) (number before : ℕ) (items : List Item) (k : ℕ) (placing : Placing) (entry : PlacedNames) : Type 0 where

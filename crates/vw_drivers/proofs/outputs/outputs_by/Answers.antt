@@ -24,3 +24,6 @@ loop-instance-preserved c =
           outputs_set design faultless tables are k rows (λ other later. c.loop-instance.invariant.right design faultless are other (omega (arith, later, c.loop-instance-test.true)))
           entry (slice_get-get_or tables.instances k none within) (omega (arith, within, c.loop-instance.invariant.long)) row row_is;
     }
+
+pub returns : goal.returns
+returns c = λ design faultless are instance. c.loop-instance.invariant.right design faultless are instance (omega (arith, c.loop-instance-test.false))
