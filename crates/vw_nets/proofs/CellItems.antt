@@ -1,6 +1,6 @@
 -- Items of cells, and the numbers of what they read.
 use Rattle.std.proofs.Common.{◌≡◌, ◌<◌, ℕ, List, [], length, get_or, ap₂, Option, Some, slice_get, map, option_map, option_and_then, refl, sym, ◌∙◌, ap, subst}
-use Rattle.std.proofs.lemmas.Option.{slice_get-map, same_Some, slice_get_within, get_or_from_slice_get}
+use Rattle.std.proofs.lemmas.Option.{slice_get-map, slice_get_read, same_Some, slice_get_within, get_or_from_slice_get}
 use Rattle.std.specs.Option.{unwrap_or}
 use Rattle.vw_design.specs.declared.design.Design.{Design}
 use Rattle.vw_design.specs.declared.item.Item.{Item}
@@ -19,6 +19,10 @@ use Rattle.vw_instances.specs.Tables.{IsEntryAt}
 use Rattle.vw_drivers.specs.declared.tables.Tables.{Tables}
 use Rattle.vw_drivers.specs.Tables.{AreTables, instance_firsts}
 use Rattle.vw_nets.specs.Steps.Items.{item_at_site, numbers_by, AreNumbersOf}
+
+-- what a list has at a number, where it is read through a reference
+pub listed_at : {X : Type 0} {list shown : List X} {number : ℕ} {x : X} → shown ≡ list → number < length shown → x ≡ get_or shown number x → slice_get list number ≡ Some x
+listed_at {shown = shown} {number = number} {x = x} same within at = ap (λ (l : List _). slice_get l number) (sym same) ∙ slice_get_read shown (length shown) number x refl within at
 
 pub numbers_of_names : (firsts : List First) (names : List Word) (numbers : List (Option ℕ)) → numbers ≡ map (number_named firsts) names → AreNumbersOf firsts names numbers
 numbers_of_names firsts names numbers are place name at =

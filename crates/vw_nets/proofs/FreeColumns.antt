@@ -1,8 +1,8 @@
 -- Columns that are added one by one, and what is free.
-use Rattle.std.proofs.Common.{◌≡◌, ◌<◌, ◌+◌, ℕ, zero, suc, Bool, true, false, not, cond, List, [], ◌∷◌, ◌++◌, drop, take, length, get_or, set, replicate, Option, Some, None, is_some, slice_get, filter, flat_map, map, ◌||◌, inl, inr, option_map, option_and_then, refl, sym, ◌∙◌, ap, ap₂, true≢false, append_assoc, append-nil, arith}
+use Rattle.std.proofs.Common.{◌≡◌, ◌<◌, ◌≤◌, ◌+◌, ℕ, zero, suc, Bool, true, false, not, cond, List, [], ◌∷◌, ◌++◌, drop, take, length, get_or, set, replicate, Option, Some, None, is_some, slice_get, filter, flat_map, map, ◌||◌, inl, inr, option_map, option_and_then, refl, sym, ◌∙◌, ap, ap₂, true≢false, append_assoc, append-nil, arith}
 use Rattle.std.specs.Option.{option_or, unwrap_or}
 use Rattle.std.specs.Str.{bytes_eq}
-use Rattle.std.proofs.lemmas.List.{drop_more, take_more, map-append, length-append}
+use Rattle.std.proofs.lemmas.List.{drop_more, drop_all, take_more, take_all, map-append, length-append}
 use Rattle.std.proofs.lemmas.List.Elements.{filter-append}
 use Rattle.std.proofs.lemmas.Option.{same_Some, slice_get_within, slice_get_read, get_or_from_slice_get}
 use Rattle.vw_design.specs.declared.design.Design.{Design}
@@ -158,6 +158,18 @@ module _ (design : Design) (tables : Tables) (are : AreTables design tables) (ro
         ports = λ model at name is number named.
             free.ports name number (ap (λ (fs : List First). number_named fs name) same ∙ named) ∙ ap (λ (ns : List Word). Some (place_of_name ns name)) (same_columns name);
       }
+
+-- behind the last name all have their columns
+pub all_free : (firsts : List First) (marks : List Bool) (names : List Word) (i : ℕ) → length names ≤ i → (found : Columns) (inputs : List ℕ) → found.inputs ≡ inputs → (ports : List (Option ℕ)) → found.ports ≡ ports
+    → map (slice_get names) inputs ++ map (λ name. Some name) (filter (is_free firsts marks) (drop i names)) ≡ map (λ name. Some name) (filter (is_free firsts marks) names)
+    → ((name : Word) (k : ℕ) → number_named firsts name ≡ Some k → slice_get ports k ≡ Some (place_of_name (filter (is_free firsts marks) (take i names)) name))
+    → AreFree firsts marks names found
+all_free firsts marks names i past found inputs same_inputs ports same_ports had each = record {
+  inputs = ap (map (slice_get names)) same_inputs ∙ sym (append-nil (map (slice_get names) inputs))
+      ∙ ap (λ (left : List Word). map (slice_get names) inputs ++ map (λ (name : Word). Some name) (filter (is_free firsts marks) left)) (sym (drop_all i names past)) ∙ had;
+  ports = λ name k named. ap (λ (list : List (Option ℕ)). slice_get list k) same_ports ∙ each name k named
+      ∙ ap (λ (taken : List Word). Some (place_of_name (filter (is_free firsts marks) taken) name)) (take_all i names past);
+}
 
 -- the columns of the names so far, with one more name that is free, or that isn't
 module _ (firsts : List First) (marks : List Bool) (names : List Word) (i : ℕ) (x : Word) (within : i < length names) (at : x ≡ get_or names i x) (inputs new : List ℕ) where

@@ -1,5 +1,6 @@
 -- Searches step by step.
-use Rattle.std.proofs.Common.{◌≡◌, ◌<◌, ◌+◌, ℕ, Bool, true, false, cond, List, [], ◌∷◌, drop, length, map, get_or, Some, find, option_map, refl, sym, ◌∙◌, ap}
+use Rattle.std.proofs.Common.{◌≡◌, ◌<◌, ◌+◌, ℕ, Bool, true, false, cond, List, [], ◌∷◌, ◌++◌, drop, length, map, filter_map, get_or, Option, Some, None, find, option_map, append_assoc, refl, sym, ◌∙◌, ap}
+use Rattle.std.specs.List.{cons_option}
 use Rattle.std.proofs.lemmas.List.{drop_more}
 
 module _ {A : Type 0} (test : A → Bool) (xs : List A) (i : ℕ) (x : A) (within : i < length xs) (at : x ≡ get_or xs i x) where
@@ -12,6 +13,20 @@ module _ {A : Type 0} (test : A → Bool) (xs : List A) (i : ℕ) (x : A) (withi
 
   pub find_now : test x ≡ true → find test (drop i xs) ≡ find test xs → Some x ≡ find test xs
   find_now passes far = sym (step ∙ ap (λ (b : Bool). cond b (Some x) (find test (drop (i + 1) xs))) passes) ∙ far
+
+-- the same where what is found is gathered
+module _ {A B : Type 0} (f : A → Option B) (xs : List A) (i : ℕ) (x : A) (within : i < length xs) (at : x ≡ get_or xs i x) (gathered whole : List B) (so_far : gathered ++ filter_map f (drop i xs) ≡ whole) where
+  here : gathered ++ cons_option (f x) (filter_map f (drop (i + 1) xs)) ≡ whole
+  here = ap (λ (left : List A). gathered ++ filter_map f left) (sym (drop_more xs i x within ∙ ap (λ (y : A). y ∷ drop (i + 1) xs) (sym at))) ∙ so_far
+
+  pub gather_none : None ≡ f x → gathered ++ filter_map f (drop (i + 1) xs) ≡ whole
+  gather_none none = ap (λ (found : Option B). gathered ++ cons_option found (filter_map f (drop (i + 1) xs))) none ∙ here
+
+  pub gather_one : (y : B) → Some y ≡ f x → (further : List B) → further ≡ gathered ++ y ∷ [] → further ++ filter_map f (drop (i + 1) xs) ≡ whole
+  gather_one y one further more =
+      ap (λ (list : List B). list ++ filter_map f (drop (i + 1) xs)) more
+      ∙ append_assoc gathered (y ∷ []) (filter_map f (drop (i + 1) xs))
+      ∙ ap (λ (found : Option B). gathered ++ cons_option found (filter_map f (drop (i + 1) xs))) one ∙ here
 
 pub find_map : {A B : Type 0} (f : A → B) (test : B → Bool) (xs : List A) → find test (map f xs) ≡ option_map f (find (λ x. test (f x)) xs)
 find_map f test [] = refl

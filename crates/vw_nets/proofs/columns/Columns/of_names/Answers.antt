@@ -1,7 +1,7 @@
 use Rattle.std.proofs.Common.{◌++◌, ◌∙◌, ℕ, List, Option, Some, None, is_some, filter, map, length, slice_get, replicate, sym, ap}
 use Rattle.vw_design.specs.Paths.{Word}
 use Rattle.vw_nets.specs.Steps.Free.{is_free}
-use Rattle.vw_nets.proofs.FreeColumns.{no_columns, free_number, inputs_more, many_more, ports_more, inputs_kept, many_kept, ports_kept}
+use Rattle.vw_nets.proofs.FreeColumns.{no_columns, free_number, inputs_more, many_more, ports_more, inputs_kept, many_kept, ports_kept, all_free}
 use Rattle.vw_nets.proofs.columns.Columns.of_names.Goals as goal
 use Rattle.vw_nets.proofs.columns.Columns.of_names.Goals.{in-Some+in_ok-add_column, in_default}
 
@@ -45,3 +45,8 @@ loop-place-preserved c =
             ports = ports_kept firsts marks names i x c.loop-place-test.true c.index-names-place.is inputs new bound kept ports c.match-free_number.ports.items (ap (λ v. v.items) w.ports-is) had.ports;
           }
     ]
+
+pub returns : goal.returns
+returns c =
+    all_free c.args.claims.now.firsts c.args.marks.now c.args.names.now c.loop-place.place c.loop-place-test.false _ c.loop-place.inputs.items c.of.ensures c.loop-place.ports.items c.of-2.ensures
+    c.loop-place.invariant.inputs c.loop-place.invariant.ports

@@ -1,11 +1,12 @@
-use Rattle.std.proofs.Common.{◌≡◌, subst}
+use Rattle.std.proofs.Common.{◌≡◌, ◌∙◌, subst}
+use Rattle.std.proofs.lemmas.Option.{none-some}
 use Rattle.vw_design.specs.declared.item.Item.{Item}
 use Rattle.vw_drivers.specs.Names.{reads_of}
 use Rattle.vw_drivers.specs.Tables.{instance_firsts}
 use Rattle.vw_nets.specs.Steps.Items.{AreNumbersOf}
 use Rattle.vw_design.specs.Paths.{lent}
 use Rattle.vw_nets.specs.Steps.Wanted.{wanted_among, wanted_names}
-use Rattle.vw_nets.proofs.CellItems.{item_here, numbers_here}
+use Rattle.vw_nets.proofs.CellItems.{item_is, numbers_are, item_here, numbers_here}
 use Rattle.vw_nets.proofs.nets.Nets.wanted_at.Goals as goal
 
 pub returns : goal.returns
@@ -19,3 +20,11 @@ returns c = λ path item listed at.
     (item_here design tables c.requires.nets.tables cell path item listed at c.in_ok-item.item.now c.in_ok-item.ensures)
     (c.read_found.ensures path listed)
     (numbers_here design tables c.requires.nets.tables cell path item listed at numbers c.in_ok-numbers.ensures)
+
+pub returns-in_err-item : goal.returns-in_err-item
+returns-in_err-item c = λ path item listed at.
+    absurd (none-some item (c.in_err-item.ensures ∙ item_is c.args.self.now.design.now c.args.self.now.tables.now c.requires.nets.tables c.args.cell path item listed at))
+
+pub returns-in_err-numbers : goal.returns-in_err-numbers
+returns-in_err-numbers c = λ path item listed at.
+    absurd (none-some _ (c.in_err-numbers.ensures ∙ numbers_are c.args.self.now.design.now c.args.self.now.tables.now c.requires.nets.tables c.args.cell path item listed at))
