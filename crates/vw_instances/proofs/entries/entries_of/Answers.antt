@@ -1,9 +1,10 @@
-use Rattle.std.proofs.Common.{◌+◌, ℕ, List, drop, sym, ◌∙◌, ap, subst, arith}
+use Rattle.std.proofs.Common.{◌≡◌, ◌+◌, ℕ, List, drop, length, refl, sym, ◌∙◌, ap, subst, arith}
 use Rattle.vw_models.proofs.Unknowns.{AreAlong}
+use Rattle.vw_instances.specs.declared.sizes.Before.{Before}
 use Rattle.vw_instances.specs.declared.measure.Measure.TheVariants.{Instances, Cells}
-use Rattle.vw_instances.specs.Steps.Counting.{count_at, count_in}
+use Rattle.vw_instances.specs.Steps.Counting.{count_at, count_in, AreEntries}
 use Rattle.vw_instances.proofs.Alongside.{next}
-use Rattle.vw_instances.proofs.Prefixes.{one_more}
+use Rattle.vw_instances.proofs.Prefixes.{ArePrefixes, none, one_more, all}
 use Rattle.vw_instances.proofs.ItemAmounts.{amount_more}
 use Rattle.vw_instances.proofs.entries.entries_of.Goals as goal
 
@@ -35,3 +36,25 @@ loop-item-preserved c =
           c.of_item-in-loop-item.ensures c.merge-instances.ensures;
       entries = one_more design tables items c.loop-item.entries.items i (record { cells = c.loop-item.cells; instances = c.loop-item.instances }) c.push.new.self.items kept.entries kept.cells kept.instances c.in_ok-push.ensures.items;
     }
+
+pub loop-item-init : goal.loop-item-init
+loop-item-init c =
+    let design = c.args.design.now in
+    let tables = c.args.tables.now in
+    let items = c.args.items.now in
+    record {
+      within = omega arith;
+      left = c.requires.targets;
+      cells = refl;
+      instances = refl;
+      entries = subst (λ (list : List Before). ArePrefixes design tables items list 0) (sym c.in_ok-entries.ensures.items) (none design tables items);
+    }
+
+pub returns : goal.returns
+returns c =
+    let design = c.args.design.now in
+    let tables = c.args.tables.now in
+    let items = c.args.items.now in
+    let entries = c.loop-item.entries.items in
+    let end : c.loop-item.item-index ≡ length items = omega (arith, c.loop-item-test.false) in
+    subst (AreEntries design tables items) (sym c.of.ensures) (all design tables items entries c.loop-item.item-index end c.loop-item.invariant.entries)
