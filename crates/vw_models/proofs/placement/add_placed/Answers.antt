@@ -1,11 +1,13 @@
 use Rattle.std.proofs.Common.{◌≡◌, ◌+◌, List, ℕ, Option, None, sym, subst, drop, filter_map, get_or, refl}
 use Rattle.std.specs.List.{AllZip}
+use Rattle.std.proofs.lemmas.List.{drop_all}
+use Rattle.vw_design.specs.declared.item.Item.{Item}
 use Rattle.vw_design.specs.Paths.{Placing}
 use Rattle.vw_design.specs.ModelNumbers.{IsNumberOfModel}
 use Rattle.vw_models.proofs.Unknowns.{AreAlong}
 use Rattle.vw_models.specs.declared.placement.Placement.{Placement}
 use Rattle.vw_models.specs.Steps.PlacedModels.{PlacedModel, placed_by}
-use Rattle.vw_models.proofs.AddedPlacements.{IsAdding, sub_cut, no_sub, passed_over, placed_now}
+use Rattle.vw_models.proofs.AddedPlacements.{IsAdding, ended, sub_cut, no_sub, passed_over, placed_now}
 use Rattle.vw_models.proofs.placement.add_placed.Goals as goal
 use Rattle.vw_models.proofs.placement.add_placed.Goals.{in-Sub, in-Some+in_ok-push, in_default-targets, in_default}
 use Rattle.vw_order.proofs.NoValue.{none_is}
@@ -56,3 +58,19 @@ loop-item-preserved c =
                 (subst (λ (l : List PlacedModel). IsAdding design start l todo c.loop-item.placed.items) same.1 kept.adding);
           }
     ]
+
+pub bounds-targets-place : goal.bounds-targets-place
+bounds-targets-place c =
+    let sub = c.in-Sub in
+    (sub_cut c.args.design.now c.args.items.now c.args.targets.now c.loop-item.item-index c.loop-item.place c.item-item.result c.loop-item-test.true c.item-item.is sub.line sub.model sub.binds sub.is
+    c.loop-item.invariant.left).inside
+
+pub returns : goal.returns
+returns c =
+    let design = c.args.design.now in
+    let items = c.args.items.now in
+    let start = c.args.placed.now.items in
+    let todo = filter_map (placed_by design) items in
+    let placed = c.loop-item.placed.items in
+    ended design start todo placed
+    (subst (λ (left : List Item). IsAdding design start (filter_map (placed_by design) left) todo placed) (drop_all c.loop-item.item-index items c.loop-item-test.false) c.loop-item.invariant.adding)
