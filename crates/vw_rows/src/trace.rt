@@ -74,10 +74,7 @@ pub fn trace_rows(
 pub fn trace_end(alloc: Global, clocks: u64, last: &Bits) -> Result<Vec<u8>, AllocError>
     ensures { IfOk result (λ text. text.items ≡ end_text clocks last.now) }
 {
-    let mut text = Vec::new(alloc);
-    text.extend_from_slice(b"end ")?;
-    text.extend_from_slice(clocks.to_string(alloc)?.as_bytes())?;
-    text.push(b' ')?;
+    let mut text = format!(in alloc; "end {clocks} ")?.into_bytes();
     push_bits(&mut text, last)?;
     text.push(b'\n')?;
     Ok(text)
