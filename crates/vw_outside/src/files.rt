@@ -82,20 +82,27 @@ impl<R: Files + Drop> FileShelf<R> {
         }
     }
 
-    /// Reads from the file of a name: from the last one if it was opened by this name, else from one opened now.
+    /// Takes the last file if it was opened by this name, else opens one now. None stays behind.
+    fn take_opened(&mut self, name: &Name) -> io::Result<Opened<R::File>>
+        ensures { self.new ≡ self.old }
+    {
+        if let Some(opened) = self.last.take()
+            && opened.name.as_slice() == name.as_slice()
+        {
+            return Ok(opened);
+        }
+        open_name(self.alloc, &self.files, name)
+    }
+
+    /// Reads from the file of a name, which is the last one then.
     fn read_from(&mut self, name: &Name, from: u64, into: &mut [u8]) -> io::Result<usize>
         ensures within { IfOk result (λ count. count ≤ length into.new) }
         ensures same { self.new ≡ self.old }
     {
-        if let Some(opened) = &mut self.last
-            && opened.name.as_slice() == name.as_slice()
-        {
-            return read_at(&mut opened.file, from, into);
-        }
-        let mut opened = open_name(self.alloc, &self.files, name)?;
-        let count = read_at(&mut opened.file, from, into)?;
+        let mut opened = self.take_opened(name)?;
+        let count = read_at(&mut opened.file, from, into);
         self.last = Some(opened);
-        Ok(count)
+        count
     }
 }
 

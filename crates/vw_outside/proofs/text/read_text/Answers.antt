@@ -1,7 +1,7 @@
-use Rattle.std.proofs.Common.{◌≡◌, ℕ, List, ◌∙◌, ◌<◌, ◌≤◌, sym, length, take, drop, ◌++◌, arith, length-append, length-take, length-drop, subst, ap}
+use Rattle.std.proofs.Common.{◌≡◌, ℕ, List, refl, ◌∙◌, ◌<◌, ◌≤◌, sym, length, take, drop, ◌++◌, arith, length-append, length-take, length-drop, subst, ap}
 use Rattle.vw_outside.specs.Told.{Told}
 use Rattle.vw_outside.proofs.TextsTold.{IsTextOf-from_cases, OfText-from_cases}
-use Rattle.vw_outside.specs.Reads.{SeenShelf, Fills}
+use Rattle.vw_outside.specs.Reads.{SeenShelf, Fills, CountsFault}
 use Rattle.vw_outside.proofs.Fronts.{IsFront, front_further, whole_front}
 use Rattle.vw_outside.proofs.text.read_text.Goals as goal
 
@@ -48,3 +48,20 @@ returns-clause-too_large g c = λ is.
     OfText-from_cases ((g.S.Shelf.seen c.args.shelf.now).told c.args.name.now) (λ bytes. c.args.limit < length bytes) c.loop-piece.text.items past
     (λ told. omega (arith, kept.present told))
     (λ bytes told. let front = kept.front bytes told in omega arith)
+
+pub returns-in_default-clause-fault : goal.returns-in_default-clause-fault
+returns-in_default-clause-fault g c = λ is.
+    let seen = g.S.Shelf.seen in
+    subst (λ (shelf : SeenShelf). CountsFault c.args.name.now shelf (seen c.read.new.self)) c.loop-piece.invariant.same c.in_default.ensures.failed
+
+pub returns-in_default-clause-absent : goal.returns-in_default-clause-absent
+returns-in_default-clause-absent g c = λ told. refl
+
+pub returns-in_default-clause-kept : goal.returns-in_default-clause-kept
+returns-in_default-clause-kept g c = λ other. absurd (other refl)
+
+pub returns-clause-absent : goal.returns-clause-absent
+returns-clause-absent g c = λ told. absurd (omega (arith, c.loop-piece.invariant.present told, c.loop-piece.text.ok.0))
+
+pub returns-clause-kept : goal.returns-clause-kept
+returns-clause-kept g c = λ other. c.loop-piece.invariant.same
