@@ -1,0 +1,38 @@
+use Rattle.std.proofs.Common.{◌≡◌, ◌<◌, ◌≤◌, ◌+◌, ℕ, Bool, List, ◌∷◌, ◌++◌, length, drop, get_or, ap, ap₂, sym, ◌∙◌, append_assoc, append-nil, arith}
+use Rattle.std.proofs.lemmas.List.{drop_more, drop_all}
+use Rattle.vw_rows.specs.Trace.{clock_text, rows_text}
+use Rattle.vw_rows.proofs.trace.trace_rows.Goals as goal
+
+-- the line of one clock more
+further : (first i clock : ℕ) (outputs states : List (List Bool)) (row state : List Bool) (text new : List ℕ) → i < length outputs → i < length states
+    → row ≡ get_or outputs i row → state ≡ get_or states i state → clock ≡ first + i → new ≡ text ++ clock_text clock row state
+    → text ++ rows_text (first + i) (drop i outputs) (drop i states) ≡ rows_text first outputs states
+    → new ++ rows_text (first + (i + 1)) (drop (i + 1) outputs) (drop (i + 1) states) ≡ rows_text first outputs states
+further first i clock outputs states row state text new within inside is_row is_state is more old =
+    let next : first + (i + 1) ≡ first + i + 1 = omega arith in
+    let row_left = drop_more outputs i row within ∙ ap (λ (r : List Bool). r ∷ drop (i + 1) outputs) (sym is_row) in
+    let state_left = drop_more states i state inside ∙ ap (λ (s : List Bool). s ∷ drop (i + 1) states) (sym is_state) in
+    let rest = rows_text (first + i + 1) (drop (i + 1) outputs) (drop (i + 1) states) in
+    ap (λ (n : ℕ). new ++ rows_text n (drop (i + 1) outputs) (drop (i + 1) states)) next
+    ∙ ap (λ (t : List ℕ). t ++ rest) (more ∙ ap (λ (n : ℕ). text ++ clock_text n row state) is) ∙ append_assoc text (clock_text (first + i) row state) rest
+    ∙ ap₂ (λ (os ss : List (List Bool)). text ++ rows_text (first + i) os ss) (sym row_left) (sym state_left) ∙ old
+
+pub loop-i-preserved : goal.loop-i-preserved
+loop-i-preserved c =
+    let i = c.loop-i.i in
+    let rows = c.as_slice-row-items.ensures in
+    let outputs = c.args.outputs.now in
+    let states = c.as_slice-states.result.now in
+    let within : i < length outputs = omega (arith, c.loop-i-test.true, ap (λ (rs : List (List Bool)). length rs) rows) in
+    let inside : i < length states = omega (arith, within, c.requires, ap (λ (rs : List (List Bool)). length rs) c.as_slice-states.ensures) in
+    further c.args.first i (c.from.result + i) outputs states c.row-item.result c.index-states-i.result c.loop-i.text.items c.push_clock.new.text.items within inside
+    (c.row-item.is ∙ ap (λ (rs : List (List Bool)). get_or rs i c.row-item.result) rows) c.index-states-i.is (ap (λ (n : ℕ). n + i) c.from.ensures) c.in_ok-push_clock.ensures c.loop-i.invariant
+
+pub returns : goal.returns
+returns c =
+    let i = c.loop-i.i in
+    let text = c.loop-i.text.items in
+    let outputs = c.args.outputs.now in
+    let past : length outputs ≤ i = omega (arith, c.loop-i-test.false, ap (λ (rs : List (List Bool)). length rs) c.as_slice-row-items.ensures) in
+    sym (append-nil text) ∙ ap (λ (rs : List (List Bool)). text ++ rows_text (c.args.first + i) rs (drop i c.as_slice-states.result.now)) (sym (drop_all i outputs past)) ∙ c.loop-i.invariant
+    ∙ ap (λ (ss : List (List Bool)). rows_text c.args.first outputs ss) c.as_slice-states.ensures
