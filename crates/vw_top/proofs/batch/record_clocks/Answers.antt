@@ -1,7 +1,8 @@
-use Rattle.std.proofs.Common.{◌≡◌, ◌<◌, ◌+◌, ◌∷◌, List, Bool, length, drop, arith, sym, ◌∙◌, ap}
+use Rattle.std.proofs.Common.{◌≡◌, ◌<◌, ◌≤◌, ◌+◌, [], ◌∷◌, ◌++◌, ℕ, List, Bool, length, take, drop, append-nil, arith, sym, ◌∙◌, ap}
+use Rattle.std.proofs.lemmas.List.{take_all, drop_all}
 use Rattle.std.proofs.lemmas.List.Elements.{All-set}
 use Rattle.vw_net.specs.Cells.{latch_count}
-use Rattle.vw_net.specs.History.{outputs_of, states_of}
+use Rattle.vw_net.specs.History.{outputs_of, states_of, state_after}
 use Rattle.vw_net.proofs.Counts.{length-next_state, length-outputs_at}
 use Rattle.vw_top.proofs.Clocks.{written_more, outputs_of-drop, states_of-drop, state_after-drop}
 use Rattle.vw_top.proofs.batch.record_clocks.Goals as goal
@@ -29,4 +30,49 @@ loop-i-preserved c =
       state_widths = All-set (λ (bits : List Bool). length bits ≡ latch_count flat.cells) c.loop-i.states i _ (ap (λ (bits : List Bool). length bits) clock.before ∙ kept.latches) kept.state_widths;
       latches = ap (λ (bits : List Bool). length bits) clock.state ∙ length-next_state flat row state;
       nets = clock.nets ∙ kept.nets;
+    }
+
+pub bounds-outputs-i : goal.bounds-outputs-i
+bounds-outputs-i c = omega (arith, c.loop-i.auto.outputs, c.requires.count.0)
+
+pub bounds-states-i : goal.bounds-states-i
+bounds-states-i c = omega (arith, c.loop-i.auto.states, c.requires.count.1)
+
+pub record_clock-requires-clause-columns : goal.record_clock-requires-clause-columns
+record_clock-requires-clause-columns c =
+    ap (λ (row : List Bool). length row) c.index-rows-i.is ∙ c.requires.columns c.loop-i.i c.index-rows-i.result c.loop-i-test.true
+
+pub record_clock-requires-clause-latches : goal.record_clock-requires-clause-latches
+record_clock-requires-clause-latches c = c.loop-i.invariant.latches
+
+pub record_clock-requires-clause-nets : goal.record_clock-requires-clause-nets
+record_clock-requires-clause-nets c = c.loop-i.invariant.nets
+
+pub record_clock-requires-clause-outputs : goal.record_clock-requires-clause-outputs
+record_clock-requires-clause-outputs c = c.loop-i.invariant.output_widths c.loop-i.i c.index-outputs-i.result (omega (arith, c.loop-i.auto.outputs, c.requires.count.0))
+
+pub record_clock-requires-clause-before : goal.record_clock-requires-clause-before
+record_clock-requires-clause-before c =
+    c.loop-i.invariant.state_widths c.loop-i.i c.index-states-i.result (omega (arith, c.loop-i.auto.states, c.requires.count.1)) ∙ sym c.loop-i.invariant.latches
+
+-- a table whose rows are all written
+all_written : (rows : List (List Bool)) (count : ℕ) → length rows ≤ count → rows ≡ take count rows ++ []
+all_written rows count few = sym (take_all count rows few) ∙ sym (append-nil (take count rows))
+
+pub returns : goal.returns
+returns c =
+    let flat = c.args.machine.now.flat in
+    let kept = c.loop-i.invariant in
+    let i = c.loop-i.i in
+    let outputs = c.loop-i.outputs in
+    let states = c.loop-i.states in
+    let past = c.loop-i-test.false in
+    let none = sym (drop_all i c.args.rows.now past) in
+    record {
+      outputs = all_written outputs i (omega (arith, past, c.loop-i.auto.outputs, c.requires.count.0))
+          ∙ ap (λ (rows : List (List Bool)). take i outputs ++ outputs_of flat c.loop-i.state rows) none ∙ kept.outputs;
+      states = all_written states i (omega (arith, past, c.loop-i.auto.states, c.requires.count.1))
+          ∙ ap (λ (rows : List (List Bool)). take i states ++ states_of flat c.loop-i.state rows) none ∙ kept.states;
+      state = ap (λ (rows : List (List Bool)). state_after flat c.loop-i.state rows) none ∙ kept.state;
+      nets = kept.nets ∙ sym c.requires.nets;
     }
