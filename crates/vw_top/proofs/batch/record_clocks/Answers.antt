@@ -56,8 +56,8 @@ record_clock-requires-clause-before c =
     c.loop-i.invariant.state_widths c.loop-i.i c.index-states-i.result (omega (arith, c.loop-i.auto.states, c.requires.count.1)) ∙ sym c.loop-i.invariant.latches
 
 -- a table whose rows are all written
-all_written : (rows : List (List Bool)) (count : ℕ) → length rows ≤ count → rows ≡ take count rows ++ []
-all_written rows count few = sym (take_all count rows few) ∙ sym (append-nil (take count rows))
+all_rows_written : (rows : List (List Bool)) (count : ℕ) → length rows ≤ count → rows ≡ take count rows ++ []
+all_rows_written rows count few = sym (take_all count rows few) ∙ sym (append-nil (take count rows))
 
 pub returns : goal.returns
 returns c =
@@ -69,9 +69,9 @@ returns c =
     let past = c.loop-i-test.false in
     let none = sym (drop_all i c.args.rows.now past) in
     record {
-      outputs = all_written outputs i (omega (arith, past, c.loop-i.auto.outputs, c.requires.count.0))
+      outputs = all_rows_written outputs i (omega (arith, past, c.loop-i.auto.outputs, c.requires.count.0))
           ∙ ap (λ (rows : List (List Bool)). take i outputs ++ outputs_of flat c.loop-i.state rows) none ∙ kept.outputs;
-      states = all_written states i (omega (arith, past, c.loop-i.auto.states, c.requires.count.1))
+      states = all_rows_written states i (omega (arith, past, c.loop-i.auto.states, c.requires.count.1))
           ∙ ap (λ (rows : List (List Bool)). take i states ++ states_of flat c.loop-i.state rows) none ∙ kept.states;
       state = ap (λ (rows : List (List Bool)). state_after flat c.loop-i.state rows) none ∙ kept.state;
       nets = kept.nets ∙ sym c.requires.nets;
