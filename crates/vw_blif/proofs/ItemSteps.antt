@@ -36,8 +36,8 @@ few_or_many : (n : ℕ) → ◌⊎◌ (n < 2) ((2 ≤ n) × (5 < n)) → has_bad
 few_or_many n (inl few) = ap (λ (b : Bool). b || ltb 5 n) (lt-ltb n 2 few)
 few_or_many n (inr many) = ap (λ (b : Bool). ltb n 2 || b) (lt-ltb 5 n many.1) ∙ or-true (ltb n 2)
 
-enough : (n : ℕ) → 2 ≤ n → n ≤ 5 → has_bad_count Latch n ≡ false
-enough n some few = ap₂ (λ (b c : Bool). b || c) (le-ltb n 2 some) (le-ltb 5 n few)
+right_count : (n : ℕ) → 2 ≤ n → n ≤ 5 → has_bad_count Latch n ≡ false
+right_count n some few = ap₂ (λ (b c : Bool). b || c) (le-ltb n 2 some) (le-ltb 5 n few)
 
 module _ (line : Line) (words : List Word) (same : words ≡ further line) (before : List Line) (open_ : is_open before ≡ true) where
   pub latch_miscounted : kind line ≡ Latch → ◌⊎◌ (length words < 2) ((2 ≤ length words) × (5 < length words)) → fault_at before line ≡ Some (BadWords line.number)
@@ -47,8 +47,8 @@ module _ (line : Line) (words : List Word) (same : words ≡ further line) (befo
   pub latch_refused : kind line ≡ Latch → 2 ≤ length words → length words ≤ 5 → (fault : TextFault) → SaysLatch line.number words fault → Says fault (fault_at before line)
   latch_refused is some few fault says = by_fault fault (rw same at says)
     where
-      counted : has_bad_count Latch (length (further line)) ≡ false
-      counted = ap (λ (ws : List Word). has_bad_count Latch (length ws)) (sym same) ∙ enough (length words) some few
+      count_is_right : has_bad_count Latch (length (further line)) ≡ false
+      count_is_right = ap (λ (ws : List Word). has_bad_count Latch (length ws)) (sym same) ∙ right_count (length words) some few
 
       by_fault : (fault : TextFault) → SaysLatch line.number (further line) fault → Says fault (fault_at before line)
       by_fault TooLarge says = absurd says
@@ -58,8 +58,8 @@ module _ (line : Line) (words : List Word) (same : words ≡ further line) (befo
       by_fault (BadRow at) says = absurd says
       by_fault (MixedRows at) says = absurd says
       by_fault (TooWide at) says = absurd says
-      by_fault (BadLatchType at) says = λ told. ap first_of (latch_faults (kind line) before line is open_) ∙ rw (counted, says.1, says.0) refl
-      by_fault (BadInit at) says = λ told. ap first_of (latch_faults (kind line) before line is open_) ∙ rw (counted, says.1, says.2, says.0) refl
+      by_fault (BadLatchType at) says = λ told. ap first_of (latch_faults (kind line) before line is open_) ∙ rw (count_is_right, says.1, says.0) refl
+      by_fault (BadInit at) says = λ told. ap first_of (latch_faults (kind line) before line is open_) ∙ rw (count_is_right, says.1, says.2, says.0) refl
       by_fault (DuplicateModel at) says = absurd says
       by_fault (DuplicatePort at) says = absurd says
       by_fault (BadBind at) says = absurd says
@@ -72,8 +72,8 @@ module _ (line : Line) (words : List Word) (same : words ≡ further line) (befo
   pub place_refused : kind line ≡ Subckt → false ≡ (length words == 0) → (fault : TextFault) → SaysPlace line.number words fault → Says fault (fault_at before line)
   place_refused is some fault says = by_fault fault (rw same at says)
     where
-      counted : has_bad_count Subckt (length (further line)) ≡ false
-      counted = ap (λ (ws : List Word). has_bad_count Subckt (length ws)) (sym same) ∙ sym some
+      count_is_right : has_bad_count Subckt (length (further line)) ≡ false
+      count_is_right = ap (λ (ws : List Word). has_bad_count Subckt (length ws)) (sym same) ∙ sym some
 
       by_fault : (fault : TextFault) → SaysPlace line.number (further line) fault → Says fault (fault_at before line)
       by_fault TooLarge says = absurd says
@@ -87,7 +87,7 @@ module _ (line : Line) (words : List Word) (same : words ≡ further line) (befo
       by_fault (BadInit at) says = absurd says
       by_fault (DuplicateModel at) says = absurd says
       by_fault (DuplicatePort at) says = absurd says
-      by_fault (BadBind at) says = λ told. ap first_of (place_faults (kind line) before line is open_) ∙ rw (counted, says.1, says.0) refl
+      by_fault (BadBind at) says = λ told. ap first_of (place_faults (kind line) before line is open_) ∙ rw (count_is_right, says.1, says.0) refl
       by_fault NoMemory says = λ told. absurd (true≢false (sym told))
 
 -- an item behind those of a model whose open table came to them
@@ -100,8 +100,8 @@ put_behind : (items table_ more : List SpelledItem) (item : SpelledItem) → ((i
 put_behind items table_ more item = simp append_assoc
 
 module _ (old new : Block) (item : Item) (line : Line) (has : HasItem old item new) where
-  all_items : (more : List SpelledItem) → map spelled_item new.items.items ++ more ≡ map spelled_item old.items.items ++ (table_items old.table [] ++ spelled_item item ∷ more)
-  all_items more = ap (λ (is : List SpelledItem). is ++ more) has.items ∙ put_behind (map spelled_item old.items.items) (table_items old.table []) more (spelled_item item)
+  items_and_more : (more : List SpelledItem) → map spelled_item new.items.items ++ more ≡ map spelled_item old.items.items ++ (table_items old.table [] ++ spelled_item item ∷ more)
+  items_and_more more = ap (λ (is : List SpelledItem). is ++ more) has.items ∙ put_behind (map spelled_item old.items.items) (table_items old.table []) more (spelled_item item)
 
   pub latch_taken : kind line ≡ Latch → 2 ≤ length (further line) → length (further line) ≤ 5 → spelled_item item ≡ latch_of line.number (further line)
       → has_bad_type (further line) ≡ false → has_bad_init (further line) ≡ false → TakesLine old line new
@@ -113,8 +113,8 @@ module _ (old new : Block) (item : Item) (line : Line) (has : HasItem old item n
       outputs = rw (is, has.ports.outputs) told.outputs;
       clocks = rw (is, has.ports.clocks) told.clocks;
     };
-    fine = λ before told. ap first_of (latch_faults (kind line) before line is told.open_) ∙ rw (enough (length (further line)) some few, type_, init) refl;
-    makes = λ rest. rw (is, is, is, has.ports.name, has.ports.inputs, has.ports.outputs, has.ports.clocks, has.table_, all_items (filter_map item_of (groups rest).parts), spells) refl;
+    fine = λ before told. ap first_of (latch_faults (kind line) before line is told.open_) ∙ rw (right_count (length (further line)) some few, type_, init) refl;
+    makes = λ rest. rw (is, is, is, has.ports.name, has.ports.inputs, has.ports.outputs, has.ports.clocks, has.table_, items_and_more (filter_map item_of (groups rest).parts), spells) refl;
     name = has.ports.name;
   }
 
@@ -129,6 +129,6 @@ module _ (old new : Block) (item : Item) (line : Line) (has : HasItem old item n
       clocks = rw (is, has.ports.clocks) told.clocks;
     };
     fine = λ before told. ap first_of (place_faults (kind line) before line is told.open_) ∙ rw (sym some, binds) refl;
-    makes = λ rest. rw (is, is, is, has.ports.name, has.ports.inputs, has.ports.outputs, has.ports.clocks, has.table_, all_items (filter_map item_of (groups rest).parts), spells) refl;
+    makes = λ rest. rw (is, is, is, has.ports.name, has.ports.inputs, has.ports.outputs, has.ports.clocks, has.table_, items_and_more (filter_map item_of (groups rest).parts), spells) refl;
     name = has.ports.name;
   }

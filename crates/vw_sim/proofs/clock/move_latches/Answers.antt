@@ -17,8 +17,8 @@ overflow_add-latch c = omega (arith, latch_count-le c.cells-cell-items.result.no
 module _ (value : ℕ → Bool) (cells : List Cell) (i : ℕ) (cell : Cell) (state : List Bool) (latch : ℕ) (within : i < length cells) (is : cell ≡ get_or cells i cell)
     (size : length state ≡ latch_count cells) (count : latch + latch_count (drop i cells) ≡ latch_count cells)
     (bits : take latch state ++ map value (latch_inputs (drop i cells)) ≡ map value (latch_inputs cells)) where
-  left : drop i cells ≡ cell ∷ drop (i + 1) cells
-  left = drop_more cells i cell within ∙ ap (λ (c : Cell). c ∷ drop (i + 1) cells) (sym is)
+  cells_left : drop i cells ≡ cell ∷ drop (i + 1) cells
+  cells_left = drop_more cells i cell within ∙ ap (λ (c : Cell). c ∷ drop (i + 1) cells) (sym is)
 
   abbrev Moved : List Bool → ℕ → Type 0
   Moved new at = (length new ≡ latch_count cells) × (at + latch_count (drop (i + 1) cells) ≡ latch_count cells)
@@ -26,7 +26,7 @@ module _ (value : ℕ → Bool) (cells : List Cell) (i : ℕ) (cell : Cell) (sta
 
   with_latch : (d : ℕ) (init : Init) (new : List Bool) (at : ℕ) → cell ≡ Latch d init → new ≡ set state latch (value d) → at ≡ latch + 1 → Moved new at
   with_latch d init new at is_latch written next =
-      let cut = left ∙ ap (λ (c : Cell). c ∷ drop (i + 1) cells) is_latch in
+      let cut = cells_left ∙ ap (λ (c : Cell). c ∷ drop (i + 1) cells) is_latch in
       let counts = ap latch_count cut in
       let inside : latch < length state = omega (size, count, counts, arith) in
       let rest = map value (latch_inputs (drop (i + 1) cells)) in (
@@ -38,7 +38,7 @@ module _ (value : ℕ → Bool) (cells : List Cell) (i : ℕ) (cell : Cell) (sta
 
   with_gate : (ins : List ℕ) (cover : Cover) (new : List Bool) (at : ℕ) → cell ≡ Gate ins cover → new ≡ state → at ≡ latch → Moved new at
   with_gate ins cover new at gate same still =
-      let cut = left ∙ ap (λ (c : Cell). c ∷ drop (i + 1) cells) gate in
+      let cut = cells_left ∙ ap (λ (c : Cell). c ∷ drop (i + 1) cells) gate in
       let counts = ap latch_count cut in
       let rest = map value (latch_inputs (drop (i + 1) cells)) in (
         ap (λ (bs : List Bool). length bs) same ∙ size,

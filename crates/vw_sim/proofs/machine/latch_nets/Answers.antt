@@ -10,22 +10,22 @@ use Rattle.vw_sim.proofs.machine.latch_nets.Goals.{in-Latch+in_ok-push, in_defau
 
 module _ (first : ℕ) (cells : List Cell) (i : ℕ) (cell : Cell) (nets : List ℕ) (within : i < length cells) (is : cell ≡ get_or cells i cell)
     (old : nets ++ latch_nets (first + i) (drop i cells) ≡ latch_nets first cells) where
-  left : drop i cells ≡ cell ∷ drop (i + 1) cells
-  left = drop_more cells i cell within ∙ ap (λ (c : Cell). c ∷ drop (i + 1) cells) (sym is)
+  cells_left : drop i cells ≡ cell ∷ drop (i + 1) cells
+  cells_left = drop_more cells i cell within ∙ ap (λ (c : Cell). c ∷ drop (i + 1) cells) (sym is)
 
-  next : first + (i + 1) ≡ first + i + 1
-  next = omega arith
+  next_net : first + (i + 1) ≡ first + i + 1
+  next_net = omega arith
 
   with_latch : (d : ℕ) (init : Init) (new : List ℕ) → cell ≡ Latch d init → new ≡ nets ++ (first + i) ∷ [] → new ++ latch_nets (first + (i + 1)) (drop (i + 1) cells) ≡ latch_nets first cells
   with_latch d init new latch more =
       let rest = latch_nets (first + i + 1) (drop (i + 1) cells) in
-      ap (λ (n : ℕ). new ++ latch_nets n (drop (i + 1) cells)) next ∙ ap (λ (ns : List ℕ). ns ++ rest) more ∙ append_assoc nets ((first + i) ∷ []) rest
-      ∙ ap (λ (cs : List Cell). nets ++ latch_nets (first + i) cs) (sym (left ∙ ap (λ (c : Cell). c ∷ drop (i + 1) cells) latch)) ∙ old
+      ap (λ (n : ℕ). new ++ latch_nets n (drop (i + 1) cells)) next_net ∙ ap (λ (ns : List ℕ). ns ++ rest) more ∙ append_assoc nets ((first + i) ∷ []) rest
+      ∙ ap (λ (cs : List Cell). nets ++ latch_nets (first + i) cs) (sym (cells_left ∙ ap (λ (c : Cell). c ∷ drop (i + 1) cells) latch)) ∙ old
 
   with_gate : (ins : List ℕ) (cover : Cover) (new : List ℕ) → cell ≡ Gate ins cover → new ≡ nets → new ++ latch_nets (first + (i + 1)) (drop (i + 1) cells) ≡ latch_nets first cells
   with_gate ins cover new gate same =
-      ap (λ (n : ℕ). new ++ latch_nets n (drop (i + 1) cells)) next ∙ ap (λ (ns : List ℕ). ns ++ latch_nets (first + i + 1) (drop (i + 1) cells)) same
-      ∙ ap (λ (cs : List Cell). nets ++ latch_nets (first + i) cs) (sym (left ∙ ap (λ (c : Cell). c ∷ drop (i + 1) cells) gate)) ∙ old
+      ap (λ (n : ℕ). new ++ latch_nets n (drop (i + 1) cells)) next_net ∙ ap (λ (ns : List ℕ). ns ++ latch_nets (first + i + 1) (drop (i + 1) cells)) same
+      ∙ ap (λ (cs : List Cell). nets ++ latch_nets (first + i) cs) (sym (cells_left ∙ ap (λ (c : Cell). c ∷ drop (i + 1) cells) gate)) ∙ old
 
 pub loop-number-preserved : goal.loop-number-preserved
 loop-number-preserved c =

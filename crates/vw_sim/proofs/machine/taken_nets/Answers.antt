@@ -10,18 +10,18 @@ use Rattle.vw_sim.proofs.machine.taken_nets.Goals.{in-Latch+in_ok-push, in_defau
 
 module _ (cells : List Cell) (i : ℕ) (cell : Cell) (nets : List ℕ) (within : i < length cells) (is : cell ≡ get_or cells i cell)
     (old : nets ++ latch_inputs (drop i cells) ≡ latch_inputs cells) where
-  left : drop i cells ≡ cell ∷ drop (i + 1) cells
-  left = drop_more cells i cell within ∙ ap (λ (c : Cell). c ∷ drop (i + 1) cells) (sym is)
+  cells_left : drop i cells ≡ cell ∷ drop (i + 1) cells
+  cells_left = drop_more cells i cell within ∙ ap (λ (c : Cell). c ∷ drop (i + 1) cells) (sym is)
 
   with_latch : (d : ℕ) (init : Init) (new : List ℕ) → cell ≡ Latch d init → new ≡ nets ++ d ∷ [] → new ++ latch_inputs (drop (i + 1) cells) ≡ latch_inputs cells
   with_latch d init new latch more =
       ap (λ (ns : List ℕ). ns ++ latch_inputs (drop (i + 1) cells)) more ∙ append_assoc nets (d ∷ []) (latch_inputs (drop (i + 1) cells))
-      ∙ ap (λ (cs : List Cell). nets ++ latch_inputs cs) (sym (left ∙ ap (λ (c : Cell). c ∷ drop (i + 1) cells) latch)) ∙ old
+      ∙ ap (λ (cs : List Cell). nets ++ latch_inputs cs) (sym (cells_left ∙ ap (λ (c : Cell). c ∷ drop (i + 1) cells) latch)) ∙ old
 
   with_gate : (ins : List ℕ) (cover : Cover) (new : List ℕ) → cell ≡ Gate ins cover → new ≡ nets → new ++ latch_inputs (drop (i + 1) cells) ≡ latch_inputs cells
   with_gate ins cover new gate same =
       ap (λ (ns : List ℕ). ns ++ latch_inputs (drop (i + 1) cells)) same
-      ∙ ap (λ (cs : List Cell). nets ++ latch_inputs cs) (sym (left ∙ ap (λ (c : Cell). c ∷ drop (i + 1) cells) gate)) ∙ old
+      ∙ ap (λ (cs : List Cell). nets ++ latch_inputs cs) (sym (cells_left ∙ ap (λ (c : Cell). c ∷ drop (i + 1) cells) gate)) ∙ old
 
 pub loop-cell-preserved : goal.loop-cell-preserved
 loop-cell-preserved c =

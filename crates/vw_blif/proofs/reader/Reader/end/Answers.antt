@@ -8,8 +8,8 @@ use Rattle.vw_blif.proofs.ReaderSteps.{Ended, closed_made, ended-some, ended-non
 use Rattle.vw_blif.proofs.reader.Reader.end.Goals as goal
 use Rattle.vw_blif.proofs.reader.Reader.end.Goals.{Joined-block, in-Some+in_ok-close+in_ok-push, in_default}
 
-ended : (c : Joined-block) → Ended c.args.self.models.items (opened c.args.self.block) c.match-block.models.items
-ended c =
+block_ended : (c : Joined-block) → Ended c.args.self.models.items (opened c.args.self.block) c.match-block.models.items
+block_ended c =
     let old = c.args.self in
     elim c.match-block.branch [
       | in-Some+in_ok-close+in_ok-push w ↦
@@ -22,7 +22,7 @@ ended c =
 
 pub invariant_of-result : goal.invariant_of-result
 invariant_of-result c =
-    let all = ended c in
+    let all = block_ended c in
     record {
       knows = λ word. c.args.self.knows word ∙ ap (λ (names : List Word). has_name names word) (sym all.names);
       distinct = ap are_distinct all.names ∙ c.args.self.distinct;
@@ -30,4 +30,4 @@ invariant_of-result c =
     }
 
 pub returns : goal.returns
-returns c = let all = ended ((goal.at.returns c).Joined-block) in record { made = all.made; names = all.names; block = refl }
+returns c = let all = block_ended ((goal.at.returns c).Joined-block) in record { made = all.made; names = all.names; block = refl }

@@ -27,9 +27,9 @@ returns-then-not-are_well_formed-clause-exactly c = (
       ],
 )
 
--- the tests have found these parts
-found : (c : Else-not-are_nets) → AreParts c.args.inputs c.args.cells c.args.outputs
-found c = record {
+-- the parts are those that the tests let through
+tested_parts : (c : Else-not-are_nets) → AreParts c.args.inputs c.args.cells c.args.outputs
+tested_parts c = record {
   few_inputs = c.if-inputs-gt4096.false;
   few_cells = rw c.len.ensures at c.if-len-gt65536.false;
   few_outputs = rw c.len-else-len-gt65536.ensures at c.if-len-gt4096.false;
@@ -39,10 +39,10 @@ found c = record {
 
 pub make-requires : goal.make-requires
 make-requires c =
-    let parts = found c in
+    let parts = tested_parts c in
     record { few_inputs = parts.few_inputs; few_cells = parts.few_cells; few_outputs = parts.few_outputs; cells_fit = parts.cells_fit; outputs_fit = parts.outputs_fit }
 
 pub returns : goal.returns
 returns c =
-    let parts = found ((goal.at.returns c).Else-not-are_nets) in
+    let parts = tested_parts ((goal.at.returns c).Else-not-are_nets) in
     record { exactly = (λ some. parts, λ all. refl); inputs = c.make.ensures.inputs; cells = c.make.ensures.cells; outputs = c.make.ensures.outputs }

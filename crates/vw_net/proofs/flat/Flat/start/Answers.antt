@@ -10,19 +10,19 @@ use Rattle.vw_net.proofs.flat.Flat.start.Goals.{in-Latch+in_ok-push, in_default}
 
 module _ (unknown : Bool) (cells : List Cell) (i : ℕ) (cell : Cell) (bits : List Bool) (within : i < length cells) (is : cell ≡ get_or cells i cell)
     (old : bits ++ start_values unknown (drop i cells) ≡ start_values unknown cells) where
-  left : drop i cells ≡ cell ∷ drop (i + 1) cells
-  left = drop_more cells i cell within ∙ ap (λ (c : Cell). c ∷ drop (i + 1) cells) (sym is)
+  cells_left : drop i cells ≡ cell ∷ drop (i + 1) cells
+  cells_left = drop_more cells i cell within ∙ ap (λ (c : Cell). c ∷ drop (i + 1) cells) (sym is)
 
   with_latch : (d : ℕ) (init : Init) (new : List Bool) → cell ≡ Latch d init → new ≡ bits ++ start_value unknown init ∷ [] → new ++ start_values unknown (drop (i + 1) cells) ≡ start_values unknown cells
   with_latch d init new latch more =
       let rest = start_values unknown (drop (i + 1) cells) in
       ap (λ (bs : List Bool). bs ++ rest) more ∙ append_assoc bits (start_value unknown init ∷ []) rest
-      ∙ ap (λ (cs : List Cell). bits ++ start_values unknown cs) (sym (left ∙ ap (λ (c : Cell). c ∷ drop (i + 1) cells) latch)) ∙ old
+      ∙ ap (λ (cs : List Cell). bits ++ start_values unknown cs) (sym (cells_left ∙ ap (λ (c : Cell). c ∷ drop (i + 1) cells) latch)) ∙ old
 
   with_gate : (ins : List ℕ) (cover : Cover) (new : List Bool) → cell ≡ Gate ins cover → new ≡ bits → new ++ start_values unknown (drop (i + 1) cells) ≡ start_values unknown cells
   with_gate ins cover new gate same =
       ap (λ (bs : List Bool). bs ++ start_values unknown (drop (i + 1) cells)) same
-      ∙ ap (λ (cs : List Cell). bits ++ start_values unknown cs) (sym (left ∙ ap (λ (c : Cell). c ∷ drop (i + 1) cells) gate)) ∙ old
+      ∙ ap (λ (cs : List Cell). bits ++ start_values unknown cs) (sym (cells_left ∙ ap (λ (c : Cell). c ∷ drop (i + 1) cells) gate)) ∙ old
 
 pub loop-cell-preserved : goal.loop-cell-preserved
 loop-cell-preserved c =
