@@ -4,11 +4,11 @@ use Rattle.vw_rows.specs.Trace.{clock_text, rows_text}
 use Rattle.vw_rows.proofs.trace.trace_rows.Goals as goal
 
 -- the line of one clock more
-further : (first i clock : ℕ) (outputs states : List (List Bool)) (row state : List Bool) (text new : List ℕ) → i < length outputs → i < length states
+clock_further : (first i clock : ℕ) (outputs states : List (List Bool)) (row state : List Bool) (text new : List ℕ) → i < length outputs → i < length states
     → row ≡ get_or outputs i row → state ≡ get_or states i state → clock ≡ first + i → new ≡ text ++ clock_text clock row state
     → text ++ rows_text (first + i) (drop i outputs) (drop i states) ≡ rows_text first outputs states
     → new ++ rows_text (first + (i + 1)) (drop (i + 1) outputs) (drop (i + 1) states) ≡ rows_text first outputs states
-further first i clock outputs states row state text new within inside is_row is_state is more old =
+clock_further first i clock outputs states row state text new within inside is_row is_state is more old =
     let next : first + (i + 1) ≡ first + i + 1 = omega arith in
     let row_left = drop_more outputs i row within ∙ ap (λ (r : List Bool). r ∷ drop (i + 1) outputs) (sym is_row) in
     let state_left = drop_more states i state inside ∙ ap (λ (s : List Bool). s ∷ drop (i + 1) states) (sym is_state) in
@@ -25,7 +25,7 @@ loop-i-preserved c =
     let states = c.as_slice-states.result.now in
     let within : i < length outputs = omega (arith, c.loop-i-test.true, ap (λ (rs : List (List Bool)). length rs) rows) in
     let inside : i < length states = omega (arith, within, c.requires, ap (λ (rs : List (List Bool)). length rs) c.as_slice-states.ensures) in
-    further c.args.first i (c.from.result + i) outputs states c.row-item.result c.index-states-i.result c.loop-i.text.items c.push_clock.new.text.items within inside
+    clock_further c.args.first i (c.from.result + i) outputs states c.row-item.result c.index-states-i.result c.loop-i.text.items c.push_clock.new.text.items within inside
     (c.row-item.is ∙ ap (λ (rs : List (List Bool)). get_or rs i c.row-item.result) rows) c.index-states-i.is (ap (λ (n : ℕ). n + i) c.from.ensures) c.in_ok-push_clock.ensures c.loop-i.invariant
 
 pub returns : goal.returns
