@@ -1,5 +1,5 @@
 -- Searches along a list, from one element to the next.
-use Rattle.std.proofs.Common.{◌≡◌, ◌<◌, ◌+◌, ℕ, List, length, drop, get_or, Option, Some, None, ap, refl, sym, ◌∙◌, add-one, drop-cons}
+use Rattle.std.proofs.Common.{◌≡◌, ◌<◌, ◌+◌, ℕ, true, false, List, length, drop, get_or, Option, Some, None, is_some, ap, refl, sym, ◌∙◌, true≢false, add-one, drop-cons}
 use Rattle.std.specs.Option.{option_or}
 use Rattle.vw_check.specs.Firsts.{first_at}
 
@@ -17,3 +17,12 @@ module _ {X Y : Type 0} (found : ℕ → X → Option Y) (place : ℕ) (xs : Lis
   -- what is found at an element is the first
   pub search_ends : (thing : Y) → found place (get_or xs place default) ≡ Some thing → Some thing ≡ first_at found place (drop place xs)
   search_ends thing is = sym (step ∙ ap (λ (here : Option Y). option_or here rest) is)
+
+  -- the same, where the code looks whether something is found
+  pub search_finds : (here : Option Y) → found place (get_or xs place default) ≡ here → true ≡ is_some here → here ≡ first_at found place (drop place xs)
+  search_finds None is there = absurd (true≢false there)
+  search_finds (Some thing) is there = search_ends thing is
+
+  pub search_passes : (here : Option Y) → found place (get_or xs place default) ≡ here → false ≡ is_some here → rest ≡ first_at found place (drop place xs)
+  search_passes None is none = search_on is
+  search_passes (Some thing) is none = absurd (true≢false (sym none))
