@@ -50,7 +50,8 @@ fn depth_of_cell(flat: &Flat, chip_of: &[u32], table: &[u32], number: u32, net: 
 {
     match flat.cells().get(number as usize) {
         Some(Cell::Gate { ins, .. }) => deepest(flat, chip_of, table, net, ins.as_slice()),
-        _ => 0,
+        Some(Cell::Latch { .. }) => 0,
+        None => 0,
     }
 }
 
