@@ -7,7 +7,7 @@ use Rattle.vw_design.specs.Preorder.{Site, cells}
 use Rattle.vw_design.proofs.Sizes.{few_columns}
 use Rattle.vw_design.proofs.PairedLists.{AllZip-length}
 use Rattle.vw_flat.specs.Steps.Numbers.{net_count}
-use Rattle.vw_flat.proofs.netlist.flatten.Goals.{After-of}
+use Rattle.vw_flat.proofs.netlist.flatten.Goals.{After-of, After-make}
 use Rattle.vw_flat.proofs.netlist.flatten.Goals as goal
 
 -- the columns are among the inputs that count
@@ -36,13 +36,18 @@ make-requires-clause-outputs_fit c =
     let same : net_count design ≡ c.columns.result + length c.of.result = omega (arith, c.columns.ensures, counted (goal.at.make-requires-clause-outputs_fit c).After-of) in
     subst (λ (count : ℕ). All (λ (net : ℕ). net < count) c.of-2.result) same (subst (All (λ (net : ℕ). net < net_count design)) (sym c.of-2.ensures) c.in_ok-outputs.ensures.fit)
 
--- the netlist has the history of the design
-pub returns-clause-history : goal.returns-clause-history
-returns-clause-history c =
+-- the netlist is that of the design, and has its history
+flat_is : (c : After-make) → IsFlatOf c.args.elaborated.now c.make.result
+flat_is c =
     let design = c.args.elaborated.now in
-    let is : IsFlatOf design c.make.result = record {
+    record {
       inputs = c.make.ensures.inputs ∙ c.columns.ensures;
       cells = subst (AllZip (λ (site : Site) (cell : Cell). IsCellOf design site.path site.item cell) (cells design)) (sym (c.make.ensures.cells ∙ c.of.ensures)) c.in_ok-cells.ensures.are;
       outputs = c.in_ok-outputs.ensures.are ∙ ap (map (λ (net : ℕ). Some net)) (sym (c.make.ensures.outputs ∙ c.of-2.ensures));
-    } in
-    c.histories_agree.ensures design c.make.result is
+    }
+
+pub returns-clause-flat : goal.returns-clause-flat
+returns-clause-flat c = flat_is (goal.at.returns-clause-flat c).After-make
+
+pub returns-clause-history : goal.returns-clause-history
+returns-clause-history c = c.histories_agree.ensures c.args.elaborated.now c.make.result (flat_is (goal.at.returns-clause-history c).After-make)
