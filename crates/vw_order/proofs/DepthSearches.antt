@@ -1,5 +1,5 @@
 -- A search in depth, step by step.
-use Rattle.std.proofs.Common.{◌≡◌, ◌≢◌, ◌<◌, ◌≤◌, ◌+◌, ◌==◌, ◌||◌, ℕ, Bool, true, false, cond, List, [], ◌∷◌, ◌++◌, length, length-append, take, get_or, slice_set, replicate, Some, None, ⊎_elim, refl, sym, ◌∙◌, ap, ap₂, subst, eqb, ne_eqb, append_assoc, append-nil, get_or-set_other, get_or-set_same, true≢false, arith}
+use Rattle.std.proofs.Common.{◌≡◌, ◌≢◌, ◌<◌, ◌≤◌, ◌+◌, ◌==◌, ◌||◌, ℕ, Bool, true, false, cond, List, [], ◌∷◌, ◌++◌, length, length-append, take, get_or, slice_set, replicate, Some, None, ⊎_elim, refl, sym, ◌∙◌, ap, ap₂, subst, eqb, ne_eqb, append_assoc, append-nil, get_or-set_other, get_or-set_same, below_more, true≢false, arith}
 use Rattle.std.specs.List.{IsDistinct}
 use Rattle.std.proofs.lemmas.Bool.{cases_lt, cases_eq}
 use Rattle.std.proofs.Math.Seq.{take-append_seam, get_or-append_seam}
@@ -10,13 +10,14 @@ use Rattle.vw_net.proofs.Lists.{once_none}
 use Rattle.vw_net.specs.Order.{is_among}
 use Rattle.vw_order.specs.declared.mark.Progress.{Progress}
 use Rattle.vw_order.specs.declared.mark.Progress.TheVariants.{Fresh, Open, Done}
+use Rattle.vw_order.specs.declared.depth.Depth.{Depth}
 use Rattle.vw_order.specs.declared.mark.Ahead.{Ahead}
 use Rattle.vw_order.specs.Steps.Marks.{IsAhead}
 use Rattle.vw_order.specs.Steps.Rounds.{round_from}
 use Rattle.vw_order.specs.Graphs.{Graph, ReadsAt, IsWithin}
 use Rattle.vw_order.specs.Orders.{IsBehind, IsNumberOrder}
 use Rattle.vw_order.specs.Circles.{IsNumberCircle}
-use Rattle.vw_order.specs.Steps.Searches.{mark_of, IsSearch}
+use Rattle.vw_order.specs.Steps.Searches.{mark_of, IsSearch, IsDepth, IsKept, IsVisited}
 use Rattle.vw_order.proofs.Among.{among_left, among_right, among_either, among_one, among_last, once_push, once_short, once_moved, once_part}
 use Rattle.vw_order.proofs.Rounds.{Leads-push, Leads-front, closes}
 
@@ -258,3 +259,27 @@ module _ (graph : Graph) where
     once = subst (λ (s : List ℕ). IsDistinct eqb s) (append-nil order) far.once;
     behind = far.behind;
   }
+
+-- what was done is done where nothing is open before and after
+kept_done : (old new : Depth) → old.stack.items ≡ [] → new.stack.items ≡ [] → IsKept old new → (number : ℕ) → is_among old.order.items number ≡ true → is_among new.order.items number ≡ true
+kept_done old new rests rest kept number done =
+    let was : is_among (old.order.items ++ old.stack.items) number ≡ true = ap (λ (l : List ℕ). is_among (old.order.items ++ l) number) rests ∙ ap (λ (l : List ℕ). is_among l number) (append-nil old.order.items) ∙ done in
+    sym (ap (λ (l : List ℕ). is_among (new.order.items ++ l) number) rest ∙ ap (λ (l : List ℕ). is_among l number) (append-nil new.order.items)) ∙ kept number was
+
+-- one number more was visited
+pub visited_further : (graph : Graph) (old new : Depth) (i : ℕ) → old.stack.items ≡ [] → ((number : ℕ) → number < i → graph.starts number ≡ true → is_among old.order.items number ≡ true)
+    → IsVisited graph old new i None
+    → IsDepth graph new × (new.stack.items ≡ []) × ((number : ℕ) → number < i + 1 → graph.starts number ≡ true → is_among new.order.items number ≡ true)
+visited_further graph old new i rests before visited = (
+  visited.0.depth,
+  visited.0.rests,
+  below_more (λ (number : ℕ). graph.starts number ≡ true → is_among new.order.items number ≡ true) i
+      (λ number under starts. kept_done old new rests visited.0.rests visited.0.kept number (before number under starts)) visited.1,
+)
+
+-- all numbers were visited
+pub all_visited : (graph : Graph) → IsWithin graph → (depth : Depth) (i : ℕ) → graph.count ≤ i → IsDepth graph depth → depth.stack.items ≡ []
+    → ((number : ℕ) → number < i → graph.starts number ≡ true → is_among depth.order.items number ≡ true) → IsNumberOrder graph depth.order.items
+all_visited graph within depth i past far rests before =
+    ended graph depth.marks.items depth.cursors.items depth.order.items (subst (λ (stack : List ℕ). IsSearch graph depth.marks.items depth.cursors.items depth.order.items stack) rests far)
+    (λ number starts. before number (omega (arith, within.below number (within.started number starts))) starts)
