@@ -1,5 +1,5 @@
-use Rattle.std.proofs.Common.{◌≡◌, ◌≤◌, ◌+◌, ℕ, List, Option, Some, None, true, true≢false, get_or, slice_get, below_more, refl, sym, ◌∙◌, ap}
-use Rattle.std.proofs.lemmas.Option.{same_Some, none-some, get_or_from_slice_get}
+use Rattle.std.proofs.Common.{◌≡◌, ◌≤◌, ◌+◌, ℕ, List, Option, Some, None, true, true≢false, get_or, slice_get, below_more, refl, sym, ◌∙◌, ap, arith}
+use Rattle.std.proofs.lemmas.Option.{same_Some, none-some, slice_get_within, get_or_from_slice_get}
 use Rattle.std.specs.Prelude.{slice_index}
 use Rattle.vw_order.specs.declared.mark.Progress.{Progress}
 use Rattle.vw_order.specs.declared.mark.Progress.TheVariants.{Fresh, Open, Done}
@@ -30,3 +30,8 @@ loop-place-preserved g c =
           ∙ done_is (get_or marks w.in-Some.read Fresh) (sym w.is_finished.ensures ∙ w.if-not-is_finished.false)
       | in_default w ↦ λ other at. absurd (none-some other (sym w.in_default.is ∙ c.read.ensures ∙ at))
     ])
+
+pub returns : goal.returns
+returns g c = λ place other least at.
+    let reads = (g.D.Digraph.graph c.args.digraph.now).reads c.args.number in
+    c.loop-place.invariant place other least (omega (arith, c.loop-place-test.false, slice_get_within reads place (Some other) at)) at
