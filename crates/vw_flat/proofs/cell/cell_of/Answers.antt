@@ -38,10 +38,10 @@ returns-in_ok-copy-in-Names-clause-fits c =
     (ap (λ (list : List ℕ). length list) c.of.ensures ∙ long ∙ sym c.in_ok-copy-in-Names.ensures.inputs, subst (All (λ (n : ℕ). n < net_count design)) (sym c.of.ensures) c.in_ok-ins-in-Names.ensures.fit)
 
 -- a latch reads the one net that its site reads as data
-latch_is : (design : Design) (site : Option Site) (item : Item) (line : ℕ) (d q : Word) (edge : Edge) (control : Option Word) (init : Init) (net : ℕ) → item_with_numbers site ≡ Some item
+latch_of_site : (design : Design) (site : Option Site) (item : Item) (line : ℕ) (d q : Word) (edge : Edge) (control : Option Word) (init : Init) (net : ℕ) → item_with_numbers site ≡ Some item
     → item ≡ LatchItem line d q edge control init → slice_get (numbers_at design site) 0 ≡ Some (Some net) → IsCellAt design site (Latch net init)
-latch_is design None item line d q edge control init net at is reads = absurd (none-some item at)
-latch_is design (Some site) item line d q edge control init net at is reads =
+latch_of_site design None item line d q edge control init net at is reads = absurd (none-some item at)
+latch_of_site design (Some site) item line d q edge control init net at is reads =
     let here : site.item ≡ LatchItem line d q edge control init = same_Some site.item item at ∙ is in
     let read = same_Some (number_of design site.path d) (Some net) (sym (ap (λ (x : Item). slice_get (map (number_of design site.path) (data_of x)) 0) here) ∙ reads) in
     subst (λ (x : Item). IsCellOf design site.path x (Latch net init)) (sym here) (read, refl)
@@ -49,5 +49,5 @@ latch_is design (Some site) item line d q edge control init net at is reads =
 pub returns-in-Latch-clause-is : goal.returns-in-Latch-clause-is
 returns-in-Latch-clause-is c =
     let latch = c.in-Latch in
-    latch_is c.args.elaborated.now (slice_get (cells c.args.elaborated.now) c.args.cell) c.args.item.now latch.line latch.d latch.q latch.edge latch.control latch.init c.number_read.result c.requires latch.is
+    latch_of_site c.args.elaborated.now (slice_get (cells c.args.elaborated.now) c.args.cell) c.args.item.now latch.line latch.d latch.q latch.edge latch.control latch.init c.number_read.result c.requires latch.is
     c.number_read.ensures.number
