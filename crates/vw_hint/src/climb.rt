@@ -22,7 +22,7 @@ struct Climb {
     moved: Vec<u32>,
 }
 
-// Written out: where a derived drop runs, each function takes it apart anew.
+// Written out, since a derived drop is proved anew in each function where it runs.
 impl Drop for Climb {
     fn drop(self) {
         let Climb {

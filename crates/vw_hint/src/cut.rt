@@ -17,7 +17,7 @@ pub struct Cut {
     there: NumberList,
 }
 
-// Written out: where a derived drop runs, each function takes it apart anew.
+// Written out, since a derived drop is proved anew in each function where it runs.
 impl Drop for Cut {
     fn drop(self) {
         let Cut {

@@ -14,7 +14,7 @@ pub struct Level {
     pub weights: NumberList,
 }
 
-// Written out: where a derived drop runs, each function takes it apart anew.
+// Written out, since a derived drop is proved anew in each function where it runs.
 impl Drop for Level {
     fn drop(self) {
         let Level {

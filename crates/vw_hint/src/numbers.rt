@@ -6,7 +6,7 @@ pub struct NumberList {
     items: Vec<u32>,
 }
 
-// Written out: where a derived drop runs, each function takes it apart anew.
+// Written out, since a derived drop is proved anew in each function where it runs.
 impl Drop for NumberList {
     fn drop(self) {
         let NumberList { items: _ } = self;

@@ -9,7 +9,7 @@ pub struct NumberRows {
     items: NumberList,
 }
 
-// Written out: where a derived drop runs, each function takes it apart anew.
+// Written out, since a derived drop is proved anew in each function where it runs.
 impl Drop for NumberRows {
     fn drop(self) {
         let NumberRows {

@@ -26,7 +26,7 @@ pub struct MultilevelRun {
     pub most: u32,
 }
 
-// Written out: where a derived drop runs, each function takes it apart anew.
+// Written out, since a derived drop is proved anew in each function where it runs.
 impl Drop for MultilevelRun {
     fn drop(self) {
         let MultilevelRun {
