@@ -1,8 +1,8 @@
-use Rattle.std.proofs.Common.{◌≡◌, ◌+◌, ℕ, List, drop, length, refl, sym, ◌∙◌, ap, subst, arith}
+use Rattle.std.proofs.Common.{◌≡◌, ◌+◌, ℕ, List, Option, drop, length, refl, sym, ◌∙◌, ap, subst, arith}
 use Rattle.vw_models.proofs.Unknowns.{AreAlong}
 use Rattle.vw_instances.specs.declared.sizes.Before.{Before}
 use Rattle.vw_instances.specs.declared.measure.Measure.TheVariants.{Instances, Cells}
-use Rattle.vw_instances.specs.Steps.Counting.{count_at, count_in, AreEntries}
+use Rattle.vw_instances.specs.Steps.Counting.{count_at, count_in, target_in, IsWithinModels, AreEntries}
 use Rattle.vw_instances.proofs.Alongside.{next}
 use Rattle.vw_instances.proofs.Prefixes.{ArePrefixes, none, one_more, all}
 use Rattle.vw_instances.proofs.ItemAmounts.{amount_more}
@@ -58,3 +58,25 @@ returns c =
     let entries = c.loop-item.entries.items in
     let end : c.loop-item.item-index ≡ length items = omega (arith, c.loop-item-test.false) in
     subst (AreEntries design tables items) (sym c.of.ensures) (all design tables items entries c.loop-item.item-index end c.loop-item.invariant.entries)
+
+pub target_in-target-requires : goal.target_in-target-requires
+target_in-target-requires c =
+    let step = next c.args.design.now c.args.tables.now.cells.items c.requires.cells c.args.items.now c.args.targets.now c.loop-item.item-index c.loop-item.place c.item-item.result c.loop-item-test.true c.item-item.is
+    c.loop-item.invariant.within c.loop-item.invariant.left in
+    step.inside
+
+pub count_at-more_cells-requires : goal.count_at-more_cells-requires
+count_at-more_cells-requires c =
+    let step = next c.args.design.now c.args.tables.now.cells.items c.requires.cells c.args.items.now c.args.targets.now c.loop-item.item-index c.loop-item.place c.item-item.result c.loop-item-test.true c.item-item.is
+    c.loop-item.invariant.within c.loop-item.invariant.left in
+    let target = target_in c.args.targets.now c.loop-item.place c.item-item.result in
+    subst (λ (t : Option ℕ). IsWithinModels (length c.as_slice.result.now) t) (sym c.target_in-target.ensures)
+    (subst (λ (l : List ℕ). IsWithinModels (length l) target) (sym c.as_slice.ensures.value) step.within)
+
+pub count_at-more-requires : goal.count_at-more-requires
+count_at-more-requires c =
+    let step = next c.args.design.now c.args.tables.now.instances.items c.requires.instances c.args.items.now c.args.targets.now c.loop-item.item-index c.loop-item.place c.item-item.result c.loop-item-test.true c.item-item.is
+    c.loop-item.invariant.within c.loop-item.invariant.left in
+    let target = target_in c.args.targets.now c.loop-item.place c.item-item.result in
+    subst (λ (t : Option ℕ). IsWithinModels (length c.as_slice-in-loop-item.result.now) t) (sym c.target_in-target.ensures)
+    (subst (λ (l : List ℕ). IsWithinModels (length l) target) (sym c.as_slice-in-loop-item.ensures.value) step.within)
