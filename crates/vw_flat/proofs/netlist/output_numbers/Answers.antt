@@ -20,6 +20,17 @@ names_are c =
     (c.index-models-0.is ∙ ap (λ (models : List Model). get_or models 0 c.index-models-0.result) (c.models.ensures ∙ ap (λ (d : Design). d.models) c.design.ensures)) in
     c.outputs-names.ensures ∙ ap model_outputs (sym root)
 
+-- the name at a place is an output of the root
+pub number_output-requires : goal.number_output-requires
+number_output-requires c =
+    let design = c.args.elaborated.now in
+    let name = c.index-names-place.result in
+    let place = c.loop-place.place in
+    let shown = c.outputs-names.result.now in
+    let names = names_are (goal.at.number_output-requires c).After-outputs-names in
+    slice_get-map (net_at []) (model_outputs (model_at design [])) place
+    ∙ ap (option_map (net_at [])) (ap (λ (list : List Word). slice_get list place) (sym names) ∙ slice_get_read shown (length shown) place name refl c.loop-place-test.true c.index-names-place.is)
+
 -- one number more
 pub loop-place-preserved : goal.loop-place-preserved
 loop-place-preserved c =
