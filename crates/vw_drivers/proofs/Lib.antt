@@ -1,4 +1,3 @@
-pub mod MadeLists
 pub mod PlacedItems
 pub mod AllNames
 pub mod NameMaps

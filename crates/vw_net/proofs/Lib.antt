@@ -1,6 +1,8 @@
 pub mod Lists
 pub mod FirstOptions
 pub mod Counts
+pub mod FittingCells
+pub mod GatheredLists
 pub mod Histories
 pub mod Orders
 pub mod Ready

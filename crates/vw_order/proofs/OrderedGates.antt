@@ -8,7 +8,7 @@ use Rattle.vw_net.specs.declared.cell.Cell.{Cell}
 use Rattle.vw_net.specs.declared.cell.Cell.TheVariants.{Gate, Latch}
 use Rattle.vw_net.specs.declared.flat.Flat.{Flat}
 use Rattle.vw_net.specs.Order.{IsOrder, is_gate, is_latch, is_among, is_ready, read_nets_at, gate_inputs}
-use Rattle.vw_net.specs.Cells.{read_nets}
+use Rattle.vw_net.proofs.FittingCells.{cell_fits}
 use Rattle.vw_net.proofs.Orders.{gate_or_latch, at_among}
 use Rattle.vw_order.specs.Graphs.{ReadsAt}
 use Rattle.vw_order.specs.Orders.{IsNumberOrder}
@@ -33,14 +33,9 @@ module _ (flat : Flat) (order : List ℕ) (far : IsNumberOrder (gates flat) orde
   ready done number before None is gate = refl
   ready done number before (Some (Latch d init)) is gate = absurd (true≢false (sym gate))
   ready done number before (Some (Gate ins cover)) is gate = all_at (is_ready flat.inputs flat.cells done) ins net_ready where
-    within : number < length flat.cells
-    within = slice_get_within flat.cells number (Gate ins cover) is
-
     net_within : (place net : ℕ) → slice_get ins place ≡ Some net → net < flat.inputs + length flat.cells
     net_within place net at =
-        let cell : get_or flat.cells number (Gate ins cover) ≡ Gate ins cover = get_or_from_slice_get flat.cells number (Gate ins cover) (Gate ins cover) is in
-        let fits : All (λ (n : ℕ). n < flat.inputs + length flat.cells) (read_nets (Gate ins cover)) =
-        subst (λ (one : Cell). All (λ (n : ℕ). n < flat.inputs + length flat.cells) (read_nets one)) cell (flat.cells_fit number (Gate ins cover) within).1 in
+        let fits : All (λ (n : ℕ). n < flat.inputs + length flat.cells) ins = (cell_fits (flat.inputs + length flat.cells) flat.cells number (Gate ins cover) flat.cells_fit is).1 in
         subst (λ (n : ℕ). n < flat.inputs + length flat.cells) (get_or_from_slice_get ins place net net at) (fits place net (slice_get_within ins place net at))
 
     driven : (place net : ℕ) → slice_get ins place ≡ Some net → is_gate (slice_get flat.cells (net - flat.inputs)) ≡ true → nat_lt net flat.inputs ≡ false → is_among done (net - flat.inputs) ≡ true

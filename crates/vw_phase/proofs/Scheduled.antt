@@ -1,11 +1,10 @@
 -- A schedule of which all is done is sound, and its period is the least.
-use Rattle.std.proofs.Common.{◌≡◌, ◌<◌, ◌≤◌, ◌+◌, ◌-◌, ◌^◌, ℕ, zero, suc, Bool, true, false, not, List, [], ◌∷◌, length, map, max, get_or, eqb, nat_lt, slice_index, if◌then◌else◌, Some, None, ap, ap₂, refl, sym, ◌∙◌, subst, arith, ⊎_elim, true≢false, eq-eqb, le-ltb}
+use Rattle.std.proofs.Common.{◌≡◌, ◌<◌, ◌≤◌, ◌+◌, ◌-◌, ◌^◌, ℕ, zero, suc, Bool, true, false, not, List, [], ◌∷◌, length, map, max, eqb, nat_lt, slice_index, if◌then◌else◌, Some, ap, ap₂, refl, sym, ◌∙◌, subst, arith, true≢false, eq-eqb, le-ltb}
 use Rattle.std.specs.Prelude.{slice_get}
 use Rattle.std.specs.List.{All, AllZip, AllPairs, list_any, flat_map, count_by, sum_by}
-use Rattle.std.proofs.lemmas.Bool.{cases_lt, and_from, and_parts, or_left, or_right}
+use Rattle.std.proofs.lemmas.Bool.{and_from, and_parts, or_left, or_right}
 use Rattle.std.proofs.lemmas.List.{length-map}
 use Rattle.std.proofs.lemmas.List.Sums.{sum_by-cons}
-use Rattle.std.proofs.lemmas.Option.{slice_get_past, slice_get-get_or}
 use Rattle.std.proofs.lemmas.List.Elements.{All-cons, All-nil, All-head, All-tail, All-weaker}
 use Rattle.std.specs.Option.{ForSome}
 use Rattle.vw_net.specs.declared.cell.Cell.{Cell}
@@ -13,7 +12,7 @@ use Rattle.vw_net.specs.declared.cell.Cell.TheVariants.{Gate, Latch}
 use Rattle.vw_net.specs.declared.cell.Init.{Init}
 use Rattle.vw_net.specs.declared.flat.Flat.{Flat}
 use Rattle.vw_net.specs.declared.ordered.Ordered.{Ordered}
-use Rattle.vw_net.specs.Cells.{IsWellFormed}
+use Rattle.vw_net.proofs.FittingCells.{cell_fits}
 use Rattle.vw_plan.specs.Good.{IsChip, cells_on}
 use Rattle.vw_plan.specs.Lead.{after_last, brings, usable}
 use Rattle.vw_net.specs.Lists.{greatest}
@@ -37,7 +36,6 @@ use Rattle.vw_phase.proofs.WiresOfRoutes.{as_many, before_last, follows, leads_a
 use Rattle.vw_plan.proofs.LeadLevels.{LeadsFollowDrivers}
 use Rattle.vw_phase.proofs.BroughtLeads.{usable_is}
 use Rattle.vw_phase.proofs.WellSent.{hops_same}
-use Rattle.std.proofs.lemmas.Option.{same_Some}
 use Rattle.vw_phase.proofs.StepsOf.{steps_long}
 
 -- ---- the greatest of some moments
@@ -129,11 +127,7 @@ module _ (ordered : Ordered) (board : Board) (plan : Plan) where
   latch_within : (number d : ℕ) (init : Init) → slice_get flat.cells number ≡ Some (Latch d init) → d < flat.inputs + length flat.cells
   latch_within number d init is =
       let nets = flat.inputs + length flat.cells in
-      let within : number < length flat.cells = ⊎_elim (λ inside. inside) (λ past. let none : slice_get flat.cells number ≡ None = slice_get_past flat.cells number past in cc) (cases_lt number (length flat.cells)) in
-      let there : Some (get_or flat.cells number (Latch d init)) ≡ Some (Latch d init) = sym (slice_get-get_or flat.cells number (Latch d init) within) ∙ is in
-      let same : get_or flat.cells number (Latch d init) ≡ Latch d init = same_Some (get_or flat.cells number (Latch d init)) (Latch d init) there in
-      let fits : IsWellFormed nets (Latch d init) = subst (IsWellFormed nets) same (flat.cells_fit number (Latch d init) within) in
-      All-head (λ net. net < nets) d [] fits.1
+      All-head (λ net. net < nets) d [] (cell_fits nets flat.cells number (Latch d init) flat.cells_fit is).1
 
   module _ (chip_of : List ℕ) (routes : List Route) (draft : Draft) (done : IsTasksDone ordered board chip_of routes draft) (law : (one : Setting) → LeadsFollowDrivers one) (has : IsMadeOf chip_of routes draft.hops.items plan) where
     abbrev moment_of : ℕ → Cell → ℕ

@@ -6,21 +6,14 @@ use Rattle.std.proofs.lemmas.Grind.{get_or-set_at}
 use Rattle.std.proofs.lemmas.List.{get_or-set_other}
 use Rattle.std.proofs.lemmas.List.Elements.{All-weaker}
 use Rattle.std.proofs.lemmas.List.Sums.{AllPass-from_list_all}
-use Rattle.std.proofs.lemmas.Option.{get_or_from_slice_get, slice_get_within, slice_get_read}
+use Rattle.std.proofs.lemmas.Option.{slice_get_within, slice_get_read}
 use Rattle.vw_net.specs.declared.cell.Cell.{Cell}
 use Rattle.vw_net.specs.declared.cell.Cell.TheVariants.{Gate}
 use Rattle.vw_net.specs.declared.cover.Cover.{Cover}
-use Rattle.vw_net.specs.Cells.{IsWellFormed}
 use Rattle.vw_net.specs.Cover.{cover_value}
 use Rattle.vw_net.specs.Order.{IsOrder, is_ready, read_nets_at}
 use Rattle.vw_net.proofs.Ready.{order_within, ready_before}
 use Rattle.vw_net.proofs.Levels.{map_agree}
-
--- a well formed gate reads as many nets as its table has inputs, each of them below this number of nets
-pub gate_fits : (nets : ℕ) (cells : List Cell) (number : ℕ) (ins : List ℕ) (cover : Cover) → All (IsWellFormed nets) cells → slice_get cells number ≡ Some (Gate ins cover) → IsWellFormed nets (Gate ins cover)
-gate_fits nets cells number ins cover fit here =
-    let within = slice_get_within cells number (Gate ins cover) here in
-    rw (get_or_from_slice_get cells number (Gate ins cover) (Gate ins cover) here) at (fit number (Gate ins cover) within)
 
 module _ {inputs : ℕ} {cells : List Cell} {order : List ℕ} (is_order : IsOrder inputs cells order) where
   -- what is read at the number at a place of the order is the cell of that number

@@ -11,7 +11,7 @@ use Rattle.vw_net.specs.Word.{place_of}
 use Rattle.vw_net.proofs.Words.{place_of-below}
 use Rattle.vw_sim.specs.declared.machine.GateStep.{GateStep}
 use Rattle.vw_sim.specs.Steps.Machine.{step_of, gate_steps, gathered_reads}
-use Rattle.vw_sim.proofs.Gates.{gate_fits}
+use Rattle.vw_net.proofs.FittingCells.{cell_fits}
 use Rattle.vw_net.proofs.Ready.{order_gate}
 
 module _ (cells : List Cell) (order : List ℕ) (place : ℕ) (within : place < length order) where
@@ -65,7 +65,7 @@ at_gate {inputs} {cells} {order} is_order nets fit place within gate none gates 
     let kept : gate ≡ step_of number (slice_get cells number) = here ∙ ap (λ (gs : List GateStep). get_or gs place none) all ∙ get_or-map (λ (n : ℕ). step_of n (slice_get cells n)) order place 0 none within in
     let is : gate ≡ step_of number (Some (Gate there.ins there.cover)) = kept ∙ ap (step_of number) there.is in
     let its_number : gate.number ≡ number = ap (λ (g : GateStep). g.number) is in
-    let well = gate_fits nets cells number there.ins there.cover fit there.is in
+    let well = cell_fits nets cells number (Gate there.ins there.cover) fit there.is in
     let arity : length there.ins ≡ gate.width = well.0 ∙ sym (ap (λ (g : GateStep). g.width) is) in
     let further = gathered_reads cells (drop (place + 1) order) in
     let opened : rest ≡ there.ins ++ further = left ∙ ap (gathered_reads cells) (drop_more order place 0 within) ∙ ap (λ (c : Option Cell). gate_inputs c ++ further) there.is in

@@ -9,8 +9,8 @@ use Rattle.vw_check.specs.MomentFaults.{late_latch, too_early}
 use Rattle.vw_check.specs.Steps.Moments.{AreLeads}
 use Rattle.vw_check.proofs.checker.moment_fault.Goals as goal
 
-first_of : (setting : Setting) (early late : Option PlanFault) → early ≡ too_early setting → late ≡ late_latch setting → option_or early late ≡ moment_fault setting
-first_of setting early late one two =
+early_or_late : (setting : Setting) (early late : Option PlanFault) → early ≡ too_early setting → late ≡ late_latch setting → option_or early late ≡ moment_fault setting
+early_or_late setting early late one two =
     ap (λ (found : Option PlanFault). option_or found late) one
     ∙ ap (option_or (too_early setting)) (two ∙ sym (or_nothing (late_latch setting)))
 
@@ -21,4 +21,4 @@ pub late_latch-requires-clause-leads : goal.late_latch-requires-clause-leads
 late_latch-requires-clause-leads c = subst (AreLeads (setting_of c.args.ordered.now c.args.board.now c.args.plan.now)) (sym c.deref-2.ensures.value) c.in_ok-leads.ensures
 
 pub returns : goal.returns
-returns c = c.or.ensures ∙ first_of (setting_of c.args.ordered.now c.args.board.now c.args.plan.now) c.too_early-early.result c.late_latch.result c.too_early-early.ensures c.late_latch.ensures
+returns c = c.or.ensures ∙ early_or_late (setting_of c.args.ordered.now c.args.board.now c.args.plan.now) c.too_early-early.result c.late_latch.result c.too_early-early.ensures c.late_latch.ensures

@@ -4,8 +4,8 @@ use Rattle.std.specs.Fmt.{decimal}
 use Rattle.std.specs.Prelude.{codes}
 use Rattle.vw_check.proofs.fault.of_clash.Goals as goal
 
-joined : (before first between second rest : List ℕ) → (before ++ (first ++ (between ++ (second ++ [])))) ++ rest ≡ before ++ (first ++ (between ++ (second ++ rest)))
-joined before first between second rest = simp append_assoc
+pieces_joined : (before first between second rest : List ℕ) → (before ++ (first ++ (between ++ (second ++ [])))) ++ rest ≡ before ++ (first ++ (between ++ (second ++ rest)))
+pieces_joined before first between second rest = simp append_assoc
 
 pub returns : goal.returns
 returns c =
@@ -16,5 +16,5 @@ returns c =
     let front : c.in_ok-line.line.items ≡ before ++ (first ++ (between ++ (second ++ []))) = c.in_ok-line.ensures in
     c.in_ok-extend_from_slice.ensures.items
     ∙ ap (λ (line : List ℕ). line ++ c.deref.result.now) front
-    ∙ joined before first between second c.deref.result.now
+    ∙ pieces_joined before first between second c.deref.result.now
     ∙ ap (λ (rest : List ℕ). before ++ (first ++ (between ++ (second ++ rest)))) (c.deref.ensures.value ∙ c.in_ok-rest.ensures)

@@ -1,7 +1,8 @@
 use Rattle.std.proofs.Common.{◌∙◌, ℕ, List, subst, IfOk, arith, ap, length}
+use Rattle.vw_net.proofs.GatheredLists.{mapped_more}
 use Rattle.vw_plan.specs.declared.link.Link.{Link}
 use Rattle.vw_check.specs.Pairs.{HasPairs}
-use Rattle.vw_check.proofs.PushedElements.{all_pushed, pushed_more, same_pair}
+use Rattle.vw_check.proofs.PushedElements.{all_pushed, same_pair}
 use Rattle.vw_check.proofs.links.link_table.Goals as goal
 
 -- the pairs are those of all of them
@@ -13,4 +14,4 @@ returns c =
 pub loop-link-preserved : goal.loop-link-preserved
 loop-link-preserved c =
     let listed = c.links-link-items.ensures in
-    pushed_more (λ (link : Link). (link.from, link.to)) c.args.board.now.links c.loop-link.link-index _ c.loop-link.pairs.items c.push.new.self.items (c.from.result, c.to.result) (rw listed at c.loop-link-test.true) (same_pair c.from.result c.to.result _ _ (rw listed at c.from.ensures) (rw listed at c.to.ensures)) c.in_ok-push.ensures.items c.loop-link.invariant
+    mapped_more (λ (link : Link). (link.from, link.to)) c.args.board.now.links c.loop-link.link-index _ c.loop-link.pairs.items c.push.new.self.items _ (c.from.result, c.to.result) (rw listed at c.loop-link-test.true) (same_pair c.from.result c.to.result _ _ (rw listed at c.from.ensures) (rw listed at c.to.ensures)) c.in_ok-push.ensures.items c.loop-link.invariant

@@ -1,10 +1,10 @@
-use Rattle.std.proofs.Common.{◌≡◌, ◌<◌, ◌+◌, ◌-◌, ◌∙◌, ℕ, List, Bool, true, false, Some, None, ap, refl, sym, subst, length, get_or, le-ltb, nat_le, nat_lt, arith}
+use Rattle.std.proofs.Common.{◌≡◌, ◌+◌, ◌-◌, ◌∙◌, ℕ, List, Bool, true, false, Some, None, ap, refl, sym, length, get_or, le-ltb, nat_le, nat_lt, arith}
 use Rattle.std.proofs.lemmas.Bool.{le-leb, lt-leb}
-use Rattle.vw_net.specs.Cells.{IsWellFormed}
-use Rattle.vw_net.specs.declared.cell.Cell.{Cell}
+use Rattle.std.proofs.lemmas.Option.{slice_get_read}
+use Rattle.std.specs.List.{slice_get}
 use Rattle.vw_net.specs.declared.cell.Cell.TheVariants.{Latch}
-use Rattle.vw_net.specs.declared.cell.Init.{Init}
 use Rattle.vw_net.specs.declared.flat.Flat.{Flat}
+use Rattle.vw_net.proofs.FittingCells.{cell_fits}
 use Rattle.vw_plan.specs.Lead.{usable}
 use Rattle.vw_plan.specs.Nets.{node_of}
 use Rattle.vw_plan.specs.Setting.{Setting, home, setting_of}
@@ -28,19 +28,15 @@ moment setting chip_of number d found chips is =
     let node : get_or chip_of number 0 ≡ home setting (setting.ordered.flat.inputs + number) = ap (λ (chips : List ℕ). get_or chips number 0) chips ∙ sym (node_of_cell setting.ordered.flat setting.plan.chip_of number) in
     is ∙ ap (λ (one : ℕ). usable setting one d) node
 
--- what a latch reads is a net
-latch_reads : (flat : Flat) (number : ℕ) (cell : Cell) (d : ℕ) (init : Init) → number < length flat.cells → cell ≡ get_or flat.cells number cell → cell ≡ Latch d init → d < flat.inputs + length flat.cells
-latch_reads flat number cell d init within here is =
-    let fit : IsWellFormed (flat.inputs + length flat.cells) (Latch d init) = subst (IsWellFormed (flat.inputs + length flat.cells)) (sym here ∙ is) (flat.cells_fit number cell within) in
-    fit.1 0 0 (omega arith)
-
 pub bounds-chip_of-number : goal.bounds-chip_of-number
 bounds-chip_of-number c = omega (arith, ap length c.cells-cell-items.ensures, ap (λ (flat : Flat). length flat.cells) c.flat.ensures, ap length c.chip_of.ensures)
 
 pub usable_at-usable-requires-clause-net : goal.usable_at-usable-requires-clause-net
 usable_at-usable-requires-clause-net c =
+    let flat = c.args.ordered.now.flat in
     let listed = c.cells-cell-items.ensures ∙ ap (λ (flat : Flat). flat.cells) c.flat.ensures in
-    latch_reads c.args.ordered.now.flat c.loop-number.number c.cell-item.result c.in-Latch.d c.in-Latch.init (rw listed at c.loop-number-test.true) (rw listed at c.cell-item.is) c.in-Latch.is
+    let is : slice_get flat.cells c.loop-number.number ≡ Some (Latch c.in-Latch.d c.in-Latch.init) = slice_get_read flat.cells (length flat.cells) c.loop-number.number c.cell-item.result refl (rw listed at c.loop-number-test.true) (rw listed at c.cell-item.is) ∙ ap Some c.in-Latch.is in
+    (cell_fits (flat.inputs + length flat.cells) flat.cells c.loop-number.number (Latch c.in-Latch.d c.in-Latch.init) flat.cells_fit is).1 0 0 (omega arith)
 
 pub overflow_cast-result : goal.overflow_cast-result
 overflow_cast-result c = omega (arith, ap length c.cells-cell-items.ensures, ap (λ (flat : Flat). length flat.cells) c.flat.ensures, c.args.ordered.now.flat.few_cells)

@@ -1,22 +1,14 @@
-use Rattle.std.proofs.Common.{◌≡◌, ◌<◌, ◌+◌, ◌∙◌, ℕ, List, Some, All, length, get_or, map, slice_index, ap, ap₂, refl, sym, subst, arith}
+use Rattle.std.proofs.Common.{◌≡◌, ◌+◌, ◌∙◌, ℕ, List, Some, length, map, slice_index, ap, ap₂, refl, sym, arith}
 use Rattle.std.proofs.lemmas.Option.{slice_get_read}
 use Rattle.std.specs.List.{slice_get}
-use Rattle.vw_net.specs.Cells.{IsWellFormed}
 use Rattle.vw_net.specs.Lists.{greatest}
-use Rattle.vw_net.specs.declared.cell.Cell.{Cell}
 use Rattle.vw_net.specs.declared.cell.Cell.TheVariants.{Gate, Latch}
-use Rattle.vw_net.specs.declared.cover.Cover.{Cover}
 use Rattle.vw_net.specs.declared.flat.Flat.{Flat}
+use Rattle.vw_net.proofs.FittingCells.{cell_fits}
 use Rattle.vw_plan.specs.Nets.{greatest_read}
 use Rattle.vw_plan.specs.Setting.{setting_of}
 use Rattle.vw_check.specs.Steps.Moments.{lead_by}
 use Rattle.vw_check.proofs.moments.lead_of_cell.Goals as goal
-
--- what a gate reads are nets
-gate_reads : (flat : Flat) (number : ℕ) (cell : Cell) (ins : List ℕ) (cover : Cover) → number < length flat.cells → cell ≡ get_or flat.cells number cell → cell ≡ Gate ins cover → All (λ net. net < flat.inputs + length flat.cells) ins
-gate_reads flat number cell ins cover within here is =
-    let fit : IsWellFormed (flat.inputs + length flat.cells) (Gate ins cover) = subst (IsWellFormed (flat.inputs + length flat.cells)) (sym here ∙ is) (flat.cells_fit number cell within) in
-    fit.1
 
 pub bounds-cells-number : goal.bounds-cells-number
 bounds-cells-number c = omega (arith, c.requires.number, ap length c.cells.ensures, ap (λ (flat : Flat). length flat.cells) c.flat.ensures)
@@ -25,7 +17,8 @@ pub greatest_lead-requires-clause-within : goal.greatest_lead-requires-clause-wi
 greatest_lead-requires-clause-within c =
     let flat = c.args.ordered.now.flat in
     let listed : c.cells.result.now ≡ flat.cells = c.cells.ensures ∙ ap (λ (netlist : Flat). netlist.cells) c.flat.ensures in
-    rw c.as_slice.ensures (gate_reads flat c.args.number c.index-cells-number.result c.in-Gate.ins c.in-Gate.cover c.requires.number (rw listed at c.index-cells-number.is) c.in-Gate.is)
+    let is : slice_get flat.cells c.args.number ≡ Some (Gate c.in-Gate.ins c.in-Gate.cover) = slice_get_read flat.cells (length flat.cells) c.args.number c.index-cells-number.result refl c.requires.number (rw listed at c.index-cells-number.is) ∙ ap Some c.in-Gate.is in
+    rw c.as_slice.ensures (cell_fits (flat.inputs + length flat.cells) flat.cells c.args.number (Gate c.in-Gate.ins c.in-Gate.cover) flat.cells_fit is).1
 
 pub returns-in-Gate-clause-value : goal.returns-in-Gate-clause-value
 returns-in-Gate-clause-value c =

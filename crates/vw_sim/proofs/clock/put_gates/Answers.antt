@@ -6,7 +6,8 @@ use Rattle.vw_net.specs.declared.cell.Cell.TheVariants.{Gate}
 use Rattle.vw_net.specs.declared.flat.Flat.{Flat}
 use Rattle.vw_net.specs.Cover.{cover_value}
 use Rattle.vw_net.specs.Order.{is_gate}
-use Rattle.vw_sim.proofs.Gates.{gate_fits, order_cell, more_have_values}
+use Rattle.vw_net.proofs.FittingCells.{cell_fits}
+use Rattle.vw_sim.proofs.Gates.{order_cell, more_have_values}
 use Rattle.vw_net.proofs.Ready.{order_gate, order_within, all_ready}
 use Rattle.vw_sim.proofs.clock.put_gates.Goals as goal
 use Rattle.vw_sim.proofs.clock.put_gates.Goals.{in-Gate, in_default}
@@ -28,7 +29,7 @@ gate_value-bit-requires c =
     let place = c.loop-number.number-index in
     let within : place < length ordered.order = omega (arith, ap length c.order-number-items.ensures) in
     let here = order_cell ordered.is_order place _ _ _ within c.order-number-items.ensures (c.cells-cells.ensures ∙ ap (λ (flat : Flat). flat.cells) c.flat-flat.ensures) c.index-cells-number.is ∙ ap Some c.in-Gate.is in
-    let fits = gate_fits _ _ _ _ _ ordered.flat.cells_fit here in
+    let fits = cell_fits _ _ _ _ ordered.flat.cells_fit here in
     let below = λ (net : ℕ). net < ordered.flat.inputs + length ordered.flat.cells in
     let reads = All-same below c.as_slice.result.now c.in-Gate.ins c.as_slice.ensures fits.1 in
     record {
