@@ -77,9 +77,3 @@ reads_more chips lines place links line link within_ here so_far reads =
     let rest : first_link_fault chips links (drop place lines) ≡ first_link_fault chips (links ++ link ∷ []) (drop (suc place) lines) = first ∙ ap (λ (fault : Option BoardFault). option_or fault (first_link_fault chips (links ++ link_of line ∷ []) (drop (suc place) lines))) reads.fine ∙ ap (λ (last : Link). first_link_fault chips (links ++ last ∷ []) (drop (suc place) lines)) (sym reads.is) in
     let are : links ++ link ∷ [] ≡ map link_of (take (suc place) lines) = ap (λ (front_ : List Link). front_ ++ link ∷ []) so_far.are ∙ ap (λ (last : Link). map link_of (take place lines) ++ last ∷ []) reads.is ∙ sym (map_push link_of (take place lines) line) ∙ ap (map link_of) (sym front) in
     record { rest = rw add-one (so_far.rest ∙ rest); are = rw add-one are; separate = separate_push chips links line link so_far.separate reads }
-
--- a line at fault is the first
-pub first_link_fault_at : (chips : ℕ) (lines : List Line) (place : ℕ) (links : List Link) (line : Line) (fault : BoardFault) → place < length lines → get_or lines place line ≡ line → ReadsSoFar chips lines place links → link_fault chips links line ≡ Some fault → first_link_fault chips [] lines ≡ Some fault
-first_link_fault_at chips lines place links line fault within_ here so_far at_fault =
-    let next : drop place lines ≡ line ∷ drop (suc place) lines = drop-cons lines place line within_ ∙ ap (λ (first : Line). first ∷ drop (suc place) lines) here in
-    so_far.rest ∙ ap (first_link_fault chips links) next ∙ ap (λ (found : Option BoardFault). option_or found (first_link_fault chips (links ++ link_of line ∷ []) (drop (suc place) lines))) at_fault

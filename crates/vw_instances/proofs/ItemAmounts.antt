@@ -25,13 +25,6 @@ amount_append Bindings below items more = weight_append _ below items more
 amount_append Cells below items more = weight_append _ below items more
 amount_append Levels below items more = height_append below items more
 
--- of none, and of one
-pub amount_none : (measure : Measure) (below : Word → ℕ) → amount measure below [] ≡ 0
-amount_none Instances below = refl
-amount_none Bindings below = refl
-amount_none Cells below = refl
-amount_none Levels below = refl
-
 amount_one : (measure : Measure) (below : Word → ℕ) (item : Item) → amount measure below (item ∷ []) ≡ single measure item (placed_weight below item)
 amount_one Instances below (Names line ins out cover) = refl
 amount_one Instances below (Latch line d q edge control init) = refl

@@ -5,7 +5,6 @@ pub mod Prefixes
 pub mod RootCounts
 pub mod RootQuantities
 pub mod ExactCounts
-pub mod Chains
 pub mod GrownLists
 pub mod Nexts
 pub mod ListedCounts

@@ -80,6 +80,3 @@ last_left before text mid piece left = subst (λ (rest : List ℕ). IsLeft befor
 pub last_piece : (before : SeenSink) (text : List ℕ) (mid after : SeenSink) (piece : List ℕ) → IsLeft before text mid piece → after ≡ appended mid piece → after ≡ appended before text
 last_piece before text mid after piece left more =
     all_written before text after (written_further before text mid after piece [] (last_left before text mid piece left) more)
-
-pub failed_in_last : (before : SeenSink) (text : List ℕ) (mid after : SeenSink) (piece : List ℕ) → IsLeft before text mid piece → FailedAfterPart piece mid after → FailedAfterPart text before after
-failed_in_last before text mid after piece left failed = failed_in_piece before text mid after piece [] (last_left before text mid piece left) failed

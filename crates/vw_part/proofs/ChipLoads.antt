@@ -35,16 +35,6 @@ on_set [] cell new chip within = absurd (omega arith)
 on_set (first ∷ chips) zero new chip within = omega (arith, on_cons new chips chip, on_cons first chips chip)
 on_set (first ∷ chips) (suc cell) new chip within = omega (arith, on_cons first (set chips cell new) chip, on_cons first chips chip, on_set chips cell new chip (omega arith))
 
--- a cell is on its chip
-pub on_least : (chips : List ℕ) (cell : ℕ) → cell < length chips → 1 ≤ cells_on chips (get_or chips cell 0)
-on_least [] cell within = absurd (omega arith)
-on_least (first ∷ chips) zero within = omega (arith, on_cons first chips first, at_same first 1)
-on_least (first ∷ chips) (suc cell) within = omega (arith, on_cons first chips (get_or chips cell 0), on_least chips cell (omega arith))
-
-pub on-le : (chips : List ℕ) (chip : ℕ) → cells_on chips chip ≤ length chips
-on-le [] chip = omega arith
-on-le (first ∷ chips) chip = omega (arith, on_cons first chips chip, at-le first 1 chip, on-le chips chip)
-
 -- each cell is on one of the chips
 pub on_all : (chips : List ℕ) (most : ℕ) → All (λ chip. (1 ≤ chip) × (chip ≤ most)) chips → total (cells_on chips) (range_with_len 1 most) ≡ length chips
 on_all [] most real = none 1 most where

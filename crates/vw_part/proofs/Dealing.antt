@@ -128,15 +128,5 @@ freed_is board pins deal cell from lone load own is within from_is found own_is 
     let same = total_same (λ net. one_if (eqb (get_or load.counts.items net 0) 1)) (λ net. one_if (eqb (pins_held chips pins.of_cells.items from net) 1)) own (λ net. ap (λ (n : ℕ). one_if (eqb n 1)) (load_is.counts net)) in
     count ∙ same ∙ ap (λ (nets : List ℕ). total (λ net. one_if (eqb (pins_held chips pins.of_cells.items from net) 1)) nets) own_is ∙ ap (λ (x : ℕ). total (λ net. one_if (eqb (pins_held chips pins.of_cells.items x net) 1)) (cell_nets pins cell)) from_is
 
-pub met_is : (board : Board) (pins : Pins) (deal : Deal) (cell chip there : ℕ) (load : Load) (own : List ℕ) → IsDeal board pins deal → chip ≤ board.chips → load ≡ get_or deal.loads.items chip load → own ≡ cell_nets pins cell → there ≡ total (λ net. one_if (nat_lt 0 (get_or load.counts.items net 0))) own → there ≡ met pins deal.chip_of.items cell chip
-met_is board pins deal cell chip there load own is low found own_is count =
-    let chips = deal.chip_of.items in
-    let load_is = loaded board pins deal chip load is low found in
-    let same = total_same (λ net. one_if (nat_lt 0 (get_or load.counts.items net 0))) (λ net. one_if (nat_lt 0 (pins_held chips pins.of_cells.items chip net))) own (λ net. ap (λ (n : ℕ). one_if (nat_lt 0 n)) (load_is.counts net)) in
-    count ∙ same ∙ ap (λ (nets : List ℕ). total (λ net. one_if (nat_lt 0 (pins_held chips pins.of_cells.items chip net))) nets) own_is
-
-pub freed-le : (pins : Pins) (chips : List ℕ) (cell : ℕ) → freed pins chips cell ≤ length (cell_nets pins cell)
-freed-le pins chips cell = total_tests-le (λ net. eqb (pins_held chips pins.of_cells.items (get_or chips cell 0) net) 1) (cell_nets pins cell)
-
 pub met-le : (pins : Pins) (chips : List ℕ) (cell chip : ℕ) → met pins chips cell chip ≤ length (cell_nets pins cell)
 met-le pins chips cell chip = total_tests-le (λ net. nat_lt 0 (pins_held chips pins.of_cells.items chip net)) (cell_nets pins cell)

@@ -1,5 +1,5 @@
 -- Which tasks are done.
-use Rattle.std.proofs.Common.{◌≡◌, ◌<◌, ◌≤◌, ◌+◌, ◌-◌, ◌∙◌, ◌||◌, ℕ, zero, suc, Bool, true, false, List, length, eqb, slice_get, slice_index, Some, ap, refl, sym, subst, ⊎_elim, true≢false, arith, eqb-true, eq-eqb}
+use Rattle.std.proofs.Common.{◌≡◌, ◌<◌, ◌≤◌, ◌+◌, ◌-◌, ◌∙◌, ◌||◌, ℕ, zero, suc, Bool, true, false, List, length, eqb, slice_get, Some, ap, refl, sym, subst, ⊎_elim, true≢false, arith, eqb-true, eq-eqb}
 use Rattle.std.proofs.lemmas.Bool.{and_from, and_parts, cases_Bool, cases_order, or_cases, or_left}
 use Rattle.std.proofs.lemmas.List.Folds.{list_any_more}
 use Rattle.vw_net.specs.declared.ordered.Ordered.{Ordered}
@@ -71,13 +71,6 @@ module _ (ordered : Ordered) (chip_of : List ℕ) (routes : List Route) (tasks :
       let found = done_at tasks count true number within done in
       let kind = kind_at found.0 true (omega (arith, found.1, within)) found.2 in
       (found.0, found.1, kind.1 route (ap (slice_get routes) found.3 ∙ is))
-
-  -- the depth of a gate whose lead is worked out
-  pub done_gate : (count place : ℕ) → count ≤ length tasks → is_done tasks count false place ≡ true → (at : ℕ) × (at < count) × ((task_at tasks at).depth ≡ depth ordered.flat chip_of (ordered.flat.inputs + slice_index ordered.order place))
-  done_gate count place within done =
-      let found = done_at tasks count false place within done in
-      let kind = kind_at found.0 false (omega (arith, found.1, within)) found.2 in
-      (found.0, found.1, kind.1 ∙ ap (λ (at : ℕ). depth ordered.flat chip_of (ordered.flat.inputs + slice_index ordered.order at)) found.3)
 
   pub at_most : (one other : ℕ) → one < other → other < length tasks → IsAtMost (task_at tasks one) (task_at tasks other)
   at_most one other before within = are.rising one other no_task before within

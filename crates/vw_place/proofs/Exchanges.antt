@@ -129,10 +129,6 @@ module _ (board : Board) (at : List ℕ) (nodes : IsNodeList board at) (one othe
 -- ---- tries
 
 module _ (way : List ℕ → ℕ) where
-  -- nothing was tried
-  pub none_tried : (tried : ℕ → ℕ → Type 0) (at : List ℕ) → ((one other : ℕ) → tried one other → ⊥) → AreTried way tried at at
-  none_tried tried at none = record { no_longer = omega arith; same = λ as_long. refl; useless = λ as_long one other is. absurd (none one other is) }
-
   -- first some, then others
   pub more_tried : (first later all : ℕ → ℕ → Type 0) (old between new : List ℕ) → AreTried way first old between → AreTried way later between new
       → ((one other : ℕ) → all one other → first one other ⊎ later one other) → AreTried way all old new

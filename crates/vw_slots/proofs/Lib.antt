@@ -2,5 +2,4 @@ pub mod WrittenMoments
 pub mod Chained
 pub mod TakenSlots
 pub mod Taking
-pub mod KeptSlots
 mod OneFirstFree

@@ -99,9 +99,6 @@ batch_split flat join state rows next done end batch =
     subst (λ (now : List (List Bool)). clock_lines flat done state (drop done rows) ≡ clock_lines flat done state now ++ clock_lines flat end (state_after flat state now) (drop end rows)) (sym batch.same)
     (batch_lines flat join state rows done end batch.forward batch.within)
 
-pub lines_written : (flat : Flat) (first : ℕ) (state : List Bool) (rows outputs states : List (List Bool)) (lines : List ℕ) → lines ≡ rows_text first outputs states → outputs ≡ outputs_of flat state rows → states ≡ states_of flat state rows → lines ≡ clock_lines flat first state rows
-lines_written flat first state rows outputs states lines made o s = made ∙ ap (λ os. rows_text first os states) o ∙ ap (λ ss. rows_text first (outputs_of flat state rows) ss) s
-
 -- the parts of a trace
 pub trace_parts : (state : List Bool) (flat : Flat) (rows : List (List Bool)) → trace_from state flat rows ≡ head_text (length flat.outputs) (latch_count flat.cells) ++ (clock_lines flat 0 state rows ++ end_text (length rows) (state_after flat state rows))
 trace_parts state flat rows =
