@@ -22,12 +22,12 @@ module _ (from to : ℕ) where
   abbrev pub joins : Link → Bool
   joins link = eqb link.from from && eqb link.to to
 
-  pub turned : (link : Link) → joins link ≡ is_number_pair from to (link.from, link.to)
-  turned link = ap₂ (λ (first second : Bool). first && second) (eqb_comm link.from from) (eqb_comm link.to to)
+  pub joins_by_pair : (link : Link) → joins link ≡ is_number_pair from to (link.from, link.to)
+  joins_by_pair link = ap₂ (λ (first second : Bool). first && second) (eqb_comm link.from from) (eqb_comm link.to to)
 
 -- what a table of the links finds
 pub link_leads : {S : Type 0} (links : List Link) (table : HashMap (ℕ × ℕ) ℕ S) → HasPairs (link_pairs links) table → (from to : ℕ) → LeadsTo (joins from to) links (pair_in table from to)
-link_leads links table has from to = leads (λ (link : Link). (link.from, link.to)) (joins from to) from to (turned from to) links table has
+link_leads links table has from to = leads (λ (link : Link). (link.from, link.to)) (joins from to) from to (joins_by_pair from to) links table has
 
 module _ (links : List Link) (from to : ℕ) where
   -- the width of the link at the place that a table has

@@ -22,7 +22,7 @@ use Rattle.vw_check.specs.Steps.Tables.{need_pairs, wire_pairs}
 use Rattle.vw_check.specs.Steps.Wires.{first_extra, first_missing, is_extra, is_given_number}
 use Rattle.vw_net.proofs.Orders.{eqb_comm}
 use Rattle.vw_check.proofs.FirstPlaces.{LeadsTo, leads}
-use Rattle.vw_check.proofs.WiresBrought.{turned, wire_leads}
+use Rattle.vw_check.proofs.WiresBrought.{brings_by_pair, wire_leads}
 
 -- ---- searches that find the same
 
@@ -88,7 +88,7 @@ module _ {S : Type 0} (flat : Flat) (plan : Plan) (wires : HashMap (ℕ × ℕ) 
   first_wire : (number : ℕ) (wire : Wire) → slice_get plan.wires number ≡ Some wire → is_given_number number (pair_in wires wire.net wire.to) ≡ not (is_brought (take number plan.wires) wire.net wire.to)
   first_wire number wire is =
       let test = brings wire.net wire.to in
-      let place = has wire.net wire.to ∙ first_pair-place (λ (one : Wire). (one.net, one.to)) test wire.net wire.to (turned wire.net wire.to) 0 plan.wires in
+      let place = has wire.net wire.to ∙ first_pair-place (λ (one : Wire). (one.net, one.to)) test wire.net wire.to (brings_by_pair wire.net wire.to) 0 plan.wires in
       let from_first : 0 + number ≡ number = omega arith in
       let own : test wire ≡ true = rw (eq-eqb wire.net wire.net refl, eq-eqb wire.to wire.to refl) refl in
       ap (is_given_number number) place ∙ subst (λ (count : ℕ). is_given_number count (first_place_from test 0 plan.wires) ≡ not (list_any test (take number plan.wires))) from_first (place_first test 0 number wire plan.wires is own)

@@ -10,12 +10,12 @@ use Rattle.vw_check.specs.Steps.Tables.{wire_pairs}
 use Rattle.vw_net.proofs.Orders.{eqb_comm}
 use Rattle.vw_check.proofs.FirstPlaces.{LeadsTo, leads}
 
-pub turned : (net node : ℕ) (wire : Wire) → brings net node wire ≡ is_number_pair net node (wire.net, wire.to)
-turned net node wire = ap₂ (λ (first second : Bool). first && second) (eqb_comm wire.net net) (eqb_comm wire.to node)
+pub brings_by_pair : (net node : ℕ) (wire : Wire) → brings net node wire ≡ is_number_pair net node (wire.net, wire.to)
+brings_by_pair net node wire = ap₂ (λ (first second : Bool). first && second) (eqb_comm wire.net net) (eqb_comm wire.to node)
 
 -- what a table of the wires finds
 pub wire_leads : {S : Type 0} (wires : List Wire) (table : HashMap (ℕ × ℕ) ℕ S) → HasPairs (wire_pairs wires) table → (net node : ℕ) → LeadsTo (brings net node) wires (pair_in table net node)
-wire_leads wires table has net node = leads (λ (wire : Wire). (wire.net, wire.to)) (brings net node) net node (turned net node) wires table has
+wire_leads wires table has net node = leads (λ (wire : Wire). (wire.net, wire.to)) (brings net node) net node (brings_by_pair net node) wires table has
 
 module _ (setting : Setting) (node net : ℕ) where
   pub brought_by : (place : ℕ) (wire : Wire) → slice_get setting.plan.wires place ≡ Some wire → LeadsTo (brings net node) setting.plan.wires (Some place) → after_last wire.hops ≡ brought_at setting node net

@@ -40,8 +40,8 @@ of_inside list below base path entry has (Sub line model binds) is site in_it fo
   within = ap (inside below base entry.before) is;
 }
 
-pub is_below : (list : List Numbered) (below : Path → List Site) (base path : Path) → Has path (paths_of (flat_map (with_inside below base) list)) → IsBelow list below base path
-is_below list below base path has =
+pub stands_below : (list : List Numbered) (below : Path → List Site) (base path : Path) → Has path (paths_of (flat_map (with_inside below base) list)) → IsBelow list below base path
+stands_below list below base path has =
     let placed_by = from-flat_map (λ s. instances_at s.path s.before s.item) (flat_map (with_inside below base) list) path has in
     let in_entry = from-flat_map (with_inside below base) list placed_by.0 placed_by.1 in
     let site = placed_by.0 in
@@ -65,7 +65,7 @@ module _ (design : Design) where
       subst (λ (p : Path). Has (site_at p entry) (flat_map (with_inside below base) (entries base))) same
       (Has-flat_map (with_inside below base) entry (entries base) (site_at base entry) (subst (λ (p : Path). Has entry (entries p)) (sym same) has) (inl refl)) in
       let deeper = λ (found : Has path (paths_of (flat_map (with_inside below base) (entries base)))).
-      let is = is_below (entries base) below base path found in
+      let is = stands_below (entries base) below base path found in
       let there : Has (site_at path entry) (below (suc is.entry.before ∷ base)) = site_listed depth (suc is.entry.before ∷ base) path is.under (omega arith) entry has in
       Has-flat_map (with_inside below base) is.entry (entries base) (site_at path entry) is.has
       (inr (subst (λ (list : List Site). Has (site_at path entry) list) (sym is.within) there)) in

@@ -13,7 +13,7 @@ use Rattle.vw_design.specs.Claims.{numbered}
 use Rattle.vw_design.specs.Preorder.{Site, with_inside, sites_below, sites, instances_at, paths_of, instances}
 use Rattle.vw_design.proofs.ListElements.{Has, Has-at, Has-append}
 use Rattle.vw_design.proofs.Names.{same_name, equal_names}
-use Rattle.vw_design.proofs.ListedInstances.{is_below}
+use Rattle.vw_design.proofs.ListedInstances.{stands_below}
 use Rattle.vw_design.proofs.SitesOnce.{entry_from, same_ends, head_same}
 
 -- no path of a list is listed twice
@@ -35,7 +35,7 @@ module _ (design : Design) where
   path_ends : (depth : ℕ) (base path : Path) → Has path (paths_of (sites_below design depth base)) → EndsBehind base 0 path
   path_ends zero base path has = absurd has
   path_ends (suc depth) base path has =
-      let below = is_below (numbered 0 0 (items_of (model_at design base))) (sites_below design depth) base path has in
+      let below = stands_below (numbered 0 0 (items_of (model_at design base))) (sites_below design depth) base path has in
       ⊎_elim (λ same. ([], below.entry.before, omega arith, sym same))
       (λ deeper.
       let ends = path_ends depth (suc below.entry.before ∷ base) path deeper in
@@ -45,7 +45,7 @@ module _ (design : Design) where
   ends_behind : (depth : ℕ) (base : Path) (number before : ℕ) (items : List Item) (path : Path)
       → Has path (paths_of (flat_map (with_inside (sites_below design depth) base) (numbered number before items))) → EndsBehind base before path
   ends_behind depth base number before items path has =
-      let below = is_below (numbered number before items) (sites_below design depth) base path has in
+      let below = stands_below (numbered number before items) (sites_below design depth) base path has in
       let late = (entry_from number before items below.entry below.has).1 in
       ⊎_elim (λ same. ([], below.entry.before, late, sym same))
       (λ deeper.

@@ -37,19 +37,19 @@ few_columns design =
 abbrev all_counted : List Counted
 all_counted = inputs ∷ outputs ∷ placed ∷ bindings ∷ gates_and_latches ∷ levels ∷ []
 
-within : (design : Design) → too_big design ≡ None → (counted : Counted) → Has counted all_counted → count_of design counted ≤ limit_of counted
-within design none counted has =
+within_limit : (design : Design) → too_big design ≡ None → (counted : Counted) → Has counted all_counted → count_of design counted ≤ limit_of counted
+within_limit design none counted has =
     ltb-false (limit_of counted) (count_of design counted) (none-find (λ (c : Counted). nat_lt (limit_of c) (count_of design c)) counted all_counted none has)
 
 -- no quantity is too big where all are small
 pub small_of : (design : Design) → too_big design ≡ None → IsSmall design
 small_of design none = record {
-  inputs = within design none inputs (inl refl);
-  outputs = within design none outputs (inr (inl refl));
-  instances = within design none placed (inr (inr (inl refl)));
-  bindings = within design none bindings (inr (inr (inr (inl refl))));
-  cells = within design none gates_and_latches (inr (inr (inr (inr (inl refl)))));
-  depth = within design none levels (inr (inr (inr (inr (inr (inl refl))))));
+  inputs = within_limit design none inputs (inl refl);
+  outputs = within_limit design none outputs (inr (inl refl));
+  instances = within_limit design none placed (inr (inr (inl refl)));
+  bindings = within_limit design none bindings (inr (inr (inr (inl refl))));
+  cells = within_limit design none gates_and_latches (inr (inr (inr (inr (inl refl)))));
+  depth = within_limit design none levels (inr (inr (inr (inr (inr (inl refl))))));
 }
 
 skip : {A : Type 0} (test : A → Bool) (x : A) (xs : List A) → test x ≡ false → find test xs ≡ None → find test (x ∷ xs) ≡ None

@@ -81,11 +81,11 @@ column_bit input place within low =
     let right = below-at 6 is_column input within columns_right in
     eqb-true _ _ (below-at 64 (λ (k : ℕ). nat_eq (bit_at (get_or input_words input 0) k) (bit_at k input)) place low right)
 
-fits : ℕ → Bool
-fits input = nat_le (get_or input_words input 0) (2 ^ 64 - 1)
+column_fits : ℕ → Bool
+column_fits input = nat_le (get_or input_words input 0) (2 ^ 64 - 1)
 
-columns_fit : below 6 fits ≡ true
-unfolding below fits
+columns_fit : below 6 column_fits ≡ true
+unfolding below column_fits
 columns_fit = refl
 
 -- ---- rows
@@ -113,8 +113,8 @@ column_at : (bits : List Bool) (input : ℕ) → length bits ≤ 6 → input < 6
 column_at bits input few within = column_bit input (place_of bits) within (place_of-below bits few) ∙ bit_at-place_of bits input
 
 column_small : (input : ℕ) → input < 6 → get_or input_words input 0 < 2 ^ 64
-unfolding fits
-column_small input within = omega (arith, leb-true (get_or input_words input 0) (2 ^ 64 - 1) (below-at 6 fits input within columns_fit))
+unfolding column_fits
+column_small input within = omega (arith, leb-true (get_or input_words input 0) (2 ^ 64 - 1) (below-at 6 column_fits input within columns_fit))
 
 both : (word mark row before : ℕ) (matches rest : Bool) → before ≡ min word mark → mark ≡ bit matches → row ≡ min before (bit rest) → row ≡ min word (bit (matches && rest))
 both word mark row before matches rest first its all = omega (arith, bit-and matches rest)

@@ -51,11 +51,11 @@ kept_same numbers number =
     list_any-from_Any test (dedup eqb numbers) (there.0, any.1, there.1, there.2, any.4) in
     both_ways (list_any test (dedup eqb numbers)) (list_any test numbers) to from
 
-turned : (one other : Bool) → (one || (other || false)) ≡ (other || one)
-turned true true = refl
-turned true false = refl
-turned false true = refl
-turned false false = refl
+or_turned : (one other : Bool) → (one || (other || false)) ≡ (other || one)
+or_turned true true = refl
+or_turned true false = refl
+or_turned false true = refl
+or_turned false false = refl
 
 pub kept_once : (own : ℕ) (cell : Cell) (reads listed sorted kept : List ℕ) → reads ≡ read_nets cell → listed ≡ reads ++ own ∷ [] → IsPermutation listed sorted → IsSorted nat_cmp sorted → kept ≡ dedup eqb sorted → AreNetsOf own cell kept
 kept_once own cell reads listed sorted kept read is moved in_order once = record {
@@ -65,7 +65,7 @@ kept_once own cell reads listed sorted kept read is moved in_order once = record
       ∙ sym (list_any-IsPermutation (λ (other : ℕ). eqb other net) listed sorted moved)
       ∙ ap (λ (l : List ℕ). is_among l net) is
       ∙ list_any-append (λ (other : ℕ). eqb other net) reads (own ∷ [])
-      ∙ turned (is_among reads net) (eqb own net)
+      ∙ or_turned (is_among reads net) (eqb own net)
       ∙ ap (λ (l : List ℕ). eqb own net || is_among l net) read;
   once = λ net. subst (λ (l : List ℕ). times_among l net ≤ 1) (sym once) (rising_once (dedup eqb sorted) net (AllPairs-from_increasing (dedup eqb sorted) (IsStrictlyIncreasing-dedup sorted in_order)));
 }

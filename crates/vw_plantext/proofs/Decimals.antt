@@ -10,14 +10,14 @@ use Rattle.std.proofs.lemmas.List.Sums.{AllPass-from_list_all}
 use Rattle.vw_text.proofs.NumberWords.{number_spelled}
 use Rattle.vw_text.specs.Number.{is_digit, is_number, value_from, spelled_number}
 
-own : IsNumeralModel (λ digits. list_all is_digit digits ≡ true) (value_from 0)
-own = numerals_by_fold _ (search rules) value_from (search rules)
+decimal_numerals : IsNumeralModel (λ digits. list_all is_digit digits ≡ true) (value_from 0)
+decimal_numerals = numerals_by_fold _ (search rules) value_from (search rules)
 
 -- a number below 2 ^ 64 is read back
 pub number_of-decimal : (number : ℕ) → number < 2 ^ 64 → spelled_number (decimal number) ≡ Some number
 number_of-decimal number small =
-    let digits = digits_decimal own number small in
-    let value : value_from 0 (decimal number) ≡ number = digits_value-decimal own number small in
+    let digits = digits_decimal decimal_numerals number small in
+    let value : value_from 0 (decimal number) ≡ number = digits_value-decimal decimal_numerals number small in
     let some : 0 < length (decimal number) = decimal_nonempty number small in
     number_spelled (decimal number) some (first number small) digits (omega arith) ∙ ap Some value where
       first : (n : ℕ) → n < 2 ^ 64 → 1 < length (decimal n) → get_or (decimal n) 0 0 ≢ 48
@@ -54,7 +54,7 @@ found_decimal word number true passes found =
     let small : value_from 0 word < 2 ^ 64 = ltb-true (value_from 0 word) (2 ^ 64) parts.1 in
     let value : value_from 0 word ≡ number = ap (λ (o : Option ℕ). unwrap_or o 0) found in
     let are : AreDigits word = digits_from word parts.0 in
-    record { is = sym (decimal-digits_value own word are.digits are.some are.first small) ∙ ap decimal value; small = omega arith }
+    record { is = sym (decimal-digits_value decimal_numerals word are.digits are.some are.first small) ∙ ap decimal value; small = omega arith }
 
 pub decimal-number_of : (word : List ℕ) (number : ℕ) → spelled_number word ≡ Some number → IsDecimal word number
 decimal-number_of word number found = found_decimal word number (is_number word && nat_lt (value_from 0 word) (2 ^ 64)) refl found
@@ -64,4 +64,4 @@ digits_above : (bytes : List ℕ) → list_all is_digit bytes ≡ true → All (
 digits_above bytes digits place default within = leb-true 48 (get_or bytes place default) (and_parts (nat_le 48 (get_or bytes place default)) (nat_le (get_or bytes place default) 57) (AllPass-from_list_all is_digit bytes digits place default within)).0
 
 pub decimal_above : (number : ℕ) → number < 2 ^ 64 → All (λ b. 48 ≤ b) (decimal number)
-decimal_above number small = digits_above (decimal number) (digits_decimal own number small)
+decimal_above number small = digits_above (decimal number) (digits_decimal decimal_numerals number small)

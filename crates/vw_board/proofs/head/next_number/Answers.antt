@@ -6,15 +6,15 @@ use Rattle.vw_board.specs.Headers.{next_number}
 use Rattle.vw_board.proofs.head.next_number.Goals as goal
 
 -- the number after the last line
-after_last : (lines : List Line) (line : Line) (place : ℕ) → place + 1 ≡ length lines → slice_get lines place ≡ Some line → next_number lines ≡ line.number + 1
-after_last [] line place last there = absurd (omega arith)
-after_last (first ∷ []) line zero last there = let same : first.number ≡ line.number = ap (λ found. option_map_or (λ (one : Line). one.number) found 0) there in ap (λ n. n + 1) same
-after_last (first ∷ []) line (suc place) last there = absurd (omega arith)
-after_last (first ∷ next ∷ lines) line zero last there = absurd (omega arith)
-after_last (first ∷ next ∷ lines) line (suc place) last there = after_last (next ∷ lines) line place (omega arith) there
+behind_last_line : (lines : List Line) (line : Line) (place : ℕ) → place + 1 ≡ length lines → slice_get lines place ≡ Some line → next_number lines ≡ line.number + 1
+behind_last_line [] line place last there = absurd (omega arith)
+behind_last_line (first ∷ []) line zero last there = let same : first.number ≡ line.number = ap (λ found. option_map_or (λ (one : Line). one.number) found 0) there in ap (λ n. n + 1) same
+behind_last_line (first ∷ []) line (suc place) last there = absurd (omega arith)
+behind_last_line (first ∷ next ∷ lines) line zero last there = absurd (omega arith)
+behind_last_line (first ∷ next ∷ lines) line (suc place) last there = behind_last_line (next ∷ lines) line place (omega arith) there
 
 pub returns-in-Some : goal.returns-in-Some
 returns-in-Some c =
     let there = sym c.in-Some.ensures.value in
     let within : length c.args.lines.now - 1 < length c.args.lines.now = slice_get_within c.args.lines.now (length c.args.lines.now - 1) c.in-Some.line.now there in
-    ap (λ n. n + 1) c.number.ensures ∙ sym (after_last c.args.lines.now c.in-Some.line.now (length c.args.lines.now - 1) (omega arith) there)
+    ap (λ n. n + 1) c.number.ensures ∙ sym (behind_last_line c.args.lines.now c.in-Some.line.now (length c.args.lines.now - 1) (omega arith) there)

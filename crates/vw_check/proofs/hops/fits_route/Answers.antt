@@ -6,8 +6,8 @@ use Rattle.vw_check.specs.Steps.Rules.{width_between}
 use Rattle.vw_check.proofs.LinkWidths.{has_link-width}
 use Rattle.vw_check.proofs.hops.fits_route.Goals as goal
 
-goes : (begins link more ends : Bool) → begins ≡ true → link ≡ true → (more || ends) ≡ true → ((begins && link) && (more || ends)) ≡ true
-goes begins link more ends begin_is link_is more_is = rw (begin_is, link_is) more_is
+all_hold : (begins link more ends : Bool) → begins ≡ true → link ≡ true → (more || ends) ≡ true → ((begins && link) && (more || ends)) ≡ true
+all_hold begins link more ends begin_is link_is more_is = rw (begin_is, link_is) more_is
 
 ends_or : (begins link more ends : Bool) → begins ≡ true → link ≡ true → more ≡ false → ((begins && link) && (more || ends)) ≡ ends
 ends_or begins link more ends begin_is link_is more_is = rw (begin_is, link_is, more_is) refl
@@ -31,7 +31,7 @@ returns-then-number-hops c =
     let width : eqb (width_between board.links hop.from hop.to) 0 ≡ false = ne_eqb _ _ (λ none. c.if-width_between-eq0.false (c.width_between.ensures ∙ ap₂ (width_between board.links) c.from-2.ensures c.to.ensures ∙ none)) in
     let link : has_link board.links hop.from hop.to ≡ true = has_link-width board.links board.linked.separate.wide hop.from hop.to ∙ ap not width in
     let within : suc c.args.number < length hops = omega (arith, ap length c.hops-hops.ensures) in
-    lt-ltb _ _ c.if-number-hops.true ∙ sym (goes (eqb hop.from (begins_at c.args.from hops c.args.number)) (has_link board.links hop.from hop.to) (nat_lt (suc c.args.number) (length hops)) _ begins link (or_left _ _ (lt-ltb _ _ within)))
+    lt-ltb _ _ c.if-number-hops.true ∙ sym (all_hold (eqb hop.from (begins_at c.args.from hops c.args.number)) (has_link board.links hop.from hop.to) (nat_lt (suc c.args.number) (length hops)) _ begins link (or_left _ _ (lt-ltb _ _ within)))
 
 -- it is the last, and ends where the wire does or not
 pub returns-else-number-hops : goal.returns-else-number-hops
