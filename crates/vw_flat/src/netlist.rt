@@ -36,7 +36,8 @@ fn output_numbers(alloc: Global, elaborated: &Elaborated) -> Result<Vec<u32>, Al
     ensures are { IfOk result (λ outputs.
         map (λ net. number_of elaborated.now net.path net.name) (root_outputs elaborated.now)
         ≡ map (λ net. Some net) outputs.items) }
-    ensures fit { IfOk result (λ outputs. All (λ net. net < net_count elaborated.now) outputs.items) }
+    ensures fit { IfOk result
+        (λ outputs. All (λ net. net < net_count elaborated.now) outputs.items) }
 {
     let names = elaborated.design().models()[0].outputs();
     let mut outputs = Vec::with_capacity(alloc, names.len())?;
