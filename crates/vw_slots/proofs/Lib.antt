@@ -2,4 +2,5 @@ pub mod WrittenMoments
 pub mod Chained
 pub mod TakenSlots
 pub mod Taking
+pub mod KeptSlots
 mod OneFirstFree
