@@ -11,7 +11,11 @@ use vw_top::{Stop, virtual_wires};
 const WORD_ROOM: usize = 256;
 
 /// The argument with this number, whatever bytes it has; nothing past the last.
-fn word(alloc: Global, environment: &impl Env, number: usize) -> Result<Option<Name>, AllocError> {
+fn argument(
+    alloc: Global,
+    environment: &impl Env,
+    number: usize,
+) -> Result<Option<Name>, AllocError> {
     let mut room = WORD_ROOM;
     for _ in 0..usize::BITS {
         let mut buffer = vec![in alloc; 0u8; room]?;
@@ -31,7 +35,7 @@ fn word(alloc: Global, environment: &impl Env, number: usize) -> Result<Option<N
 fn words(alloc: Global, environment: &impl Env) -> Result<Vec<Name>, AllocError> {
     let mut words = Vec::new(alloc);
     for number in 1..usize::MAX {
-        let Some(name) = word(alloc, environment, number)? else {
+        let Some(name) = argument(alloc, environment, number)? else {
             break;
         };
         words.push(name)?;
