@@ -165,7 +165,7 @@ fn nth(place: u32, order: u32, vertices: u32) -> u32 {
 }
 
 /// The number of each vertex's cluster, given the vertex that names it, and how many clusters there are.
-fn numbered(alloc: Global, of: &NumberList) -> Result<(NumberList, u32), AllocError> {
+fn numbered_clusters(alloc: Global, of: &NumberList) -> Result<(NumberList, u32), AllocError> {
     let mut numbers = NumberList::zeros(alloc, of.len())?;
     let mut many: u32 = 0;
     for vertex in 0..of.len() {
@@ -193,5 +193,5 @@ pub fn clustered(
         let vertex = nth(place, limits.order, level.vertices());
         found.place(level, vertex, limits)?;
     }
-    numbered(alloc, &found.of)
+    numbered_clusters(alloc, &found.of)
 }
