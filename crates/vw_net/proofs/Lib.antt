@@ -7,5 +7,5 @@ pub mod Histories
 pub mod Orders
 pub mod Ready
 pub mod Levels
-pub mod Words
+pub mod TruthTables
 pub mod SameCovers

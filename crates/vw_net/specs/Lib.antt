@@ -1,7 +1,7 @@
 pub mod Lists
 pub mod Mark
 pub mod Cover
-pub mod Word
+pub mod TruthTable
 pub mod Cells
 pub mod Parts
 pub mod Order

@@ -1,3 +1,3 @@
 -- What functions of this crate compute, step by step, and helpers that lemmas of several crates share. No public clause cites it.
 pub mod Bits
-pub mod TableWord
+pub mod MatchedPlaces

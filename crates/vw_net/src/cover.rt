@@ -1,10 +1,10 @@
 ghost use Rattle.std.specs.Prelude.{◌≡◌, ◌≤◌, length, IfOk};
 ghost use Rattle.std.specs.List.{All};
 ghost use Rattle.vw_net.specs.Mark.{mark_matches, row_matches};
-ghost use Rattle.vw_net.specs.Steps.TableWord.{table_word};
+ghost use Rattle.vw_net.specs.Steps.MatchedPlaces.{truth_table_of};
 
 use crate::sequence::{Bits, Sequence};
-use crate::word::{WORD_INPUTS, bit_of, place_of, table_word};
+use crate::truth_table::{TRUTH_TABLE_INPUTS, bit_of, place_of, truth_table_of};
 use std::alloc::{AllocError, Global};
 
 /// What a row asks of one input of its table. Source: the characters `0`, `1` and `-` of a BLIF table.
@@ -81,11 +81,11 @@ pub struct Cover {
     pub inputs: u32,
     pub on: bool,
     pub rows: Sequence<Row>,
-    /// Where there are at most six inputs: bit k is the value where input i has bit i of k. The law `words_are_tables` says so.
-    pub word: u64,
+    /// Where there are at most six inputs: bit k is the value where input i has bit i of k. The law `truth_tables_agree` says so.
+    pub truth_table: u64,
     ghost narrow: { inputs ≤ 128 },
     ghost even: { All (λ row. length row.marks ≡ inputs) rows },
-    ghost word_is: { word ≡ table_word inputs on rows },
+    ghost truth_table_is: { truth_table ≡ truth_table_of inputs on rows },
 }
 
 impl Cover {
@@ -99,12 +99,12 @@ impl Cover {
         ensures on { result.on ≡ on }
         ensures rows { result.rows ≡ rows }
     {
-        let word = table_word(inputs, on, rows.as_slice());
+        let truth_table = truth_table_of(inputs, on, rows.as_slice());
         Cover {
             inputs,
             on,
             rows,
-            word,
+            truth_table,
         }
     }
 
@@ -129,11 +129,11 @@ impl Cover {
         self.rows.as_slice()
     }
 
-    /// The word of its values, where it has at most six inputs: bit k is the value where input i has bit i of k.
-    pub fn word(&self) -> u64
-        ensures { result ≡ self.now.word }
+    /// Its truth table, where it has at most six inputs: bit k is the value where input i has bit i of k.
+    pub fn truth_table(&self) -> u64
+        ensures { result ≡ self.now.truth_table }
     {
-        self.word
+        self.truth_table
     }
 
     /// A copy of the table.
@@ -162,8 +162,8 @@ impl Cover {
         requires { length bits.now ≡ self.now.inputs }
         ensures { result ≡ cover_value self.now bits.now }
     {
-        if self.inputs <= WORD_INPUTS {
-            return bit_of(self.word, place_of(bits));
+        if self.inputs <= TRUTH_TABLE_INPUTS {
+            return bit_of(self.truth_table, place_of(bits));
         }
         self.value_by_rows(bits)
     }

@@ -6,13 +6,13 @@ ghost use Rattle.vw_net.specs.declared.cover.Cover.{Cover};
 ghost use Rattle.vw_net.specs.declared.cell.Cell.TheVariants.{Gate};
 ghost use Rattle.vw_net.specs.Cover.{cover_value};
 ghost use Rattle.vw_net.specs.Value.{level_value, net_value};
-ghost use Rattle.vw_net.specs.Word.{bit_of, place_of};
+ghost use Rattle.vw_net.specs.TruthTable.{bit_of, place_of};
 ghost use Rattle.vw_net.specs.History.{flat_history, joined};
 
-/// The word of a table of at most six inputs has, at the place of any values, the table's value of them.
-pub fn words_are_tables()
+/// The truth table of a cover of at most six inputs has, at the place of any values, the cover's value of them.
+pub fn truth_tables_agree()
     ensures { (cover : Cover) (bits : List Bool) → cover.inputs ≤ 6 → length bits ≡ cover.inputs
-        → bit_of cover.word (place_of bits) ≡ cover_value cover bits }
+        → bit_of cover.truth_table (place_of bits) ≡ cover_value cover bits }
 {}
 
 /// Where there is an order, following more drivers in a row than there are cells changes no value.

@@ -8,12 +8,12 @@ mod flat;
 mod laws;
 mod ordered;
 mod sequence;
-mod word;
+mod truth_table;
 
 pub use cell::{Cell, Init};
 pub use cover::{Cover, Mark, Row};
 pub use flat::Flat;
-pub use laws::{gates_settle, histories_join, levels_settle, words_are_tables};
+pub use laws::{gates_settle, histories_join, levels_settle, truth_tables_agree};
 pub use ordered::Ordered;
 pub use sequence::{Bits, Rows, Sequence};
-pub use word::{WORD_INPUTS, bit_of};
+pub use truth_table::{TRUTH_TABLE_INPUTS, bit_of};

@@ -7,8 +7,8 @@ use Rattle.vw_net.specs.declared.cell.Cell.TheVariants.{Gate, Latch}
 use Rattle.vw_net.specs.declared.cover.Cover.{Cover}
 use Rattle.vw_net.specs.Cells.{IsWellFormed}
 use Rattle.vw_net.specs.Order.{IsOrder, is_gate, gate_inputs}
-use Rattle.vw_net.specs.Word.{place_of}
-use Rattle.vw_net.proofs.Words.{place_of-below}
+use Rattle.vw_net.specs.TruthTable.{place_of}
+use Rattle.vw_net.proofs.TruthTables.{place_of-below}
 use Rattle.vw_sim.specs.declared.machine.GateStep.{GateStep}
 use Rattle.vw_sim.specs.Steps.Machine.{step_of, gate_steps, gathered_reads}
 use Rattle.vw_net.proofs.FittingCells.{cell_fits}

@@ -7,14 +7,14 @@ ghost use Rattle.vw_net.specs.Cells.{latch_count, latch_inputs};
 ghost use Rattle.vw_net.specs.Cover.{cover_value};
 ghost use Rattle.vw_net.specs.History.{next_state};
 ghost use Rattle.vw_net.specs.Value.{net_value};
-ghost use Rattle.vw_net.specs.Word.{place_of};
+ghost use Rattle.vw_net.specs.TruthTable.{place_of};
 ghost use Rattle.vw_sim.specs.Steps.Values.{SettlesGates, bits_at};
 ghost use Rattle.vw_sim.specs.Steps.Machine.{step_of, gate_steps, gathered_reads, latch_nets, with_bits, IsReady};
 
 use crate::clock::{gate_value, put_inputs};
 use std::alloc::{AllocError, Global};
 use std::marker::Model;
-use vw_net::{Bits, Cell, Flat, Ordered, WORD_INPUTS, bit_of, gates_settle, words_are_tables};
+use vw_net::{Bits, Cell, Flat, Ordered, TRUTH_TABLE_INPUTS, bit_of, gates_settle, truth_tables_agree};
 
 /// A gate of a machine.
 #[derive(Drop)]
@@ -23,11 +23,11 @@ pub struct GateStep {
     number: u32,
     /// How many nets it reads.
     width: u32,
-    /// The word of its table, where it reads at most six nets.
-    word: u64,
+    /// Its truth table, where it reads at most six nets.
+    truth_table: u64,
 }
 
-/// A netlist with an order, made ready for many clocks: its gates in order, each with the word of its table; the nets
+/// A netlist with an order, made ready for many clocks: its gates in order, each with its truth table; the nets
 /// that they read, gate after gate in one array; and its latches. Contracts see the netlist with its order.
 #[derive(Drop)]
 pub struct Machine<'a> {
@@ -101,12 +101,12 @@ fn gate_step(number: u32, cell: &Cell) -> GateStep
         Cell::Gate { cover, .. } => GateStep {
             number,
             width: cover.inputs(),
-            word: cover.word(),
+            truth_table: cover.truth_table(),
         },
         Cell::Latch { .. } => GateStep {
             number,
             width: 0,
-            word: 0,
+            truth_table: 0,
         },
     }
 }
@@ -218,14 +218,14 @@ fn gate_bit(flat: &Flat, gate: &GateStep, ins: &[u32], values: &Bits) -> bool
     ensures { (cover : Cover) → slice_get flat.now.cells gate.now.number ≡ Some (Gate ins.now cover)
         → result ≡ cover_value cover (bits_at values.now ins.now) }
 {
-    words_are_tables();
-    if gate.width <= WORD_INPUTS {
-        return bit_of(gate.word, place_at(ins, values));
+    truth_tables_agree();
+    if gate.width <= TRUTH_TABLE_INPUTS {
+        return bit_of(gate.truth_table, place_at(ins, values));
     }
     wide_value(&flat.cells()[gate.number as usize], ins, values)
 }
 
-/// The place of the values of some nets in the word of a table that reads them.
+/// The place of the values of some nets in the truth table of a gate that reads them.
 fn place_at(nets: &[u32], values: &Bits) -> u32
     requires few { length nets.now ≤ 6 }
     requires within { All (λ net. net < length values.now) nets.now }

@@ -7,11 +7,11 @@ use Rattle.vw_net.specs.Cells.{latch_inputs}
 use Rattle.vw_net.specs.Order.{gate_inputs}
 use Rattle.vw_sim.specs.declared.machine.GateStep.{GateStep}
 
--- how a gate is kept: its cell number, the number of its inputs, and the word of its table
+-- how a gate is kept: its cell number, the number of its inputs, and its truth table
 abbrev pub step_of : ℕ → Option Cell → GateStep
-step_of number None = record { number = number; width = 0; word = 0 }
-step_of number (Some (Gate ins cover)) = record { number = number; width = cover.inputs; word = cover.word }
-step_of number (Some (Latch d init)) = record { number = number; width = 0; word = 0 }
+step_of number None = record { number = number; width = 0; truth_table = 0 }
+step_of number (Some (Gate ins cover)) = record { number = number; width = cover.inputs; truth_table = cover.truth_table }
+step_of number (Some (Latch d init)) = record { number = number; width = 0; truth_table = 0 }
 
 -- the gates of an order, and the nets that they read, gate after gate
 abbrev pub gate_steps : List Cell → List ℕ → List GateStep

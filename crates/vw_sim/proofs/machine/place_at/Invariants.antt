@@ -1,6 +1,6 @@
 -- the place of the values from here on
 use Rattle.std.proofs.Common.{◌≡◌, drop}
-use Rattle.vw_net.specs.Word.{place_of}
+use Rattle.vw_net.specs.TruthTable.{place_of}
 use Rattle.vw_sim.specs.Steps.Values.{bits_at}
 use Rattle.vw_sim.proofs.machine.place_at.Given as goal
 

@@ -18,10 +18,10 @@ in_order c =
     omega (arith, ap length c.requires.gates, length-map ordered.order (λ (number : ℕ). step_of number (slice_get ordered.flat.cells number)), c.loop-gate-test.true)
 
 -- what is known of the gate of a round
-here : (c : In-loop-gate) → AtGate (c.args.ordered.now.flat.inputs + length c.args.ordered.now.flat.cells) c.args.ordered.now.flat.cells c.args.ordered.now.order c.loop-gate.gate-index (slice_index_or c.args.gates.now c.loop-gate.gate-index (record { number = 0; width = 0; word = 0 })) c.loop-gate.rest.now
+here : (c : In-loop-gate) → AtGate (c.args.ordered.now.flat.inputs + length c.args.ordered.now.flat.cells) c.args.ordered.now.flat.cells c.args.ordered.now.order c.loop-gate.gate-index (slice_index_or c.args.gates.now c.loop-gate.gate-index (record { number = 0; width = 0; truth_table = 0 })) c.loop-gate.rest.now
 here c =
     let ordered = c.args.ordered.now in
-    at_gate ordered.is_order (ordered.flat.inputs + length ordered.flat.cells) ordered.flat.cells_fit c.loop-gate.gate-index (in_order c) _ (record { number = 0; width = 0; word = 0 }) c.args.gates.now c.loop-gate.rest.now c.requires.gates refl c.loop-gate.invariant.rest
+    at_gate ordered.is_order (ordered.flat.inputs + length ordered.flat.cells) ordered.flat.cells_fit c.loop-gate.gate-index (in_order c) _ (record { number = 0; width = 0; truth_table = 0 }) c.args.gates.now c.loop-gate.rest.now c.requires.gates refl c.loop-gate.invariant.rest
 
 pub split_at-requires : goal.split_at-requires
 split_at-requires c = (here (goal.at.split_at-requires c).In-loop-gate).enough
@@ -35,7 +35,7 @@ gate_bit-bit-requires-clause-number c =
 
 pub gate_bit-bit-requires-clause-gate : goal.gate_bit-bit-requires-clause-gate
 gate_bit-bit-requires-clause-gate c =
-    let gate = slice_index_or c.args.gates.now c.loop-gate.gate-index (record { number = 0; width = 0; word = 0 }) in
+    let gate = slice_index_or c.args.gates.now c.loop-gate.gate-index (record { number = 0; width = 0; truth_table = 0 }) in
     (here (goal.at.gate_bit-bit-requires-clause-gate c).In-loop-gate).its ∙ ap (λ (flat : Flat). step_of gate.number (slice_get flat.cells gate.number)) (sym c.flat-flat.ensures)
 
 -- each net that it reads has a value
@@ -59,7 +59,7 @@ loop-gate-preserved c =
     let round = (goal.at.loop-gate-preserved c).In-loop-gate in
     let h = here round in
     let ordered = c.args.ordered.now in
-    let gate = slice_index_or c.args.gates.now c.loop-gate.gate-index (record { number = 0; width = 0; word = 0 }) in
+    let gate = slice_index_or c.args.gates.now c.loop-gate.gate-index (record { number = 0; width = 0; truth_table = 0 }) in
     let number = get_or ordered.order c.loop-gate.gate-index 0 in
     let reads : c.split_at.result.0.now ≡ h.ins = c.split_at.ensures.front ∙ h.now in
     let cell : slice_get c.flat-flat.result.now.cells gate.number ≡ Some (Gate c.split_at.result.0.now h.cover) = ap (λ (flat : Flat). slice_get flat.cells gate.number) c.flat-flat.ensures ∙ ap (slice_get ordered.flat.cells) h.number ∙ h.cell ∙ ap (λ (ns : List ℕ). Some (Gate ns h.cover)) (sym reads) in

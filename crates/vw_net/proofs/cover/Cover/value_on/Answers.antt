@@ -1,6 +1,6 @@
 use Rattle.std.proofs.Common.{◌≤◌, length, ap, ◌∙◌, arith}
-use Rattle.vw_net.specs.Word.{bit_of}
-use Rattle.vw_net.proofs.Words.{place_of-below, word_is_table}
+use Rattle.vw_net.specs.TruthTable.{bit_of}
+use Rattle.vw_net.proofs.TruthTables.{place_of-below, truth_table_agrees}
 use Rattle.vw_net.proofs.cover.Cover.value_on.Goals as goal
 
 -- a place is below 64
@@ -9,7 +9,7 @@ bit_of-requires c =
     let few : length c.args.bits.now ≤ 6 = omega arith in
     omega (arith, place_of-below c.args.bits.now few)
 
--- the word has the table's value there
-pub returns-then-self-le-WORD_INPUTS : goal.returns-then-self-le-WORD_INPUTS
-returns-then-self-le-WORD_INPUTS c =
-    c.bit_of.ensures ∙ ap (bit_of c.args.self.now.word) c.place_of.ensures ∙ word_is_table c.args.self.now c.args.bits.now (omega arith) c.requires
+-- the truth table has the cover's value there
+pub returns-then-self-le-TRUTH_TABLE_INPUTS : goal.returns-then-self-le-TRUTH_TABLE_INPUTS
+returns-then-self-le-TRUTH_TABLE_INPUTS c =
+    c.bit_of.ensures ∙ ap (bit_of c.args.self.now.truth_table) c.place_of.ensures ∙ truth_table_agrees c.args.self.now c.args.bits.now (omega arith) c.requires

@@ -1,7 +1,7 @@
 use Rattle.std.proofs.Common.{◌≤◌, length, drop, arith}
 use Rattle.std.proofs.lemmas.List.{length-drop}
-use Rattle.vw_net.proofs.Words.{byte-le, place_of-below}
-use Rattle.vw_net.proofs.word.place_of.Goals as goal
+use Rattle.vw_net.proofs.TruthTables.{byte-le, place_of-below}
+use Rattle.vw_net.proofs.truth_table.place_of.Goals as goal
 
 -- a place is below 64
 pub overflow_mul-place : goal.overflow_mul-place

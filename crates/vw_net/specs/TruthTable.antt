@@ -1,4 +1,4 @@
--- How the values of a table of at most six inputs stand in one number of 64 bits: each at its place.
+-- The truth table of a cover of at most six inputs: its values in one number of 64 bits, each at its place.
 use Rattle.std.specs.Prelude.{ℕ, ◌+◌, ◌*◌, ◌/◌, ◌^◌, ◌==◌, Bool, List, [], ◌∷◌, bit_and, if◌then◌else◌}
 
 -- the place of some values: the number whose bit i is the value of input i
@@ -6,6 +6,6 @@ abbrev pub place_of : List Bool → ℕ
 place_of [] = 0
 place_of (bit ∷ bits) = (if bit then 1 else 0) + 2 * place_of bits
 
--- whether a word has the bit of a place
+-- the value of a truth table at a place: its bit of that number
 abbrev pub bit_of : ℕ → ℕ → Bool
-bit_of word place = bit_and (word / 2 ^ place) 1 == 1
+bit_of truth_table place = bit_and (truth_table / 2 ^ place) 1 == 1

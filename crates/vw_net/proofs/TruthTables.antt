@@ -1,0 +1,215 @@
+-- The truth table of a cover, bit by bit.
+use mir.Val.{bool_byte}
+use Rattle.std.proofs.Common.{◌≡◌, ◌≤◌, ◌<◌, ◌+◌, ◌-◌, ◌*◌, ◌/◌, ◌%◌, ◌^◌, ◌&&◌, ◌||◌, not, ℕ, zero, suc, min, max, Bool, true, false, List, [], ◌∷◌, length, get_or, nat_le, nat_eq, bit_and, bit_or, if◌then◌else◌, w64, ap, sym, refl, ◌∙◌, ⊎_elim, All, le-leb, eqb-true, leb-true, subst, arith}
+use Rattle.std.specs.List.{list_any}
+use Rattle.std.specs.Int.{bit_at}
+use Rattle.std.proofs.Math.Nat.{pow-suc}
+use Rattle.std.proofs.Math.Pow.{pow_mono}
+use Rattle.std.proofs.lemmas.Bool.{and_parts, cases_eq}
+use Rattle.std.proofs.lemmas.List.Elements.{All-head, All-tail}
+use Rattle.std.proofs.lemmas.Nat.{and_le_l, or_lt}
+use Rattle.std.proofs.lemmas.Nat.Bits.{bit_at_lowest, bit_at-suc, bit_at-zero, bit_at_and, bit_at_or, bit_at_not, bit_at_ones, shr_and_one}
+use Rattle.vw_net.specs.declared.cover.Mark.{Mark}
+use Rattle.vw_net.specs.declared.cover.Mark.TheVariants.{Zero, One, Any}
+use Rattle.vw_net.specs.declared.cover.Row.{Row}
+use Rattle.vw_net.specs.declared.cover.Cover.{Cover}
+use Rattle.vw_net.specs.Mark.{mark_matches, row_matches}
+use Rattle.vw_net.specs.Cover.{cover_value}
+use Rattle.vw_net.specs.TruthTable.{place_of, bit_of}
+use Rattle.vw_net.specs.Steps.MatchedPlaces.{input_tables, mark_places, row_places, rows_places, truth_table_of}
+
+-- ---- places
+
+-- a truth value as a byte
+pub byte-le : (value : Bool) → bool_byte value ≤ 1
+byte-le true = omega arith
+byte-le false = omega arith
+
+place_of-lt : (bits : List Bool) → place_of bits < 2 ^ length bits
+place_of-lt [] = omega arith
+place_of-lt (true ∷ bits) = omega (arith, place_of-lt bits, pow-suc 2 (length bits))
+place_of-lt (false ∷ bits) = omega (arith, place_of-lt bits, pow-suc 2 (length bits))
+
+-- the place of at most six values is one of 64
+pub place_of-below : (bits : List Bool) → length bits ≤ 6 → place_of bits < 64
+place_of-below bits few = omega (arith, place_of-lt bits, pow_mono few)
+
+-- a truth value as a bit
+abbrev bit : Bool → ℕ
+bit value = if value then 1 else 0
+
+half : (value : Bool) (rest : ℕ) → (bit value + 2 * rest) / 2 ≡ rest
+half true rest = omega arith
+half false rest = omega arith
+
+lowest : (value : Bool) (rest : ℕ) → (bit value + 2 * rest) % 2 ≡ bit value
+lowest true rest = omega arith
+lowest false rest = omega arith
+
+-- bit i of a place is the value of input i
+bit_at-place_of : (bits : List Bool) (input : ℕ) → bit_at (place_of bits) input ≡ bit (get_or bits input false)
+bit_at-place_of [] input = bit_at-zero input
+bit_at-place_of (value ∷ bits) zero = bit_at_lowest (bit value + 2 * place_of bits) ∙ lowest value (place_of bits)
+bit_at-place_of (value ∷ bits) (suc input) =
+    bit_at-suc (bit value + 2 * place_of bits) input ∙ ap (λ (n : ℕ). bit_at n input) (half value (place_of bits)) ∙ bit_at-place_of bits input
+
+-- ---- inputs by themselves
+
+-- whether a test holds below a number
+below : ℕ → (ℕ → Bool) → Bool
+below zero test = true
+below (suc n) test = below n test && test n
+
+below-at : (n : ℕ) (test : ℕ → Bool) (k : ℕ) → k < n → below n test ≡ true → test k ≡ true
+unfolding below
+below-at zero test k within all = absurd (omega arith)
+below-at (suc n) test k within all =
+    let parts = and_parts (below n test) (test n) all in
+    ⊎_elim (λ (same : k ≡ n). ap test same ∙ parts.1) (λ (other : k ≡ n → ⊥). below-at n test k (omega arith) parts.0) (cases_eq k n)
+
+is_input_table : ℕ → Bool
+is_input_table input = below 64 (λ place. nat_eq (bit_at (get_or input_tables input 0) place) (bit_at place input))
+
+input_tables_right : below 6 is_input_table ≡ true
+unfolding below is_input_table
+input_tables_right = refl
+
+-- bit k of the truth table of input i is bit i of k
+input_table_bit : (input place : ℕ) → input < 6 → place < 64 → bit_at (get_or input_tables input 0) place ≡ bit_at place input
+unfolding is_input_table
+input_table_bit input place within low =
+    let right = below-at 6 is_input_table input within input_tables_right in
+    eqb-true _ _ (below-at 64 (λ (k : ℕ). nat_eq (bit_at (get_or input_tables input 0) k) (bit_at k input)) place low right)
+
+input_table_fits : ℕ → Bool
+input_table_fits input = nat_le (get_or input_tables input 0) (2 ^ 64 - 1)
+
+input_tables_fit : below 6 input_table_fits ≡ true
+unfolding below input_table_fits
+input_tables_fit = refl
+
+-- ---- rows
+
+bit-le : (n i : ℕ) → bit_at n i ≤ 1
+bit-le n i = omega arith
+
+bit-not : (value : Bool) → 1 - bit value ≡ bit (not value)
+bit-not true = refl
+bit-not false = refl
+
+bit-and : (x y : Bool) → bit (x && y) ≡ min (bit x) (bit y)
+bit-and true true = refl
+bit-and true false = refl
+bit-and false true = refl
+bit-and false false = refl
+
+-- the places of a mark have a place where the mark matches the input's value there
+mark_bit : (mark : Mark) (input_table place : ℕ) (value : Bool) → input_table < 2 ^ 64 → place < 64 → bit_at input_table place ≡ bit value → bit_at (mark_places input_table mark) place ≡ bit (mark_matches mark value)
+mark_bit Zero input_table place value small low is = bit_at_not w64 input_table place small low ∙ ap (λ (b : ℕ). 1 - b) is ∙ bit-not value
+mark_bit One input_table place value small low is = is
+mark_bit Any input_table place value small low is = bit_at_ones 64 place low
+
+input_table_at : (bits : List Bool) (input : ℕ) → length bits ≤ 6 → input < 6 → bit_at (get_or input_tables input 0) (place_of bits) ≡ bit (get_or bits input false)
+input_table_at bits input few within = input_table_bit input (place_of bits) within (place_of-below bits few) ∙ bit_at-place_of bits input
+
+input_table_small : (input : ℕ) → input < 6 → get_or input_tables input 0 < 2 ^ 64
+unfolding input_table_fits
+input_table_small input within = omega (arith, leb-true (get_or input_tables input 0) (2 ^ 64 - 1) (below-at 6 input_table_fits input within input_tables_fit))
+
+both : (places mark row before : ℕ) (matches rest : Bool) → before ≡ min places mark → mark ≡ bit matches → row ≡ min before (bit rest) → row ≡ min places (bit (matches && rest))
+both places mark row before matches rest first its all = omega (arith, bit-and matches rest)
+
+module _ (bits : List Bool) (few : length bits ≤ 6) where
+  -- the places of a row have the place of some values where the row matches them
+  row_bit : (places input : ℕ) (marks : List Mark) (left : List Bool) → ((i : ℕ) → get_or left i false ≡ get_or bits (input + i) false) → length marks ≡ length left → input + length marks ≤ 6
+      → bit_at (row_places places input marks) (place_of bits) ≡ min (bit_at places (place_of bits)) (bit (row_matches marks left))
+  row_bit places input [] left same even within = omega (arith, bit-le places (place_of bits))
+  row_bit places input (mark ∷ marks) [] same even within = absurd (omega arith)
+  row_bit places input (mark ∷ marks) (value ∷ left) same even within =
+      let place = place_of bits in
+      let input_table = get_or input_tables input 0 in
+      let here : input < 6 = omega arith in
+      let start : input + 0 ≡ input = omega arith in
+      let is : bit_at input_table place ≡ bit value = input_table_at bits input few here ∙ ap (λ (i : ℕ). bit (get_or bits i false)) (sym start) ∙ ap bit (sym (same 0)) in
+      let its = mark_bit mark input_table place value (input_table_small input here) (place_of-below bits few) is in
+      let next = λ (i : ℕ). let further : input + suc i ≡ input + 1 + i = omega arith in same (suc i) ∙ ap (λ (at : ℕ). get_or bits at false) further in
+      let all = row_bit (bit_and places (mark_places input_table mark)) (input + 1) marks left next (omega arith) (omega arith) in
+      both (bit_at places place) (bit_at (mark_places input_table mark) place) _ (bit_at (bit_and places (mark_places input_table mark)) place) (mark_matches mark value) (row_matches marks left) (bit_at_and places (mark_places input_table mark) place) its all
+
+  whole_row : (marks : List Mark) → length marks ≡ length bits → bit_at (row_places (2 ^ 64 - 1) 0 marks) (place_of bits) ≡ bit (row_matches marks bits)
+  whole_row marks even =
+      let same = λ (i : ℕ). let none : i ≡ 0 + i = omega arith in ap (λ (at : ℕ). get_or bits at false) none in
+      let ones = bit_at_ones 64 (place_of bits) (place_of-below bits few) in
+      row_bit (2 ^ 64 - 1) 0 marks bits same even (omega arith) ∙ ap (λ (b : ℕ). min b (bit (row_matches marks bits))) ones ∙ at_most (row_matches marks bits) where
+        at_most : (value : Bool) → min 1 (bit value) ≡ bit value
+        at_most true = refl
+        at_most false = refl
+
+  either : (places row rows before : ℕ) (matches rest : Bool) → before ≡ max places row → row ≡ bit matches → rows ≡ max before (bit rest) → rows ≡ max places (bit (matches || rest))
+  either places row rows before true true first its all = omega arith
+  either places row rows before true false first its all = omega arith
+  either places row rows before false true first its all = omega arith
+  either places row rows before false false first its all = omega arith
+
+  -- the places of rows have it where some row matches
+  rows_bit : (places : ℕ) (rows : List Row) → All (λ row. length row.marks ≡ length bits) rows
+      → bit_at (rows_places places rows) (place_of bits) ≡ max (bit_at places (place_of bits)) (bit (list_any (λ row. row_matches row.marks bits) rows))
+  rows_bit places [] even = omega arith
+  rows_bit places (row ∷ rows) even =
+      let place = place_of bits in
+      let its = row_places (2 ^ 64 - 1) 0 row.marks in
+      let here = whole_row row.marks (All-head (λ (r : Row). length r.marks ≡ length bits) row rows even) in
+      let all = rows_bit (bit_or places its) rows (All-tail (λ (r : Row). length r.marks ≡ length bits) row rows even) in
+      either (bit_at places place) (bit_at its place) _ (bit_at (bit_or places its) place) (row_matches row.marks bits) (list_any (λ (r : Row). row_matches r.marks bits) rows) (bit_at_or places its place) here all
+
+-- ---- tables
+
+row_places-lt : (places input : ℕ) (marks : List Mark) → places < 2 ^ 64 → row_places places input marks < 2 ^ 64
+row_places-lt places input [] small = small
+row_places-lt places input (mark ∷ marks) small =
+    let its = mark_places (get_or input_tables input 0) mark in
+    row_places-lt (bit_and places its) (input + 1) marks (omega (arith, and_le_l places its))
+
+rows_places-lt : (places : ℕ) (rows : List Row) → places < 2 ^ 64 → rows_places places rows < 2 ^ 64
+rows_places-lt places [] small = small
+rows_places-lt places (row ∷ rows) small =
+    let its = row_places (2 ^ 64 - 1) 0 row.marks in
+    rows_places-lt (bit_or places its) rows (or_lt 64 places its small (row_places-lt (2 ^ 64 - 1) 0 row.marks (omega arith)))
+
+bit-on : (any : Bool) → bit any ≡ bit (if any then true else not true)
+bit-on true = refl
+bit-on false = refl
+
+bit-off : (any : Bool) → 1 - bit any ≡ bit (if any then false else not false)
+bit-off true = refl
+bit-off false = refl
+
+at_least : (value : Bool) → max 0 (bit value) ≡ bit value
+at_least true = refl
+at_least false = refl
+
+table_bit : (inputs : ℕ) (on : Bool) (rows : List Row) (bits : List Bool) → inputs ≤ 6 → length bits ≡ inputs → All (λ row. length row.marks ≡ inputs) rows
+    → bit_at (truth_table_of inputs on rows) (place_of bits) ≡ bit (if list_any (λ row. row_matches row.marks bits) rows then on else not on)
+table_bit inputs on rows bits few size even = rw narrow (by on) where
+  narrow : nat_le inputs 6 ≡ true
+  narrow = le-leb inputs 6 few
+
+  matched : bit_at (rows_places 0 rows) (place_of bits) ≡ bit (list_any (λ row. row_matches row.marks bits) rows)
+  matched =
+      let fits : All (λ (row : Row). length row.marks ≡ length bits) rows = subst (λ (n : ℕ). All (λ (row : Row). length row.marks ≡ n) rows) (sym size) even in
+      rows_bit bits (omega arith) 0 rows fits ∙ ap (λ (b : ℕ). max b (bit (list_any (λ (row : Row). row_matches row.marks bits) rows))) (bit_at-zero (place_of bits)) ∙ at_least (list_any (λ (row : Row). row_matches row.marks bits) rows)
+
+  by : (value : Bool) → bit_at (if value then rows_places 0 rows else 2 ^ 64 - 1 - rows_places 0 rows) (place_of bits) ≡ bit (if list_any (λ row. row_matches row.marks bits) rows then value else not value)
+  by true = matched ∙ bit-on (list_any (λ (row : Row). row_matches row.marks bits) rows)
+  by false =
+      bit_at_not w64 (rows_places 0 rows) (place_of bits) (rows_places-lt 0 rows (omega arith)) (place_of-below bits (omega arith)) ∙ ap (λ (b : ℕ). 1 - b) matched ∙ bit-off (list_any (λ (row : Row). row_matches row.marks bits) rows)
+
+test-bit : (value : Bool) → nat_eq (bit value) 1 ≡ value
+test-bit true = refl
+test-bit false = refl
+
+-- the truth table of a cover of at most six inputs has the cover's value at the place of any values
+pub truth_table_agrees : (cover : Cover) (bits : List Bool) → cover.inputs ≤ 6 → length bits ≡ cover.inputs → bit_of cover.truth_table (place_of bits) ≡ cover_value cover bits
+truth_table_agrees cover bits few size =
+    let its = table_bit cover.inputs cover.on cover.rows bits few size cover.even in
+    ap (λ (truth_table : ℕ). bit_of truth_table (place_of bits)) cover.truth_table_is ∙ ap (λ (n : ℕ). nat_eq n 1) (shr_and_one (truth_table_of cover.inputs cover.on cover.rows) (place_of bits) ∙ its) ∙ test-bit (cover_value cover bits)
