@@ -31,21 +31,6 @@ has_listed (entry ∷ entries) bytes name =
     found_step (bytes_eq name (bytes entry.0)) (bytes_eq (bytes entry.0) name) (has_name (map (λ entry. bytes entry.0) entries) name) entry.1
     (lookup (λ key. bytes_eq name (bytes key)) entries) (names_sym name (bytes entry.0)) (has_listed entries bytes name)
 
--- one more name in it
-put_step : {X : Type 0} (same had : Bool) (x : X) (old new : Option X) → new ≡ cond same (Some x) old → is_some old ≡ had → is_some new ≡ (had || (same || false))
-put_step true true x old new put is = ap is_some put
-put_step true false x old new put is = ap is_some put
-put_step false true x old new put is = ap is_some put ∙ is
-put_step false false x old new put is = ap is_some put ∙ is
-
-pub one_more_name : {X : Type 0} (names : List Word) (i : ℕ) (word : Word) → i < length names → word ≡ get_or names i word → (name : Word) (x : X) (old new : Option X)
-    → new ≡ cond (bytes_eq word name) (Some x) old → is_some old ≡ has_name (take i names) name → is_some new ≡ has_name (take (i + 1) names) name
-one_more_name names i word within is name x old new put had =
-    put_step (bytes_eq word name) (has_name (take i names) name) x old new put had
-    ∙ sym (list_any-append (λ (other : Word). bytes_eq other name) (take i names) (word ∷ []))
-    ∙ ap (λ (w : Word). has_name (take i names ++ w ∷ []) name) is
-    ∙ ap (λ (ws : List Word). has_name ws name) (sym (take_more names i word within))
-
 -- the entries of a map as claims
 abbrev pub entries_as_firsts : {K : Type 0} → (K → Word) → List (K × Claim) → List First
 entries_as_firsts bytes entries = map (λ entry. record { name = bytes entry.0; claim = entry.1 }) entries

@@ -9,7 +9,7 @@ ghost use Rattle.vw_drivers.specs.Claimed.{AreClaims};
 
 use crate::claim::{Claim, RepeatedClaim};
 use crate::firsts::Firsts;
-use crate::item_numbers::{small, target_behind};
+use crate::item_numbers::{in_32_bits, target_behind};
 use crate::model_claims::ModelClaims;
 use crate::model_outputs::Outputs;
 use std::alloc::{AllocError, Global};
@@ -68,7 +68,7 @@ impl ModelClaims {
     {
         for (number, bind) in binds.iter().enumerate() {
             if outputs.has(bind.formal().as_slice()) {
-                let bind_number = small(number)?;
+                let bind_number = in_32_bits(number)?;
                 let claim = Claim::Bound {
                     place,
                     bind: bind_number,
@@ -121,7 +121,7 @@ impl ModelClaims {
             Item::Names { out, .. } => self.add(alloc, number, out, Claim::Driven(number)),
             Item::Latch { q, .. } => self.add(alloc, number, q, Claim::Driven(number)),
             Item::Sub { binds, .. } => {
-                let place = small(before + 1)?;
+                let place = in_32_bits(before + 1)?;
                 self.add_placed(alloc, number, place, binds.as_slice(), outputs, target)
             }
         }
@@ -142,7 +142,7 @@ impl ModelClaims {
     {
         let mut before = 0;
         for (index, item) in items.iter().enumerate() {
-            let number = small(index)?;
+            let number = in_32_bits(index)?;
             let target = target_behind(placed, before);
             self.add_item(alloc, design, outputs, target, number, before, item)?;
             before = behind(item, before);

@@ -1,11 +1,13 @@
 //! Numbers of items, and of the models that they place.
-ghost use Rattle.std.specs.Prelude.{◌≡◌, slice_get, option_and_then, IfOk};
+ghost use Rattle.std.specs.Prelude.{◌≡◌, ◌<◌, ◌^◌, ◌↔◌, slice_get, option_and_then, IfOk, IsOk};
 
 use std::alloc::AllocError;
 
-/// The number as one of 32 bits. A model of 2 ^ 32 items or bindings has no room.
-pub fn small(number: usize) -> Result<u32, AllocError>
-    ensures { IfOk result (λ small. small ≡ number) }
+/// The number as one of 32 bits. A number of 2 ^ 32 or more counts things for which there is no room, so it is answered
+/// with want of memory.
+pub fn in_32_bits(number: usize) -> Result<u32, AllocError>
+    ensures same { IfOk result (λ same. same ≡ number) }
+    ensures comes { IsOk result ↔ number < 2 ^ 32 }
 {
     if number >= 1 << 32 {
         return Err(AllocError);

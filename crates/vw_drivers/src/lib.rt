@@ -25,6 +25,7 @@ pub use drivers::Drivers;
 pub use firsts::Firsts;
 pub use gather_claims::claims_of;
 pub use gather_names::names_of;
+pub use item_numbers::in_32_bits;
 pub use model_claims::ModelClaims;
 pub use model_names::{ModelNames, PlacedNames, Way};
 pub use model_outputs::{Outputs, output_sets};

@@ -4,17 +4,14 @@ ghost use Rattle.vw_design.specs.Distinct.{has_name};
 ghost use Rattle.vw_drivers.specs.Outputs.{AreOutputs};
 
 use std::alloc::{AllocError, Global};
-use std::collections::HashMap;
-use std::hash::{BuildHasherDefault, DefaultHasher};
 use std::marker::Model;
-use vw_design::Design;
+use vw_design::{Design, WordSet};
 use vw_outside::Name;
 
-/// A set of names that lie elsewhere. Its hasher is SipHash: whoever writes a text chooses its names, and under the map's
-/// own hasher it is easy to find many names that collide. Contracts see it as a list of its names, in some order.
+/// The outputs of a model, which lie elsewhere. Contracts see them as a list of their names, in some order.
 #[derive(Drop)]
 pub struct Outputs<'a> {
-    names: HashMap<&'a [u8], (), BuildHasherDefault<DefaultHasher>>,
+    names: WordSet<'a>,
 }
 
 impl<'a> Model for Outputs<'a> {
@@ -22,27 +19,25 @@ impl<'a> Model for Outputs<'a> {
 
     ghost Value = { List (List ℕ) };
 
-    ghost view = { λ outputs. map (λ entry. entry.0.now) outputs.names.entries };
+    ghost view = { λ outputs. map (λ entry. entry.0.now) outputs.names.words.entries };
 }
 
 impl<'a> Outputs<'a> {
-    /// The set of these names.
+    /// These outputs.
     pub fn of(alloc: Global, list: &'a [Name]) -> Result<Self, AllocError>
         ensures { IfOk result (λ outputs. (name : List ℕ)
             → has_name outputs name ≡ has_name list.now name) }
     {
-        let mut names = HashMap::with_hasher(alloc, BuildHasherDefault::new());
-        for name in list {
-            names.insert(name.as_slice(), ())?;
-        }
+        let mut names = WordSet::none(alloc);
+        names.add_all(list)?;
         Ok(Outputs { names })
     }
 
-    /// Whether it has a name.
+    /// Whether a name is among them.
     pub fn has(&self, name: &[u8]) -> bool
         ensures { result ≡ has_name self.now name.now }
     {
-        self.names.contains_key(name)
+        self.names.has(name)
     }
 }
 

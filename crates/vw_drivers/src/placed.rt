@@ -5,7 +5,7 @@ ghost use Rattle.vw_drivers.specs.Names.{firsts_of, way_by, way_of};
 ghost use Rattle.vw_drivers.specs.Steps.GatheredNames.{placed_made, placed_from};
 
 use crate::claim::Claim;
-use crate::item_numbers::{small, target_behind};
+use crate::item_numbers::{in_32_bits, target_behind};
 use crate::model_claims::ModelClaims;
 use crate::model_names::{PlacedNames, Way};
 use std::alloc::{AllocError, Global};
@@ -80,7 +80,7 @@ fn add_placed(
     if let Item::Sub { binds, .. } = item {
         let ways = binds_ways(alloc, own, claims, model, binds.as_slice())?;
         list.push(PlacedNames {
-            item: small(number)?,
+            item: in_32_bits(number)?,
             ways,
         })?;
     }

@@ -8,7 +8,7 @@ ghost use Rattle.vw_nets.specs.Steps.Free.{unmarked, with_column, AreFree};
 
 use crate::nets::Nets;
 use std::alloc::{AllocError, Global};
-use vw_drivers::ModelClaims;
+use vw_drivers::{ModelClaims, in_32_bits};
 use vw_net::Sequence;
 use vw_outside::Name;
 
@@ -96,8 +96,8 @@ fn add_column(
     ensures ports { OnOk result (ports.new.items
         ≡ with_column ports.old.items number (length inputs.old.items)) }
 {
-    let column = small(inputs.len())?;
-    inputs.push(small(place)?)?;
+    let column = in_32_bits(inputs.len())?;
+    inputs.push(in_32_bits(place)?)?;
     set_column(ports, number, column);
     Ok(())
 }
@@ -110,14 +110,4 @@ fn set_column(ports: &mut Vec<Option<u32>>, number: u32, column: u32)
     if let Some(None) = ports.get(place) {
         ports[place] = Some(column);
     }
-}
-
-/// The number as one of 32 bits.
-fn small(number: usize) -> Result<u32, AllocError>
-    ensures { IfOk result (λ small. small ≡ number) }
-{
-    if number >= 1 << 32 {
-        return Err(AllocError);
-    }
-    Ok(number as u32)
 }

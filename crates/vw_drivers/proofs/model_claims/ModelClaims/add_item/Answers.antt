@@ -20,7 +20,7 @@ returns-in_ok-place-in-Sub c =
     let design = c.args.design.now in
     let model = c.in-Sub.model in
     let target : IsNumberOfModel design model c.args.target = subst (λ (item : Item). IsModelNumber design item c.args.target) c.in-Sub.is c.requires.target in
-    let place : c.in_ok-place-in-Sub.place ≡ suc c.args.before = omega (arith, c.in_ok-place-in-Sub.ensures) in
+    let place : c.in_ok-place-in-Sub.place ≡ suc c.args.before = omega (arith, c.in_ok-place-in-Sub.ensures.same) in
     let made : binds_made (model_outputs_at c.args.outputs.now c.args.target) c.in_ok-place-in-Sub.place 0 c.as_slice.result.now ≡ item_made design c.args.number c.args.before c.args.item.now =
     ap₂ (λ (n : ℕ) (binds : List Bind). binds_made (model_outputs_at c.args.outputs.now c.args.target) n 0 binds) place c.as_slice.ensures
     ∙ made_same (model_outputs_at c.args.outputs.now c.args.target) (model_outputs (model_named design.models model))

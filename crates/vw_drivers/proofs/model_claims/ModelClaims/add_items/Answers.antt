@@ -34,7 +34,7 @@ loop-index-preserved c =
     let left : AreModelNumbers design (placings (item ∷ further)) (drop before placed) =
     subst (λ (list : List Item). AreModelNumbers design (placings list) (drop before placed)) cut c.loop-index.invariant.placed in
     let added : c.add_item.new.self ≡ with_all i (item_made design i before item) c.loop-index.self =
-    c.in_ok-add_item.ensures ∙ ap (λ (n : ℕ). with_all n (item_made design n before item) c.loop-index.self) c.in_ok-number.ensures in
+    c.in_ok-add_item.ensures ∙ ap (λ (n : ℕ). with_all n (item_made design n before item) c.loop-index.self) c.in_ok-number.ensures.same in
     let next : i + 1 ≡ suc i = omega arith in
     let whole : with_items design (i + 1) c.behind-before.result further c.add_item.new.self ≡ with_items design i before (drop i items) c.loop-index.self =
     ap₂ (λ (n b : ℕ). with_items design n b further c.add_item.new.self) next c.behind-before.ensures

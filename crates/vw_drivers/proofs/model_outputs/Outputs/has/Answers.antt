@@ -7,5 +7,5 @@ use Rattle.vw_drivers.proofs.model_outputs.Outputs.has.Goals as goal
 pub returns : goal.returns
 returns c =
     let name = c.args.name.now in
-    c.contains_key.ensures ∙ has_listed c.self.inside.names.entries (λ (key : Bor (List ℕ)). key.now) name
+    c.has.ensures ∙ has_listed c.self.inside.names.words.entries (λ (key : Bor (List ℕ)). key.now) name
     ∙ ap (λ (names : List Word). has_name names name) c.self.view_is
