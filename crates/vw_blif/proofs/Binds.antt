@@ -11,7 +11,7 @@ use Rattle.vw_design.specs.Distinct.{has_name, are_distinct}
 use Rattle.vw_design.specs.Paths.{Word}
 use Rattle.vw_blif.specs.Spelled.{Binding, spelled_bind}
 use Rattle.vw_blif.specs.Bindings.{formal_of, actual_part, is_no_bind, bind_of, repeats}
-use Rattle.vw_blif.specs.Steps.Says.{AreBinds}
+use Rattle.vw_blif.specs.Steps.FaultAnswers.{AreBinds}
 use Rattle.vw_blif.proofs.Repeats.{has_name-push, repeats-append}
 
 pub same_bytes : (a b : Word) → bytes_eq a b ≡ false → bytes_eq b a ≡ false

@@ -3,7 +3,7 @@ use Rattle.std.proofs.Common.{◌≡◌, Bool, true, false, not, ◌||◌, List,
 use Rattle.std.specs.List.{list_any, list_all, flat_map}
 use Rattle.std.proofs.lemmas.Bool.{and_parts, and_from, or_parts, not-true}
 use Rattle.vw_text.specs.declared.line.Line.{Line}
-use Rattle.vw_blif.specs.Blocks.{Part, CutList, with_element, cut_before}
+use Rattle.vw_blif.specs.CutLists.{Part, CutList, with_element, cut_before}
 use Rattle.vw_blif.specs.Cuts.{IsCut}
 
 module _ (begins : Line → Bool) where

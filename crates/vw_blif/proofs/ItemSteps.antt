@@ -20,7 +20,7 @@ use Rattle.vw_blif.specs.Bindings.{spelled_placing, has_bad_bind}
 use Rattle.vw_blif.specs.Designs.{groups, item_of}
 use Rattle.vw_blif.specs.Before.{is_open}
 use Rattle.vw_blif.specs.Faults.{has_bad_count, when, faults_by, first_of, fault_at}
-use Rattle.vw_blif.specs.Steps.Says.{Says, SaysLatch, SaysPlace}
+use Rattle.vw_blif.specs.Steps.FaultAnswers.{Says, SaysLatch, SaysPlace}
 use Rattle.vw_blif.specs.Steps.Blocks.{table_items, items_so_far, ClosesTable, HasItem, TakesLine}
 
 -- the faults that such a line can have in a model

@@ -3,7 +3,7 @@ use Rattle.std.proofs.Common.{◌≡◌, List, [], ◌∷◌, map, Option, refl,
 use Rattle.std.specs.Prelude.{Ok}
 use Rattle.std.specs.List.{AllByRecursion}
 use Rattle.vw_text.specs.WordLines.{word_lines}
-use Rattle.vw_text.specs.PlainLines.{IsPlainLine, plain_text, numbered_lines}
+use Rattle.vw_text.specs.PlainLines.{IsPlainLine, plain_text, lines_from}
 use Rattle.vw_blif.specs.declared.fault.TextFault.{TextFault}
 use Rattle.vw_design.specs.Paths.{Word}
 use Rattle.vw_blif.specs.Spelled.{SpelledModel}
@@ -18,14 +18,14 @@ use Rattle.vw_blif.proofs.PrintedFaults.{repeats_none, design_fine}
 
 -- the lines of a design with a model
 of_models : (design : List SpelledModel) → IsPlainDesign design
-    → design_of_lines (numbered_lines 1 (design_lines design)) ≡ unless (first_fault [] (numbered_lines 1 (design_lines design))) (spelled_models (numbered_lines 1 (design_lines design)))
+    → design_of_lines (lines_from 1 (design_lines design)) ≡ unless (first_fault [] (lines_from 1 (design_lines design))) (spelled_models (lines_from 1 (design_lines design)))
 of_models [] plain = absurd (true≢false (sym plain.some))
 of_models (model ∷ design) plain = refl
 
-pub read_back : ((lines : List (List Word)) → AllByRecursion IsPlainLine lines → word_lines (plain_text lines) ≡ numbered_lines 1 lines)
+pub read_back : ((lines : List (List Word)) → AllByRecursion IsPlainLine lines → word_lines (plain_text lines) ≡ lines_from 1 lines)
     → (design : List SpelledModel) → IsPlainDesign design → design_of (printed_design design) ≡ Ok design
 read_back lines_read design plain =
-    let lines = numbered_lines 1 (design_lines design) in
+    let lines = lines_from 1 (design_lines design) in
     of_lines (printed_design design) plain.short
     ∙ ap design_of_lines (lines_read (design_lines design) (lines_plain design plain.models))
     ∙ of_models design plain

@@ -14,7 +14,7 @@ use Rattle.vw_design.specs.declared.item.Edge.TheVariants.{Rise, Fall, Unsaid}
 use Rattle.vw_design.specs.Distinct.{has_name, are_distinct}
 use Rattle.vw_text.specs.declared.line.Line.{Line}
 use Rattle.vw_text.specs.WordLines.{is_empty}
-use Rattle.vw_text.specs.PlainLines.{is_special, is_plain, numbered_lines}
+use Rattle.vw_text.specs.PlainLines.{is_special, is_plain, lines_from}
 use Rattle.vw_blif.specs.declared.fault.TextFault.{TextFault}
 use Rattle.vw_blif.specs.declared.kind.Kind.{Kind}
 use Rattle.vw_blif.specs.Words.{last_word}
@@ -24,7 +24,7 @@ use Rattle.vw_blif.specs.Spelled.{Binding, SpelledItem, table, latch, place, Spe
 use Rattle.vw_blif.specs.Rows.{is_mark, is_value, value_word, is_row_of}
 use Rattle.vw_blif.specs.Latches.{is_init}
 use Rattle.vw_blif.specs.Bindings.{formal_of, is_no_bind, repeats, has_bad_bind}
-use Rattle.vw_blif.specs.Before.{OpenTable, is_open, open_behind, or_value, table_behind, open_table, names_behind, model_names, ports_before}
+use Rattle.vw_blif.specs.Before.{OpenTable, is_open, open_behind, or_value, table_behind, open_table, names_behind, names_of_models, ports_before}
 use Rattle.vw_blif.specs.Faults.{differs_from, faults_by, first_of, fault_at}
 use Rattle.std.specs.Option.{option_or}
 use Rattle.vw_blif.specs.Read.{first_fault}
@@ -39,7 +39,7 @@ use Rattle.vw_blif.proofs.PrintedModels.{item_first, lines_between, model_line, 
 -- the lines before stand in a model, and these are the names of the models so far
 record Inside (names : List Word) (before : List Line) : Type 0 where
   open_ : is_open before ≡ true
-  names_ : model_names before ≡ names
+  names_ : names_of_models before ≡ names
 
 -- further lines have no fault behind lines that stand in a model
 abbrev IsFineInside : List Word → List Line → Type 0
@@ -106,7 +106,7 @@ rows_fine names width n on (row ∷ rows) rest even further before inside value 
     (rows_fine names width (n + 1) on rows rest parts.1 further (line ∷ before)
     (record {
       open_ = ap (λ (c : Kind). open_behind c (is_open before)) k ∙ inside.open_;
-      names_ = ap (λ (c : Kind). names_behind c line (model_names before)) k ∙ inside.names_;
+      names_ = ap (λ (c : Kind). names_behind c line (names_of_models before)) k ∙ inside.names_;
     })
     (Some (or_value value (last_word (row_words on row))))
     (ap (λ (c : Kind). table_behind c line (open_table before)) k
@@ -150,10 +150,10 @@ place_fine model binds plain once =
     (ap (λ (ws : List Word). repeats [] ws) (formals_back binds plain) ∙ repeats_none [] (map (λ (b : Binding). b.formal) binds) once)
 
 -- a line that keeps the model open
-kept : (names : List Word) (before : List Line) (line : Line) → Inside names before → is_open (line ∷ before) ≡ is_open before → model_names (line ∷ before) ≡ model_names before → Inside names (line ∷ before)
+kept : (names : List Word) (before : List Line) (line : Line) → Inside names before → is_open (line ∷ before) ≡ is_open before → names_of_models (line ∷ before) ≡ names_of_models before → Inside names (line ∷ before)
 kept names before line inside stays same = record { open_ = stays ∙ inside.open_; names_ = same ∙ inside.names_ }
 
-item_fine : (names : List Word) (n : ℕ) (item : SpelledItem) (rest : List Line) → is_plain_item item ≡ true → IsFineInside names rest → IsFineInside names (numbered_lines n (item_lines item) ++ rest)
+item_fine : (names : List Word) (n : ℕ) (item : SpelledItem) (rest : List Line) → is_plain_item item ≡ true → IsFineInside names rest → IsFineInside names (lines_from n (item_lines item) ++ rest)
 item_fine names n (table line ins out on rows) rest plain further before inside =
     let first : Line = record { number = n; words = codes ".names" ∷ (ins ++ out ∷ []) } in
     let a = and_parts (list_all is_plain ins) _ plain in
@@ -183,12 +183,12 @@ item_fine names n (place line model binds) rest plain further before inside =
     fine_then before first rest (rw (inside.open_, not_none model (map bind_word binds), place_fine model binds parts.0 parts.1) refl) (further (first ∷ before) (kept names before first inside refl refl))
 
 items_fine : (names : List Word) (n : ℕ) (items : List SpelledItem) (rest : List Line) → list_all is_plain_item items ≡ true → IsFineInside names rest
-    → IsFineInside names (numbered_lines n (flat_map item_lines items) ++ rest)
+    → IsFineInside names (lines_from n (flat_map item_lines items) ++ rest)
 items_fine names n [] rest plain further = further
 items_fine names n (item ∷ items) rest plain further =
     let parts = and_parts (is_plain_item item) (list_all is_plain_item items) plain in
-    let first = numbered_lines n (item_lines item) in
-    let others = numbered_lines (n + length (item_lines item)) (flat_map item_lines items) in
+    let first = lines_from n (item_lines item) in
+    let others = lines_from (n + length (item_lines item)) (flat_map item_lines items) in
     subst (IsFineInside names) (sym (ap (λ (ls : List Line). ls ++ rest) (item_first n item items) ∙ append_assoc first others rest))
     (item_fine names n item (others ++ rest) parts.0 (items_fine names (n + length (item_lines item)) items rest parts.1 further))
 
@@ -199,7 +199,7 @@ ports_once ports plain = repeats_none [] ports (and_parts (list_all is_plain por
 
 clocks_fine : (names : List Word) (n : ℕ) (ports : List Word) (rest : List Line) → are_plain_ports ports ≡ true → IsFineInside names rest
     → (before : List Line) → Inside names before → ports_before clocked before ≡ []
-    → first_fault before (numbered_lines n (port_lines (codes ".clock") ports) ++ rest) ≡ None
+    → first_fault before (lines_from n (port_lines (codes ".clock") ports) ++ rest) ≡ None
 clocks_fine names n [] rest plain further before inside none = further before inside
 clocks_fine names n (port ∷ ports) rest plain further before inside none =
     let line : Line = record { number = n; words = codes ".clock" ∷ port ∷ ports } in
@@ -208,7 +208,7 @@ clocks_fine names n (port ∷ ports) rest plain further before inside none =
 outputs_fine : (names : List Word) (n : ℕ) (ports : List Word) (rest : List Line) → are_plain_ports ports ≡ true
     → ((before : List Line) → Inside names before → ports_before clocked before ≡ [] → first_fault before rest ≡ None)
     → (before : List Line) → Inside names before → ports_before output before ≡ [] → ports_before clocked before ≡ []
-    → first_fault before (numbered_lines n (port_lines (codes ".outputs") ports) ++ rest) ≡ None
+    → first_fault before (lines_from n (port_lines (codes ".outputs") ports) ++ rest) ≡ None
 outputs_fine names n [] rest plain further before inside none clocks = further before inside clocks
 outputs_fine names n (port ∷ ports) rest plain further before inside none clocks =
     let line : Line = record { number = n; words = codes ".outputs" ∷ port ∷ ports } in
@@ -217,7 +217,7 @@ outputs_fine names n (port ∷ ports) rest plain further before inside none cloc
 inputs_fine : (names : List Word) (n : ℕ) (ports : List Word) (rest : List Line) → are_plain_ports ports ≡ true
     → ((before : List Line) → Inside names before → ports_before output before ≡ [] → ports_before clocked before ≡ [] → first_fault before rest ≡ None)
     → (before : List Line) → Inside names before → ports_before input before ≡ [] → ports_before output before ≡ [] → ports_before clocked before ≡ []
-    → first_fault before (numbered_lines n (port_lines (codes ".inputs") ports) ++ rest) ≡ None
+    → first_fault before (lines_from n (port_lines (codes ".inputs") ports) ++ rest) ≡ None
 inputs_fine names n [] rest plain further before inside none outputs clocks = further before inside outputs clocks
 inputs_fine names n (port ∷ ports) rest plain further before inside none outputs clocks =
     let line : Line = record { number = n; words = codes ".inputs" ∷ port ∷ ports } in
@@ -226,13 +226,13 @@ inputs_fine names n (port ∷ ports) rest plain further before inside none outpu
 -- ---- models
 
 -- lines that were numbered together, before others
-apart_lines : (n : ℕ) (lines others : List (List Word)) (rest : List Line) → numbered_lines n (lines ++ others) ++ rest ≡ numbered_lines n lines ++ (numbered_lines (n + length lines) others ++ rest)
+apart_lines : (n : ℕ) (lines others : List (List Word)) (rest : List Line) → lines_from n (lines ++ others) ++ rest ≡ lines_from n lines ++ (lines_from (n + length lines) others ++ rest)
 apart_lines n lines others rest =
-    ap (λ (ls : List Line). ls ++ rest) (numbered-append n lines others) ∙ append_assoc (numbered_lines n lines) (numbered_lines (n + length lines) others) rest
+    ap (λ (ls : List Line). ls ++ rest) (numbered-append n lines others) ∙ append_assoc (lines_from n lines) (lines_from (n + length lines) others) rest
 
 body_fine : (names : List Word) (n : ℕ) (model : SpelledModel) (rest : List Line) → is_plain_model model ≡ true → IsFineInside names rest
     → (before : List Line) → Inside names before → ports_before input before ≡ [] → ports_before output before ≡ [] → ports_before clocked before ≡ []
-    → first_fault before (numbered_lines n (lines_between model) ++ rest) ≡ None
+    → first_fault before (lines_from n (lines_between model) ++ rest) ≡ None
 body_fine names n model rest plain further before inside i o c =
     let is = plain_parts model plain in
     let ins = port_lines (codes ".inputs") model.inputs in
@@ -241,40 +241,40 @@ body_fine names n model rest plain further before inside i o c =
     let items = flat_map item_lines model.items in
     let m = n + length ins in
     let k = m + length outs in
-    let fine : IsFineInside names (numbered_lines (k + length clks) items ++ rest) = items_fine names (k + length clks) model.items rest is.items further in
+    let fine : IsFineInside names (lines_from (k + length clks) items ++ rest) = items_fine names (k + length clks) model.items rest is.items further in
     let NoFault : List Line → List Line → Type 0 = λ b ls. first_fault b ls ≡ None in
     subst (NoFault before) (sym (apart_lines n ins (outs ++ (clks ++ items)) rest))
-    (inputs_fine names n model.inputs (numbered_lines m (outs ++ (clks ++ items)) ++ rest) is.inputs
+    (inputs_fine names n model.inputs (lines_from m (outs ++ (clks ++ items)) ++ rest) is.inputs
     (λ b inside_b o_b c_b. subst (NoFault b) (sym (apart_lines m outs (clks ++ items) rest))
-    (outputs_fine names m model.outputs (numbered_lines k (clks ++ items) ++ rest) is.outputs
+    (outputs_fine names m model.outputs (lines_from k (clks ++ items) ++ rest) is.outputs
     (λ b' inside_b' c_b'. subst (NoFault b') (sym (apart_lines k clks items rest))
-    (clocks_fine names k model.clocks (numbered_lines (k + length clks) items ++ rest) is.clocks fine b' inside_b' c_b'))
+    (clocks_fine names k model.clocks (lines_from (k + length clks) items ++ rest) is.clocks fine b' inside_b' c_b'))
     b inside_b o_b c_b))
     before inside i o c)
 
 -- ---- designs
 
 -- the end of a model, behind which its names are all that counts
-end_fine : (names : List Word) (number : ℕ) (rest : List Line) → ((before : List Line) → model_names before ≡ names → first_fault before rest ≡ None) → IsFineInside names (end_line number ∷ rest)
+end_fine : (names : List Word) (number : ℕ) (rest : List Line) → ((before : List Line) → names_of_models before ≡ names → first_fault before rest ≡ None) → IsFineInside names (end_line number ∷ rest)
 end_fine names number rest further before inside =
     fine_then before (end_line number) rest (rw inside.open_ refl) (further (end_line number ∷ before) inside.names_)
 
 pub design_fine : (names : List Word) (n : ℕ) (design : List SpelledModel) → list_all is_plain_model design ≡ true → repeats names (map (λ model. model.name) design) ≡ false
-    → (before : List Line) → model_names before ≡ names → first_fault before (numbered_lines n (design_lines design)) ≡ None
+    → (before : List Line) → names_of_models before ≡ names → first_fault before (lines_from n (design_lines design)) ≡ None
 design_fine names n [] plain new before are = refl
 design_fine names n (model ∷ design) plain new before are =
     let parts = and_parts (is_plain_model model) (list_all is_plain_model design) plain in
     let fresh = or_parts (has_name names model.name) (repeats (names ++ model.name ∷ []) (map (λ (m : SpelledModel). m.name) design)) new in
     let first = model_line n model in
-    let body = numbered_lines (n + 1) (lines_between model) in
+    let body = lines_from (n + 1) (lines_between model) in
     let last = end_line (n + 1 + length (lines_between model)) in
     let next = n + length (model_lines model) in
-    let rest = numbered_lines next (design_lines design) in
-    let whole : numbered_lines n (design_lines (model ∷ design)) ≡ first ∷ (body ++ last ∷ rest) =
+    let rest = lines_from next (design_lines design) in
+    let whole : lines_from n (design_lines (model ∷ design)) ≡ first ∷ (body ++ last ∷ rest) =
     numbered-append n (model_lines model) (design_lines design)
     ∙ ap (λ (ls : List Line). ls ++ rest) (model_cut n model)
     ∙ ap (λ (ls : List Line). first ∷ ls) (append_assoc body (last ∷ []) rest) in
-    let unseen : has_name (model_names before) model.name ≡ false = ap (λ (ns : List Word). has_name ns model.name) are ∙ fresh.0 in
+    let unseen : has_name (names_of_models before) model.name ≡ false = ap (λ (ns : List Word). has_name ns model.name) are ∙ fresh.0 in
     let begun : Inside (names ++ model.name ∷ []) (first ∷ before) = record { open_ = refl; names_ = ap (λ (ns : List Word). ns ++ model.name ∷ []) are } in
     ap (first_fault before) whole
     ∙ fine_then before first (body ++ last ∷ rest) (rw unseen refl)

@@ -6,14 +6,14 @@ use Rattle.std.proofs.lemmas.Bool.{and_parts, or_parts}
 use Rattle.std.proofs.lemmas.List.Folds.{list_any-append}
 use Rattle.vw_design.specs.Distinct.{are_distinct}
 use Rattle.vw_text.specs.declared.line.Line.{Line}
-use Rattle.vw_text.specs.PlainLines.{is_plain, numbered_lines}
+use Rattle.vw_text.specs.PlainLines.{is_plain, lines_from}
 use Rattle.vw_design.specs.Paths.{Word}
 use Rattle.vw_blif.specs.Kinds.{kind, is_model, is_end, input, output, clocked}
 use Rattle.vw_blif.specs.Spelled.{Binding, SpelledItem, table, latch, place, SpelledModel}
-use Rattle.vw_blif.specs.Blocks.{Part, CutList, with_element, cut_before, until}
+use Rattle.vw_blif.specs.CutLists.{Part, CutList, with_element, cut_before, until}
 use Rattle.vw_blif.specs.Designs.{item_of, ports_of, model_by, model_of, blocks, spelled_models}
 use Rattle.vw_blif.specs.Printed.{latch_words, bind_word, item_lines, port_lines, head_lines, model_lines, design_lines}
-use Rattle.vw_blif.specs.PlainDesigns.{is_plain_bind, is_plain_item, can_stand_beside, is_plain_model, line_of, are_numbered, have_numbers}
+use Rattle.vw_blif.specs.PlainDesigns.{is_plain_bind, is_plain_item, can_stand_beside, is_plain_model, line_of, have_line_numbers, have_numbers}
 use Rattle.vw_blif.proofs.CutLines.{cut_front}
 use Rattle.vw_blif.proofs.PrintedWords.{plain_parts}
 use Rattle.vw_blif.proofs.PrintedGroups.{numbered-append, begins_group, ends_model, rows_at, rows_begin_none, rows_stay, table_back, latch_back, binds_back}
@@ -62,7 +62,7 @@ group_first line rows rest inputs outputs clocks items begins stays none stay ad
 
 -- the lines of an item, and then those of the others
 pub item_first : (n : ℕ) (item : SpelledItem) (items : List SpelledItem)
-    → numbered_lines n (flat_map item_lines (item ∷ items)) ≡ numbered_lines n (item_lines item) ++ numbered_lines (n + length (item_lines item)) (flat_map item_lines items)
+    → lines_from n (flat_map item_lines (item ∷ items)) ≡ lines_from n (item_lines item) ++ lines_from (n + length (item_lines item)) (flat_map item_lines items)
 item_first n item items = numbered-append n (item_lines item) (flat_map item_lines items)
 
 with_item : (lines : List Line) (items : List SpelledItem) (found : Option SpelledItem) (item : SpelledItem) → found ≡ Some item → Adds lines [] [] [] (cons_option found items) → Adds lines [] [] [] (item ∷ items)
@@ -76,7 +76,7 @@ with_item lines items found item is adds = record {
 }
 
 one_item : (n : ℕ) (item : SpelledItem) (rest : List Line) (items : List SpelledItem) → is_plain_item item ≡ true → line_of item ≡ n → Adds rest [] [] [] items
-    → Adds (numbered_lines n (item_lines item) ++ rest) [] [] [] (item ∷ items)
+    → Adds (lines_from n (item_lines item) ++ rest) [] [] [] (item ∷ items)
 one_item n (table line ins out on rows) rest items plain at adds =
     let first : Line = record { number = n; words = codes ".names" ∷ (ins ++ out ∷ []) } in
     with_item (first ∷ (rows_at (n + 1) on rows ++ rest)) items (item_of (record { head = first; tail = rows_at (n + 1) on rows })) (table line ins out on rows)
@@ -95,20 +95,20 @@ one_item n (place line model binds) rest items plain at adds =
     (ap₂ (λ (m : ℕ) (bs : List Binding). Some (place m model bs)) (sym at) (binds_back binds all))
     (group_first first [] rest [] [] [] items refl refl refl refl adds)
 
-all_items : (n : ℕ) (items : List SpelledItem) → list_all is_plain_item items ≡ true → are_numbered n items ≡ true → Adds (numbered_lines n (flat_map item_lines items)) [] [] [] items
+all_items : (n : ℕ) (items : List SpelledItem) → list_all is_plain_item items ≡ true → have_line_numbers n items ≡ true → Adds (lines_from n (flat_map item_lines items)) [] [] [] items
 all_items n [] plain at = no_line
 all_items n (item ∷ items) plain at =
     let parts = and_parts (is_plain_item item) (list_all is_plain_item items) plain in
-    let numbers = and_parts (eqb (line_of item) n) (are_numbered (n + length (item_lines item)) items) at in
+    let numbers = and_parts (eqb (line_of item) n) (have_line_numbers (n + length (item_lines item)) items) at in
     let rest = all_items (n + length (item_lines item)) items parts.1 numbers.1 in
     let P : List Line → Type 0 = λ ls. Adds ls [] [] [] (item ∷ items) in
-    subst P (sym (item_first n item items)) (one_item n item (numbered_lines (n + length (item_lines item)) (flat_map item_lines items)) items parts.0 (eqb-true (line_of item) n numbers.0) rest)
+    subst P (sym (item_first n item items)) (one_item n item (lines_from (n + length (item_lines item)) (flat_map item_lines items)) items parts.0 (eqb-true (line_of item) n numbers.0) rest)
 
 -- ---- ports
 
 -- the lines of a list of ports before others
 inputs_first : (n : ℕ) (ports outputs clocks : List Word) (items : List SpelledItem) (rest : List Line) → Adds rest [] outputs clocks items
-    → Adds (numbered_lines n (port_lines (codes ".inputs") ports) ++ rest) ports outputs clocks items
+    → Adds (lines_from n (port_lines (codes ".inputs") ports) ++ rest) ports outputs clocks items
 inputs_first n [] outputs clocks items rest adds = adds
 inputs_first n (port ∷ ports) outputs clocks items rest adds =
     let line : Line = record { number = n; words = codes ".inputs" ∷ port ∷ ports } in
@@ -116,7 +116,7 @@ inputs_first n (port ∷ ports) outputs clocks items rest adds =
     subst P (append-nil (port ∷ ports)) (group_first line [] rest [] outputs clocks items refl refl refl refl adds)
 
 outputs_first : (n : ℕ) (ports clocks : List Word) (items : List SpelledItem) (rest : List Line) → Adds rest [] [] clocks items
-    → Adds (numbered_lines n (port_lines (codes ".outputs") ports) ++ rest) [] ports clocks items
+    → Adds (lines_from n (port_lines (codes ".outputs") ports) ++ rest) [] ports clocks items
 outputs_first n [] clocks items rest adds = adds
 outputs_first n (port ∷ ports) clocks items rest adds =
     let line : Line = record { number = n; words = codes ".outputs" ∷ port ∷ ports } in
@@ -124,7 +124,7 @@ outputs_first n (port ∷ ports) clocks items rest adds =
     subst P (append-nil (port ∷ ports)) (group_first line [] rest [] [] clocks items refl refl refl refl adds)
 
 clocks_first : (n : ℕ) (ports : List Word) (items : List SpelledItem) (rest : List Line) → Adds rest [] [] [] items
-    → Adds (numbered_lines n (port_lines (codes ".clock") ports) ++ rest) [] [] ports items
+    → Adds (lines_from n (port_lines (codes ".clock") ports) ++ rest) [] [] ports items
 clocks_first n [] items rest adds = adds
 clocks_first n (port ∷ ports) items rest adds =
     let line : Line = record { number = n; words = codes ".clock" ∷ port ∷ ports } in
@@ -139,8 +139,8 @@ lines_between model =
     port_lines (codes ".inputs") model.inputs ++ (port_lines (codes ".outputs") model.outputs
     ++ (port_lines (codes ".clock") model.clocks ++ flat_map item_lines model.items))
 
-body_adds : (n : ℕ) (model : SpelledModel) → is_plain_model model ≡ true → are_numbered (n + length (head_lines model)) model.items ≡ true
-    → Adds (numbered_lines (n + 1) (lines_between model)) model.inputs model.outputs model.clocks model.items
+body_adds : (n : ℕ) (model : SpelledModel) → is_plain_model model ≡ true → have_line_numbers (n + length (head_lines model)) model.items ≡ true
+    → Adds (lines_from (n + 1) (lines_between model)) model.inputs model.outputs model.clocks model.items
 body_adds n model plain at =
     let a = port_lines (codes ".inputs") model.inputs in
     let b = port_lines (codes ".outputs") model.outputs in
@@ -150,14 +150,14 @@ body_adds n model plain at =
     let long = length-append a (b ++ c) in
     let longer = length-append b c in
     let same : n + length (head_lines model) ≡ m = omega (long, longer, arith) in
-    let numbers : are_numbered m model.items ≡ true = ap (λ k. are_numbered k model.items) (sym same) ∙ at in
+    let numbers : have_line_numbers m model.items ≡ true = ap (λ k. have_line_numbers k model.items) (sym same) ∙ at in
     let A : List Line → Type 0 = λ ls. Adds ls [] [] model.clocks model.items in
     let B : List Line → Type 0 = λ ls. Adds ls [] model.outputs model.clocks model.items in
     let C : List Line → Type 0 = λ ls. Adds ls model.inputs model.outputs model.clocks model.items in
     let items = all_items m model.items (plain_parts model plain).items numbers in
-    let clocks = subst A (sym (numbered-append (n + 1 + length a + length b) c i)) (clocks_first (n + 1 + length a + length b) model.clocks model.items (numbered_lines m i) items) in
-    let outputs = subst B (sym (numbered-append (n + 1 + length a) b (c ++ i))) (outputs_first (n + 1 + length a) model.outputs model.clocks model.items (numbered_lines (n + 1 + length a + length b) (c ++ i)) clocks) in
-    subst C (sym (numbered-append (n + 1) a (b ++ (c ++ i)))) (inputs_first (n + 1) model.inputs model.outputs model.clocks model.items (numbered_lines (n + 1 + length a) (b ++ (c ++ i))) outputs)
+    let clocks = subst A (sym (numbered-append (n + 1 + length a + length b) c i)) (clocks_first (n + 1 + length a + length b) model.clocks model.items (lines_from m i) items) in
+    let outputs = subst B (sym (numbered-append (n + 1 + length a) b (c ++ i))) (outputs_first (n + 1 + length a) model.outputs model.clocks model.items (lines_from (n + 1 + length a + length b) (c ++ i)) clocks) in
+    subst C (sym (numbered-append (n + 1) a (b ++ (c ++ i)))) (inputs_first (n + 1) model.inputs model.outputs model.clocks model.items (lines_from (n + 1 + length a) (b ++ (c ++ i))) outputs)
 
 abbrev pub model_line : ℕ → SpelledModel → Line
 model_line n model = record { number = n; words = codes ".model" ∷ model.name ∷ [] }
@@ -170,9 +170,9 @@ end_last a b c d e = simp append_assoc
 
 -- the first line of a model, its body, and its `.end`
 pub model_cut : (n : ℕ) (model : SpelledModel)
-    → numbered_lines n (model_lines model) ≡ model_line n model ∷ (numbered_lines (n + 1) (lines_between model) ++ end_line (n + 1 + length (lines_between model)) ∷ [])
+    → lines_from n (model_lines model) ≡ model_line n model ∷ (lines_from (n + 1) (lines_between model) ++ end_line (n + 1 + length (lines_between model)) ∷ [])
 model_cut n model =
-    ap (λ (ls : List (List Word)). model_line n model ∷ numbered_lines (n + 1) ls)
+    ap (λ (ls : List (List Word)). model_line n model ∷ lines_from (n + 1) ls)
     (end_last (port_lines (codes ".inputs") model.inputs) (port_lines (codes ".outputs") model.outputs) (port_lines (codes ".clock") model.clocks) (flat_map item_lines model.items) ((codes ".end" ∷ []) ∷ []))
     ∙ ap (λ (ls : List Line). model_line n model ∷ ls) (numbered-append (n + 1) (lines_between model) ((codes ".end" ∷ []) ∷ []))
 
@@ -211,11 +211,11 @@ record AreModels (lines : List Line) (design : List SpelledModel) : Type 0 where
   before : (blocks lines).before ≡ []
   models : map model_of (blocks lines).parts ≡ design
 
-model_first : (n : ℕ) (model : SpelledModel) (rest : List Line) (design : List SpelledModel) → is_plain_model model ≡ true → are_numbered (n + length (head_lines model)) model.items ≡ true
-    → AreModels rest design → AreModels (numbered_lines n (model_lines model) ++ rest) (model ∷ design)
+model_first : (n : ℕ) (model : SpelledModel) (rest : List Line) (design : List SpelledModel) → is_plain_model model ≡ true → have_line_numbers (n + length (head_lines model)) model.items ≡ true
+    → AreModels rest design → AreModels (lines_from n (model_lines model) ++ rest) (model ∷ design)
 model_first n model rest design plain at are =
     let first = model_line n model in
-    let body = numbered_lines (n + 1) (lines_between model) in
+    let body = lines_from (n + 1) (lines_between model) in
     let last = end_line (n + 1 + length (lines_between model)) in
     let adds = body_adds n model plain at in
     let none : list_any (λ line. is_model (kind line)) (body ++ last ∷ []) ≡ false =
@@ -226,16 +226,16 @@ model_first n model rest design plain at are =
       models = ap (λ (c : CutList Line). map model_of c.parts) cut ∙ ap₂ (λ (m : SpelledModel) (ms : List SpelledModel). m ∷ ms) (model_back n model body last refl adds) are.models;
     }
 
-all_models : (n : ℕ) (design : List SpelledModel) → list_all is_plain_model design ≡ true → have_numbers n design ≡ true → AreModels (numbered_lines n (design_lines design)) design
+all_models : (n : ℕ) (design : List SpelledModel) → list_all is_plain_model design ≡ true → have_numbers n design ≡ true → AreModels (lines_from n (design_lines design)) design
 all_models n [] plain at = record { before = refl; models = refl }
 all_models n (model ∷ design) plain at =
     let parts = and_parts (is_plain_model model) (list_all is_plain_model design) plain in
-    let numbers = and_parts (are_numbered (n + length (head_lines model)) model.items) (have_numbers (n + length (model_lines model)) design) at in
+    let numbers = and_parts (have_line_numbers (n + length (head_lines model)) model.items) (have_numbers (n + length (model_lines model)) design) at in
     let rest = all_models (n + length (model_lines model)) design parts.1 numbers.1 in
     let P : List Line → Type 0 = λ ls. AreModels ls (model ∷ design) in
     subst P (sym (numbered-append n (model_lines model) (design_lines design)))
-    (model_first n model (numbered_lines (n + length (model_lines model)) (design_lines design)) design parts.0 numbers.0 rest)
+    (model_first n model (lines_from (n + length (model_lines model)) (design_lines design)) design parts.0 numbers.0 rest)
 
 -- a design is what its printed lines spell
-pub spelled_back : (n : ℕ) (design : List SpelledModel) → list_all is_plain_model design ≡ true → have_numbers n design ≡ true → spelled_models (numbered_lines n (design_lines design)) ≡ design
+pub spelled_back : (n : ℕ) (design : List SpelledModel) → list_all is_plain_model design ≡ true → have_numbers n design ≡ true → spelled_models (lines_from n (design_lines design)) ≡ design
 spelled_back n design plain at = (all_models n design plain at).models

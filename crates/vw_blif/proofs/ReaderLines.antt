@@ -17,7 +17,7 @@ use Rattle.vw_design.specs.Paths.{Word}
 use Rattle.vw_blif.specs.Kinds.{kind, further, is_model, is_end, input, output, clocked}
 use Rattle.vw_blif.specs.Spelled.{SpelledModel, spelled_model}
 use Rattle.vw_blif.specs.Designs.{blocks, model_of}
-use Rattle.vw_blif.specs.Before.{is_open, open_behind, names_behind, model_names, table_behind, open_table, ports_behind, ports_before}
+use Rattle.vw_blif.specs.Before.{is_open, open_behind, names_behind, names_of_models, table_behind, open_table, ports_behind, ports_before}
 use Rattle.vw_blif.specs.Faults.{when, faults_by, first_of, fault_at}
 use Rattle.vw_blif.specs.Steps.Names.{opened, names_so_far}
 use Rattle.vw_blif.specs.Steps.Blocks.{block_made, IsAsBefore, TakesLine, RefusesInModel, IsNew}
@@ -64,7 +64,7 @@ module _ (old new : Reader) (line : Line) (b taken : Block) (was : opened old.bl
         let next = takes.stays before (told_block before told) in
         record {
           open_ = next.open_ ∙ sym (ap is_some is);
-          names = same_names (kind line) line (model_names before) other ∙ told.names ∙ sym names_taken;
+          names = same_names (kind line) line (names_of_models before) other ∙ told.names ∙ sym names_taken;
           block = subst (λ (o : Option Block). HasOpenSaid (line ∷ before) o) (sym is) next;
         };
     fine = λ before told. takes.fine before (told_block before told);
@@ -93,7 +93,7 @@ model_ended old ended new line b was same is is_end_ ends =
     record {
       stays = λ before told. record {
         open_ = ap (λ (k : Kind). open_behind k (is_open before)) is_end_ ∙ sym (ap is_some ends.block);
-        names = same_names (kind line) line (model_names before) other ∙ told.names ∙ sym names;
+        names = same_names (kind line) line (names_of_models before) other ∙ told.names ∙ sym names;
         block = subst (λ (o : Option Block). HasOpenSaid (line ∷ before) o) (sym ends.block) tt;
       };
       fine = λ before told.
@@ -110,13 +110,13 @@ model_ended old ended new line b was same is is_end_ ends =
 
 -- the faults that it can have
 model_faults : (k : Kind) (before : List Line) (line : Line) → k ≡ Model
-    → faults_by k before line ≡ when (not (length (further line) == 1)) (BadWords line.number) ++ (when (has_name (model_names before) (first_word (further line))) (DuplicateModel line.number) ++ [])
+    → faults_by k before line ≡ when (not (length (further line) == 1)) (BadWords line.number) ++ (when (has_name (names_of_models before) (first_word (further line))) (DuplicateModel line.number) ++ [])
 model_faults k before line is = rw is refl
 
 pub wrong_count : (line : Line) → kind line ≡ Model → (length (further line) ≡ 1 → ⊥) → (before : List Line) → fault_at before line ≡ Some (BadWords line.number)
 wrong_count line is other before =
     ap first_of (model_faults (kind line) before line is)
-    ∙ ap (λ (b : Bool). first_of (when (not b) (BadWords line.number) ++ (when (has_name (model_names before) (first_word (further line))) (DuplicateModel line.number) ++ []))) (ne_eqb (length (further line)) 1 other)
+    ∙ ap (λ (b : Bool). first_of (when (not b) (BadWords line.number) ++ (when (has_name (names_of_models before) (first_word (further line))) (DuplicateModel line.number) ++ []))) (ne_eqb (length (further line)) 1 other)
 
 pub one_word : (words : List Word) (word : Word) → 1 ≤ length words → length words < 2 → word ≡ get_or words 0 word → words ≡ word ∷ []
 one_word [] word some few is = absurd (omega (some, arith))
@@ -138,7 +138,7 @@ behind line rest is None = rw (ap is_model is) refl
 behind line rest is (Some b) = rw (ap is_model is) refl
 
 module _ (old mid : Reader) (line : Line) (name : Word) (is_kind : kind line ≡ Model) (one : further line ≡ name ∷ []) (ends : EndsModel old mid) where
-  names_mid : (before : List Line) → HasAllSaid before old → model_names before ≡ names_so_far mid.models.items (opened mid.block)
+  names_mid : (before : List Line) → HasAllSaid before old → names_of_models before ≡ names_so_far mid.models.items (opened mid.block)
   names_mid before told = told.names ∙ sym ends.names
 
   fault_is : (before : List Line) → HasAllSaid before old → (again : Bool) → has_name (names_so_far mid.models.items (opened mid.block)) name ≡ again
@@ -155,9 +155,9 @@ module _ (old mid : Reader) (line : Line) (name : Word) (is_kind : kind line ≡
     names_new : names_so_far new.models.items (opened new.block) ≡ names_so_far mid.models.items (opened mid.block) ++ name ∷ []
     names_new = rw (same, is) (names_begun mid.models.items (opened mid.block) b name ends.block fresh.named)
 
-    names_told : (before : List Line) → HasAllSaid before old → model_names (line ∷ before) ≡ names_so_far new.models.items (opened new.block)
+    names_told : (before : List Line) → HasAllSaid before old → names_of_models (line ∷ before) ≡ names_so_far new.models.items (opened new.block)
     names_told before told =
-        ap (λ (k : Kind). names_behind k line (model_names before)) is_kind
+        ap (λ (k : Kind). names_behind k line (names_of_models before)) is_kind
         ∙ ap₂ (λ (names ws : List Word). names ++ first_word ws ∷ []) (names_mid before told) one
         ∙ sym names_new
 

@@ -64,9 +64,9 @@ names_behind End line names = names
 names_behind Other line names = names
 names_behind Row line names = names
 
-abbrev pub model_names : List Line → List Word
-model_names [] = []
-model_names (line ∷ before) = names_behind (kind line) line (model_names before)
+abbrev pub names_of_models : List Line → List Word
+names_of_models [] = []
+names_of_models (line ∷ before) = names_behind (kind line) line (names_of_models before)
 
 -- the ports of a list so far, in the model that is open
 abbrev pub ports_behind : Port → Kind → Line → List Word → List Word

@@ -2,7 +2,7 @@
 use Rattle.std.specs.Prelude.{◌≡◌, Bool, true, false, not, List, ◌∷◌, ◌++◌}
 use Rattle.std.specs.List.{list_any, list_all, flat_map}
 use Rattle.vw_text.specs.declared.line.Line.{Line}
-use Rattle.vw_blif.specs.Blocks.{CutList}
+use Rattle.vw_blif.specs.CutLists.{CutList}
 
 -- the lines of what was cut, in order
 abbrev pub uncut : CutList Line → List Line

@@ -13,7 +13,7 @@ use Rattle.vw_blif.specs.Spelled.{SpelledItem, table, SpelledModel}
 use Rattle.vw_blif.specs.Rows.{row_marks, are_on_set}
 use Rattle.vw_blif.specs.Latches.{latch_of}
 use Rattle.vw_blif.specs.Bindings.{spelled_placing}
-use Rattle.vw_blif.specs.Blocks.{Part, CutList, cut_before, until}
+use Rattle.vw_blif.specs.CutLists.{Part, CutList, cut_before, until}
 
 -- the blocks of lines, and the groups of the lines behind a `.model` line
 abbrev pub blocks : List Line → CutList Line

@@ -14,7 +14,7 @@ use Rattle.vw_blif.specs.Kinds.{kind, further, Port, input, output, clocked, add
 use Rattle.vw_blif.specs.Rows.{is_row_of}
 use Rattle.vw_blif.specs.Latches.{has_bad_type, has_bad_init}
 use Rattle.vw_blif.specs.Bindings.{repeats, has_bad_bind}
-use Rattle.vw_blif.specs.Before.{OpenTable, is_open, open_table, model_names, ports_before}
+use Rattle.vw_blif.specs.Before.{OpenTable, is_open, open_table, names_of_models, ports_before}
 
 -- 2: a line other than `.model` outside a model
 abbrev pub is_outside : Kind → Bool → Bool
@@ -166,7 +166,7 @@ faults_by kind_ before line =
     ++ (when (is_too_wide kind_ (length (further line))) (TooWide line.number)
     ++ (when (is_bad_latch has_bad_type kind_ (further line)) (BadLatchType line.number)
     ++ (when (is_bad_latch has_bad_init kind_ (further line)) (BadInit line.number)
-    ++ (when (is_duplicate_model kind_ (model_names before) (further line)) (DuplicateModel line.number)
+    ++ (when (is_duplicate_model kind_ (names_of_models before) (further line)) (DuplicateModel line.number)
     ++ (when (repeats_port input kind_ before (further line)
     || (repeats_port output kind_ before (further line) || repeats_port clocked kind_ before (further line)))
     (DuplicatePort line.number)

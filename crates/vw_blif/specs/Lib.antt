@@ -4,7 +4,7 @@ pub mod Spelled
 pub mod Rows
 pub mod Latches
 pub mod Bindings
-pub mod Blocks
+pub mod CutLists
 pub mod Designs
 pub mod Before
 pub mod Faults

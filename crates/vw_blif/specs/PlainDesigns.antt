@@ -58,15 +58,15 @@ line_of (latch line d q edge control init) = line
 line_of (place line model binds) = line
 
 -- whether items have the numbers of their lines, the first of which has this number
-abbrev pub are_numbered : ℕ → List SpelledItem → Bool
-are_numbered number [] = true
-are_numbered number (item ∷ items) = line_of item == number && are_numbered (number + length (item_lines item)) items
+abbrev pub have_line_numbers : ℕ → List SpelledItem → Bool
+have_line_numbers number [] = true
+have_line_numbers number (item ∷ items) = line_of item == number && have_line_numbers (number + length (item_lines item)) items
 
 -- whether those of all models do
 abbrev pub have_numbers : ℕ → List SpelledModel → Bool
 have_numbers number [] = true
 have_numbers number (model ∷ models) =
-    are_numbered (number + length (head_lines model)) model.items && have_numbers (number + length (model_lines model)) models
+    have_line_numbers (number + length (head_lines model)) model.items && have_numbers (number + length (model_lines model)) models
 
 pub record IsPlainDesign (design : List SpelledModel) : Type 0 where
   pub some : IsTrue (not (is_empty design))

@@ -1,5 +1,5 @@
 -- What functions of this crate compute, step by step. No public clause cites it.
-pub mod Says
+pub mod FaultAnswers
 pub mod Seen
 pub mod Blocks
 pub mod Tables

@@ -3,7 +3,7 @@ ghost use Rattle.std.specs.Prelude.{◌≡◌, ◌<◌, true, false, length, IfO
 ghost use Rattle.vw_design.specs.Shape.{has_its_shape};
 ghost use Rattle.vw_blif.specs.Bindings.{formal_of, actual_part, is_no_bind, has_bad_bind, spelled_placing};
 ghost use Rattle.vw_blif.specs.Spelled.{spelled_item};
-ghost use Rattle.vw_blif.specs.Steps.Says.{SaysBind, SaysPlace, AreBinds};
+ghost use Rattle.vw_blif.specs.Steps.FaultAnswers.{SaysBind, SaysPlace, AreBinds};
 
 use crate::copies::copy;
 use crate::fault::TextFault;

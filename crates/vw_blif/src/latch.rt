@@ -2,7 +2,7 @@
 ghost use Rattle.std.specs.Prelude.{◌≡◌, ◌≤◌, ◌<◌, true, false, length, IfOk, IfErr};
 ghost use Rattle.vw_blif.specs.Latches.{Written, written_of, is_type, is_init, edge_of, control_of, init_of, latch_of, has_bad_type, has_bad_init};
 ghost use Rattle.vw_blif.specs.Spelled.{latch, spelled_item};
-ghost use Rattle.vw_blif.specs.Steps.Says.{SaysLatch};
+ghost use Rattle.vw_blif.specs.Steps.FaultAnswers.{SaysLatch};
 ghost use Rattle.vw_design.specs.Paths.{lent};
 
 use crate::copies::{copy, is};

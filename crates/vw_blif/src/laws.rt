@@ -3,7 +3,7 @@ ghost use Rattle.std.specs.Prelude.{◌≡◌, Bool, List, [], map, Some, Ok};
 ghost use Rattle.vw_design.specs.declared.design.Design.{Design};
 ghost use Rattle.vw_text.specs.declared.line.Line.{Line};
 ghost use Rattle.vw_blif.specs.declared.fault.TextFault.{TextFault};
-ghost use Rattle.vw_blif.specs.Blocks.{CutList, cut_before};
+ghost use Rattle.vw_blif.specs.CutLists.{CutList, cut_before};
 ghost use Rattle.vw_blif.specs.Cuts.{IsCut};
 ghost use Rattle.vw_blif.specs.Read.{first_fault, design_of};
 ghost use Rattle.vw_blif.specs.FirstFault.{IsFirst};

@@ -3,7 +3,7 @@ mod CountedWalks
 mod NotedWalks
 mod NearerNodes
 mod LineNumbers
-mod Joins
+mod LinksOfWalks
 mod Spelled
 pub mod OneBoard
 pub mod OneFault

@@ -1,5 +1,5 @@
 -- What the private functions of this crate compute. No public clause cites it.
-pub mod Apart
+pub mod NotedPairs
 pub mod Nearer
 pub mod Tables
 pub mod Faults

@@ -1,7 +1,7 @@
 //! Nodes with no walk between them.
 ghost use Rattle.std.specs.Prelude.{◌≡◌, ◌≤◌, ◌<◌, ◌+◌, length, IfNone, IfSome};
 ghost use Rattle.std.specs.List.{All};
-ghost use Rattle.vw_board.specs.Steps.Apart.{AreAllThere, AreAllFrom, IsFirstTo, IsFirstPair};
+ghost use Rattle.vw_board.specs.Steps.NotedPairs.{AreAllThere, AreAllFrom, IsFirstTo, IsFirstPair};
 
 use vw_net::Sequence;
 

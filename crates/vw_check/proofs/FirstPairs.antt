@@ -2,7 +2,7 @@
 use Rattle.std.proofs.Common.{◌≡◌, ◌<◌, ◌≤◌, ◌-◌, ◌&&◌, ℕ, suc, Bool, true, false, List, length, drop, get_or, eqb, cond, Option, Some, ap, ap₂, refl, sym, ◌∙◌, drop-cons, arith}
 use Rattle.std.specs.Option.{option_or}
 use Rattle.vw_net.proofs.Orders.{eqb_comm}
-use Rattle.vw_check.specs.Firsts.{found_if}
+use Rattle.vw_check.specs.FirstFound.{found_if}
 use Rattle.vw_check.specs.Pairs.{first_pair, is_number_pair}
 
 -- what is put in hides what was there, as the one at the front hides the rest

@@ -3,7 +3,7 @@ use Rattle.std.proofs.Common.{◌≡◌, ◌<◌, ◌≤◌, ◌+◌, ◌-◌, �
 use Rattle.std.specs.List.{find}
 use Rattle.std.specs.Option.{option_or}
 use Rattle.std.specs.HashMap.{HashMap}
-use Rattle.vw_check.specs.Firsts.{found_if}
+use Rattle.vw_check.specs.FirstFound.{found_if}
 use Rattle.vw_check.specs.Pairs.{first_pair, is_number_pair, pair_in, HasPairs}
 
 -- the number of a place, where they are numbered from a number on, leads to the first that passes a test

@@ -7,13 +7,13 @@ use Rattle.std.proofs.lemmas.List.Elements.{All-head, All-tail}
 use Rattle.vw_net.specs.declared.flat.Flat.{Flat}
 use Rattle.vw_plan.specs.declared.board.Board.{Board}
 use Rattle.vw_plan.specs.declared.plan.Plan.{Plan}
-use Rattle.vw_plan.specs.Setting.{Setting}
+use Rattle.vw_plan.specs.PlannedBoard.{PlannedBoard}
 use Rattle.vw_plan.specs.Sound.{IsPlaced}
 use Rattle.vw_check.specs.declared.fault.PlanFault.{PlanFault}
 use Rattle.vw_check.specs.declared.fault.PlanFault.TheVariants.{WrongCells, ZeroPeriod, BadChip, Overfull}
-use Rattle.vw_check.specs.Firsts.{found_unless}
+use Rattle.vw_check.specs.FirstFound.{found_unless}
 use Rattle.vw_check.specs.CellFaults.{wrong_cells, zero_period, is_chip, bad_chip, overfull}
-use Rattle.vw_plan.specs.Good.{IsChip, cells_on}
+use Rattle.vw_plan.specs.Chips.{IsChip, cells_on}
 use Rattle.vw_check.specs.Answers.{Breaks}
 use Rattle.vw_check.proofs.LawFirsts.{EachAt, each_none, none_each, each_to, each_all, all_each, unless_none, none_unless, if_none, none_if, first_is, unless_is, if_is}
 
@@ -64,15 +64,15 @@ from_each P number from (suc count) all = subst (EachAt (λ k one. P one) number
 
 -- ---- without faults
 
-module _ (setting : Setting) where
+module _ (planned : PlannedBoard) where
   abbrev flat : Flat
-  flat = setting.ordered.flat
+  flat = planned.ordered.flat
 
   abbrev board : Board
-  board = setting.board
+  board = planned.board
 
   abbrev plan : Plan
-  plan = setting.plan
+  plan = planned.plan
 
   are_chips : bad_chip board plan ≡ None → All (IsChip board) plan.chip_of
   are_chips none =
@@ -95,7 +95,7 @@ module _ (setting : Setting) where
         let empty : cells_on plan.chip_of chip ≡ 0 = no_cells (IsChip board) plan.chip_of chip (are_chips chips) (λ its. true≢false (sym (passes_chip board chip its) ∙ is)) in
         omega (arith, empty)
 
-  pub placed : wrong_cells flat plan ≡ None → bad_chip board plan ≡ None → overfull board plan ≡ None → IsPlaced setting
+  pub placed : wrong_cells flat plan ≡ None → bad_chip board plan ≡ None → overfull board plan ≡ None → IsPlaced planned
   placed cells chips room = record {
     each = eqb-true (length plan.chip_of) (length flat.cells) (unless_none (length plan.chip_of == length flat.cells) (WrongCells (length plan.chip_of) (length flat.cells)) cells);
     chips = are_chips chips;
@@ -110,19 +110,19 @@ module _ (setting : Setting) where
 
   -- ---- and back
 
-  pub no_wrong_cells : IsPlaced setting → wrong_cells flat plan ≡ None
+  pub no_wrong_cells : IsPlaced planned → wrong_cells flat plan ≡ None
   no_wrong_cells is = none_unless (length plan.chip_of == length flat.cells) (WrongCells (length plan.chip_of) (length flat.cells)) (eq-eqb (length plan.chip_of) (length flat.cells) is.each)
 
   pub no_zero_period : 1 ≤ plan.period → zero_period plan ≡ None
   no_zero_period some = none_if (plan.period == 0) ZeroPeriod (ne_eqb plan.period 0 (λ is. let wrong : 1 ≤ 0 = subst (λ (n : ℕ). 1 ≤ n) is some in omega (arith, wrong)))
 
-  pub no_bad_chip : IsPlaced setting → bad_chip board plan ≡ None
+  pub no_bad_chip : IsPlaced planned → bad_chip board plan ≡ None
   no_bad_chip is =
       none_each (λ k chip. found_unless (is_chip board chip) (BadChip k)) 0 plan.chip_of
       (each_to (λ k chip. IsChip board chip) (λ k chip. found_unless (is_chip board chip) (BadChip k) ≡ None) (λ k chip its. none_unless (is_chip board chip) (BadChip k) (passes_chip board chip its)) 0 plan.chip_of
       (all_each (IsChip board) 0 plan.chip_of is.chips))
 
-  pub no_overfull : IsPlaced setting → overfull board plan ≡ None
+  pub no_overfull : IsPlaced planned → overfull board plan ≡ None
   no_overfull is =
       none_each (λ k one. found_unless (nat_le (cells_on plan.chip_of one) board.cells) (Overfull one (cells_on plan.chip_of one))) 0 (range_with_len 1 board.chips)
       (each_to (λ k one. cells_on plan.chip_of one ≤ board.cells) (λ k one. found_unless (nat_le (cells_on plan.chip_of one) board.cells) (Overfull one (cells_on plan.chip_of one)) ≡ None)
@@ -131,20 +131,20 @@ module _ (setting : Setting) where
 
   -- ---- what the faults break
 
-  pub wrong_cells_break : (fault : PlanFault) → wrong_cells flat plan ≡ Some fault → Breaks setting fault
+  pub wrong_cells_break : (fault : PlanFault) → wrong_cells flat plan ≡ Some fault → Breaks planned fault
   wrong_cells_break fault is =
-      subst (Breaks setting) (unless_is (length plan.chip_of == length flat.cells) (WrongCells (length plan.chip_of) (length flat.cells)) fault is)
+      subst (Breaks planned) (unless_is (length plan.chip_of == length flat.cells) (WrongCells (length plan.chip_of) (length flat.cells)) fault is)
       (λ its. none-some fault (sym (no_wrong_cells its) ∙ is))
 
-  pub zero_period_breaks : (fault : PlanFault) → zero_period plan ≡ Some fault → Breaks setting fault
-  zero_period_breaks fault is = subst (Breaks setting) (if_is (plan.period == 0) ZeroPeriod fault is) (λ some. none-some fault (sym (no_zero_period some) ∙ is))
+  pub zero_period_breaks : (fault : PlanFault) → zero_period plan ≡ Some fault → Breaks planned fault
+  zero_period_breaks fault is = subst (Breaks planned) (if_is (plan.period == 0) ZeroPeriod fault is) (λ some. none-some fault (sym (no_zero_period some) ∙ is))
 
-  pub bad_chip_breaks : (fault : PlanFault) → bad_chip board plan ≡ Some fault → Breaks setting fault
+  pub bad_chip_breaks : (fault : PlanFault) → bad_chip board plan ≡ Some fault → Breaks planned fault
   bad_chip_breaks fault is =
-      first_is (λ k chip. found_unless (is_chip board chip) (BadChip k)) (λ found. Breaks setting found)
-      (λ k chip found its. subst (Breaks setting) (unless_is (is_chip board chip) (BadChip k) found its) (λ sound. none-some fault (sym (no_bad_chip sound) ∙ is))) 0 plan.chip_of fault is
+      first_is (λ k chip. found_unless (is_chip board chip) (BadChip k)) (λ found. Breaks planned found)
+      (λ k chip found its. subst (Breaks planned) (unless_is (is_chip board chip) (BadChip k) found its) (λ sound. none-some fault (sym (no_bad_chip sound) ∙ is))) 0 plan.chip_of fault is
 
-  pub overfull_breaks : (fault : PlanFault) → overfull board plan ≡ Some fault → Breaks setting fault
+  pub overfull_breaks : (fault : PlanFault) → overfull board plan ≡ Some fault → Breaks planned fault
   overfull_breaks fault is =
-      first_is (λ k one. found_unless (nat_le (cells_on plan.chip_of one) board.cells) (Overfull one (cells_on plan.chip_of one))) (λ found. Breaks setting found)
-      (λ k one found its. subst (Breaks setting) (unless_is (nat_le (cells_on plan.chip_of one) board.cells) (Overfull one (cells_on plan.chip_of one)) found its) (λ sound. none-some fault (sym (no_overfull sound) ∙ is))) 0 (range_with_len 1 board.chips) fault is
+      first_is (λ k one. found_unless (nat_le (cells_on plan.chip_of one) board.cells) (Overfull one (cells_on plan.chip_of one))) (λ found. Breaks planned found)
+      (λ k one found its. subst (Breaks planned) (unless_is (nat_le (cells_on plan.chip_of one) board.cells) (Overfull one (cells_on plan.chip_of one)) found its) (λ sound. none-some fault (sym (no_overfull sound) ∙ is))) 0 (range_with_len 1 board.chips) fault is

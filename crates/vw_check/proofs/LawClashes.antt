@@ -9,7 +9,7 @@ use Rattle.std.proofs.lemmas.List.Elements.{All-nil, All-cons, All-head, All-tai
 use Rattle.vw_plan.specs.declared.plan.Plan.{Plan}
 use Rattle.vw_plan.specs.declared.wire.Hop.{Hop}
 use Rattle.vw_plan.specs.declared.wire.Wire.{Wire}
-use Rattle.vw_plan.specs.Setting.{Setting}
+use Rattle.vw_plan.specs.PlannedBoard.{PlannedBoard}
 use Rattle.vw_plan.specs.Sound.{hops_of, share_pin}
 use Rattle.vw_check.specs.declared.fault.PlanFault.{PlanFault}
 use Rattle.vw_check.specs.declared.fault.PlanFault.TheVariants.{PinClash}
@@ -126,14 +126,14 @@ module _ (plan : Plan) where
       not-true (share_pin (get_or placed i default).hop (get_or placed j default).hop)
       (subst (λ (one : Hop). HopsShareNoPin (get_or placed i default).hop one) there (subst (λ (one : Hop). HopsShareNoPin one (get_or (map (λ one. one.hop) placed) j default.hop)) here apart))))
 
-  clash_is : (setting : Setting) → (P : PlanFault → Type 0) → ((wire number other clash : ℕ) → P (PinClash wire number other clash)) → (later : PlacedHop) (found : Option PlacedHop) (fault : PlanFault) → option_map (clash_with later) found ≡ Some fault → P fault
-  clash_is setting P each later None fault is = absurd (none-some fault is)
-  clash_is setting P each later (Some earlier) fault is =
+  clash_is : (planned : PlannedBoard) → (P : PlanFault → Type 0) → ((wire number other clash : ℕ) → P (PinClash wire number other clash)) → (later : PlacedHop) (found : Option PlacedHop) (fault : PlanFault) → option_map (clash_with later) found ≡ Some fault → P fault
+  clash_is planned P each later None fault is = absurd (none-some fault is)
+  clash_is planned P each later (Some earlier) fault is =
       let same : clash_with later earlier ≡ fault = cc in
       subst P same (each earlier.wire earlier.number later.wire later.number)
 
-pub pin_clash_breaks : (setting : Setting) (fault : PlanFault) → pin_clash setting.plan ≡ Some fault → Breaks setting fault
-pin_clash_breaks setting fault is =
-    first_is (λ place later. option_map (clash_with later) (first_sharing (take place (placed setting.plan)) later.hop)) (Breaks setting)
-    (λ place later found its. clash_is setting.plan setting (Breaks setting) (λ wire number other clash sound. none-some fault (sym (no_pin_clash setting.plan sound) ∙ is)) later (first_sharing (take place (placed setting.plan)) later.hop) found its)
-    0 (placed setting.plan) fault is
+pub pin_clash_breaks : (planned : PlannedBoard) (fault : PlanFault) → pin_clash planned.plan ≡ Some fault → Breaks planned fault
+pin_clash_breaks planned fault is =
+    first_is (λ place later. option_map (clash_with later) (first_sharing (take place (placed planned.plan)) later.hop)) (Breaks planned)
+    (λ place later found its. clash_is planned.plan planned (Breaks planned) (λ wire number other clash sound. none-some fault (sym (no_pin_clash planned.plan sound) ∙ is)) later (first_sharing (take place (placed planned.plan)) later.hop) found its)
+    0 (placed planned.plan) fault is

@@ -10,14 +10,14 @@ use Rattle.vw_net.specs.declared.flat.Flat.{Flat}
 use Rattle.vw_plan.specs.declared.need.Need.{Need}
 use Rattle.vw_plan.specs.declared.plan.Plan.{Plan}
 use Rattle.vw_plan.specs.declared.wire.Wire.{Wire}
-use Rattle.vw_plan.specs.Setting.{Setting}
+use Rattle.vw_plan.specs.PlannedBoard.{PlannedBoard}
 use Rattle.vw_plan.specs.Nets.{is_needed}
 use Rattle.vw_plan.specs.Needs.{is_pair, needed_pairs}
 use Rattle.vw_plan.specs.Lead.{brings}
 use Rattle.vw_plan.specs.Sound.{HasWires}
 use Rattle.vw_check.specs.declared.fault.PlanFault.{PlanFault}
 use Rattle.vw_check.specs.declared.fault.PlanFault.TheVariants.{MissingWire, ExtraWire}
-use Rattle.vw_check.specs.Firsts.{found_unless}
+use Rattle.vw_check.specs.FirstFound.{found_unless}
 use Rattle.vw_check.specs.WireFaults.{is_brought, missing_wire, extra_wire}
 use Rattle.vw_check.specs.Answers.{Breaks}
 use Rattle.vw_check.proofs.LawFirsts.{EachAt, each_none, none_each, each_to, each_all, all_each, each_or-zero, or_each-zero, unless_none, none_unless, first_is, unless_is}
@@ -137,12 +137,12 @@ if_true : (b : Bool) (one other : ℕ) → b ≡ true → (if b then one else ot
 if_true true one other is = refl
 if_true false one other is = absurd (true≢false (sym is))
 
-module _ (setting : Setting) (needs_are : AreNeeds setting.ordered.flat setting.plan.chip_of (needed_pairs setting.ordered.flat setting.plan.chip_of)) where
+module _ (planned : PlannedBoard) (needs_are : AreNeeds planned.ordered.flat planned.plan.chip_of (needed_pairs planned.ordered.flat planned.plan.chip_of)) where
   abbrev flat : Flat
-  flat = setting.ordered.flat
+  flat = planned.ordered.flat
 
   abbrev plan : Plan
-  plan = setting.plan
+  plan = planned.plan
 
   abbrev needs : List Need
   needs = needed_pairs flat plan.chip_of
@@ -165,7 +165,7 @@ module _ (setting : Setting) (needs_are : AreNeeds setting.ordered.flat setting.
       each_to (λ number wire. found_unless (fine number wire) (ExtraWire number) ≡ None) (λ number wire. fine number wire ≡ true) (λ number wire is. unless_none (fine number wire) (ExtraWire number) is) 0 plan.wires
       (each_none (λ number wire. found_unless (fine number wire) (ExtraWire number)) 0 plan.wires none)
 
-  pub has_wires : missing_wire flat plan ≡ None → extra_wire flat plan ≡ None → HasWires setting
+  pub has_wires : missing_wire flat plan ≡ None → extra_wire flat plan ≡ None → HasWires planned
   has_wires missing extra net node = by (needed net node) refl where
     fine_all : EachAt (λ number wire. fine number wire ≡ true) 0 plan.wires
     fine_all = all_fine extra
@@ -200,7 +200,7 @@ module _ (setting : Setting) (needs_are : AreNeeds setting.ordered.flat setting.
 
   -- ---- and back
 
-  pub no_missing_wire : HasWires setting → missing_wire flat plan ≡ None
+  pub no_missing_wire : HasWires planned → missing_wire flat plan ≡ None
   no_missing_wire has =
       none_each (λ number need. found_unless (is_brought plan.wires need.net need.to) (MissingWire need.net need.to)) 0 needs
       (each_to (λ number need. list_any (is_pair need.net need.to) needs ≡ true) (λ number need. found_unless (is_brought plan.wires need.net need.to) (MissingWire need.net need.to) ≡ None)
@@ -209,13 +209,13 @@ module _ (setting : Setting) (needs_are : AreNeeds setting.ordered.flat setting.
       none_unless (is_brought plan.wires need.net need.to) (MissingWire need.net need.to) (brought_of_count need.net need.to plan.wires (omega (arith, one)))) 0 needs
       (all_each (λ need. list_any (is_pair need.net need.to) needs ≡ true) 0 needs (own_pairs needs)))
 
-  few_wires : HasWires setting → (net node : ℕ) → count_by (brings net node) plan.wires ≤ 1
+  few_wires : HasWires planned → (net node : ℕ) → count_by (brings net node) plan.wires ≤ 1
   few_wires has net node = by (needed net node) refl where
     by : (is : Bool) → needed net node ≡ is → count_by (brings net node) plan.wires ≤ 1
     by true is = let one : count_by (brings net node) plan.wires ≡ 1 = has net node ∙ rw is refl in omega (arith, one)
     by false is = let none : count_by (brings net node) plan.wires ≡ 0 = has net node ∙ rw is refl in omega (arith, none)
 
-  is_fine : HasWires setting → (i : ℕ) (default : Wire) → i < length plan.wires → fine i (get_or plan.wires i default) ≡ true
+  is_fine : HasWires planned → (i : ℕ) (default : Wire) → i < length plan.wires → fine i (get_or plan.wires i default) ≡ true
   is_fine has i default below =
       let wire = get_or plan.wires i default in
       let alone = none_earlier plan.wires (few_wires has) i default below (is_brought (take i plan.wires) wire.net wire.to) refl in
@@ -229,7 +229,7 @@ module _ (setting : Setting) (needs_are : AreNeeds setting.ordered.flat setting.
             let all = count_taken plan.wires wire.net wire.to (i + 1) in
             absurd (omega (arith, none, one, all))
 
-  pub no_extra_wire : HasWires setting → extra_wire flat plan ≡ None
+  pub no_extra_wire : HasWires planned → extra_wire flat plan ≡ None
   no_extra_wire has =
       none_each (λ number wire. found_unless (fine number wire) (ExtraWire number)) 0 plan.wires
       (each_to (λ number wire. fine number wire ≡ true) (λ number wire. found_unless (fine number wire) (ExtraWire number) ≡ None) (λ number wire is. none_unless (fine number wire) (ExtraWire number) is) 0 plan.wires
@@ -237,12 +237,12 @@ module _ (setting : Setting) (needs_are : AreNeeds setting.ordered.flat setting.
 
   -- ---- what the faults break
 
-  pub missing_wire_breaks : (fault : PlanFault) → missing_wire flat plan ≡ Some fault → Breaks setting fault
+  pub missing_wire_breaks : (fault : PlanFault) → missing_wire flat plan ≡ Some fault → Breaks planned fault
   missing_wire_breaks fault is =
-      first_is (λ number need. found_unless (is_brought plan.wires need.net need.to) (MissingWire need.net need.to)) (Breaks setting)
-      (λ number need found its. subst (Breaks setting) (unless_is (is_brought plan.wires need.net need.to) (MissingWire need.net need.to) found its) (λ sound. none-some fault (sym (no_missing_wire sound) ∙ is))) 0 needs fault is
+      first_is (λ number need. found_unless (is_brought plan.wires need.net need.to) (MissingWire need.net need.to)) (Breaks planned)
+      (λ number need found its. subst (Breaks planned) (unless_is (is_brought plan.wires need.net need.to) (MissingWire need.net need.to) found its) (λ sound. none-some fault (sym (no_missing_wire sound) ∙ is))) 0 needs fault is
 
-  pub extra_wire_breaks : (fault : PlanFault) → extra_wire flat plan ≡ Some fault → Breaks setting fault
+  pub extra_wire_breaks : (fault : PlanFault) → extra_wire flat plan ≡ Some fault → Breaks planned fault
   extra_wire_breaks fault is =
-      first_is (λ number wire. found_unless (fine number wire) (ExtraWire number)) (Breaks setting)
-      (λ number wire found its. subst (Breaks setting) (unless_is (fine number wire) (ExtraWire number) found its) (λ sound. none-some fault (sym (no_extra_wire sound) ∙ is))) 0 plan.wires fault is
+      first_is (λ number wire. found_unless (fine number wire) (ExtraWire number)) (Breaks planned)
+      (λ number wire found its. subst (Breaks planned) (unless_is (fine number wire) (ExtraWire number) found its) (λ sound. none-some fault (sym (no_extra_wire sound) ∙ is))) 0 plan.wires fault is

@@ -1,7 +1,7 @@
 -- Searches along a list, from one element to the next.
 use Rattle.std.proofs.Common.{◌≡◌, ◌<◌, ◌+◌, ℕ, true, false, List, length, drop, get_or, Option, Some, None, is_some, ap, refl, sym, ◌∙◌, true≢false, add-one, drop-cons}
 use Rattle.std.specs.Option.{option_or}
-use Rattle.vw_check.specs.Firsts.{first_at}
+use Rattle.vw_check.specs.FirstFound.{first_at}
 
 module _ {X Y : Type 0} (found : ℕ → X → Option Y) (place : ℕ) (xs : List X) (default : X) (within : place < length xs) where
   abbrev rest : Option Y

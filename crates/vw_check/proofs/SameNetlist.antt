@@ -10,21 +10,21 @@ use Rattle.vw_net.specs.Order.{is_gate}
 use Rattle.vw_plan.specs.declared.board.Board.{Board}
 use Rattle.vw_plan.specs.declared.plan.Plan.{Plan}
 use Rattle.vw_plan.specs.Nets.{driving_cell, greatest_read, node_of}
-use Rattle.vw_plan.specs.Setting.{Setting, setting_of, home}
+use Rattle.vw_plan.specs.PlannedBoard.{PlannedBoard, planned_board, home}
 use Rattle.vw_plan.specs.Lead.{brought_at, level_lead, lead, usable}
 use Rattle.vw_check.specs.declared.fault.PlanFault.{PlanFault}
 use Rattle.vw_check.specs.declared.fault.PlanFault.TheVariants.{BrokenRoute, TooEarly, LateLatch}
-use Rattle.vw_check.specs.Firsts.{first_at, first_some, found_unless}
+use Rattle.vw_check.specs.FirstFound.{first_at, first_some, found_unless}
 use Rattle.vw_check.specs.HopFaults.{bad_pin, out_of_order, past_period, pin_clash, fits_route, broken_route}
 use Rattle.vw_check.specs.MomentFaults.{early_wire, late_cell}
 use Rattle.vw_check.specs.Faults.{cell_fault, wire_fault, hop_fault, moment_fault, plan_fault}
 
 module _ (board : Board) (plan : Plan) (one other : Ordered) (same : one.flat ≡ other.flat) where
-  abbrev here : Setting
-  here = setting_of one board plan
+  abbrev here : PlannedBoard
+  here = planned_board one board plan
 
-  abbrev there : Setting
-  there = setting_of other board plan
+  abbrev there : PlannedBoard
+  there = planned_board other board plan
 
   level_same : (level node net : ℕ) → level_lead level here node net ≡ level_lead level there node net
   level_same zero node net = refl

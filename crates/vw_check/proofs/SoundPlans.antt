@@ -1,12 +1,12 @@
 -- All faults, and all points of a sound plan.
 use Rattle.std.proofs.Common.{◌≡◌, List, [], ◌∷◌, Option, Some, None, refl, sym}
 use Rattle.std.proofs.lemmas.Option.{none-some}
-use Rattle.vw_plan.specs.Setting.{Setting}
+use Rattle.vw_plan.specs.PlannedBoard.{PlannedBoard}
 use Rattle.vw_plan.specs.Sound.{IsSound}
 use Rattle.vw_plan.specs.Needs.{needed_pairs}
 use Rattle.vw_plan.proofs.NeededPairs.{any-needed_pairs}
 use Rattle.vw_check.specs.declared.fault.PlanFault.{PlanFault}
-use Rattle.vw_check.specs.Firsts.{first_some}
+use Rattle.vw_check.specs.FirstFound.{first_some}
 use Rattle.vw_check.specs.CellFaults.{wrong_cells, zero_period, bad_chip, overfull}
 use Rattle.vw_check.specs.WireFaults.{missing_wire, extra_wire}
 use Rattle.vw_check.specs.HopFaults.{broken_route, bad_pin, out_of_order, past_period, pin_clash}
@@ -44,26 +44,26 @@ some_search P (found ∷ others) y each is = some_is found (first_some others) y
 
 -- ---- a plan without a fault is sound
 
-module _ (setting : Setting) where
-  needs_are : AreNeeds setting.ordered.flat setting.plan.chip_of (needed_pairs setting.ordered.flat setting.plan.chip_of)
-  needs_are net node = sym (any-needed_pairs setting.ordered.flat setting.plan.chip_of net node)
+module _ (planned : PlannedBoard) where
+  needs_are : AreNeeds planned.ordered.flat planned.plan.chip_of (needed_pairs planned.ordered.flat planned.plan.chip_of)
+  needs_are net node = sym (any-needed_pairs planned.ordered.flat planned.plan.chip_of net node)
 
   abbrev cells : List (Option PlanFault)
-  cells = wrong_cells setting.ordered.flat setting.plan ∷ zero_period setting.plan ∷ bad_chip setting.board setting.plan ∷ overfull setting.board setting.plan ∷ []
+  cells = wrong_cells planned.ordered.flat planned.plan ∷ zero_period planned.plan ∷ bad_chip planned.board planned.plan ∷ overfull planned.board planned.plan ∷ []
 
   abbrev wires : List (Option PlanFault)
-  wires = missing_wire setting.ordered.flat setting.plan ∷ extra_wire setting.ordered.flat setting.plan ∷ []
+  wires = missing_wire planned.ordered.flat planned.plan ∷ extra_wire planned.ordered.flat planned.plan ∷ []
 
   abbrev hops : List (Option PlanFault)
-  hops = broken_route setting ∷ bad_pin setting.board setting.plan ∷ out_of_order setting.plan ∷ past_period setting.plan ∷ pin_clash setting.plan ∷ []
+  hops = broken_route planned ∷ bad_pin planned.board planned.plan ∷ out_of_order planned.plan ∷ past_period planned.plan ∷ pin_clash planned.plan ∷ []
 
   abbrev moments : List (Option PlanFault)
-  moments = too_early setting ∷ late_latch setting ∷ []
+  moments = too_early planned ∷ late_latch planned ∷ []
 
   abbrev groups_of_faults : List (Option PlanFault)
   groups_of_faults = first_some cells ∷ first_some wires ∷ first_some hops ∷ first_some moments ∷ []
 
-  pub sound : plan_fault setting ≡ None → IsSound setting
+  pub sound : plan_fault planned ≡ None → IsSound planned
   unfolding plan_fault
   sound none =
       let each = each_search groups_of_faults none in
@@ -71,36 +71,36 @@ module _ (setting : Setting) where
       let no_wire = each_search wires each.1.0 in
       let no_hop = each_search hops each.1.1.0 in
       let no_moment = each_search moments each.1.1.1.0 in record {
-        one_chip_each = placed setting no_cell.0 no_cell.1.1.0 no_cell.1.1.1.0;
-        one_wire_for_each_need = has_wires setting needs_are no_wire.0 no_wire.1.0;
-        routes = routed setting no_hop.0 no_hop.1.0;
-        rising_microcycles = rising setting no_hop.1.1.0 no_hop.1.1.1.0;
-        one_hop_a_pin = none_shared setting.plan no_hop.1.1.1.1.0;
-        sent_when_usable = all_sent setting no_moment.0;
-        latches_in_time = latches_in_time setting no_moment.1.0;
-        a_period = a_period setting no_cell.1.0;
+        one_chip_each = placed planned no_cell.0 no_cell.1.1.0 no_cell.1.1.1.0;
+        one_wire_for_each_need = has_wires planned needs_are no_wire.0 no_wire.1.0;
+        routes = routed planned no_hop.0 no_hop.1.0;
+        rising_microcycles = rising planned no_hop.1.1.0 no_hop.1.1.1.0;
+        one_hop_a_pin = none_shared planned.plan no_hop.1.1.1.1.0;
+        sent_when_usable = all_sent planned no_moment.0;
+        latches_in_time = latches_in_time planned no_moment.1.0;
+        a_period = a_period planned no_cell.1.0;
       }
 
-  pub faultless : IsSound setting → plan_fault setting ≡ None
+  pub faultless : IsSound planned → plan_fault planned ≡ None
   unfolding plan_fault
   faultless is =
-      let no_cell = no_search cells (no_wrong_cells setting is.one_chip_each, (no_zero_period setting is.a_period, (no_bad_chip setting is.one_chip_each, (no_overfull setting is.one_chip_each, tt)))) in
-      let no_wire = no_search wires (no_missing_wire setting needs_are is.one_wire_for_each_need, (no_extra_wire setting needs_are is.one_wire_for_each_need, tt)) in
-      let no_hop = no_search hops (no_broken_route setting is.routes, (no_bad_pin setting is.routes, (no_out_of_order setting is.rising_microcycles, (no_past_period setting is.rising_microcycles, (no_pin_clash setting.plan is.one_hop_a_pin, tt))))) in
-      let no_moment = no_search moments (no_too_early setting is.sent_when_usable, (no_late_latch setting is.latches_in_time, tt)) in
+      let no_cell = no_search cells (no_wrong_cells planned is.one_chip_each, (no_zero_period planned is.a_period, (no_bad_chip planned is.one_chip_each, (no_overfull planned is.one_chip_each, tt)))) in
+      let no_wire = no_search wires (no_missing_wire planned needs_are is.one_wire_for_each_need, (no_extra_wire planned needs_are is.one_wire_for_each_need, tt)) in
+      let no_hop = no_search hops (no_broken_route planned is.routes, (no_bad_pin planned is.routes, (no_out_of_order planned is.rising_microcycles, (no_past_period planned is.rising_microcycles, (no_pin_clash planned.plan is.one_hop_a_pin, tt))))) in
+      let no_moment = no_search moments (no_too_early planned is.sent_when_usable, (no_late_latch planned is.latches_in_time, tt)) in
       no_search groups_of_faults (no_cell, (no_wire, (no_hop, (no_moment, tt))))
 
-  pub breaks : (fault : PlanFault) → plan_fault setting ≡ Some fault → Breaks setting fault
+  pub breaks : (fault : PlanFault) → plan_fault planned ≡ Some fault → Breaks planned fault
   unfolding plan_fault
   breaks fault is =
-      some_search (Breaks setting) groups_of_faults fault (
-        (λ one its. some_search (Breaks setting) cells one (wrong_cells_break setting, (zero_period_breaks setting, (bad_chip_breaks setting, (overfull_breaks setting, tt)))) its),
+      some_search (Breaks planned) groups_of_faults fault (
+        (λ one its. some_search (Breaks planned) cells one (wrong_cells_break planned, (zero_period_breaks planned, (bad_chip_breaks planned, (overfull_breaks planned, tt)))) its),
         (
-          (λ one its. some_search (Breaks setting) wires one (missing_wire_breaks setting needs_are, (extra_wire_breaks setting needs_are, tt)) its),
+          (λ one its. some_search (Breaks planned) wires one (missing_wire_breaks planned needs_are, (extra_wire_breaks planned needs_are, tt)) its),
           (
-            (λ one its. some_search (Breaks setting) hops one (broken_route_breaks setting, (bad_pin_breaks setting, (out_of_order_breaks setting, (past_period_breaks setting, (pin_clash_breaks setting, tt))))) its),
+            (λ one its. some_search (Breaks planned) hops one (broken_route_breaks planned, (bad_pin_breaks planned, (out_of_order_breaks planned, (past_period_breaks planned, (pin_clash_breaks planned, tt))))) its),
             (
-              (λ one its. some_search (Breaks setting) moments one (too_early_breaks setting, (late_latch_breaks setting, tt)) its),
+              (λ one its. some_search (Breaks planned) moments one (too_early_breaks planned, (late_latch_breaks planned, tt)) its),
               tt,
             ),
           ),

@@ -2,7 +2,7 @@
 use Rattle.std.specs.Prelude.{◌≡◌, ◌≤◌, ◌⊎◌, Bool, true, false, not, Some, None, IsTrue}
 use Rattle.std.specs.List.{All, AllPairs}
 use Rattle.vw_plan.specs.declared.checked.Checked.{Checked}
-use Rattle.vw_plan.specs.Setting.{Setting}
+use Rattle.vw_plan.specs.PlannedBoard.{PlannedBoard}
 use Rattle.vw_plan.specs.Sound.{IsPlaced, HasWires, IsRouted, IsRising, IsSentWhenUsable, AreLatchesInTime, hops_of, share_pin}
 use Rattle.vw_check.specs.declared.fault.PlanFault.{PlanFault}
 use Rattle.vw_check.specs.declared.fault.PlanFault.TheVariants.{WrongCells, ZeroPeriod, BadChip, Overfull, MissingWire, ExtraWire, BrokenRoute, BadPin, OutOfOrder, PastPeriod, PinClash, TooEarly, LateLatch, NoMemory}
@@ -10,21 +10,21 @@ use Rattle.vw_check.specs.declared.refused.CheckRefused.{CheckRefused}
 use Rattle.vw_check.specs.Faults.{plan_fault}
 
 -- the point of a sound plan that a fault breaks
-abbrev pub Breaks : Setting → PlanFault → Type 0
-Breaks setting (WrongCells found wanted) = ¬ (IsPlaced setting)
-Breaks setting ZeroPeriod = ¬ (1 ≤ setting.plan.period)
-Breaks setting (BadChip cell) = ¬ (IsPlaced setting)
-Breaks setting (Overfull chip count) = ¬ (IsPlaced setting)
-Breaks setting (MissingWire net node) = ¬ (HasWires setting)
-Breaks setting (ExtraWire wire) = ¬ (HasWires setting)
-Breaks setting (BrokenRoute wire hop) = ¬ (All (IsRouted setting) setting.plan.wires)
-Breaks setting (BadPin wire hop) = ¬ (All (IsRouted setting) setting.plan.wires)
-Breaks setting (OutOfOrder wire hop) = ¬ (All (IsRising setting) setting.plan.wires)
-Breaks setting (PastPeriod wire hop) = ¬ (All (IsRising setting) setting.plan.wires)
-Breaks setting (PinClash wire hop other clash) = ¬ (AllPairs (λ hop other. IsTrue (not (share_pin hop other))) (hops_of setting.plan))
-Breaks setting (TooEarly wire sent usable) = ¬ (All (IsSentWhenUsable setting) setting.plan.wires)
-Breaks setting (LateLatch cell usable) = ¬ (AreLatchesInTime setting)
-Breaks setting NoMemory = ⊥
+abbrev pub Breaks : PlannedBoard → PlanFault → Type 0
+Breaks planned (WrongCells found wanted) = ¬ (IsPlaced planned)
+Breaks planned ZeroPeriod = ¬ (1 ≤ planned.plan.period)
+Breaks planned (BadChip cell) = ¬ (IsPlaced planned)
+Breaks planned (Overfull chip count) = ¬ (IsPlaced planned)
+Breaks planned (MissingWire net node) = ¬ (HasWires planned)
+Breaks planned (ExtraWire wire) = ¬ (HasWires planned)
+Breaks planned (BrokenRoute wire hop) = ¬ (All (IsRouted planned) planned.plan.wires)
+Breaks planned (BadPin wire hop) = ¬ (All (IsRouted planned) planned.plan.wires)
+Breaks planned (OutOfOrder wire hop) = ¬ (All (IsRising planned) planned.plan.wires)
+Breaks planned (PastPeriod wire hop) = ¬ (All (IsRising planned) planned.plan.wires)
+Breaks planned (PinClash wire hop other clash) = ¬ (AllPairs (λ hop other. IsTrue (not (share_pin hop other))) (hops_of planned.plan))
+Breaks planned (TooEarly wire sent usable) = ¬ (All (IsSentWhenUsable planned) planned.plan.wires)
+Breaks planned (LateLatch cell usable) = ¬ (AreLatchesInTime planned)
+Breaks planned NoMemory = ⊥
 
 -- whether a fault lies in the plan; want of memory doesn't
 abbrev pub is_plan_fault : PlanFault → Bool
@@ -44,19 +44,19 @@ is_plan_fault (LateLatch cell usable) = true
 is_plan_fault NoMemory = false
 
 -- an accepted plan: it has no fault, and the three are as they were. That it is sound is kept by its type
-pub record IsAcceptedPlan (setting : Setting) (checked : Checked) : Type 0 where
-  pub faultless : plan_fault setting ≡ None
-  pub ordered : checked.ordered ≡ setting.ordered
-  pub board : checked.board ≡ setting.board
-  pub plan : checked.plan ≡ setting.plan
+pub record IsAcceptedPlan (planned : PlannedBoard) (checked : Checked) : Type 0 where
+  pub faultless : plan_fault planned ≡ None
+  pub ordered : checked.ordered ≡ planned.ordered
+  pub board : checked.board ≡ planned.board
+  pub plan : checked.plan ≡ planned.plan
 
 -- why a plan isn't accepted: it has this fault, or memory ran out
-abbrev pub IsFault : Setting → PlanFault → Type 0
-IsFault setting fault = (fault ≡ NoMemory) ⊎ ((plan_fault setting ≡ Some fault) × Breaks setting fault)
+abbrev pub IsFault : PlannedBoard → PlanFault → Type 0
+IsFault planned fault = (fault ≡ NoMemory) ⊎ ((plan_fault planned ≡ Some fault) × Breaks planned fault)
 
 -- a plan that isn't accepted, handed back with its design and its board
-pub record IsRefusedPlan (setting : Setting) (refused : CheckRefused) : Type 0 where
-  pub fault : IsFault setting refused.fault
-  pub ordered : refused.ordered ≡ setting.ordered
-  pub board : refused.board ≡ setting.board
-  pub plan : refused.plan ≡ setting.plan
+pub record IsRefusedPlan (planned : PlannedBoard) (refused : CheckRefused) : Type 0 where
+  pub fault : IsFault planned refused.fault
+  pub ordered : refused.ordered ≡ planned.ordered
+  pub board : refused.board ≡ planned.board
+  pub plan : refused.plan ≡ planned.plan

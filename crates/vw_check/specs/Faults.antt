@@ -3,9 +3,9 @@ use Rattle.std.specs.Prelude.{[], ◌∷◌, Option}
 use Rattle.vw_net.specs.declared.flat.Flat.{Flat}
 use Rattle.vw_plan.specs.declared.board.Board.{Board}
 use Rattle.vw_plan.specs.declared.plan.Plan.{Plan}
-use Rattle.vw_plan.specs.Setting.{Setting}
+use Rattle.vw_plan.specs.PlannedBoard.{PlannedBoard}
 use Rattle.vw_check.specs.declared.fault.PlanFault.{PlanFault}
-use Rattle.vw_check.specs.Firsts.{first_some}
+use Rattle.vw_check.specs.FirstFound.{first_some}
 use Rattle.vw_check.specs.CellFaults.{wrong_cells, zero_period, bad_chip, overfull}
 use Rattle.vw_check.specs.WireFaults.{missing_wire, extra_wire}
 use Rattle.vw_check.specs.HopFaults.{broken_route, bad_pin, out_of_order, past_period, pin_clash}
@@ -20,23 +20,23 @@ abbrev pub wire_fault : Flat → Plan → Option PlanFault
 wire_fault flat plan = first_some (missing_wire flat plan ∷ extra_wire flat plan ∷ [])
 
 -- their hops
-abbrev pub hop_fault : Setting → Option PlanFault
-hop_fault setting = first_some (
-    broken_route setting
-    ∷ bad_pin setting.board setting.plan
-    ∷ out_of_order setting.plan
-    ∷ past_period setting.plan
-    ∷ pin_clash setting.plan
+abbrev pub hop_fault : PlannedBoard → Option PlanFault
+hop_fault planned = first_some (
+    broken_route planned
+    ∷ bad_pin planned.board planned.plan
+    ∷ out_of_order planned.plan
+    ∷ past_period planned.plan
+    ∷ pin_clash planned.plan
     ∷ [])
 
 -- when nets are usable
-abbrev pub moment_fault : Setting → Option PlanFault
-moment_fault setting = first_some (too_early setting ∷ late_latch setting ∷ [])
+abbrev pub moment_fault : PlannedBoard → Option PlanFault
+moment_fault planned = first_some (too_early planned ∷ late_latch planned ∷ [])
 
-unfoldable pub plan_fault : Setting → Option PlanFault
-plan_fault setting = first_some (
-    cell_fault setting.ordered.flat setting.board setting.plan
-    ∷ wire_fault setting.ordered.flat setting.plan
-    ∷ hop_fault setting
-    ∷ moment_fault setting
+unfoldable pub plan_fault : PlannedBoard → Option PlanFault
+plan_fault planned = first_some (
+    cell_fault planned.ordered.flat planned.board planned.plan
+    ∷ wire_fault planned.ordered.flat planned.plan
+    ∷ hop_fault planned
+    ∷ moment_fault planned
     ∷ [])

@@ -6,13 +6,13 @@ use Rattle.vw_plan.specs.declared.board.Board.{Board}
 use Rattle.vw_plan.specs.declared.plan.Plan.{Plan}
 use Rattle.vw_plan.specs.declared.wire.Hop.{Hop}
 use Rattle.vw_plan.specs.declared.wire.Wire.{Wire}
-use Rattle.vw_plan.specs.Setting.{Setting, home}
+use Rattle.vw_plan.specs.PlannedBoard.{PlannedBoard, home}
 use Rattle.vw_plan.specs.Lead.{arrival}
 use Rattle.vw_plan.specs.Sound.{has_pin, share_pin}
 use Rattle.vw_plan.specs.Walks.{has_link}
 use Rattle.vw_check.specs.declared.fault.PlanFault.{PlanFault}
 use Rattle.vw_check.specs.declared.fault.PlanFault.TheVariants.{BrokenRoute, BadPin, OutOfOrder, PastPeriod, PinClash}
-use Rattle.vw_check.specs.Firsts.{first_at, found_unless}
+use Rattle.vw_check.specs.FirstFound.{first_at, found_unless}
 
 -- the first fault of a hop, given what is found at a hop of a wire: it is told the number of the wire, the wire, the number
 -- of the hop and the hop
@@ -34,13 +34,13 @@ fits_route links from wire number hop =
     && (nat_lt (suc number) (length wire.hops) || hop.to == wire.to)
 
 -- the first hop of a wire that breaks its route, or none; a wire without hops breaks it at hop 0
-abbrev pub broken_wire : Setting → ℕ → Wire → Option PlanFault
-broken_wire setting number wire =
+abbrev pub broken_wire : PlannedBoard → ℕ → Wire → Option PlanFault
+broken_wire planned number wire =
     if length wire.hops == 0 then Some (BrokenRoute number 0)
-    else first_at (λ place hop. found_unless (fits_route setting.board.links (home setting wire.net) wire place hop) (BrokenRoute number place)) 0 wire.hops
+    else first_at (λ place hop. found_unless (fits_route planned.board.links (home planned wire.net) wire place hop) (BrokenRoute number place)) 0 wire.hops
 
-abbrev pub broken_route : Setting → Option PlanFault
-broken_route setting = first_at (broken_wire setting) 0 setting.plan.wires
+abbrev pub broken_route : PlannedBoard → Option PlanFault
+broken_route planned = first_at (broken_wire planned) 0 planned.plan.wires
 
 -- ---- pins
 

@@ -1,5 +1,5 @@
 pub mod Steps
-pub mod Firsts
+pub mod FirstFound
 pub mod Pairs
 pub mod CellFaults
 pub mod WireFaults

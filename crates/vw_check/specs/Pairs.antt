@@ -1,7 +1,7 @@
 -- The first place of each pair of numbers in a list.
 use Rattle.std.specs.Prelude.{◌≡◌, ◌==◌, ℕ, Bool, ◌&&◌, List, Option}
 use Rattle.std.specs.HashMap as hash
-use Rattle.vw_check.specs.Firsts.{first_at, found_if}
+use Rattle.vw_check.specs.FirstFound.{first_at, found_if}
 
 -- whether a pair has these two parts
 abbrev pub is_number_pair : ℕ → ℕ → ℕ × ℕ → Bool

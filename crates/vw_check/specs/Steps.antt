@@ -3,4 +3,4 @@ pub mod Tables
 pub mod Wires
 pub mod Rules
 pub mod Clashes
-pub mod Moments
+pub mod LeadTables

@@ -1,7 +1,7 @@
 //! Faults of the chips of cells, and of the period.
 ghost use Rattle.std.specs.Prelude.{◌≡◌};
 ghost use Rattle.vw_check.specs.CellFaults.{wrong_cells, zero_period, is_chip, bad_chip, overfull};
-ghost use Rattle.vw_plan.specs.Good.{cells_on};
+ghost use Rattle.vw_plan.specs.Chips.{cells_on};
 
 use crate::fault::PlanFault;
 use vw_net::Flat;

@@ -1,7 +1,7 @@
 //! The first fault of a plan.
 ghost use Rattle.std.specs.Prelude.{◌≡◌, ◌<◌, ◌+◌, length, IfOk, IfErr};
 ghost use Rattle.std.specs.List.{All};
-ghost use Rattle.vw_plan.specs.Setting.{setting_of};
+ghost use Rattle.vw_plan.specs.PlannedBoard.{planned_board};
 ghost use Rattle.vw_check.specs.Faults.{cell_fault, hop_fault, moment_fault, plan_fault};
 ghost use Rattle.vw_check.specs.Answers.{IsAcceptedPlan, IsRefusedPlan};
 ghost use Rattle.vw_check.specs.Pairs.{HasPairs};
@@ -42,7 +42,7 @@ fn hop_fault(
     requires nets { All (λ wire. wire.net
         < ordered.now.flat.inputs + length ordered.now.flat.cells) plan.now.wires }
     ensures { IfOk result (λ found. found
-        ≡ hop_fault (setting_of ordered.now board.now plan.now)) }
+        ≡ hop_fault (planned_board ordered.now board.now plan.now)) }
 {
     let links = link_table(alloc, board)?;
     let found = broken_route(ordered, board, plan, &links)
@@ -68,7 +68,7 @@ fn moment_fault(
         < ordered.now.flat.inputs + length ordered.now.flat.cells) plan.now.wires }
     requires wires { HasPairs (wire_pairs plan.now.wires) wires.now.places }
     ensures { IfOk result (λ found. found
-        ≡ moment_fault (setting_of ordered.now board.now plan.now)) }
+        ≡ moment_fault (planned_board ordered.now board.now plan.now)) }
 {
     let leads = home_leads(alloc, ordered, board, plan, wires)?;
     let early = too_early(ordered, board, plan, wires, &leads);
@@ -83,7 +83,7 @@ fn plan_fault(
     plan: &Plan,
 ) -> Result<Option<PlanFault>, AllocError>
     ensures { IfOk result (λ found. found
-        ≡ plan_fault (setting_of ordered.now board.now plan.now)) }
+        ≡ plan_fault (planned_board ordered.now board.now plan.now)) }
 {
     let cells = cell_fault(ordered.flat(), board, plan);
     if cells.is_some() {
@@ -111,11 +111,11 @@ pub fn check(
 ) -> Result<Checked, CheckRefused>
     // A plan that is accepted has no fault, and the three are as they were handed in.
     ensures accepted { IfOk result (λ checked.
-        IsAcceptedPlan (setting_of ordered board plan) checked) }
+        IsAcceptedPlan (planned_board ordered board plan) checked) }
 
     // Else it has this fault, which breaks a point of a sound plan, or memory ran out; the three are handed back.
     ensures refused { IfErr result (λ refused.
-        IsRefusedPlan (setting_of ordered board plan) refused) }
+        IsRefusedPlan (planned_board ordered board plan) refused) }
 {
     faultless_plans_are_sound();
     faults_break_points();

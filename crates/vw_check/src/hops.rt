@@ -1,7 +1,7 @@
 //! Faults of the hops of wires, each by itself.
 ghost use Rattle.std.specs.Prelude.{◌≡◌, ◌<◌, ◌+◌, ◌^◌, length};
 ghost use Rattle.std.specs.List.{All};
-ghost use Rattle.vw_plan.specs.Setting.{setting_of};
+ghost use Rattle.vw_plan.specs.PlannedBoard.{planned_board};
 ghost use Rattle.vw_check.specs.HopFaults.{begins_at, broken_wire, broken_route, fits_route, is_later};
 ghost use Rattle.vw_check.specs.Pairs.{HasPairs};
 ghost use Rattle.vw_check.specs.Steps.Tables.{link_pairs};
@@ -141,7 +141,7 @@ pub fn first_breaking(
     requires nets { All (λ wire. wire.net
         < ordered.now.flat.inputs + length ordered.now.flat.cells) plan.now.wires }
     requires links { HasPairs (link_pairs board.now.links) links.now.places }
-    ensures { result ≡ first_breaking rule (setting_of ordered.now board.now plan.now) }
+    ensures { result ≡ first_breaking rule (planned_board ordered.now board.now plan.now) }
 {
     for (number, wire) in plan.wires().iter().enumerate() {
         let from = node_of(ordered.flat(), plan.chip_of(), wire.net());
@@ -166,7 +166,7 @@ fn broken_wire(
     requires net { wire.now.net < ordered.now.flat.inputs + length ordered.now.flat.cells }
     requires few { length wire.now.hops < 2 ^ 32 }
     requires links { HasPairs (link_pairs board.now.links) links.now.places }
-    ensures { result ≡ broken_wire (setting_of ordered.now board.now plan.now) number wire.now }
+    ensures { result ≡ broken_wire (planned_board ordered.now board.now plan.now) number wire.now }
 {
     if wire.hops().is_empty() {
         return Some(PlanFault::BrokenRoute(number, 0));
@@ -186,7 +186,7 @@ pub fn broken_route(
     requires nets { All (λ wire. wire.net
         < ordered.now.flat.inputs + length ordered.now.flat.cells) plan.now.wires }
     requires links { HasPairs (link_pairs board.now.links) links.now.places }
-    ensures { result ≡ broken_route (setting_of ordered.now board.now plan.now) }
+    ensures { result ≡ broken_route (planned_board ordered.now board.now plan.now) }
 {
     for (number, wire) in plan.wires().iter().enumerate() {
         let found = broken_wire(ordered, board, plan, links, number as u32, wire);

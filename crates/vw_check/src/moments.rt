@@ -4,17 +4,17 @@ ghost use Rattle.std.specs.List.{All};
 ghost use Rattle.vw_plan.specs.Nets.{greatest_read};
 ghost use Rattle.vw_plan.specs.Lead.{after_last, brought_at, is_gate_at, usable};
 ghost use Rattle.vw_net.specs.Lists.{greatest};
-ghost use Rattle.vw_plan.specs.Setting.{setting_of};
+ghost use Rattle.vw_plan.specs.PlannedBoard.{planned_board};
 ghost use Rattle.vw_check.specs.MomentFaults.{late_latch, too_early};
 ghost use Rattle.vw_check.specs.Pairs.{HasPairs};
 ghost use Rattle.vw_check.specs.Steps.Tables.{wire_pairs};
-ghost use Rattle.vw_check.specs.Steps.Moments.{AreLeads, lead_by};
+ghost use Rattle.vw_check.specs.Steps.LeadTables.{AreLeads, lead_by};
 
 use crate::fault::PlanFault;
 use crate::pairs::PairTable;
 use std::alloc::{AllocError, Global};
 use vw_net::{Cell, Ordered};
-use vw_plan::{Board, Hop, Plan, leads_settle, node_of};
+use vw_plan::{Board, Hop, Plan, leads_follow_drivers, node_of};
 
 /// One past the microcycle of the last of some hops; 0 where there is none.
 fn after_last(hops: &[Hop]) -> u64
@@ -38,7 +38,7 @@ fn brought_at(
     net: u32,
 ) -> u64
     requires { HasPairs (wire_pairs plan.now.wires) wires.now.places }
-    ensures value { result ≡ brought_at (setting_of ordered.now board.now plan.now) node net }
+    ensures value { result ≡ brought_at (planned_board ordered.now board.now plan.now) node net }
     ensures few { result ≤ 2 ^ 62 + 1 }
 {
     match wires.first(net, node) {
@@ -63,7 +63,7 @@ fn lead_at(
     requires low { All (λ lead. lead ≤ 2 ^ 62 + 1) leads.now }
     requires wires { HasPairs (wire_pairs plan.now.wires) wires.now.places }
     ensures value { result
-        ≡ lead_by (setting_of ordered.now board.now plan.now) leads.now node net }
+        ≡ lead_by (planned_board ordered.now board.now plan.now) leads.now node net }
     ensures few { result ≤ 2 ^ 62 + 1 }
 {
     if node_of(ordered.flat(), plan.chip_of(), net) == node {
@@ -89,7 +89,7 @@ fn greatest_lead(
     requires low { All (λ lead. lead ≤ 2 ^ 62 + 1) leads.now }
     requires wires { HasPairs (wire_pairs plan.now.wires) wires.now.places }
     ensures value { result ≡ greatest (map (lead_by
-        (setting_of ordered.now board.now plan.now) leads.now node) nets.now) }
+        (planned_board ordered.now board.now plan.now) leads.now node) nets.now) }
     ensures few { result ≤ 2 ^ 62 + 1 }
 {
     let mut greatest = 0;
@@ -117,7 +117,7 @@ fn lead_of_cell(
     requires low { All (λ lead. lead ≤ 2 ^ 62 + 1) leads.now }
     requires wires { HasPairs (wire_pairs plan.now.wires) wires.now.places }
     ensures value { result ≡ greatest_read
-        (lead_by (setting_of ordered.now board.now plan.now) leads.now
+        (lead_by (planned_board ordered.now board.now plan.now) leads.now
         (slice_index plan.now.chip_of number))
         (slice_get ordered.now.flat.cells number) }
     ensures few { result ≤ 2 ^ 62 + 1 }
@@ -142,9 +142,9 @@ pub fn home_leads(
     requires each { length plan.now.chip_of ≡ length ordered.now.flat.cells }
     requires wires { HasPairs (wire_pairs plan.now.wires) wires.now.places }
     ensures { IfOk result
-        (λ leads. AreLeads (setting_of ordered.now board.now plan.now) leads.items) }
+        (λ leads. AreLeads (planned_board ordered.now board.now plan.now) leads.items) }
 {
-    leads_settle();
+    leads_follow_drivers();
     let flat = ordered.flat();
     let inputs = flat.inputs() as usize;
     let mut leads = vec![in alloc; 0; inputs + flat.cells().len()]?;
@@ -159,7 +159,7 @@ pub fn home_leads(
 fn is_gate_at(ordered: &Ordered, board: &Board, plan: &Plan, node: u32, net: u32) -> bool
     requires each { length plan.now.chip_of ≡ length ordered.now.flat.cells }
     requires net { net < ordered.now.flat.inputs + length ordered.now.flat.cells }
-    ensures { result ≡ is_gate_at (setting_of ordered.now board.now plan.now) node net }
+    ensures { result ≡ is_gate_at (planned_board ordered.now board.now plan.now) node net }
 {
     let flat = ordered.flat();
     if net < flat.inputs() {
@@ -183,12 +183,12 @@ fn usable_at(
 ) -> u64
     requires each { length plan.now.chip_of ≡ length ordered.now.flat.cells }
     requires net { net < ordered.now.flat.inputs + length ordered.now.flat.cells }
-    requires leads { AreLeads (setting_of ordered.now board.now plan.now) leads.now }
+    requires leads { AreLeads (planned_board ordered.now board.now plan.now) leads.now }
     requires wires { HasPairs (wire_pairs plan.now.wires) wires.now.places }
-    ensures { result ≡ usable (setting_of ordered.now board.now plan.now) node net }
+    ensures { result ≡ usable (planned_board ordered.now board.now plan.now) node net }
 {
     let lead = lead_at(ordered, board, plan, wires, leads, node, net);
-    leads_settle();
+    leads_follow_drivers();
     if is_gate_at(ordered, board, plan, node, net) {
         return lead + u64::from(board.settle());
     }
@@ -206,9 +206,9 @@ pub fn too_early(
     requires each { length plan.now.chip_of ≡ length ordered.now.flat.cells }
     requires nets { All (λ wire. wire.net
         < ordered.now.flat.inputs + length ordered.now.flat.cells) plan.now.wires }
-    requires leads { AreLeads (setting_of ordered.now board.now plan.now) leads.now }
+    requires leads { AreLeads (planned_board ordered.now board.now plan.now) leads.now }
     requires wires { HasPairs (wire_pairs plan.now.wires) wires.now.places }
-    ensures { result ≡ too_early (setting_of ordered.now board.now plan.now) }
+    ensures { result ≡ too_early (planned_board ordered.now board.now plan.now) }
 {
     for (number, wire) in plan.wires().iter().enumerate() {
         if let Some(hop) = wire.hops().first() {
@@ -231,9 +231,9 @@ pub fn late_latch(
     leads: &[u64],
 ) -> Option<PlanFault>
     requires each { length plan.now.chip_of ≡ length ordered.now.flat.cells }
-    requires leads { AreLeads (setting_of ordered.now board.now plan.now) leads.now }
+    requires leads { AreLeads (planned_board ordered.now board.now plan.now) leads.now }
     requires wires { HasPairs (wire_pairs plan.now.wires) wires.now.places }
-    ensures { result ≡ late_latch (setting_of ordered.now board.now plan.now) }
+    ensures { result ≡ late_latch (planned_board ordered.now board.now plan.now) }
 {
     for (number, cell) in ordered.flat().cells().iter().enumerate() {
         if let Cell::Latch { d, .. } = cell {

@@ -15,7 +15,7 @@ use Rattle.vw_design.specs.Distinct.{has_name}
 use Rattle.vw_design.specs.Paths.{Word, Path, Net, model_named, model_at, items_of, model_outputs, is_port}
 use Rattle.vw_design.specs.Claims.{Numbered, and_behind, numbered, port, driven, bound, bind_claim, item_claims, claims}
 use Rattle.vw_design.specs.Preorder.{Site, sites}
-use Rattle.vw_design.specs.Reads.{net_at}
+use Rattle.vw_design.specs.NetReads.{net_at}
 use Rattle.vw_design.specs.NetFaults.{bound_actual, claimed_by, claimed_before, first_again, claimed_again, two_drivers}
 use Rattle.vw_design.specs.PathValue.{item_at}
 use Rattle.vw_design.specs.Accepted.{IsAccepted}

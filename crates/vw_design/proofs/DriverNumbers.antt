@@ -11,7 +11,7 @@ use Rattle.vw_design.specs.Paths.{Word, Path, Net, model_at, items_of, is_port}
 use Rattle.vw_design.specs.Claims.{Claim, port, driven, bound, first_claim}
 use Rattle.vw_design.specs.Drivers.{Source, at_port, at_cell, actual_of, turn_up, turn_by, follow_turn, follow, driver}
 use Rattle.vw_design.specs.Preorder.{Site, is_cell, sites, cells}
-use Rattle.vw_design.specs.Reads.{nets_at, data_of, controls_of, root_outputs, net_reads, data_reads}
+use Rattle.vw_design.specs.NetReads.{nets_at, data_of, controls_of, root_outputs, net_reads, data_reads}
 use Rattle.vw_design.specs.Clocks.{inputs_of, clocks_of, control_ports, clock_ports, columns}
 use Rattle.vw_design.specs.PathValue.{item_at, place_of_name, place_of_site, is_site_of}
 use Rattle.vw_design.specs.NetFaults.{is_clock_source}

@@ -12,7 +12,7 @@ use Rattle.vw_design.specs.declared.item.Item.TheVariants.{Names, Latch as Latch
 use Rattle.vw_design.specs.declared.design.Design.{Design}
 use Rattle.vw_design.specs.Paths.{Word, Path, Net}
 use Rattle.vw_design.specs.Preorder.{Site, is_latch_item, cells}
-use Rattle.vw_design.specs.Reads.{root_outputs}
+use Rattle.vw_design.specs.NetReads.{root_outputs}
 use Rattle.vw_design.specs.PathValue.{path_value}
 use Rattle.vw_design.specs.PathHistory.{latch_start, latch_next, path_start, path_outputs, path_next, path_outputs_from, path_states_from, path_state_after, path_history_from, path_history}
 use Rattle.vw_design.specs.Flattened.{number_of, IsCellOf, IsFlatOf}

@@ -1,5 +1,5 @@
 pub mod WorkedParts
-pub mod Worked
+pub mod WorkedDesign
 pub mod WorkedRows
 pub mod WorkedFaults
 pub mod ListElements
@@ -23,7 +23,7 @@ pub mod SitesOnce
 pub mod Weights
 pub mod Heights
 pub mod ClaimedOnce
-pub mod Closed
+pub mod ReachedFromRoot
 pub mod Circles
 pub mod Sizes
 pub mod FaultLaws

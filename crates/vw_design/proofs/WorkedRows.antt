@@ -11,7 +11,7 @@ use Rattle.vw_design.specs.declared.design.Design.{Design}
 use Rattle.vw_design.specs.Paths.{printed}
 use Rattle.vw_design.specs.Drivers.{driver}
 use Rattle.vw_design.specs.Preorder.{sites, cells}
-use Rattle.vw_design.specs.Reads.{net_at, driven_name}
+use Rattle.vw_design.specs.NetReads.{net_at, driven_name}
 use Rattle.vw_design.specs.Clocks.{clock_ports, columns}
 use Rattle.vw_design.specs.PathValue.{path_value}
 use Rattle.vw_design.specs.PathHistory.{path_history}

@@ -6,7 +6,7 @@ use Rattle.vw_design.specs.declared.design.Design.{Design}
 use Rattle.vw_design.specs.Distinct.{has_name}
 use Rattle.vw_design.specs.Paths.{Word, model_at}
 use Rattle.vw_design.specs.Drivers.{Source, at_port, at_cell, driver}
-use Rattle.vw_design.specs.Reads.{controls}
+use Rattle.vw_design.specs.NetReads.{controls}
 
 -- the root port that a driver is
 abbrev pub port_of : Option Source → Option Word

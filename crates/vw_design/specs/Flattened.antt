@@ -11,7 +11,7 @@ use Rattle.vw_design.specs.declared.design.Design.{Design}
 use Rattle.vw_design.specs.Paths.{Word, Path}
 use Rattle.vw_design.specs.Drivers.{Source, at_port, at_cell, driver}
 use Rattle.vw_design.specs.Preorder.{cells}
-use Rattle.vw_design.specs.Reads.{root_outputs}
+use Rattle.vw_design.specs.NetReads.{root_outputs}
 use Rattle.vw_design.specs.Clocks.{columns}
 use Rattle.vw_design.specs.PathValue.{place_of_name, place_of_site}
 

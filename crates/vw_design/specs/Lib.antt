@@ -6,7 +6,7 @@ pub mod WordSets
 pub mod Claims
 pub mod Drivers
 pub mod Preorder
-pub mod Reads
+pub mod NetReads
 pub mod Clocks
 pub mod PathValue
 pub mod PathHistory

@@ -23,8 +23,8 @@ AreTargets design targets =
     AllZip (λ model numbers. AreModelNumbers design (placings model.items) numbers) design.models targets
 
 -- for each model, whether it is reached
-abbrev pub AreModelMarks : Design → List Bool → Type 0
-AreModelMarks design marks = AllZip (λ model mark. mark ≡ is_reached design model.name) design.models marks
+abbrev pub AreModelsReached : Design → List Bool → Type 0
+AreModelsReached design marks = AllZip (λ model mark. mark ≡ is_reached design model.name) design.models marks
 
 -- whether the model with a number is reached
 abbrev pub is_reached_model : Design → Option Model → Bool

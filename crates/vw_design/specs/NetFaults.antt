@@ -14,7 +14,7 @@ use Rattle.vw_design.specs.Lists.{first_found}
 use Rattle.vw_design.specs.Paths.{Word, Path, Net, model_named, model_at, model_outputs}
 use Rattle.vw_design.specs.Drivers.{Source, at_port, at_cell, driver}
 use Rattle.vw_design.specs.Preorder.{Site, sites, latches}
-use Rattle.vw_design.specs.Reads.{net_at, net_reads, data_reads, controls}
+use Rattle.vw_design.specs.NetReads.{net_at, net_reads, data_reads, controls}
 use Rattle.vw_design.specs.Clocks.{clock_ports, control_ports}
 
 -- 19: a net that is read has no driver

@@ -7,7 +7,7 @@ use Rattle.vw_design.specs.declared.item.Item.TheVariants.{Names, Latch, Sub}
 use Rattle.vw_design.specs.declared.design.Design.{Design}
 use Rattle.vw_design.specs.Paths.{Word}
 use Rattle.vw_design.specs.Preorder.{latches}
-use Rattle.vw_design.specs.Reads.{root_outputs}
+use Rattle.vw_design.specs.NetReads.{root_outputs}
 use Rattle.vw_design.specs.PathValue.{path_value}
 
 -- what a latch starts at, `unknown` where its initial value is free

@@ -1,4 +1,4 @@
-ghost use Rattle.vw_design.specs.ModelNumbers.{AreTargets, AreModelMarks};
+ghost use Rattle.vw_design.specs.ModelNumbers.{AreTargets, AreModelsReached};
 
 use crate::plain::{add_behind, add_number, assert_same};
 use std::alloc::{AllocError, Global};
@@ -7,7 +7,7 @@ use std::test::Fail;
 use vw_blif::read;
 use vw_design::Design;
 use vw_models::{
-    FormalAt, OutputOf, both_ways, marks_of, targets_of, unbound_input, unknown_formal,
+    FormalAt, OutputOf, both_ways, models_reached, targets_of, unbound_input, unknown_formal,
 };
 use vw_net::Sequence;
 
@@ -35,7 +35,7 @@ fn fault_at(
     marks: &[bool],
 ) -> Result<Vec<u8>, AllocError>
     requires targets { AreTargets design.now targets.now }
-    requires marks { AreModelMarks design.now marks.now }
+    requires marks { AreModelsReached design.now marks.now }
 {
     if let Some(found) = unknown_formal(alloc, design, targets, marks)? {
         return formal_text(alloc, b"unknown ", &found);
@@ -53,7 +53,7 @@ fn fault_at(
 /// is an input too.
 fn first_fault(alloc: Global, design: &Design) -> Result<Vec<u8>, AllocError> {
     let targets = targets_of(alloc, design)?;
-    let marks = marks_of(alloc, design, targets.as_slice())?;
+    let marks = models_reached(alloc, design, targets.as_slice())?;
     fault_at(alloc, design, targets.as_slice(), marks.as_slice())
 }
 

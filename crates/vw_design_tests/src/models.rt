@@ -4,7 +4,7 @@ use std::process::Abort;
 use std::test::Fail;
 use vw_blif::read;
 use vw_design::Design;
-use vw_models::{ModelOrder, marks_of, order_of, targets_of, unknown_model};
+use vw_models::{ModelOrder, models_reached, order_of, targets_of, unknown_model};
 use vw_outside::Name;
 
 /// The line of an unknown model.
@@ -31,7 +31,7 @@ fn circle(alloc: Global, names: &[Name]) -> Result<Vec<u8>, AllocError> {
 /// What is found of a design: the line of an unknown model, or an order or a circle of the models that are reached.
 fn look_at(alloc: Global, design: &Design) -> Result<Vec<u8>, AllocError> {
     let targets = targets_of(alloc, design)?;
-    let marks = marks_of(alloc, design, targets.as_slice())?;
+    let marks = models_reached(alloc, design, targets.as_slice())?;
     if let Some(line) = unknown_model(design, targets.as_slice(), marks.as_slice()) {
         return unknown(alloc, line);
     }

@@ -5,13 +5,13 @@ use std::test::Fail;
 use vw_blif::read;
 use vw_design::Design;
 use vw_instances::{Before, Measured, Sizes, sizes_of};
-use vw_models::{ModelOrder, marks_of, order_of, targets_of, unknown_model};
+use vw_models::{ModelOrder, models_reached, order_of, targets_of, unknown_model};
 use vw_net::Sequence;
 
 /// What counting a design gives, if its models are known and place each other in no circle.
 fn measured(alloc: Global, design: &Design) -> Result<Option<Measured>, AllocError> {
     let targets = targets_of(alloc, design)?;
-    let marks = marks_of(alloc, design, targets.as_slice())?;
+    let marks = models_reached(alloc, design, targets.as_slice())?;
     if unknown_model(design, targets.as_slice(), marks.as_slice()).is_some() {
         return Ok(None);
     }

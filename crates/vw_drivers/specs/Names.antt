@@ -7,7 +7,7 @@ use Rattle.vw_design.specs.declared.item.Item.TheVariants.{Sub}
 use Rattle.vw_design.specs.declared.model.Model.{Model}
 use Rattle.vw_design.specs.declared.design.Design.{Design}
 use Rattle.vw_design.specs.Paths.{Word, Placing, placings, model_named}
-use Rattle.vw_design.specs.Reads.{data_of, controls_of}
+use Rattle.vw_design.specs.NetReads.{data_of, controls_of}
 use Rattle.vw_drivers.specs.declared.claim.Claim.{Claim}
 use Rattle.vw_drivers.specs.declared.claim.Claim.TheVariants as claims
 use Rattle.vw_drivers.specs.declared.model_claims.ModelClaims.{ModelClaims}

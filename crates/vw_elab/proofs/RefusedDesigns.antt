@@ -9,11 +9,11 @@ use Rattle.vw_instances.specs.Quantities.{counted_of}
 use Rattle.vw_elab.specs.declared.fault.DesignFault.{DesignFault}
 use Rattle.vw_elab.specs.declared.fault.DesignFault.TheVariants.{UnknownModel, RecursiveModel, UnknownFormal, UnboundInput, BothWays, TooBig, Undriven, TwoDrivers, GatedClock, SeveralClocks, SeveralEdges, ClockAsData, NoMemory}
 use Rattle.vw_elab.specs.Refusals.{IsRefusal, is_design_fault}
-use Rattle.vw_elab.specs.Steps.FaultSearch.{Judges}
+use Rattle.vw_elab.specs.Steps.FaultSearch.{IsMadeOrRefused}
 
 -- an error that refuses the design
 pub judged_by : {A : Type 0} (design : Design) (Good : A → Type 0) (result : Result A DesignFault) (fault : DesignFault)
-    → IsErr result × IsErrAnd result (λ told. told ≡ fault) → IsRefusal design fault → Judges design Good result
+    → IsErr result × IsErrAnd result (λ told. told ≡ fault) → IsRefusal design fault → IsMadeOrRefused design Good result
 judged_by design Good result fault told is = let p = err_from_is_err_and result told.1 in rw (p.1, p.2) is
 
 -- a refusal is a fault

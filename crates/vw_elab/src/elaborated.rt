@@ -5,7 +5,7 @@ ghost use Rattle.vw_design.specs.Clocks.{columns};
 ghost use Rattle.vw_design.specs.Drivers.{driver};
 ghost use Rattle.vw_design.specs.Limits.{instance_count, cell_count};
 ghost use Rattle.vw_design.specs.Paths.{Word, Path, printed};
-ghost use Rattle.vw_design.specs.Reads.{net_at};
+ghost use Rattle.vw_design.specs.NetReads.{net_at};
 ghost use Rattle.vw_design.specs.Preorder.{instances, cells, Site};
 ghost use Rattle.vw_drivers.specs.Names.{reads_of};
 ghost use Rattle.vw_instances.specs.Tables.{IsCellSite};

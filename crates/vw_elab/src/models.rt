@@ -1,18 +1,18 @@
 //! Faults of models, and the models by numbers.
 ghost use Rattle.std.specs.Prelude.{◌≡◌, None};
 ghost use Rattle.vw_design.specs.ModelFaults.{unknown_model};
-ghost use Rattle.vw_design.specs.ModelNumbers.{AreTargets, AreModelMarks, IsModelOrder};
+ghost use Rattle.vw_design.specs.ModelNumbers.{AreTargets, AreModelsReached, IsModelOrder};
 ghost use Rattle.vw_design.specs.Accepted.{HasNoModelFault};
 ghost use Rattle.vw_instances.specs.Sizes.{AreSizes};
-ghost use Rattle.vw_elab.specs.Steps.FaultSearch.{Judges, HasKnownModels, HasBindings, AreModelTables};
+ghost use Rattle.vw_elab.specs.Steps.FaultSearch.{IsMadeOrRefused, HasKnownModels, HasBindings, AreModelTables};
 
 use crate::fault::DesignFault;
 use std::alloc::Global;
 use vw_design::Design;
 use vw_instances::{Measured, Sizes, sizes_of};
 use vw_models::{
-    ModelOrder, both_ways, marks_of, order_of, ordered_is_no_circle, targets_of, unbound_input,
-    unknown_formal, unknown_model,
+    ModelOrder, both_ways, models_reached, order_of, ordered_is_no_circle, targets_of,
+    unbound_input, unknown_formal, unknown_model,
 };
 use vw_net::Sequence;
 
@@ -33,8 +33,8 @@ fn order_of_models(
     marks: &[bool],
 ) -> Result<Sequence<u32>, DesignFault>
     requires targets { AreTargets design.now targets.now }
-    requires marks { AreModelMarks design.now marks.now }
-    ensures order { Judges design.now
+    requires marks { AreModelsReached design.now marks.now }
+    ensures order { IsMadeOrRefused design.now
         (λ order. IsModelOrder design.now order × HasKnownModels design.now) result }
 {
     if let Some(line) = unknown_model(design, targets, marks) {
@@ -57,9 +57,9 @@ fn check_bindings(
     marks: &[bool],
 ) -> Result<(), DesignFault>
     requires targets { AreTargets design.now targets.now }
-    requires marks { AreModelMarks design.now marks.now }
+    requires marks { AreModelsReached design.now marks.now }
     requires models { HasKnownModels design.now }
-    ensures { Judges design.now (λ _. HasBindings design.now) result }
+    ensures { IsMadeOrRefused design.now (λ _. HasBindings design.now) result }
 {
     if let Some(at) = unknown_formal(alloc, design, targets, marks)? {
         return Err(DesignFault::UnknownFormal(at.line, at.formal));
@@ -80,10 +80,10 @@ fn checked_order(
     targets: &[Sequence<Option<u32>>],
 ) -> Result<Sequence<u32>, DesignFault>
     requires { AreTargets design.now targets.now }
-    ensures { Judges design.now
+    ensures { IsMadeOrRefused design.now
         (λ order. IsModelOrder design.now order × HasBindings design.now) result }
 {
-    let marks = marks_of(alloc, design, targets)?;
+    let marks = models_reached(alloc, design, targets)?;
     let order = order_of_models(alloc, design, targets, &marks)?;
     check_bindings(alloc, design, targets, &marks)?;
     Ok(order)
@@ -99,7 +99,7 @@ fn check_sizes(
     requires targets { AreTargets design.now targets.now }
     requires order { IsModelOrder design.now order.now }
     requires bindings { HasBindings design.now }
-    ensures { Judges design.now
+    ensures { IsMadeOrRefused design.now
         (λ sizes. AreSizes design.now sizes × HasNoModelFault design.now) result }
 {
     match sizes_of(alloc, design, targets, order)? {
@@ -110,7 +110,7 @@ fn check_sizes(
 
 /// The models of a design without a fault of its models.
 pub fn models_of(alloc: Global, design: &Design) -> Result<Models, DesignFault>
-    ensures { Judges design.now (AreModelTables design.now) result }
+    ensures { IsMadeOrRefused design.now (AreModelTables design.now) result }
 {
     let targets = targets_of(alloc, design)?;
     let order = checked_order(alloc, design, &targets)?;

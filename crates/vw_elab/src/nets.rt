@@ -1,7 +1,7 @@
 //! Faults of nets.
 ghost use Rattle.vw_design.specs.Accepted.{HasNoModelFault, IsAccepted};
 ghost use Rattle.vw_nets.specs.Nets.{AreNets};
-ghost use Rattle.vw_elab.specs.Steps.FaultSearch.{Judges, HasDrivers};
+ghost use Rattle.vw_elab.specs.Steps.FaultSearch.{IsMadeOrRefused, HasDrivers};
 
 use crate::fault::DesignFault;
 use std::alloc::Global;
@@ -10,7 +10,7 @@ use vw_nets::Nets;
 /// Looks for nets without a driver, or with two.
 fn check_drivers(alloc: Global, nets: &Nets) -> Result<(), DesignFault>
     requires { AreNets nets.now }
-    ensures { Judges nets.now.design.now (λ _. HasDrivers nets.now.design.now) result }
+    ensures { IsMadeOrRefused nets.now.design.now (λ _. HasDrivers nets.now.design.now) result }
 {
     if let Some(net) = nets.undriven(alloc)? {
         return Err(DesignFault::Undriven(net));
@@ -25,7 +25,7 @@ fn check_drivers(alloc: Global, nets: &Nets) -> Result<(), DesignFault>
 fn check_clocks(alloc: Global, nets: &Nets) -> Result<(), DesignFault>
     requires nets { AreNets nets.now }
     requires drivers { HasDrivers nets.now.design.now }
-    ensures { Judges nets.now.design.now (λ _. IsAccepted nets.now.design.now) result }
+    ensures { IsMadeOrRefused nets.now.design.now (λ _. IsAccepted nets.now.design.now) result }
 {
     if let Some(net) = nets.gated_clock(alloc)? {
         return Err(DesignFault::GatedClock(net));
@@ -45,7 +45,7 @@ fn check_clocks(alloc: Global, nets: &Nets) -> Result<(), DesignFault>
 /// Looks for faults of nets. A design without one is accepted.
 pub fn check_nets(alloc: Global, nets: &Nets) -> Result<(), DesignFault>
     requires { AreNets nets.now }
-    ensures { Judges nets.now.design.now (λ _. IsAccepted nets.now.design.now) result }
+    ensures { IsMadeOrRefused nets.now.design.now (λ _. IsAccepted nets.now.design.now) result }
 {
     check_drivers(alloc, nets)?;
     check_clocks(alloc, nets)

@@ -2,7 +2,7 @@
 #![tactic(auto)]
 
 ghost use Rattle.std.specs.Prelude.{◌≡◌, IfOk};
-ghost use Rattle.vw_example.specs.Outcome.{IsOutcome};
+ghost use Rattle.vw_example.specs.SimulateStatuses.{SimulateStatuses};
 
 use std::alloc::{AllocError, Global};
 use vw_outside::{Held, MemShelf, MemSink, Name};
@@ -28,7 +28,7 @@ fn owned_name(alloc: Global, bytes: &[u8]) -> Result<Name, AllocError>
 /// empty. Where there is no memory for the whole message, the call ends with an error.
 pub fn simulate(alloc: Global, design: Vec<u8>, stimulus: Vec<u8>) -> Result<Simulated, AllocError>
     ensures { IfOk result (λ simulated.
-        IsOutcome design.items stimulus.items simulated.out.items simulated.err.items
+        SimulateStatuses design.items stimulus.items simulated.out.items simulated.err.items
         simulated.status) }
 {
     let files = vec![in alloc;

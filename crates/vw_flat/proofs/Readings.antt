@@ -12,7 +12,7 @@ use Rattle.vw_design.specs.declared.design.Design.{Design}
 use Rattle.vw_design.specs.Paths.{Word, Net, items_of}
 use Rattle.vw_design.specs.Drivers.{Source, at_port, at_cell, driver}
 use Rattle.vw_design.specs.Preorder.{Site, is_cell, sites, cells}
-use Rattle.vw_design.specs.Reads.{net_at, nets_at, data_of, controls_of, root_outputs, data_reads}
+use Rattle.vw_design.specs.NetReads.{net_at, nets_at, data_of, controls_of, root_outputs, data_reads}
 use Rattle.vw_design.specs.Clocks.{columns}
 use Rattle.vw_design.specs.PathValue.{place_of_name, place_of_site}
 use Rattle.vw_design.specs.Flattened.{number_of_source, number_of}

@@ -6,7 +6,7 @@ ghost use Rattle.vw_net.specs.History.{flat_history};
 ghost use Rattle.vw_design.specs.Flattened.{number_of, IsCellOf, IsFlatOf};
 ghost use Rattle.vw_design.specs.PathHistory.{path_history};
 ghost use Rattle.vw_design.specs.Preorder.{cells};
-ghost use Rattle.vw_design.specs.Reads.{root_outputs};
+ghost use Rattle.vw_design.specs.NetReads.{root_outputs};
 ghost use Rattle.vw_flat.specs.Steps.Numbers.{net_count};
 
 use crate::cell::{cell_of, item_at_cell};

@@ -1,7 +1,7 @@
 //! Numbers of nets.
 ghost use Rattle.std.specs.Prelude.{◌≡◌, ◌<◌, [], Some, length, slice_get};
 ghost use Rattle.vw_design.specs.Preorder.{cells};
-ghost use Rattle.vw_design.specs.Reads.{root_outputs};
+ghost use Rattle.vw_design.specs.NetReads.{root_outputs};
 ghost use Rattle.vw_design.specs.Flattened.{number_of};
 ghost use Rattle.vw_flat.specs.Steps.Numbers.{number_by, HasNumber, net_count, numbers_at};
 

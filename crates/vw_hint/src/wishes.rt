@@ -1,7 +1,7 @@
 //! Where cells might be put.
 ghost use Rattle.std.specs.Prelude.{◌≡◌, length, IfOk};
 ghost use Rattle.std.specs.List.{All};
-ghost use Rattle.vw_plan.specs.Good.{IsChip};
+ghost use Rattle.vw_plan.specs.Chips.{IsChip};
 
 use crate::cut::{Cut, better};
 use crate::halves::halved;

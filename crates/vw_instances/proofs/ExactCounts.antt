@@ -11,7 +11,7 @@ use Rattle.vw_design.specs.Limits.{too_big}
 use Rattle.vw_design.specs.Counts.{placed_one, cell_one, items_weight, model_weight, is_below}
 use Rattle.vw_design.specs.Paths.{Word, Path, Placing, placing_of, placings, model_at, model_named, items_of}
 use Rattle.vw_design.specs.ModelFaults.{is_reached}
-use Rattle.vw_design.proofs.Closed.{reached_at, model_is_named}
+use Rattle.vw_design.proofs.ReachedFromRoot.{reached_at, model_is_named}
 use Rattle.vw_design.proofs.ListElements.{Has, all-Has, from-filter_map}
 use Rattle.vw_design.proofs.Sizes.{small_of}
 use Rattle.vw_design.proofs.Weights.{capped_weight}

@@ -11,7 +11,7 @@ use Rattle.vw_design.specs.declared.design.Design.{Design}
 use Rattle.vw_design.specs.Paths.{Word, Placing, placings, model_named, items_of}
 use Rattle.vw_design.specs.ModelFaults.{has_model_name, is_reached, place_in_file}
 use Rattle.vw_design.specs.ModelNumbers.{is_reached_model, has_number_among, IsModelOrder}
-use Rattle.vw_design.proofs.Closed.{at_reached, model_is_named}
+use Rattle.vw_design.proofs.ReachedFromRoot.{at_reached, model_is_named}
 use Rattle.vw_design.proofs.ListElements.{Has, at-Has, all-Has, from-any, any-Has}
 use Rattle.vw_design.proofs.Names.{equal_names}
 use Rattle.vw_net.proofs.Orders.{among_at, at_among}

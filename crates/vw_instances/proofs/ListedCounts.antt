@@ -12,7 +12,7 @@ use Rattle.vw_instances.specs.declared.tables.Placed.{Placed}
 use Rattle.vw_instances.specs.declared.tables.CellSite.{CellSite}
 use Rattle.vw_instances.specs.declared.frame.Frame.{Frame}
 use Rattle.vw_instances.specs.Tables.{IsCellSite}
-use Rattle.vw_instances.specs.Steps.Frames.{FrameLevel, sites_left, listed_with, cells_among, IsFrame, IsUnderWay}
+use Rattle.vw_instances.specs.Steps.Frames.{FrameLevel, sites_left, listed_with, cells_among, IsFrame, IsPartlyListed}
 use Rattle.vw_instances.proofs.GrownLists.{last_first}
 
 -- a site is a cell, or it places an instance
@@ -34,7 +34,7 @@ placings_count (Sub line model binds ∷ items) = omega (arith, placings_count i
 
 module _ (design : Design) where
   -- what a walk has listed is no more than there is
-  pub walk_within : (table : List Placed) (made : List CellSite) (frames : List Frame) → IsUnderWay design table made frames
+  pub walk_within : (table : List Placed) (made : List CellSite) (frames : List Frame) → IsPartlyListed design table made frames
       → length table + length made ≤ instance_count design + cell_count design
   walk_within table made frames walk =
       let whole : length walk.done + length (flat_map (sites_left design) walk.levels) ≡ length (sites design) =
@@ -49,14 +49,14 @@ module _ (design : Design) where
       )
 
   -- the last frame apart
-  pub record IsTop (table : List Placed) (made : List CellSite) (frames : List Frame) (frame : Frame) (walk : IsUnderWay design table made (frames ++ (frame ∷ []))) : Type 0 where
+  pub record IsTop (table : List Placed) (made : List CellSite) (frames : List Frame) (frame : Frame) (walk : IsPartlyListed design table made (frames ++ (frame ∷ []))) : Type 0 where
     pub level : FrameLevel
     pub levels : List FrameLevel
     pub all : walk.done ++ flat_map (sites_left design) (level ∷ levels) ≡ sites design
     pub top : IsFrame design (listed_with walk.done) (length walk.done) level frame
     pub below : AllZip (IsFrame design (listed_with walk.done) (length walk.done)) levels (reverse frames)
 
-  pub top_of : (table : List Placed) (made : List CellSite) (frames : List Frame) (frame : Frame) (walk : IsUnderWay design table made (frames ++ (frame ∷ []))) → IsTop table made frames frame walk
+  pub top_of : (table : List Placed) (made : List CellSite) (frames : List Frame) (frame : Frame) (walk : IsPartlyListed design table made (frames ++ (frame ∷ []))) → IsTop table made frames frame walk
   top_of table made frames frame walk =
       by walk.levels walk.all (subst (λ (list : List Frame). AllZip (IsFrame design (listed_with walk.done) (length walk.done)) walk.levels list) (last_first frames frame) walk.stack)
     where
@@ -72,7 +72,7 @@ module _ (design : Design) where
     pub instances : length table < 2 ^ 32
     pub cells : length made < 2 ^ 32
 
-  pub are_small : IsSmall design → (table : List Placed) (made : List CellSite) (frames : List Frame) (frame : Frame) → IsUnderWay design table made (frames ++ (frame ∷ [])) → IsSmallWalk table made frame
+  pub are_small : IsSmall design → (table : List Placed) (made : List CellSite) (frames : List Frame) (frame : Frame) → IsPartlyListed design table made (frames ++ (frame ∷ [])) → IsSmallWalk table made frame
   are_small small table made frames frame walk =
       let top = top_of table made frames frame walk in
       let within = walk_within table made (frames ++ (frame ∷ [])) walk in

@@ -10,7 +10,7 @@ use Rattle.vw_design.specs.declared.design.Design.{Design}
 use Rattle.vw_design.specs.Paths.{Word, Path, Placing, placings, placing_at, model_named, model_placed, model_at, items_of}
 use Rattle.vw_design.specs.ModelFaults.{is_reached}
 use Rattle.vw_design.specs.Counts.{items_height, is_below}
-use Rattle.vw_design.proofs.Closed.{reached_at, model_is_named}
+use Rattle.vw_design.proofs.ReachedFromRoot.{reached_at, model_is_named}
 use Rattle.vw_design.proofs.ListElements.{Has, Has-at}
 use Rattle.vw_design.proofs.ModelNumbers.{name_of_named}
 use Rattle.vw_instances.specs.declared.measure.Measure.{Measure}

@@ -12,7 +12,7 @@ use Rattle.vw_design.specs.Paths.{Word, model_at, model_named, items_of, model_o
 use Rattle.vw_design.specs.ModelFaults.{is_reached}
 use Rattle.vw_design.specs.Clocks.{inputs_of, clocks_of}
 use Rattle.vw_design.specs.Preorder.{sites, paths_of}
-use Rattle.vw_design.proofs.Closed.{reached_at}
+use Rattle.vw_design.proofs.ReachedFromRoot.{reached_at}
 use Rattle.vw_design.proofs.Heights.{design_reaches}
 use Rattle.vw_design.proofs.Weights.{design_weighs, instances_weigh, cells_weigh, capped_weight, heights}
 use Rattle.vw_design.proofs.ModelNumbers.{place_of_model}

@@ -16,7 +16,7 @@ use Rattle.vw_instances.specs.declared.frame.Frame.{Frame}
 use Rattle.vw_instances.specs.declared.next.Next.{Next}
 use Rattle.vw_instances.specs.declared.next.Next.TheVariants.{End, Cell, Place}
 use Rattle.vw_instances.specs.Steps.Nexts.{target_at, next_placed, next_by, next_of}
-use Rattle.vw_instances.specs.Steps.Frames.{FrameLevel, sites_left, listed_with, IsFrame, entered, behind_item, site_of_frame, placed_in_frame, IsUnderWay, steps_left}
+use Rattle.vw_instances.specs.Steps.Frames.{FrameLevel, sites_left, listed_with, IsFrame, entered, behind_item, site_of_frame, placed_in_frame, IsPartlyListed, steps_left}
 use Rattle.vw_instances.proofs.Nexts.{next_is, placed_next}
 use Rattle.vw_instances.proofs.ListedCounts.{walk_within, IsTop, top_of}
 use Rattle.vw_instances.proofs.SitesLeft.{level_of}
@@ -35,7 +35,7 @@ place_same : (one other : ℕ) → Place one ≡ Place other → one ≡ other
 place_same one other e = cc
 
 module _ (design : Design) (targets : List (List (Option ℕ))) (are_targets : AreTargets design targets) (none_unknown : unknown_model design ≡ None) (small : IsSmall design)
-    (table : List Placed) (made : List CellSite) (frames : List Frame) (frame : Frame) (walk : IsUnderWay design table made (frames ++ (frame ∷ []))) where
+    (table : List Placed) (made : List CellSite) (frames : List Frame) (frame : Frame) (walk : IsPartlyListed design table made (frames ++ (frame ∷ []))) where
   abbrev coming : Next
   coming = next_of design targets frame.model frame.item frame.before
 
@@ -55,10 +55,10 @@ module _ (design : Design) (targets : List (List (Option ℕ))) (are_targets : A
   by_left next is = sym (next_is design targets (listed_with walk.done) (length walk.done) top.level frame top.top) ∙ is
 
   -- nothing is next where no item is left
-  pub ends : coming ≡ End → IsUnderWay design table made frames
+  pub ends : coming ≡ End → IsPartlyListed design table made frames
   ends is = by top.level.path top.level.front top.level.left top.levels top.all top.top top.below (by_left End is) where
     by : (path : Path) (front left : List Item) (levels : List FrameLevel) → Left (level_of path front left) levels → Top (level_of path front left) → Below levels
-        → next_by (target_at targets frame.model frame.before) (slice_get left 0) ≡ End → IsUnderWay design table made frames
+        → next_by (target_at targets frame.model frame.before) (slice_get left 0) ≡ End → IsPartlyListed design table made frames
     by path front [] levels all is_top below none = ended design table made frames frame walk path front levels below all
     by path front (Names line ins out cover ∷ rest) levels all is_top below none = absurd (cell_end none)
     by path front (Latch line d q edge control init ∷ rest) levels all is_top below none = absurd (cell_end none)
@@ -68,11 +68,11 @@ module _ (design : Design) (targets : List (List (Option ℕ))) (are_targets : A
 
   -- a gate or a latch is next
   pub lists_cell : coming ≡ Cell
-      → IsUnderWay design table (made ++ (site_of_frame frame ∷ [])) (frames ++ (behind_item frame frame.before ∷ []))
+      → IsPartlyListed design table (made ++ (site_of_frame frame ∷ [])) (frames ++ (behind_item frame frame.before ∷ []))
   lists_cell is = by top.level.path top.level.front top.level.left top.levels top.all top.top top.below (by_left Cell is) where
     by : (path : Path) (front left : List Item) (levels : List FrameLevel) → Left (level_of path front left) levels → Top (level_of path front left) → Below levels
         → next_by (target_at targets frame.model frame.before) (slice_get left 0) ≡ Cell
-        → IsUnderWay design table (made ++ (site_of_frame frame ∷ [])) (frames ++ (behind_item frame frame.before ∷ []))
+        → IsPartlyListed design table (made ++ (site_of_frame frame ∷ [])) (frames ++ (behind_item frame frame.before ∷ []))
     by path front [] levels all is_top below cell = absurd (cell_end (sym cell))
     by path front (Names line ins out cover ∷ rest) levels all is_top below cell =
         cell_listed design table made frames frame walk path front levels below (Names line ins out cover) rest all is_top
@@ -86,12 +86,12 @@ module _ (design : Design) (targets : List (List (Option ℕ))) (are_targets : A
 
   -- an instance is next
   pub lists_instance : (model : ℕ) → coming ≡ Place model
-      → IsUnderWay design (table ++ (placed_in_frame frame model (length made) ∷ [])) made
+      → IsPartlyListed design (table ++ (placed_in_frame frame model (length made) ∷ [])) made
       (frames ++ (behind_item frame (frame.before + 1) ∷ entered (length table) model ∷ []))
   lists_instance model is = by top.level.path top.level.front top.level.left top.levels top.all top.top top.below (by_left (Place model) is) where
     by : (path : Path) (front left : List Item) (levels : List FrameLevel) → Left (level_of path front left) levels → Top (level_of path front left) → Below levels
         → next_by (target_at targets frame.model frame.before) (slice_get left 0) ≡ Place model
-        → IsUnderWay design (table ++ (placed_in_frame frame model (length made) ∷ [])) made
+        → IsPartlyListed design (table ++ (placed_in_frame frame model (length made) ∷ [])) made
         (frames ++ (behind_item frame (frame.before + 1) ∷ entered (length table) model ∷ []))
     by path front [] levels all is_top below place = absurd (place_end model (sym place))
     by path front (Names line ins out cover ∷ rest) levels all is_top below place = absurd (place_cell model (sym place))
@@ -99,7 +99,7 @@ module _ (design : Design) (targets : List (List (Option ℕ))) (are_targets : A
     by path front (Sub line name binds ∷ rest) levels all is_top below place =
         let found = placed_next design targets are_targets none_unknown small (listed_with walk.done) (length walk.done) path front rest line name binds frame is_top in
         let same : found.number ≡ model = place_same found.number model (sym (ap next_placed found.target_is) ∙ place) in
-        subst (λ (m : ℕ). IsUnderWay design (table ++ (placed_in_frame frame m (length made) ∷ [])) made
+        subst (λ (m : ℕ). IsPartlyListed design (table ++ (placed_in_frame frame m (length made) ∷ [])) made
         (frames ++ (behind_item frame (frame.before + 1) ∷ entered (length table) m ∷ []))) same
         (placed_listed design table made frames frame walk path front levels below line name binds rest all is_top targets small found)
 
@@ -110,13 +110,13 @@ module _ (design : Design) (targets : List (List (Option ℕ))) (are_targets : A
   pub cell_step : (result : Result (Unit {0}) AllocError) (new_table : List Placed) (new_made : List CellSite) (new_frames : List Frame) → coming ≡ Cell → new_table ≡ table
       → OnOk result (new_made ≡ made ++ (site_of_frame frame ∷ []))
       → OnOk result (new_frames ≡ frames ++ (behind_item frame frame.before ∷ []))
-      → OnOk result (IsUnderWay design new_table new_made new_frames)
+      → OnOk result (IsPartlyListed design new_table new_made new_frames)
   cell_step (Err error) new_table new_made new_frames is same cells next = tt
   cell_step (Ok done) new_table new_made new_frames is same cells next =
-      subst (λ (t : List Placed). IsUnderWay design t new_made new_frames) (sym same)
-      (subst (λ (m : List CellSite). IsUnderWay design table m new_frames) (sym cells) (subst (λ (f : List Frame). IsUnderWay design table (made ++ (site_of_frame frame ∷ [])) f) (sym next) (lists_cell is)))
+      subst (λ (t : List Placed). IsPartlyListed design t new_made new_frames) (sym same)
+      (subst (λ (m : List CellSite). IsPartlyListed design table m new_frames) (sym cells) (subst (λ (f : List Frame). IsPartlyListed design table (made ++ (site_of_frame frame ∷ [])) f) (sym next) (lists_cell is)))
 
-  pub cell_falls : (result : Result (Unit {0}) AllocError) (new_table : List Placed) (new_made : List CellSite) (new_frames : List Frame) → OnOk result (IsUnderWay design new_table new_made new_frames)
+  pub cell_falls : (result : Result (Unit {0}) AllocError) (new_table : List Placed) (new_made : List CellSite) (new_frames : List Frame) → OnOk result (IsPartlyListed design new_table new_made new_frames)
       → new_table ≡ table
       → OnOk result (new_made ≡ made ++ (site_of_frame frame ∷ []))
       → OnOk result (new_frames ≡ frames ++ (behind_item frame frame.before ∷ []))
@@ -137,14 +137,14 @@ module _ (design : Design) (targets : List (List (Option ℕ))) (are_targets : A
   pub instance_step : (result : Result (Unit {0}) AllocError) (new_table : List Placed) (new_made : List CellSite) (new_frames : List Frame) (model : ℕ) → coming ≡ Place model → new_made ≡ made
       → OnOk result (new_table ≡ table ++ (placed_in_frame frame model (length made) ∷ []))
       → OnOk result (new_frames ≡ frames ++ (behind_item frame (frame.before + 1) ∷ entered (length table) model ∷ []))
-      → OnOk result (IsUnderWay design new_table new_made new_frames)
+      → OnOk result (IsPartlyListed design new_table new_made new_frames)
   instance_step (Err error) new_table new_made new_frames model is same listed next = tt
   instance_step (Ok done) new_table new_made new_frames model is same listed next =
-      subst (λ (m : List CellSite). IsUnderWay design new_table m new_frames) (sym same)
-      (subst (λ (t : List Placed). IsUnderWay design t made new_frames) (sym listed)
-      (subst (λ (f : List Frame). IsUnderWay design (table ++ (placed_in_frame frame model (length made) ∷ [])) made f) (sym next) (lists_instance model is)))
+      subst (λ (m : List CellSite). IsPartlyListed design new_table m new_frames) (sym same)
+      (subst (λ (t : List Placed). IsPartlyListed design t made new_frames) (sym listed)
+      (subst (λ (f : List Frame). IsPartlyListed design (table ++ (placed_in_frame frame model (length made) ∷ [])) made f) (sym next) (lists_instance model is)))
 
-  pub instance_falls : (result : Result (Unit {0}) AllocError) (new_table : List Placed) (new_made : List CellSite) (new_frames : List Frame) (model : ℕ) → OnOk result (IsUnderWay design new_table new_made new_frames)
+  pub instance_falls : (result : Result (Unit {0}) AllocError) (new_table : List Placed) (new_made : List CellSite) (new_frames : List Frame) (model : ℕ) → OnOk result (IsPartlyListed design new_table new_made new_frames)
       → new_made ≡ made
       → OnOk result (new_table ≡ table ++ (placed_in_frame frame model (length made) ∷ []))
       → OnOk result (new_frames ≡ frames ++ (behind_item frame (frame.before + 1) ∷ entered (length table) model ∷ []))

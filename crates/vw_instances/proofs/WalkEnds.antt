@@ -8,12 +8,12 @@ use Rattle.vw_instances.specs.declared.tables.Placed.{Placed}
 use Rattle.vw_instances.specs.declared.tables.CellSite.{CellSite}
 use Rattle.vw_instances.specs.declared.frame.Frame.{Frame}
 use Rattle.vw_instances.specs.Tables.{AreNumbered, StandsAt, IsEntryAt, IsCellSite, ArePlaced, AreCellSites}
-use Rattle.vw_instances.specs.Steps.Frames.{FrameLevel, sites_left, listed_with, cells_among, IsFrame, IsUnderWay}
+use Rattle.vw_instances.specs.Steps.Frames.{FrameLevel, sites_left, listed_with, cells_among, IsFrame, IsPartlyListed}
 use Rattle.vw_instances.proofs.GrownLists.{none_numbered, more_numbered}
 use Rattle.vw_instances.proofs.SitesLeft.{level_of, sites_start}
 
 module _ (design : Design) where
-  pub starts : IsUnderWay design (record { model = 0; parent = 0; place = 0; cells = 0 } ∷ []) [] (record { instance = 0; model = 0; item = 0; before = 0 } ∷ [])
+  pub starts : IsPartlyListed design (record { model = 0; parent = 0; place = 0; cells = 0 } ∷ []) [] (record { instance = 0; model = 0; item = 0; before = 0 } ∷ [])
   unfolding sites
   starts =
       let root = root_model design in
@@ -49,7 +49,7 @@ module _ (design : Design) where
         stack = (frame, tt);
       }
 
-  module _ (table : List Placed) (made : List CellSite) (frames : List Frame) (walk : IsUnderWay design table made frames) (count : ℕ) (others : List Frame)
+  module _ (table : List Placed) (made : List CellSite) (frames : List Frame) (walk : IsPartlyListed design table made frames) (count : ℕ) (others : List Frame)
       (whole : frames ≡ others ++ []) (none_left : count ≡ 0) (are : others ≡ take (count - 1) frames) where
     -- where no frame is left, all is done
     no_frames : frames ≡ []

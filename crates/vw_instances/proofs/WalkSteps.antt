@@ -17,7 +17,7 @@ use Rattle.vw_instances.specs.declared.tables.Placed.{Placed}
 use Rattle.vw_instances.specs.declared.tables.CellSite.{CellSite}
 use Rattle.vw_instances.specs.declared.frame.Frame.{Frame}
 use Rattle.vw_instances.specs.Tables.{AreNumbered, IsPlacedBy, StandsAt, IsEntryAt, IsCellSite}
-use Rattle.vw_instances.specs.Steps.Frames.{FrameLevel, sites_left, listed_with, cells_among, IsFrame, entered, behind_item, site_of_frame, placed_in_frame, IsUnderWay}
+use Rattle.vw_instances.specs.Steps.Frames.{FrameLevel, sites_left, listed_with, cells_among, IsFrame, entered, behind_item, site_of_frame, placed_in_frame, IsPartlyListed}
 use Rattle.vw_design.proofs.ListPlaces.{in_front, behind}
 use Rattle.vw_design.proofs.PairedLists.{AllZip-length, AllZip-wider, AllZip-push}
 use Rattle.vw_instances.proofs.GrownLists.{last_first, two_last_first, more_numbered}
@@ -37,10 +37,10 @@ still_by : (listed longer : List Path) → ((number : ℕ) (path : Path) → sli
 still_by listed longer still number [] parent at is = is
 still_by listed longer still number (place ∷ path) parent at is = (is.0, still parent path is.1, is.2)
 
-module _ (design : Design) (table : List Placed) (made : List CellSite) (frames : List Frame) (frame : Frame) (walk : IsUnderWay design table made (frames ++ (frame ∷ [])))
+module _ (design : Design) (table : List Placed) (made : List CellSite) (frames : List Frame) (frame : Frame) (walk : IsPartlyListed design table made (frames ++ (frame ∷ [])))
     (path : Path) (front : List Item) (levels : List FrameLevel) (below : AllZip (IsFrame design (listed_with walk.done) (length walk.done)) levels (reverse frames)) where
   -- where no item is left, the frame stands for nothing
-  pub ended : walk.done ++ flat_map (sites_left design) (level_of path front [] ∷ levels) ≡ sites design → IsUnderWay design table made frames
+  pub ended : walk.done ++ flat_map (sites_left design) (level_of path front [] ∷ levels) ≡ sites design → IsPartlyListed design table made frames
   ended all = record { done = walk.done; levels = levels; all = all; placed = walk.placed; cells = walk.cells; stack = below }
 
   module _ (item : Item) (rest : List Item) (all : walk.done ++ flat_map (sites_left design) (level_of path front (item ∷ rest) ∷ levels) ≡ sites design)
@@ -112,7 +112,7 @@ module _ (design : Design) (table : List Placed) (made : List CellSite) (frames 
 
     -- a gate or a latch is listed, and the items behind it are left
     pub cell_listed : IsCellItem item
-        → IsUnderWay design table (made ++ (site_of_frame frame ∷ [])) (frames ++ (behind_item frame frame.before ∷ []))
+        → IsPartlyListed design table (made ++ (site_of_frame frame ∷ [])) (frames ++ (behind_item frame frame.before ∷ []))
     cell_listed is =
         let entry : CellSite = site_of_frame frame in
         let next : Frame = behind_item frame frame.before in
@@ -142,7 +142,7 @@ module _ (design : Design) (table : List Placed) (made : List CellSite) (frames 
 
     -- the instance is listed, and all of its items are left, and then the items behind the one that places it
     instance_listed : (targets : List (List (Option ℕ))) → IsSmall design → (next : IsPlacedNext design targets path (length (placings front)) frame) → IsPlacingItem
-        → IsUnderWay design (table ++ (placed_in_frame frame next.number (length made) ∷ [])) made
+        → IsPartlyListed design (table ++ (placed_in_frame frame next.number (length made) ∷ [])) made
         (frames ++ (behind_item frame (frame.before + 1) ∷ entered (length table) next.number ∷ []))
     instance_listed targets small next is =
         let here = suc (length (placings front)) ∷ path in
@@ -208,7 +208,7 @@ module _ (design : Design) (table : List Placed) (made : List CellSite) (frames 
       → walk.done ++ flat_map (sites_left design) (level_of path front (Sub line name binds ∷ rest) ∷ levels) ≡ sites design
       → IsFrame design (listed_with walk.done) (length walk.done) (level_of path front (Sub line name binds ∷ rest)) frame
       → (targets : List (List (Option ℕ))) → IsSmall design → (next : IsPlacedNext design targets path (length (placings front)) frame)
-      → IsUnderWay design (table ++ (placed_in_frame frame next.number (length made) ∷ [])) made
+      → IsPartlyListed design (table ++ (placed_in_frame frame next.number (length made) ∷ [])) made
       (frames ++ (behind_item frame (frame.before + 1) ∷ entered (length table) next.number ∷ []))
   placed_listed line name binds rest all top targets small next =
       instance_listed (Sub line name binds) rest all top targets small next (record { cell = refl; placed = refl; within = refl; counts = refl })

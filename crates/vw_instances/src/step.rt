@@ -3,7 +3,7 @@ ghost use Rattle.std.specs.Prelude.{◌≡◌, ◌<◌, ◌++◌, [], ◌∷◌,
 ghost use Rattle.vw_design.specs.ModelFaults.{unknown_model};
 ghost use Rattle.vw_design.specs.ModelNumbers.{AreTargets};
 ghost use Rattle.vw_design.specs.Limits.{IsSmall};
-ghost use Rattle.vw_instances.specs.Steps.Frames.{IsUnderWay, steps_left};
+ghost use Rattle.vw_instances.specs.Steps.Frames.{IsPartlyListed, steps_left};
 
 use crate::frame::Frame;
 use crate::next::{Next, coming};
@@ -22,9 +22,9 @@ pub fn step(
     requires targets { AreTargets design.now targets.now }
     requires models_known { unknown_model design.now ≡ None }
     requires small { IsSmall design.now }
-    requires walk { IsUnderWay design.now state.old.instances.items state.old.cells.items
+    requires walk { IsPartlyListed design.now state.old.instances.items state.old.cells.items
         (state.old.frames.items ++ (frame ∷ [])) }
-    ensures walk { OnOk result (IsUnderWay design.now state.new.instances.items
+    ensures walk { OnOk result (IsPartlyListed design.now state.new.instances.items
         state.new.cells.items state.new.frames.items) }
     ensures falls { OnOk result (steps_left design.now state.new.instances.items
         state.new.cells.items state.new.frames.items

@@ -14,7 +14,7 @@ use Rattle.vw_design.specs.ModelNumbers.{IsNumberOfModel, AreTargets, is_reached
 use Rattle.vw_design.proofs.ListElements.{Has-at, at-Has, any-Has, from-any, from-filter_map, Has-filter_map}
 use Rattle.vw_design.proofs.Names.{same_name, equal_names}
 use Rattle.vw_design.proofs.ModelNumbers.{place_of_model, model_of_place, named_at, name_of_named, root_model}
-use Rattle.vw_design.proofs.Closed.{reached_at, reached_closed, reached_least}
+use Rattle.vw_design.proofs.ReachedFromRoot.{reached_at, reached_closed, reached_least}
 use Rattle.vw_design.proofs.PairedLists.{AllZip-at, AllZip-length, AllZip-back}
 use Rattle.vw_design.proofs.ListPlaces.{at_within, list_at}
 use Rattle.vw_models.specs.Steps.Reach.{Targets, PlacesAt, AreWithin, IsClosed}

@@ -6,13 +6,13 @@ use Rattle.vw_design.specs.declared.model.Model.{Model}
 use Rattle.vw_design.specs.declared.design.Design.{Design}
 use Rattle.vw_design.specs.Paths.{placings}
 use Rattle.vw_design.specs.ModelFaults.{is_reached}
-use Rattle.vw_design.specs.ModelNumbers.{IsNumberOfModel, AreTargets, AreModelMarks, is_reached_model}
+use Rattle.vw_design.specs.ModelNumbers.{IsNumberOfModel, AreTargets, AreModelsReached, is_reached_model}
 use Rattle.vw_design.proofs.PairedLists.{AllZip-at, AllZip-length}
 use Rattle.vw_models.specs.Steps.Reach.{Targets}
 use Rattle.vw_models.proofs.Unknowns.{AreAlong}
 
 -- there are as many marks and targets as models
-pub marks_each : (design : Design) (marks : List Bool) → AreModelMarks design marks → length design.models ≡ length marks
+pub marks_each : (design : Design) (marks : List Bool) → AreModelsReached design marks → length design.models ≡ length marks
 marks_each design marks are = AllZip-length (λ (model : Model) (mark : Bool). mark ≡ is_reached design model.name) design.models marks are
 
 pub targets_each : (design : Design) (targets : Targets) → AreTargets design targets → length design.models ≡ length targets
@@ -21,7 +21,7 @@ targets_each design targets are = AllZip-length (λ model numbers. AllZip (λ pl
 pub model_at_place : (models others : List Model) (i : ℕ) (model : Model) → others ≡ models → i < length others → model ≡ get_or others i model → slice_get models i ≡ Some model
 model_at_place models others i model are within at = ap (λ (l : List Model). slice_get l i) (sym are) ∙ slice_get_read others (length others) i model refl within at
 
-pub mark_at : (design : Design) (marks : List Bool) (i : ℕ) (model : Model) → AreModelMarks design marks → slice_get design.models i ≡ Some model → get_or marks i false ≡ is_reached design model.name
+pub mark_at : (design : Design) (marks : List Bool) (i : ℕ) (model : Model) → AreModelsReached design marks → slice_get design.models i ≡ Some model → get_or marks i false ≡ is_reached design model.name
 mark_at design marks i model are at =
     let mark = AllZip-at (λ (model : Model) (mark : Bool). mark ≡ is_reached design model.name) design.models marks i model are at in
     get_or_from_slice_get marks i mark.0 false mark.1 ∙ mark.2

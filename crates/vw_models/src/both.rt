@@ -2,7 +2,7 @@
 ghost use Rattle.std.specs.Prelude.{◌≡◌, option_map, IfOk};
 ghost use Rattle.std.specs.List.{AllZip};
 ghost use Rattle.vw_design.specs.ModelFaults.{both_ways};
-ghost use Rattle.vw_design.specs.ModelNumbers.{AreTargets, AreModelMarks};
+ghost use Rattle.vw_design.specs.ModelNumbers.{AreTargets, AreModelsReached};
 ghost use Rattle.vw_models.specs.Steps.PlacedModels.{IsPlacement, placed_models};
 ghost use Rattle.vw_models.specs.Steps.Formals.{IsBothWays};
 ghost use Rattle.vw_models.specs.PlacedFaults.{named_output};
@@ -23,7 +23,7 @@ pub fn both_ways(
     marks: &[bool],
 ) -> Result<Option<OutputOf>, AllocError>
     requires targets { AreTargets design.now targets.now }
-    requires marks { AreModelMarks design.now marks.now }
+    requires marks { AreModelsReached design.now marks.now }
     ensures { IfOk result (λ found. option_map named_output found ≡ both_ways design.now) }
 {
     let placed = placed_models(alloc, design, targets, marks)?;

@@ -2,7 +2,7 @@
 ghost use Rattle.std.specs.Prelude.{◌≡◌, not, find, option_map, IfOk};
 ghost use Rattle.std.specs.List.{AllZip};
 ghost use Rattle.vw_design.specs.ModelFaults.{unknown_formal};
-ghost use Rattle.vw_design.specs.ModelNumbers.{AreTargets, AreModelMarks};
+ghost use Rattle.vw_design.specs.ModelNumbers.{AreTargets, AreModelsReached};
 ghost use Rattle.vw_design.specs.WordSets.{has_word};
 ghost use Rattle.vw_models.specs.Steps.PlacedModels.{IsPlacement, placed_models};
 ghost use Rattle.vw_models.specs.Steps.Formals.{AreFormals};
@@ -26,7 +26,7 @@ pub fn unknown_formal(
     marks: &[bool],
 ) -> Result<Option<FormalAt>, AllocError>
     requires targets { AreTargets design.now targets.now }
-    requires marks { AreModelMarks design.now marks.now }
+    requires marks { AreModelsReached design.now marks.now }
     ensures { IfOk result (λ found. option_map name_at found ≡ unknown_formal design.now) }
 {
     let placed = placed_models(alloc, design, targets, marks)?;

@@ -2,7 +2,7 @@
 ghost use Rattle.std.specs.Prelude.{◌≡◌, [], List, filter_map, IfOk, OnOk};
 ghost use Rattle.std.specs.List.{AllZip};
 ghost use Rattle.vw_design.specs.Paths.{placings};
-ghost use Rattle.vw_design.specs.ModelNumbers.{AreTargets, AreModelMarks, AreModelNumbers};
+ghost use Rattle.vw_design.specs.ModelNumbers.{AreTargets, AreModelsReached, AreModelNumbers};
 ghost use Rattle.vw_models.specs.Steps.PlacedModels.{IsPlacement, AreAdded, placed_by, placed_models};
 
 use std::alloc::{AllocError, Global};
@@ -29,7 +29,7 @@ pub fn placed_models<'a>(
     marks: &[bool],
 ) -> Result<Vec<Placement<'a>>, AllocError>
     requires targets { AreTargets design.now targets.now }
-    requires marks { AreModelMarks design.now marks.now }
+    requires marks { AreModelsReached design.now marks.now }
     ensures { IfOk result (λ placed.
         AllZip (IsPlacement design.now) (placed_models design.now) placed.items) }
 {

@@ -2,7 +2,7 @@
 ghost use Rattle.std.specs.Prelude.{◌≡◌, option_map, IfOk};
 ghost use Rattle.std.specs.List.{AllZip};
 ghost use Rattle.vw_design.specs.ModelFaults.{unbound_input, unbound_input_in};
-ghost use Rattle.vw_design.specs.ModelNumbers.{AreTargets, AreModelMarks};
+ghost use Rattle.vw_design.specs.ModelNumbers.{AreTargets, AreModelsReached};
 ghost use Rattle.vw_models.specs.Steps.PlacedModels.{IsPlacement, placed_models};
 ghost use Rattle.vw_design.specs.Paths.{lent};
 ghost use Rattle.vw_models.specs.PlacedFaults.{name_at};
@@ -23,7 +23,7 @@ pub fn unbound_input(
     marks: &[bool],
 ) -> Result<Option<FormalAt>, AllocError>
     requires targets { AreTargets design.now targets.now }
-    requires marks { AreModelMarks design.now marks.now }
+    requires marks { AreModelsReached design.now marks.now }
     ensures { IfOk result (λ found. option_map name_at found ≡ unbound_input design.now) }
 {
     let placed = placed_models(alloc, design, targets, marks)?;

@@ -3,7 +3,7 @@ ghost use Rattle.std.specs.Prelude.{◌≡◌, List, Some, None, is_none, if◌t
 ghost use Rattle.vw_design.specs.Lists.{first_found};
 ghost use Rattle.vw_design.specs.Paths.{placings, model_named};
 ghost use Rattle.vw_design.specs.ModelFaults.{by_placing, unknown_model};
-ghost use Rattle.vw_design.specs.ModelNumbers.{AreTargets, AreModelMarks, AreModelNumbers};
+ghost use Rattle.vw_design.specs.ModelNumbers.{AreTargets, AreModelsReached, AreModelNumbers};
 ghost use Rattle.vw_models.specs.Steps.Unknown.{unknown_of};
 
 use vw_design::{Design, Item};
@@ -17,7 +17,7 @@ pub fn unknown_model(
     marks: &[bool],
 ) -> Option<u64>
     requires targets { AreTargets design.now targets.now }
-    requires marks { AreModelMarks design.now marks.now }
+    requires marks { AreModelsReached design.now marks.now }
     ensures { result ≡ unknown_model design.now }
 {
     for (number, model) in design.models().iter().enumerate() {

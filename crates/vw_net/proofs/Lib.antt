@@ -5,7 +5,7 @@ pub mod FittingCells
 pub mod GatheredLists
 pub mod Histories
 pub mod Orders
-pub mod Ready
+pub mod ReadyNets
 pub mod Levels
 pub mod TruthTables
 pub mod SameCovers

@@ -8,7 +8,7 @@ use Rattle.vw_design.specs.declared.design.Design.{Design}
 use Rattle.vw_design.specs.Paths.{Word, Net}
 use Rattle.vw_design.specs.PathValue.{item_at}
 use Rattle.vw_design.specs.Preorder.{Site, is_cell, instances, sites, cells}
-use Rattle.vw_design.specs.Reads.{net_at, nets_at}
+use Rattle.vw_design.specs.NetReads.{net_at, nets_at}
 use Rattle.vw_design.proofs.ListElements.{Has-at, from-filter}
 use Rattle.vw_design.proofs.Sites.{site_item}
 use Rattle.vw_design.proofs.PairedLists.{AllZip-at, AllZip-length}

@@ -13,7 +13,7 @@ use Rattle.vw_design.specs.NetFaults.{claimed_again, two_drivers}
 use Rattle.vw_design.specs.Paths.{Word, Path, model_at, items_of}
 use Rattle.vw_design.specs.PathValue.{item_at}
 use Rattle.vw_design.specs.Preorder.{Site, instances, sites}
-use Rattle.vw_design.specs.Reads.{net_at}
+use Rattle.vw_design.specs.NetReads.{net_at}
 use Rattle.vw_design.proofs.FlatValues.{site_of_place}
 use Rattle.vw_design.proofs.ListElements.{Has, Has-at, at-Has, Has-Contains}
 use Rattle.vw_design.proofs.SitesOnce.{site_once}
@@ -22,7 +22,7 @@ use Rattle.vw_design.proofs.Sites.{site_is, site_item}
 use Rattle.vw_drivers.specs.Claimed.{again_at}
 use Rattle.vw_nets.specs.declared.two_drivers.Second.{Second}
 use Rattle.vw_nets.specs.Nets.{printed_net}
-use Rattle.vw_nets.specs.Steps.Seconds.{is_earlier, IsClaimedAt, AreFrom, AreNone, IsSecondAt, IsFirstSecond}
+use Rattle.vw_nets.specs.Steps.SecondClaims.{is_earlier, IsClaimedAt, AreFrom, AreNone, IsSecondAt, IsFirstSecond}
 
 -- one more instance
 module _ (design : Design) (i : ℕ) (path : Path) (listed : slice_get (instances design) i ≡ Some path) where

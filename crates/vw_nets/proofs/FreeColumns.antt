@@ -25,9 +25,9 @@ use Rattle.vw_drivers.specs.Tables.{AreTables, root_firsts}
 use Rattle.vw_drivers.proofs.ClaimLookups.{one_name}
 use Rattle.vw_nets.specs.declared.columns.Columns.{Columns}
 use Rattle.vw_nets.specs.Columns.{AreColumns}
-use Rattle.vw_nets.specs.Steps.Free.{unmarked, is_free, has_none, with_column, AreFree}
-use Rattle.vw_nets.specs.Steps.Wanted.{AreClockMarks}
-use Rattle.vw_nets.proofs.ClockMarks.{number_within}
+use Rattle.vw_nets.specs.Steps.FreeNames.{unflagged, is_free, has_none, with_column, AreFree}
+use Rattle.vw_nets.specs.Steps.Wanted.{AreClockFlags}
+use Rattle.vw_nets.proofs.ClockFlags.{number_within}
 
 pub in_replicate : {A : Type 0} (count : ℕ) (x : A) (k : ℕ) → k < count → slice_get (replicate count x) k ≡ Some x
 in_replicate zero x k within = absurd (omega arith)
@@ -96,16 +96,16 @@ module _ (free : Word → Bool) (names : List Word) (i : ℕ) (x : Word) (within
   pub left_more : filter free (drop i names) ≡ filter free (x ∷ drop (i + 1) names)
   left_more = ap (filter free) (drop_more names i x within ∙ ap (λ (w : Word). w ∷ drop (i + 1) names) (sym at))
 
-free_name : (marks : List Bool) (found : Option ℕ) (n : ℕ) → Some n ≡ unmarked marks found → found ≡ Some n
-free_name marks None n is = cc
-free_name marks (Some k) n is = by (get_or marks k false) is where
+free_name : (clock_flags : List Bool) (found : Option ℕ) (n : ℕ) → Some n ≡ unflagged clock_flags found → found ≡ Some n
+free_name clock_flags None n is = cc
+free_name clock_flags (Some k) n is = by (get_or clock_flags k false) is where
   by : (b : Bool) → Some n ≡ cond b None (Some k) → Some k ≡ Some n
   by true is = cc
   by false is = sym is
 
 -- a free name is numbered
-pub free_number : (firsts : List First) (marks : List Bool) (x : Word) (n : ℕ) → Some n ≡ unmarked marks (number_named firsts x) → number_named firsts x ≡ Some n
-free_number firsts marks x n is = free_name marks (number_named firsts x) n is
+pub free_number : (firsts : List First) (clock_flags : List Bool) (x : Word) (n : ℕ) → Some n ≡ unflagged clock_flags (number_named firsts x) → number_named firsts x ≡ Some n
+free_number firsts clock_flags x n is = free_name clock_flags (number_named firsts x) n is
 
 -- an input of the root has a number, and is free exactly where it is no clock port
 module _ (design : Design) (tables : Tables) (are : AreTables design tables) (root : Model) (stands : Some root ≡ model_at design []) where
@@ -126,11 +126,11 @@ module _ (design : Design) (tables : Tables) (are : AreTables design tables) (ro
       let named = numbered (number_named firsts name) firsts port (meant root.items) (claimed.2.firsts name ∙ ap (option_map (λ (claim : Claim). Some claim)) (port_first name is)) in
       (named.0, ap (λ (found : Option ModelClaims). number_named (unwrap_or (option_map (λ (f : ModelClaims). f.firsts) found) []) name) claimed.1 ∙ named.1)
 
-  free_is : (marks : List Bool) → AreClockMarks design (root_firsts tables) marks → (name : Word) → has_name root.inputs name ≡ true → is_free (root_firsts tables) marks name ≡ not (has_name (clock_ports design) name)
-  free_is marks marked name is =
+  free_is : (clock_flags : List Bool) → AreClockFlags design (root_firsts tables) clock_flags → (name : Word) → has_name root.inputs name ≡ true → is_free (root_firsts tables) clock_flags name ≡ not (has_name (clock_ports design) name)
+  free_is clock_flags flagged name is =
       let number = input_number name is in
-      ap (λ (found : Option ℕ). is_some (unmarked marks found)) number.1
-      ∙ ap (λ (b : Bool). is_some (cond b None (Some number.0))) (get_or_from_slice_get marks number.0 (has_name (clock_ports design) name) false (marked name number.0 number.1))
+      ap (λ (found : Option ℕ). is_some (unflagged clock_flags found)) number.1
+      ∙ ap (λ (b : Bool). is_some (cond b None (Some number.0))) (get_or_from_slice_get clock_flags number.0 (has_name (clock_ports design) name) false (flagged name number.0 number.1))
       ∙ by (has_name (clock_ports design) name) number.0
     where
       by : (b : Bool) (n : ℕ) → is_some (cond b None (Some n)) ≡ not b
@@ -141,17 +141,17 @@ module _ (design : Design) (tables : Tables) (are : AreTables design tables) (ro
   filter_same one other [] same = refl
   filter_same one other (name ∷ names) same = ap₂ (λ (b : Bool) (rest : List Word). cond b (name ∷ rest) rest) (same name (inl refl)) (filter_same one other names (λ further has. same further (inr has)))
 
-  free_columns : (marks : List Bool) → AreClockMarks design (root_firsts tables) marks → filter (is_free (root_firsts tables) marks) root.inputs ≡ columns design
+  free_columns : (clock_flags : List Bool) → AreClockFlags design (root_firsts tables) clock_flags → filter (is_free (root_firsts tables) clock_flags) root.inputs ≡ columns design
   unfolding columns
-  free_columns marks marked =
-      filter_same (is_free (root_firsts tables) marks) (λ name. not (has_name (clock_ports design) name)) root.inputs (λ name has. free_is marks marked name (has_name-Has root.inputs name has))
+  free_columns clock_flags flagged =
+      filter_same (is_free (root_firsts tables) clock_flags) (λ name. not (has_name (clock_ports design) name)) root.inputs (λ name has. free_is clock_flags flagged name (has_name-Has root.inputs name has))
       ∙ ap (λ (m : Option Model). filter (λ name. not (has_name (clock_ports design) name)) (inputs_of m)) stands
 
-  pub columns_are : (firsts : List First) → firsts ≡ root_firsts tables → (marks list : List Bool) → list ≡ marks → AreClockMarks design (root_firsts tables) marks → (names : List Word) → names ≡ root.inputs → (found : Columns) → AreFree firsts list names found
+  pub columns_are : (firsts : List First) → firsts ≡ root_firsts tables → (clock_flags list : List Bool) → list ≡ clock_flags → AreClockFlags design (root_firsts tables) clock_flags → (names : List Word) → names ≡ root.inputs → (found : Columns) → AreFree firsts list names found
       → AreColumns design (root_firsts tables) found
-  columns_are firsts same marks list given marked names inputs found free =
+  columns_are firsts same clock_flags list given flagged names inputs found free =
       let same_columns = λ (name : Word).
-      ap₂ (λ (fs : List First) (bs : List Bool). filter (is_free fs bs) names) same given ∙ ap (filter (is_free (root_firsts tables) marks)) inputs ∙ free_columns marks marked in
+      ap₂ (λ (fs : List First) (bs : List Bool). filter (is_free fs bs) names) same given ∙ ap (filter (is_free (root_firsts tables) clock_flags)) inputs ∙ free_columns clock_flags flagged in
       record {
         inputs =
             ap (λ (ns : List Word). map (slice_get ns) found.inputs) (sym (inputs ∙ ap inputs_of stands)) ∙ free.inputs ∙ ap (map (λ (name : Word). Some name)) (same_columns []);
@@ -160,70 +160,70 @@ module _ (design : Design) (tables : Tables) (are : AreTables design tables) (ro
       }
 
 -- behind the last name all have their columns
-pub all_free : (firsts : List First) (marks : List Bool) (names : List Word) (i : ℕ) → length names ≤ i → (found : Columns) (inputs : List ℕ) → found.inputs ≡ inputs → (ports : List (Option ℕ)) → found.ports ≡ ports
-    → map (slice_get names) inputs ++ map (λ name. Some name) (filter (is_free firsts marks) (drop i names)) ≡ map (λ name. Some name) (filter (is_free firsts marks) names)
-    → ((name : Word) (k : ℕ) → number_named firsts name ≡ Some k → slice_get ports k ≡ Some (place_of_name (filter (is_free firsts marks) (take i names)) name))
-    → AreFree firsts marks names found
-all_free firsts marks names i past found inputs same_inputs ports same_ports had each = record {
+pub all_free : (firsts : List First) (clock_flags : List Bool) (names : List Word) (i : ℕ) → length names ≤ i → (found : Columns) (inputs : List ℕ) → found.inputs ≡ inputs → (ports : List (Option ℕ)) → found.ports ≡ ports
+    → map (slice_get names) inputs ++ map (λ name. Some name) (filter (is_free firsts clock_flags) (drop i names)) ≡ map (λ name. Some name) (filter (is_free firsts clock_flags) names)
+    → ((name : Word) (k : ℕ) → number_named firsts name ≡ Some k → slice_get ports k ≡ Some (place_of_name (filter (is_free firsts clock_flags) (take i names)) name))
+    → AreFree firsts clock_flags names found
+all_free firsts clock_flags names i past found inputs same_inputs ports same_ports had each = record {
   inputs = ap (map (slice_get names)) same_inputs ∙ sym (append-nil (map (slice_get names) inputs))
-      ∙ ap (λ (left : List Word). map (slice_get names) inputs ++ map (λ (name : Word). Some name) (filter (is_free firsts marks) left)) (sym (drop_all i names past)) ∙ had;
+      ∙ ap (λ (left : List Word). map (slice_get names) inputs ++ map (λ (name : Word). Some name) (filter (is_free firsts clock_flags) left)) (sym (drop_all i names past)) ∙ had;
   ports = λ name k named. ap (λ (list : List (Option ℕ)). slice_get list k) same_ports ∙ each name k named
-      ∙ ap (λ (taken : List Word). Some (place_of_name (filter (is_free firsts marks) taken) name)) (take_all i names past);
+      ∙ ap (λ (taken : List Word). Some (place_of_name (filter (is_free firsts clock_flags) taken) name)) (take_all i names past);
 }
 
 -- the columns of the names so far, with one more name that is free, or that isn't
-module _ (firsts : List First) (marks : List Bool) (names : List Word) (i : ℕ) (x : Word) (within : i < length names) (at : x ≡ get_or names i x) (inputs new : List ℕ) where
+module _ (firsts : List First) (clock_flags : List Bool) (names : List Word) (i : ℕ) (x : Word) (within : i < length names) (at : x ≡ get_or names i x) (inputs new : List ℕ) where
   abbrev somes_of : List Word → List (Option Word)
   somes_of list = map (λ (name : Word). Some name) list
 
-  taken_free : is_free firsts marks x ≡ true → filter (is_free firsts marks) (take (i + 1) names) ≡ filter (is_free firsts marks) (take i names) ++ x ∷ []
+  taken_free : is_free firsts clock_flags x ≡ true → filter (is_free firsts clock_flags) (take (i + 1) names) ≡ filter (is_free firsts clock_flags) (take i names) ++ x ∷ []
   taken_free free =
-      taken_more (is_free firsts marks) names i x within at ∙ ap (λ (b : Bool). filter (is_free firsts marks) (take i names) ++ cond b (x ∷ []) []) free
+      taken_more (is_free firsts clock_flags) names i x within at ∙ ap (λ (b : Bool). filter (is_free firsts clock_flags) (take i names) ++ cond b (x ∷ []) []) free
 
-  taken_bound : is_free firsts marks x ≡ false → filter (is_free firsts marks) (take (i + 1) names) ≡ filter (is_free firsts marks) (take i names)
+  taken_bound : is_free firsts clock_flags x ≡ false → filter (is_free firsts clock_flags) (take (i + 1) names) ≡ filter (is_free firsts clock_flags) (take i names)
   taken_bound bound =
-      taken_more (is_free firsts marks) names i x within at ∙ ap (λ (b : Bool). filter (is_free firsts marks) (take i names) ++ cond b (x ∷ []) []) bound
-      ∙ append-nil (filter (is_free firsts marks) (take i names))
+      taken_more (is_free firsts clock_flags) names i x within at ∙ ap (λ (b : Bool). filter (is_free firsts clock_flags) (take i names) ++ cond b (x ∷ []) []) bound
+      ∙ append-nil (filter (is_free firsts clock_flags) (take i names))
 
-  left : (b : Bool) → is_free firsts marks x ≡ b → filter (is_free firsts marks) (drop i names) ≡ cond b (x ∷ filter (is_free firsts marks) (drop (i + 1) names)) (filter (is_free firsts marks) (drop (i + 1) names))
+  left : (b : Bool) → is_free firsts clock_flags x ≡ b → filter (is_free firsts clock_flags) (drop i names) ≡ cond b (x ∷ filter (is_free firsts clock_flags) (drop (i + 1) names)) (filter (is_free firsts clock_flags) (drop (i + 1) names))
   left b is =
-      left_more (is_free firsts marks) names i x within at
-      ∙ ap (λ (c : Bool). cond c (x ∷ filter (is_free firsts marks) (drop (i + 1) names)) (filter (is_free firsts marks) (drop (i + 1) names))) is
+      left_more (is_free firsts clock_flags) names i x within at
+      ∙ ap (λ (c : Bool). cond c (x ∷ filter (is_free firsts clock_flags) (drop (i + 1) names)) (filter (is_free firsts clock_flags) (drop (i + 1) names))) is
 
-  module _ (free : is_free firsts marks x ≡ true) (pushed : new ≡ inputs ++ i ∷ []) where
-    pub inputs_more : map (slice_get names) inputs ++ somes_of (filter (is_free firsts marks) (drop i names)) ≡ somes_of (filter (is_free firsts marks) names)
-        → map (slice_get names) new ++ somes_of (filter (is_free firsts marks) (drop (i + 1) names)) ≡ somes_of (filter (is_free firsts marks) names)
+  module _ (free : is_free firsts clock_flags x ≡ true) (pushed : new ≡ inputs ++ i ∷ []) where
+    pub inputs_more : map (slice_get names) inputs ++ somes_of (filter (is_free firsts clock_flags) (drop i names)) ≡ somes_of (filter (is_free firsts clock_flags) names)
+        → map (slice_get names) new ++ somes_of (filter (is_free firsts clock_flags) (drop (i + 1) names)) ≡ somes_of (filter (is_free firsts clock_flags) names)
     inputs_more had =
-        let rest = somes_of (filter (is_free firsts marks) (drop (i + 1) names)) in
+        let rest = somes_of (filter (is_free firsts clock_flags) (drop (i + 1) names)) in
         ap (λ (list : List ℕ). map (slice_get names) list ++ rest) pushed ∙ ap (λ (list : List (Option Word)). list ++ rest) (map-append (slice_get names) inputs (i ∷ []))
         ∙ append_assoc (map (slice_get names) inputs) (slice_get names i ∷ []) rest
         ∙ ap (λ (o : Option Word). map (slice_get names) inputs ++ (o ∷ rest)) (slice_get_read names (length names) i x refl within at)
         ∙ sym (ap (λ (list : List Word). map (slice_get names) inputs ++ somes_of list) (left true free)) ∙ had
 
-    pub many_more : length inputs ≡ length (filter (is_free firsts marks) (take i names)) → length new ≡ length (filter (is_free firsts marks) (take (i + 1) names))
+    pub many_more : length inputs ≡ length (filter (is_free firsts clock_flags) (take i names)) → length new ≡ length (filter (is_free firsts clock_flags) (take (i + 1) names))
     many_more many =
         let one = ap (λ (list : List ℕ). length list) pushed ∙ length-append inputs (i ∷ []) in
-        let other = ap (λ (list : List Word). length list) (taken_free free) ∙ length-append (filter (is_free firsts marks) (take i names)) (x ∷ []) in
+        let other = ap (λ (list : List Word). length list) (taken_free free) ∙ length-append (filter (is_free firsts clock_flags) (take i names)) (x ∷ []) in
         omega (arith, one, other, many)
 
-    pub ports_more : length inputs ≡ length (filter (is_free firsts marks) (take i names)) → (n : ℕ) → number_named firsts x ≡ Some n → (ports more : List (Option ℕ)) → more ≡ with_column ports n (length inputs)
-        → ((name : Word) (k : ℕ) → number_named firsts name ≡ Some k → slice_get ports k ≡ Some (place_of_name (filter (is_free firsts marks) (take i names)) name))
-        → (name : Word) (k : ℕ) → number_named firsts name ≡ Some k → slice_get more k ≡ Some (place_of_name (filter (is_free firsts marks) (take (i + 1) names)) name)
+    pub ports_more : length inputs ≡ length (filter (is_free firsts clock_flags) (take i names)) → (n : ℕ) → number_named firsts x ≡ Some n → (ports more : List (Option ℕ)) → more ≡ with_column ports n (length inputs)
+        → ((name : Word) (k : ℕ) → number_named firsts name ≡ Some k → slice_get ports k ≡ Some (place_of_name (filter (is_free firsts clock_flags) (take i names)) name))
+        → (name : Word) (k : ℕ) → number_named firsts name ≡ Some k → slice_get more k ≡ Some (place_of_name (filter (is_free firsts clock_flags) (take (i + 1) names)) name)
     ports_more many n named ports more written had name k is =
-        column_added firsts x n named (filter (is_free firsts marks) (take i names)) ports more had (written ∙ ap (with_column ports n) many) name k is
+        column_added firsts x n named (filter (is_free firsts clock_flags) (take i names)) ports more had (written ∙ ap (with_column ports n) many) name k is
         ∙ ap (λ (list : List Word). Some (place_of_name list name)) (sym (taken_free free))
 
-  module _ (bound : is_free firsts marks x ≡ false) (kept : new ≡ inputs) where
-    pub inputs_kept : map (slice_get names) inputs ++ somes_of (filter (is_free firsts marks) (drop i names)) ≡ somes_of (filter (is_free firsts marks) names)
-        → map (slice_get names) new ++ somes_of (filter (is_free firsts marks) (drop (i + 1) names)) ≡ somes_of (filter (is_free firsts marks) names)
+  module _ (bound : is_free firsts clock_flags x ≡ false) (kept : new ≡ inputs) where
+    pub inputs_kept : map (slice_get names) inputs ++ somes_of (filter (is_free firsts clock_flags) (drop i names)) ≡ somes_of (filter (is_free firsts clock_flags) names)
+        → map (slice_get names) new ++ somes_of (filter (is_free firsts clock_flags) (drop (i + 1) names)) ≡ somes_of (filter (is_free firsts clock_flags) names)
     inputs_kept had =
-        ap (λ (list : List ℕ). map (slice_get names) list ++ somes_of (filter (is_free firsts marks) (drop (i + 1) names))) kept
+        ap (λ (list : List ℕ). map (slice_get names) list ++ somes_of (filter (is_free firsts clock_flags) (drop (i + 1) names))) kept
         ∙ sym (ap (λ (list : List Word). map (slice_get names) inputs ++ somes_of list) (left false bound)) ∙ had
 
-    pub many_kept : length inputs ≡ length (filter (is_free firsts marks) (take i names)) → length new ≡ length (filter (is_free firsts marks) (take (i + 1) names))
+    pub many_kept : length inputs ≡ length (filter (is_free firsts clock_flags) (take i names)) → length new ≡ length (filter (is_free firsts clock_flags) (take (i + 1) names))
     many_kept many = ap (λ (list : List ℕ). length list) kept ∙ many ∙ sym (ap (λ (list : List Word). length list) (taken_bound bound))
 
-    pub ports_kept : (ports more : List (Option ℕ)) → more ≡ ports → ((name : Word) (k : ℕ) → number_named firsts name ≡ Some k → slice_get ports k ≡ Some (place_of_name (filter (is_free firsts marks) (take i names)) name))
-        → (name : Word) (k : ℕ) → number_named firsts name ≡ Some k → slice_get more k ≡ Some (place_of_name (filter (is_free firsts marks) (take (i + 1) names)) name)
+    pub ports_kept : (ports more : List (Option ℕ)) → more ≡ ports → ((name : Word) (k : ℕ) → number_named firsts name ≡ Some k → slice_get ports k ≡ Some (place_of_name (filter (is_free firsts clock_flags) (take i names)) name))
+        → (name : Word) (k : ℕ) → number_named firsts name ≡ Some k → slice_get more k ≡ Some (place_of_name (filter (is_free firsts clock_flags) (take (i + 1) names)) name)
     ports_kept ports more same had name k is =
         ap (λ (list : List (Option ℕ)). slice_get list k) same ∙ had name k is ∙ ap (λ (list : List Word). Some (place_of_name list name)) (sym (taken_bound bound))

@@ -18,7 +18,7 @@ use Rattle.vw_instances.specs.declared.tables.Placed.{Placed}
 use Rattle.vw_instances.specs.Tables.{IsEntryAt}
 use Rattle.vw_drivers.specs.declared.tables.Tables.{Tables}
 use Rattle.vw_drivers.specs.Tables.{AreTables}
-use Rattle.vw_nets.specs.Steps.Seconds.{again_by, position_by, IsClaimedAt, AreFrom, AreNone}
+use Rattle.vw_nets.specs.Steps.SecondClaims.{again_by, position_by, IsClaimedAt, AreFrom, AreNone}
 
 -- more items weigh no less
 module _ (weight : Item → ℕ) (below : Word → ℕ) where

@@ -5,7 +5,7 @@ pub mod CellSearches
 pub mod Reading
 pub mod Edged
 pub mod PortNumbers
-pub mod ClockMarks
+pub mod ClockFlags
 pub mod UnlikePorts
 pub mod FreeColumns
 pub mod InstanceClaimsAgain

@@ -14,7 +14,7 @@ use Rattle.vw_design.specs.Paths.{Word, Path, Net}
 use Rattle.vw_design.specs.Drivers.{Source as PathSource, at_port, at_cell, driver}
 use Rattle.vw_design.specs.Preorder.{Site, sites, cells}
 use Rattle.vw_design.specs.PathValue.{place_of_site}
-use Rattle.vw_design.specs.Reads.{net_at, nets_at, controls_of}
+use Rattle.vw_design.specs.NetReads.{net_at, nets_at, controls_of}
 use Rattle.vw_design.specs.Clocks.{port_of, control_ports}
 use Rattle.vw_design.proofs.Names.{same_name, equal_names}
 use Rattle.vw_drivers.specs.Firsts.{First, number_named}

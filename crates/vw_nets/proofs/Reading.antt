@@ -8,7 +8,7 @@ use Rattle.vw_design.specs.declared.item.Item.{Item}
 use Rattle.vw_design.specs.declared.item.Item.TheVariants.{Names, Latch, Sub}
 use Rattle.vw_design.specs.Paths.{Word, Path, Net, model_at, model_outputs}
 use Rattle.vw_design.specs.Preorder.{Site, is_cell, sites, cells}
-use Rattle.vw_design.specs.Reads.{net_at, nets_at, root_outputs}
+use Rattle.vw_design.specs.NetReads.{net_at, nets_at, root_outputs}
 use Rattle.vw_nets.proofs.SearchSteps.{find_map}
 
 -- a `.subckt` item gives nothing

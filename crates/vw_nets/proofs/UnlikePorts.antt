@@ -9,7 +9,7 @@ use Rattle.vw_design.specs.Distinct.{has_name}
 use Rattle.vw_design.specs.Paths.{Word, Net}
 use Rattle.vw_design.specs.Clocks.{port_of, inputs_of, clocks_of, control_ports}
 use Rattle.vw_design.specs.Drivers.{Source, at_port, at_cell, driver}
-use Rattle.vw_design.specs.Reads.{controls}
+use Rattle.vw_design.specs.NetReads.{controls}
 use Rattle.vw_design.specs.NetFaults.{first_unlike, several_clocks}
 use Rattle.vw_design.proofs.DriverNumbers.{driver_is}
 use Rattle.vw_design.proofs.ListElements.{Has, Has-at, from-filter_map, from-find}

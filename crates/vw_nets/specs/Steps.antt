@@ -3,5 +3,5 @@ pub mod Items
 pub mod Wanted
 pub mod Edges
 pub mod Ports
-pub mod Free
-pub mod Seconds
+pub mod FreeNames
+pub mod SecondClaims

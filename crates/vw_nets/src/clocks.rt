@@ -65,7 +65,7 @@ impl<'a> Nets<'a> {
         requires { AreNets self.now }
         ensures { IfOk result (λ found. found ≡ printed_net (clock_as_data self.now.design.now)) }
     {
-        let marks = self.clock_marks(alloc)?;
-        self.first_wanted(alloc, &Wanted::ClockPort(marks.as_slice()))
+        let clock_flags = self.clock_flags(alloc)?;
+        self.first_wanted(alloc, &Wanted::ClockPort(clock_flags.as_slice()))
     }
 }

@@ -4,7 +4,7 @@ ghost use Rattle.vw_drivers.specs.Firsts.{number_named};
 ghost use Rattle.vw_drivers.specs.Tables.{root_firsts};
 ghost use Rattle.vw_nets.specs.Nets.{AreNets};
 ghost use Rattle.vw_nets.specs.Columns.{AreColumns};
-ghost use Rattle.vw_nets.specs.Steps.Free.{unmarked, with_column, AreFree};
+ghost use Rattle.vw_nets.specs.Steps.FreeNames.{unflagged, with_column, AreFree};
 
 use crate::nets::Nets;
 use std::alloc::{AllocError, Global};
@@ -29,25 +29,25 @@ impl Columns {
         ensures { IfOk result (AreColumns nets.now.design.now
             (root_firsts nets.now.tables.now)) }
     {
-        let marks = nets.clock_marks(alloc)?;
+        let clock_flags = nets.clock_flags(alloc)?;
         let names = nets.root().inputs();
-        let columns = Columns::of_names(alloc, nets.root_claims(), marks.as_slice(), names)?;
+        let columns = Columns::of_names(alloc, nets.root_claims(), clock_flags.as_slice(), names)?;
         Ok(columns)
     }
 
-    /// The columns of those names whose claims have no mark.
+    /// The columns of those names whose claims have no flag.
     fn of_names(
         alloc: Global,
         claims: &ModelClaims,
-        marks: &[bool],
+        clock_flags: &[bool],
         names: &[Name],
     ) -> Result<Self, AllocError>
-        ensures { IfOk result (AreFree claims.now.firsts marks.now names.now) }
+        ensures { IfOk result (AreFree claims.now.firsts clock_flags.now names.now) }
     {
         let mut inputs = Vec::new(alloc);
         let mut ports = no_columns(alloc, claims.count())?;
         for (place, name) in names.iter().enumerate() {
-            if let Some(number) = free_number(claims, marks, name) {
+            if let Some(number) = free_number(claims, clock_flags, name) {
                 add_column(&mut inputs, &mut ports, place, number)?;
             }
         }
@@ -66,23 +66,23 @@ fn no_columns(alloc: Global, count: usize) -> Result<Vec<Option<u32>>, AllocErro
     Ok(ports)
 }
 
-/// The number of the claim on a name, where it has no mark.
-fn free_number(claims: &ModelClaims, marks: &[bool], name: &Name) -> Option<u32>
-    ensures { result ≡ unmarked marks.now (number_named claims.now.firsts name.now) }
+/// The number of the claim on a name, where it has no flag.
+fn free_number(claims: &ModelClaims, clock_flags: &[bool], name: &Name) -> Option<u32>
+    ensures { result ≡ unflagged clock_flags.now (number_named claims.now.firsts name.now) }
 {
     let number = claims.first(name.as_slice())?;
-    if has_mark(marks, number) {
+    if has_mark(clock_flags, number) {
         None
     } else {
         Some(number)
     }
 }
 
-/// Whether a number has a mark.
-fn has_mark(marks: &[bool], number: u32) -> bool
-    ensures { result ≡ slice_index_or marks.now number false }
+/// Whether a number has a flag.
+fn has_mark(clock_flags: &[bool], number: u32) -> bool
+    ensures { result ≡ slice_index_or clock_flags.now number false }
 {
-    marks.get(number as usize).copied().unwrap_or(false)
+    clock_flags.get(number as usize).copied().unwrap_or(false)
 }
 
 /// Adds the name at a place as a further column, whose claim has this number. 2 ^ 32 inputs have no room.

@@ -1,6 +1,6 @@
 //! Items of cells.
 ghost use Rattle.std.specs.Prelude.{◌≡◌, option_map, option_and_then, option_to_list, slice_get};
-ghost use Rattle.vw_design.specs.Reads.{controls_of};
+ghost use Rattle.vw_design.specs.NetReads.{controls_of};
 ghost use Rattle.vw_nets.specs.Steps.Items.{lent_item, item_at_site, numbers_by};
 ghost use Rattle.vw_design.specs.Paths.{lent};
 

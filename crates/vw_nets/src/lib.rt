@@ -1,11 +1,11 @@
 //! Faults of the nets of a design, and its clock ports and columns, by numbers.
 #![tactic(auto)]
 
+mod clock_flags;
 mod clocks;
 mod columns;
 mod edges;
 mod items;
-mod marks;
 mod nets;
 mod ports;
 mod print;

@@ -8,7 +8,7 @@ ghost use Rattle.vw_design.specs.Preorder.{instances};
 ghost use Rattle.vw_drivers.specs.Firsts.{number_named};
 ghost use Rattle.vw_drivers.specs.Tables.{root_firsts};
 ghost use Rattle.vw_nets.specs.Nets.{AreNets};
-ghost use Rattle.vw_nets.specs.Steps.Ports.{port_number, item_ports, has_number, root_ports};
+ghost use Rattle.vw_nets.specs.Steps.Ports.{port_number, item_ports, is_found_number, root_ports};
 
 use crate::items::{number_in_row, written_control};
 use crate::nets::Nets;
@@ -76,7 +76,7 @@ impl<'a> Nets<'a> {
     pub(crate) fn port_named(&self, number: u32) -> Option<&'a Name>
         requires { AreNets self.now }
         ensures { lent result
-            ≡ find (λ name. has_number (number_named (root_firsts self.now.tables.now) name) number)
+            ≡ find (λ name. is_found_number (number_named (root_firsts self.now.tables.now) name) number)
             (root_ports self.now.design.now) }
     {
         let claims = self.root_claims();
@@ -101,7 +101,7 @@ fn port_number(source: Option<Source>) -> Option<u32>
 /// The first of some names on which the first claim has a number.
 fn name_numbered<'a>(claims: &ModelClaims, names: &'a [Name], number: u32) -> Option<&'a Name>
     ensures { lent result
-        ≡ find (λ name. has_number (number_named claims.now.firsts name) number) names.now }
+        ≡ find (λ name. is_found_number (number_named claims.now.firsts name) number) names.now }
 {
     for name in names {
         if is_port_number(claims.first(name.as_slice()), number) {
@@ -113,7 +113,7 @@ fn name_numbered<'a>(claims: &ModelClaims, names: &'a [Name], number: u32) -> Op
 
 /// Whether a claim that was found has a number.
 fn is_port_number(found: Option<u32>, number: u32) -> bool
-    ensures { result ≡ has_number found number }
+    ensures { result ≡ is_found_number found number }
 {
     match found {
         Some(found) => found == number,

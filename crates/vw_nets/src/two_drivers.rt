@@ -4,7 +4,7 @@ ghost use Rattle.vw_design.specs.NetFaults.{two_drivers};
 ghost use Rattle.vw_design.specs.Paths.{Path};
 ghost use Rattle.vw_design.specs.Preorder.{instances};
 ghost use Rattle.vw_nets.specs.Nets.{AreNets, printed_net};
-ghost use Rattle.vw_nets.specs.Steps.Seconds.{again_by, position_by, is_earlier, IsSecondAt, IsFirstSecond};
+ghost use Rattle.vw_nets.specs.Steps.SecondClaims.{again_by, position_by, is_earlier, IsSecondAt, IsFirstSecond};
 
 use crate::nets::Nets;
 use crate::print::print_net;

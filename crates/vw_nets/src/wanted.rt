@@ -23,7 +23,7 @@ impl<'a> Wanted<'a> {
         match self {
             Wanted::Undriven => source.is_none(),
             Wanted::Gated => is_cell_number(source),
-            Wanted::ClockPort(marks) => is_marked(marks, source),
+            Wanted::ClockPort(clock_flags) => is_marked(clock_flags, source),
         }
     }
 }
@@ -35,12 +35,12 @@ fn is_cell_number(source: Option<Source>) -> bool
     matches!(source, Some(Source::Cell(_)))
 }
 
-/// Whether a driver is a port with a mark.
-fn is_marked(marks: &[bool], source: Option<Source>) -> bool
-    ensures { result ≡ is_marked marks.now source }
+/// Whether a driver is a port with a flag.
+fn is_marked(clock_flags: &[bool], source: Option<Source>) -> bool
+    ensures { result ≡ is_marked clock_flags.now source }
 {
     match source {
-        Some(Source::Port(number)) => marks.get(number as usize).copied().unwrap_or(false),
+        Some(Source::Port(number)) => clock_flags.get(number as usize).copied().unwrap_or(false),
         _ => false,
     }
 }

@@ -7,7 +7,7 @@ use Rattle.vw_net.specs.declared.cell.Cell.TheVariants.{Gate, Latch}
 use Rattle.vw_net.specs.declared.flat.Flat.{Flat}
 use Rattle.vw_net.specs.Order.{is_gate, is_among, read_nets_at, gate_inputs}
 use Rattle.vw_net.proofs.Orders.{gate_within}
-use Rattle.vw_order.specs.Reads.{gate_reads}
+use Rattle.vw_order.specs.GateReads.{gate_reads}
 use Rattle.vw_order.specs.Graphs.{Reads, IsWithin}
 use Rattle.vw_order.specs.Steps.Gates.{gate_of, gates}
 

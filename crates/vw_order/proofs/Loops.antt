@@ -5,8 +5,8 @@ use Rattle.vw_net.specs.declared.flat.Flat.{Flat}
 use Rattle.vw_net.specs.Lists.{turned}
 use Rattle.vw_order.specs.Graphs.{Reads}
 use Rattle.vw_order.specs.Circles.{IsNumberCircle, BeginsWithLeast}
-use Rattle.vw_order.specs.Reads.{gate_reads}
-use Rattle.vw_order.specs.Loops.{IsLoop}
+use Rattle.vw_order.specs.GateReads.{gate_reads}
+use Rattle.vw_order.specs.Loops.{IsListedLoop}
 use Rattle.vw_order.specs.Steps.Gates.{gates}
 use Rattle.vw_order.proofs.Inputs.{reads_of}
 
@@ -16,7 +16,7 @@ AllZip-weaker R S [] (y ∷ ys) weaker along = absurd along
 AllZip-weaker R S (x ∷ xs) [] weaker along = absurd along
 AllZip-weaker R S (x ∷ xs) (y ∷ ys) weaker along = (weaker x y along.0, AllZip-weaker R S xs ys weaker along.1)
 
-pub is_loop : (flat : Flat) (circle : List ℕ) → IsNumberCircle (gates flat) circle → BeginsWithLeast circle → IsLoop flat circle
+pub is_loop : (flat : Flat) (circle : List ℕ) → IsNumberCircle (gates flat) circle → BeginsWithLeast circle → IsListedLoop flat circle
 is_loop flat circle far least = record {
   circle = record {
     some = far.some;

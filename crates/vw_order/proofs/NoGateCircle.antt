@@ -7,7 +7,7 @@ use Rattle.vw_net.specs.declared.cell.Cell.TheVariants.{Gate, Latch}
 use Rattle.vw_net.specs.declared.flat.Flat.{Flat}
 use Rattle.vw_net.specs.Order.{IsOrder, is_gate, is_latch, is_among, is_ready, read_nets_at}
 use Rattle.vw_order.proofs.Among.{front_position, place_among, at_place}
-use Rattle.vw_order.specs.Reads.{gate_reads}
+use Rattle.vw_order.specs.GateReads.{gate_reads}
 use Rattle.vw_order.specs.Loops.{IsGateCircle}
 
 -- each that is among others passes where all do

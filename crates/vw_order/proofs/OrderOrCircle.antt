@@ -9,9 +9,9 @@ use Rattle.vw_order.specs.Steps.Rounds.{round_from}
 use Rattle.vw_order.specs.Graphs.{Graph, ReadsAt, Reads, IsWithin}
 use Rattle.vw_order.specs.Orders.{IsBehind, IsNumberOrder}
 use Rattle.vw_order.specs.Circles.{IsNumberCircle, BeginsWithLeast}
-use Rattle.vw_order.specs.Steps.Searches.{Leads}
+use Rattle.vw_order.specs.Steps.Searches.{IsReadChain}
 use Rattle.vw_order.proofs.Among.{among_either, among_one, among_last, once_push, once_short}
-use Rattle.vw_order.proofs.Rounds.{Leads-push, closes}
+use Rattle.vw_order.proofs.Rounds.{IsReadChain-push, closes}
 use Rattle.vw_order.proofs.LeastFirst.{has_least}
 use Rattle.vw_order.proofs.DepthSearches.{behind_more}
 
@@ -63,7 +63,7 @@ module _ (graph : Graph) (within : IsWithin graph) where
   record IsReadingChain (order stack : List ℕ) (last : ℕ) : Type 0 where
     counted : (number : ℕ) → is_among (stack ++ last ∷ []) number ≡ true → graph.counts number ≡ true
     once : IsDistinct eqb (stack ++ last ∷ [])
-    leads : Leads graph (stack ++ last ∷ [])
+    leads : IsReadChain graph (stack ++ last ∷ [])
     left : is_among order last ≡ false
 
   walk_short : (order stack : List ℕ) (last : ℕ) → IsReadingChain order stack last → length stack + 1 ≤ graph.count
@@ -83,7 +83,7 @@ module _ (graph : Graph) (within : IsWithin graph) where
       on next new left reads = record {
         counted = λ number among. ⊎_elim (λ old. along.counted number old) (λ top. ap graph.counts (sym (among_one next number top)) ∙ within.read last reads.0 next (along.counted last (among_last stack last)) reads.1) (among_either (stack ++ last ∷ []) (next ∷ []) number among);
         once = once_push (stack ++ last ∷ []) next along.once new;
-        leads = Leads-push graph stack last next along.leads reads;
+        leads = IsReadChain-push graph stack last next along.leads reads;
         left = left;
       }
 

@@ -9,39 +9,39 @@ use Rattle.vw_net.specs.Lists.{turned}
 use Rattle.vw_order.specs.Steps.Rounds.{round_from}
 use Rattle.vw_order.specs.Graphs.{Graph, Reads}
 use Rattle.vw_order.specs.Circles.{IsNumberCircle}
-use Rattle.vw_order.specs.Steps.Searches.{Leads}
+use Rattle.vw_order.specs.Steps.Searches.{IsReadChain}
 use Rattle.vw_order.proofs.Among.{among_one, among_right, once_part}
 
 module _ (graph : Graph) where
   -- one more, that the last one reads
-  pub Leads-push : (stack : List ℕ) (last next : ℕ) → Leads graph (stack ++ last ∷ []) → Reads graph last next → Leads graph ((stack ++ last ∷ []) ++ next ∷ [])
-  Leads-push [] last next leads reads = (reads, tt)
-  Leads-push (number ∷ []) last next leads reads = (leads.0, (reads, tt))
-  Leads-push (number ∷ second ∷ rest) last next leads reads = (leads.0, Leads-push (second ∷ rest) last next leads.1 reads)
+  pub IsReadChain-push : (stack : List ℕ) (last next : ℕ) → IsReadChain graph (stack ++ last ∷ []) → Reads graph last next → IsReadChain graph ((stack ++ last ∷ []) ++ next ∷ [])
+  IsReadChain-push [] last next leads reads = (reads, tt)
+  IsReadChain-push (number ∷ []) last next leads reads = (leads.0, (reads, tt))
+  IsReadChain-push (number ∷ second ∷ rest) last next leads reads = (leads.0, IsReadChain-push (second ∷ rest) last next leads.1 reads)
 
   -- without the last one
-  pub Leads-front : (stack : List ℕ) (last : ℕ) → Leads graph (stack ++ last ∷ []) → Leads graph stack
-  Leads-front [] last leads = tt
-  Leads-front (number ∷ []) last leads = tt
-  Leads-front (number ∷ second ∷ rest) last leads = (leads.0, Leads-front (second ∷ rest) last leads.1)
+  pub IsReadChain-front : (stack : List ℕ) (last : ℕ) → IsReadChain graph (stack ++ last ∷ []) → IsReadChain graph stack
+  IsReadChain-front [] last leads = tt
+  IsReadChain-front (number ∷ []) last leads = tt
+  IsReadChain-front (number ∷ second ∷ rest) last leads = (leads.0, IsReadChain-front (second ∷ rest) last leads.1)
 
   -- without some at the front
-  pub Leads-back : (front back : List ℕ) → Leads graph (front ++ back) → Leads graph back
-  Leads-back [] back leads = leads
-  Leads-back (number ∷ []) [] leads = tt
-  Leads-back (number ∷ []) (first ∷ back) leads = leads.1
-  Leads-back (number ∷ second ∷ rest) back leads = Leads-back (second ∷ rest) back leads.1
+  pub IsReadChain-back : (front back : List ℕ) → IsReadChain graph (front ++ back) → IsReadChain graph back
+  IsReadChain-back [] back leads = leads
+  IsReadChain-back (number ∷ []) [] leads = tt
+  IsReadChain-back (number ∷ []) (first ∷ back) leads = leads.1
+  IsReadChain-back (number ∷ second ∷ rest) back leads = IsReadChain-back (second ∷ rest) back leads.1
 
   -- where the last one reads the first
-  round_on : (number : ℕ) (rest : List ℕ) (last first : ℕ) → Leads graph (number ∷ (rest ++ last ∷ [])) → Reads graph last first → AllZip (Reads graph) (number ∷ (rest ++ last ∷ [])) ((rest ++ last ∷ []) ++ first ∷ [])
+  round_on : (number : ℕ) (rest : List ℕ) (last first : ℕ) → IsReadChain graph (number ∷ (rest ++ last ∷ [])) → Reads graph last first → AllZip (Reads graph) (number ∷ (rest ++ last ∷ [])) ((rest ++ last ∷ []) ++ first ∷ [])
   round_on number [] last first leads reads = (leads.0, (reads, tt))
   round_on number (next ∷ rest) last first leads reads = (leads.0, round_on next rest last first leads.1 reads)
 
-  pub Leads-round : (stack : List ℕ) (last first : ℕ) → (further : List ℕ) × (stack ++ last ∷ [] ≡ first ∷ further) → Leads graph (stack ++ last ∷ []) → Reads graph last first
+  pub IsReadChain-round : (stack : List ℕ) (last first : ℕ) → (further : List ℕ) × (stack ++ last ∷ [] ≡ first ∷ further) → IsReadChain graph (stack ++ last ∷ []) → Reads graph last first
       → AllZip (Reads graph) (stack ++ last ∷ []) (turned (stack ++ last ∷ []))
-  Leads-round [] last first begins leads reads =
+  IsReadChain-round [] last first begins leads reads =
       let same : last ≡ first = cc (begins.1) in (subst (λ (n : ℕ). Reads graph last n) (sym same) reads, tt)
-  Leads-round (number ∷ stack) last first begins leads reads =
+  IsReadChain-round (number ∷ stack) last first begins leads reads =
       let same : number ≡ first = cc (begins.1) in round_on number stack last number leads (subst (λ (n : ℕ). Reads graph last n) (sym same) reads)
 
 -- the stack from the first place of a number on begins with it
@@ -66,7 +66,7 @@ round_begins number last (first ∷ stack) among =
     (⊎_elim (λ here. inl here) (λ there. inr (round_begins number last stack there)) (or_cases (first == number) (is_among (stack ++ last ∷ []) number) among))
 
 -- where the last one reads one that is among them, they close a circle
-pub closes : (graph : Graph) (stack : List ℕ) (last next : ℕ) → IsDistinct eqb (stack ++ last ∷ []) → Leads graph (stack ++ last ∷ []) → Reads graph last next → is_among (stack ++ last ∷ []) next ≡ true
+pub closes : (graph : Graph) (stack : List ℕ) (last next : ℕ) → IsDistinct eqb (stack ++ last ∷ []) → IsReadChain graph (stack ++ last ∷ []) → Reads graph last next → is_among (stack ++ last ∷ []) next ≡ true
     → ((number : ℕ) → is_among (stack ++ last ∷ []) number ≡ true → graph.counts number ≡ true) → IsNumberCircle graph (round_from next stack ++ last ∷ [])
 closes graph stack last next once leads reads among counted =
     let cut = round_begins next last stack among in
@@ -75,7 +75,7 @@ closes graph stack last next once leads reads among counted =
       counted = λ number there.
           counted number (ap (λ (s : List ℕ). is_among s number) cut.1 ∙ among_right cut.0 (round_from next stack ++ last ∷ []) number there);
       once = once_part cut.0 (round_from next stack ++ last ∷ []) (subst (λ (s : List ℕ). IsDistinct eqb s) cut.1 once);
-      each = Leads-round graph (round_from next stack) last next cut.2 (Leads-back graph cut.0 (round_from next stack ++ last ∷ []) (subst (λ (s : List ℕ). Leads graph s) cut.1 leads)) reads;
+      each = IsReadChain-round graph (round_from next stack) last next cut.2 (IsReadChain-back graph cut.0 (round_from next stack ++ last ∷ []) (subst (λ (s : List ℕ). IsReadChain graph s) cut.1 leads)) reads;
     }
 
 -- a circle from another one of its elements on

@@ -1,5 +1,5 @@
 -- What functions of this crate compute, step by step. No public clause cites it.
-pub mod Marks
+pub mod SearchProgress
 pub mod Rounds
 pub mod Searches
 pub mod GateOrders

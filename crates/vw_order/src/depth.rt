@@ -15,16 +15,16 @@ ghost use Rattle.std.specs.Prelude.{
 };
 ghost use Rattle.std.specs.Vec.{vec_len};
 ghost use Rattle.vw_order.specs.Graphs.{ReadsAt};
-ghost use Rattle.vw_order.specs.Steps.Marks.{is_fresh_mark, is_open_mark, is_done_mark, IsAhead};
+ghost use Rattle.vw_order.specs.Steps.SearchProgress.{is_fresh_mark, is_open_progress, is_done_progress, IsAhead};
 
 use crate::digraph::Digraph;
-use crate::mark::{Ahead, Progress};
+use crate::progress::{Ahead, Progress};
 use std::alloc::{AllocError, Global};
 
 /// How far a search has come. It keeps its own stack, since a chain of numbers may be as long as there are any.
 #[derive(Drop)]
 pub struct Depth {
-    pub marks: Vec<Progress>,
+    pub progress: Vec<Progress>,
     /// For each number, how many of its places are known to read what is done.
     pub cursors: Vec<usize>,
     /// The numbers that are done.
@@ -36,13 +36,13 @@ pub struct Depth {
 impl Depth {
     /// The start over so many numbers: nothing is open.
     pub fn start(alloc: Global, count: usize) -> Result<Self, AllocError>
-        ensures marks { IfOk result (λ depth. depth.marks.items ≡ replicate count Progress.Fresh) }
+        ensures progress { IfOk result (λ depth. depth.progress.items ≡ replicate count Progress.Fresh) }
         ensures cursors { IfOk result (λ depth. depth.cursors.items ≡ replicate count 0) }
         ensures order { IfOk result (λ depth. depth.order.items ≡ []) }
         ensures stack { IfOk result (λ depth. depth.stack.items ≡ []) }
     {
         Ok(Depth {
-            marks: vec![in alloc; Progress::Fresh; count]?,
+            progress: vec![in alloc; Progress::Fresh; count]?,
             cursors: vec![in alloc; 0; count]?,
             order: Vec::new(alloc),
             stack: Vec::new(alloc),
@@ -53,8 +53,8 @@ impl Depth {
     pub fn ahead<D: Digraph>(&self, digraph: &D, number: u32) -> Option<Ahead>
         requires number { number < vec_len self.now.cursors }
         requires within { (place other : ℕ) → ReadsAt (D.graph digraph.now) number place other
-            → other < vec_len self.now.marks }
-        ensures { IsAhead self.now.marks.items (slice_index self.now.cursors.items number)
+            → other < vec_len self.now.progress }
+        ensures { IsAhead self.now.progress.items (slice_index self.now.cursors.items number)
             ((D.graph digraph.now).reads number) result }
     {
         for place in self.cursors[number as usize]..digraph.places(number) {
@@ -72,42 +72,42 @@ impl Depth {
 
     /// Whether a number is done.
     fn is_finished(&self, number: u32) -> bool
-        requires { number < vec_len self.now.marks }
+        requires { number < vec_len self.now.progress }
         ensures { result
-            ≡ is_done_mark (slice_index_or self.now.marks.items number Progress.Fresh) }
+            ≡ is_done_progress (slice_index_or self.now.progress.items number Progress.Fresh) }
     {
-        matches!(self.marks[number as usize], Progress::Done)
+        matches!(self.progress[number as usize], Progress::Done)
     }
 
     /// Whether a number is open.
     pub fn is_on_stack(&self, number: u32) -> bool
-        requires { number < vec_len self.now.marks }
+        requires { number < vec_len self.now.progress }
         ensures { result
-            ≡ is_open_mark (slice_index_or self.now.marks.items number Progress.Fresh) }
+            ≡ is_open_progress (slice_index_or self.now.progress.items number Progress.Fresh) }
     {
-        matches!(self.marks[number as usize], Progress::Open)
+        matches!(self.progress[number as usize], Progress::Open)
     }
 
     /// Whether a number hasn't been reached.
     pub fn is_fresh(&self, number: u32) -> bool
-        requires { number < vec_len self.now.marks }
+        requires { number < vec_len self.now.progress }
         ensures { result
-            ≡ is_fresh_mark (slice_index_or self.now.marks.items number Progress.Fresh) }
+            ≡ is_fresh_mark (slice_index_or self.now.progress.items number Progress.Fresh) }
     {
-        matches!(self.marks[number as usize], Progress::Fresh)
+        matches!(self.progress[number as usize], Progress::Fresh)
     }
 
     /// Opens a number.
     pub fn open(&mut self, number: u32) -> Result<(), AllocError>
-        requires { number < vec_len self.old.marks }
-        ensures marks { OnOk result (
-            self.new.marks.items ≡ slice_set self.old.marks.items number Progress.Open) }
+        requires { number < vec_len self.old.progress }
+        ensures progress { OnOk result (
+            self.new.progress.items ≡ slice_set self.old.progress.items number Progress.Open) }
         ensures cursors { self.new.cursors.items ≡ self.old.cursors.items }
         ensures order { self.new.order.items ≡ self.old.order.items }
         ensures stack { OnOk result (
             self.new.stack.items ≡ self.old.stack.items ++ number ∷ []) }
     {
-        self.marks[number as usize] = Progress::Open;
+        self.progress[number as usize] = Progress::Open;
         self.stack.push(number)?;
         Ok(())
     }
@@ -115,9 +115,9 @@ impl Depth {
     /// Puts a number back, and opens another one that it reads.
     pub fn open_ahead(&mut self, number: u32, ahead: Ahead) -> Result<(), AllocError>
         requires number { number < vec_len self.old.cursors }
-        requires ahead { ahead.number < vec_len self.old.marks }
-        ensures marks { OnOk result (
-            self.new.marks.items ≡ slice_set self.old.marks.items ahead.number Progress.Open) }
+        requires ahead { ahead.number < vec_len self.old.progress }
+        ensures progress { OnOk result (
+            self.new.progress.items ≡ slice_set self.old.progress.items ahead.number Progress.Open) }
         ensures cursors { OnOk result (
             self.new.cursors.items ≡ slice_set self.old.cursors.items number ahead.place) }
         ensures order { self.new.order.items ≡ self.old.order.items }
@@ -125,7 +125,7 @@ impl Depth {
             self.new.stack.items ≡ self.old.stack.items ++ number ∷ ahead.number ∷ []) }
     {
         self.cursors[number as usize] = ahead.place;
-        self.marks[ahead.number as usize] = Progress::Open;
+        self.progress[ahead.number as usize] = Progress::Open;
         self.stack.push(number)?;
         self.stack.push(ahead.number)?;
         Ok(())
@@ -133,15 +133,15 @@ impl Depth {
 
     /// A number is done.
     pub fn finish(&mut self, number: u32) -> Result<(), AllocError>
-        requires { number < vec_len self.old.marks }
-        ensures marks { OnOk result (
-            self.new.marks.items ≡ slice_set self.old.marks.items number Progress.Done) }
+        requires { number < vec_len self.old.progress }
+        ensures progress { OnOk result (
+            self.new.progress.items ≡ slice_set self.old.progress.items number Progress.Done) }
         ensures cursors { self.new.cursors.items ≡ self.old.cursors.items }
         ensures order { OnOk result (
             self.new.order.items ≡ self.old.order.items ++ number ∷ []) }
         ensures stack { self.new.stack.items ≡ self.old.stack.items }
     {
-        self.marks[number as usize] = Progress::Done;
+        self.progress[number as usize] = Progress::Done;
         self.order.push(number)?;
         Ok(())
     }

@@ -2,7 +2,7 @@
 ghost use Rattle.std.specs.Prelude.{ℕ, List};
 ghost use Rattle.vw_net.specs.declared.flat.Flat.{Flat};
 ghost use Rattle.vw_net.specs.Order.{IsOrder};
-ghost use Rattle.vw_order.specs.Loops.{IsGateCircle, IsLoop, IsLoopFree};
+ghost use Rattle.vw_order.specs.Loops.{IsGateCircle, IsListedLoop, IsLoopFree};
 
 use crate::search_laws::order_or_circle;
 

@@ -9,7 +9,7 @@ mod digraph;
 mod gate_order;
 mod gates;
 mod laws;
-mod mark;
+mod progress;
 mod read;
 mod search_laws;
 

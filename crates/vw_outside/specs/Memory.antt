@@ -13,10 +13,10 @@ abbrev pub seen_sink : MemSink → SeenSink
 seen_sink sink = seen_bytes sink.written.items sink.faults
 
 -- the calls that are to fail, and the most bytes of a call, stay
-pub record KeepsShelfSettings (before after : MemShelf) : Type 0 where
+pub record KeepsShelfScript (before after : MemShelf) : Type 0 where
   pub failing : after.failing.items ≡ before.failing.items
   pub most : after.most ≡ before.most
 
-pub record KeepsSinkSettings (before after : MemSink) : Type 0 where
+pub record KeepsSinkScript (before after : MemSink) : Type 0 where
   pub failing : after.failing.items ≡ before.failing.items
   pub most : after.most ≡ before.most

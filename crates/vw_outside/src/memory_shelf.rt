@@ -70,7 +70,7 @@ fn fill(bytes: &[u8], from: u64, most: u32, into: &mut [u8]) -> usize
 }
 
 impl Shelf for MemShelf {
-    ghost use Rattle.vw_outside.specs.Memory.{seen_shelf, KeepsShelfSettings};
+    ghost use Rattle.vw_outside.specs.Memory.{seen_shelf, KeepsShelfScript};
 
     ghost seen = { seen_shelf };
 
@@ -90,7 +90,7 @@ impl Shelf for MemShelf {
             → self.new.others ≡ one_more self.old.others }
         ensures kept { (bytes : List ℕ) → (seen_shelf self.old).told name.now ≡ held bytes
             → self.new.others ≡ self.old.others }
-        ensures settings { KeepsShelfSettings self.old self.new }
+        ensures script { KeepsShelfScript self.old self.new }
     {
         self.calls = self.calls.saturating_add(1);
         let fails = self.failing.contains(&self.calls);

@@ -20,7 +20,7 @@ pub struct MemSink {
 }
 
 impl MemSink {
-    ghost use Rattle.vw_outside.specs.Memory.{seen_sink, KeepsSinkSettings};
+    ghost use Rattle.vw_outside.specs.Memory.{seen_sink, KeepsSinkScript};
 
     /// A sink with no bytes yet.
     pub fn new(alloc: Global, most: u32, failing: Vec<u64>) -> Self
@@ -47,7 +47,7 @@ impl MemSink {
         ensures full { OnErr result (vec_capacity self.old.written < length
             self.old.written.items + more) }
         ensures seen { seen_sink self.new ≡ seen_sink self.old }
-        ensures settings { KeepsSinkSettings self.old self.new }
+        ensures script { KeepsSinkScript self.old self.new }
         ensures count { self.new.calls ≡ self.old.calls }
     {
         self.written.reserve(more as usize)
@@ -62,7 +62,7 @@ impl MemSink {
 }
 
 impl Sink for MemSink {
-    ghost use Rattle.vw_outside.specs.Memory.{seen_sink, KeepsSinkSettings};
+    ghost use Rattle.vw_outside.specs.Memory.{seen_sink, KeepsSinkScript};
 
     ghost seen = { seen_sink };
 
@@ -77,7 +77,7 @@ impl Sink for MemSink {
             → length self.old.written.items + length piece.now ≤ vec_capacity self.old.written
             → IsOk result }
         ensures room { vec_capacity self.old.written ≤ vec_capacity self.new.written }
-        ensures settings { KeepsSinkSettings self.old self.new }
+        ensures script { KeepsSinkScript self.old self.new }
     {
         self.calls = self.calls.saturating_add(1);
         let count = piece.len().min(self.most as usize);

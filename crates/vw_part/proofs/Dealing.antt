@@ -4,11 +4,11 @@ use Rattle.std.proofs.lemmas.Bool.{cases_eq}
 use Rattle.std.proofs.lemmas.List.{get_or-set_other, get_or-set_same, length-set, length_push}
 use Rattle.std.proofs.lemmas.List.Elements.{All-get_or, All-push, All-set}
 use Rattle.vw_plan.specs.declared.board.Board.{Board}
-use Rattle.vw_plan.specs.Good.{IsChip, cells_on}
+use Rattle.vw_plan.specs.Chips.{IsChip, cells_on}
 use Rattle.vw_part.specs.declared.deal.Deal.{Deal}
 use Rattle.vw_part.specs.declared.load.Load.{Load}
 use Rattle.vw_part.specs.declared.pins.Pins.{Pins}
-use Rattle.vw_part.specs.Steps.Deals.{IsDeal, IsLoad, IsTarget, freed, pins_held, met, cell_nets}
+use Rattle.vw_part.specs.Steps.Deals.{IsDeal, IsLoad, MayMoveTo, freed, pins_held, met, cell_nets}
 use Rattle.vw_part.specs.Steps.Pins.{times_among, total}
 use Rattle.vw_net.specs.Steps.Bits.{one_if}
 use Rattle.vw_part.proofs.ChipLoads.{all_full, held_push, held_set, on_all, on_push, on_set}
@@ -65,7 +65,7 @@ dealt_more board pins before after chip load is next real room chip_of loads mor
     }
 
 -- after a move
-pub dealt_moved : (board : Board) (pins : Pins) (before after : Deal) (cell chip : ℕ) (left come : Load) → IsDeal board pins before → cell < length before.chip_of.items → IsTarget board before.chip_of.items cell chip → after.chip_of.items ≡ set before.chip_of.items cell chip → after.loads.items ≡ set (set before.loads.items (get_or before.chip_of.items cell 0) left) chip come → HasCellMore (cell_nets pins cell) left (get_or before.loads.items (get_or before.chip_of.items cell 0) left) → HasCellMore (cell_nets pins cell) (get_or before.loads.items chip come) come → IsDeal board pins after
+pub dealt_moved : (board : Board) (pins : Pins) (before after : Deal) (cell chip : ℕ) (left come : Load) → IsDeal board pins before → cell < length before.chip_of.items → MayMoveTo board before.chip_of.items cell chip → after.chip_of.items ≡ set before.chip_of.items cell chip → after.loads.items ≡ set (set before.loads.items (get_or before.chip_of.items cell 0) left) chip come → HasCellMore (cell_nets pins cell) left (get_or before.loads.items (get_or before.chip_of.items cell 0) left) → HasCellMore (cell_nets pins cell) (get_or before.loads.items chip come) come → IsDeal board pins after
 dealt_moved board pins before after cell chip left come is within target chip_of loads less more =
     let chips = before.chip_of.items in
     let own = cell_nets pins cell in

@@ -5,7 +5,7 @@ use Rattle.std.specs.List.{All, range_with_len}
 use Rattle.std.proofs.lemmas.Bool.{cases_eq, cases_lt}
 use Rattle.std.proofs.lemmas.List.Elements.{All-get_or}
 use Rattle.vw_plan.specs.declared.board.Board.{Board}
-use Rattle.vw_plan.specs.Good.{IsChip}
+use Rattle.vw_plan.specs.Chips.{IsChip}
 use Rattle.vw_part.specs.declared.pins.Pins.{Pins}
 use Rattle.vw_part.specs.Steps.Deals.{freed, pins_held, holders, met, cell_nets, spread}
 use Rattle.vw_part.specs.Steps.Pins.{times_among, total}

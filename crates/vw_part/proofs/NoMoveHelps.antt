@@ -6,9 +6,10 @@ use Rattle.std.proofs.lemmas.List.{length-set, set-get_or}
 use Rattle.std.proofs.lemmas.List.Elements.{All-set}
 use Rattle.vw_net.specs.declared.flat.Flat.{Flat}
 use Rattle.vw_plan.specs.declared.board.Board.{Board}
-use Rattle.vw_plan.specs.Good.{IsChip, NoMoveHelps, pair_count}
+use Rattle.vw_plan.specs.Chips.{IsChip}
+use Rattle.vw_plan.specs.Good.{NoMoveHelps, pair_count}
 use Rattle.vw_part.specs.declared.pins.Pins.{Pins}
-use Rattle.vw_part.specs.Steps.Deals.{IsSettledCell, freed, holders, met, cell_nets, spread}
+use Rattle.vw_part.specs.Steps.Deals.{HasNoGain, freed, holders, met, cell_nets, spread}
 use Rattle.vw_part.specs.Steps.Pins.{ArePins, total}
 use Rattle.vw_net.specs.Steps.Bits.{one_if}
 use Rattle.vw_part.proofs.Gains.{spread_moved}
@@ -26,7 +27,7 @@ module _ (flat : Flat) (board : Board) (pins : Pins) (nets : pins.nets ≡ flat.
       let same = ap (λ (many : ℕ). total (holders board.chips chips pins.of_cells.items) (range_with_len 0 many)) nets in
       omega (arith, own, same)
 
-  pub least : (chips : List ℕ) → length chips ≡ length flat.cells → All (IsChip board) chips → ((cell : ℕ) → cell < length chips → IsSettledCell board pins chips cell) → NoMoveHelps flat board chips
+  pub least : (chips : List ℕ) → length chips ≡ length flat.cells → All (IsChip board) chips → ((cell : ℕ) → cell < length chips → HasNoGain board pins chips cell) → NoMoveHelps flat board chips
   least chips each real settled cell chip within is_chip room =
       let moved = set chips cell chip in
       let before = pairs_and_spread chips each real in

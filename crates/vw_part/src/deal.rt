@@ -1,7 +1,7 @@
 //! Cells on chips.
 ghost use Rattle.std.specs.Prelude.{◌≡◌, ◌+◌, ◌*◌, ◌<◌, ◌≤◌, ◌++◌, ◌∷◌, [], length, slice_set, IfOk, OnOk};
-ghost use Rattle.vw_plan.specs.Good.{IsChip, cells_on};
-ghost use Rattle.vw_part.specs.Steps.Deals.{IsDeal, IsTarget};
+ghost use Rattle.vw_plan.specs.Chips.{IsChip, cells_on};
+ghost use Rattle.vw_part.specs.Steps.Deals.{IsDeal, MayMoveTo};
 
 use crate::load::Load;
 use crate::pins::Pins;
@@ -90,7 +90,7 @@ impl Deal {
     pub fn shift(&mut self, board: &Board, cell: usize, chip: u32, pins: &Pins)
         requires deal { IsDeal board.now pins.now self.old }
         requires cell { cell < length self.old.chip_of.items }
-        requires target { IsTarget board.now self.old.chip_of.items cell chip }
+        requires target { MayMoveTo board.now self.old.chip_of.items cell chip }
         ensures deal { IsDeal board.now pins.now self.new }
         ensures chip_of { self.new.chip_of.items ≡ slice_set self.old.chip_of.items cell chip }
     {

@@ -1,7 +1,8 @@
 //! The partition of cells over chips.
 ghost use Rattle.std.specs.Prelude.{◌≡◌, ◌*◌, ◌≤◌, ℕ, length, IfErr, IfOk};
 ghost use Rattle.std.specs.List.{All};
-ghost use Rattle.vw_plan.specs.Good.{IsChip, NoMoveHelps, cells_on};
+ghost use Rattle.vw_plan.specs.Chips.{IsChip, cells_on};
+ghost use Rattle.vw_plan.specs.Good.{NoMoveHelps};
 ghost use Rattle.vw_part.specs.Faults.{IsPartFault};
 
 use crate::deal::Deal;

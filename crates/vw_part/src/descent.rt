@@ -1,7 +1,7 @@
 //! Moves of single cells, until none helps.
 ghost use Rattle.std.specs.Prelude.{◌≡◌, ◌<◌, ℕ, true, false, length, MatchOption};
-ghost use Rattle.vw_plan.specs.Good.{IsChip};
-ghost use Rattle.vw_part.specs.Steps.Deals.{IsDeal, IsGain, IsSettledCell, IsTarget, met, spread};
+ghost use Rattle.vw_plan.specs.Chips.{IsChip};
+ghost use Rattle.vw_part.specs.Steps.Deals.{IsDeal, IsGain, HasNoGain, MayMoveTo, met, spread};
 
 use crate::deal::Deal;
 use crate::pins::Pins;
@@ -13,8 +13,8 @@ impl Deal {
         requires deal { IsDeal board.now pins.now self.now }
         requires cell { cell < length self.now.chip_of.items }
         requires chip { IsChip board.now chip }
-        ensures allowed { 0 < result → IsTarget board.now self.now.chip_of.items cell chip }
-        ensures met { IsTarget board.now self.now.chip_of.items cell chip
+        ensures allowed { 0 < result → MayMoveTo board.now self.now.chip_of.items cell chip }
+        ensures met { MayMoveTo board.now self.now.chip_of.items cell chip
             → result ≡ met pins.now self.now.chip_of.items cell chip }
     {
         let load = &self.loads[chip as usize];
@@ -29,7 +29,7 @@ impl Deal {
     fn target(&self, board: &Board, pins: &Pins, cell: usize) -> Option<u32>
         requires deal { IsDeal board.now pins.now self.now }
         requires cell { cell < length self.now.chip_of.items }
-        ensures { MatchOption result (IsSettledCell board.now pins.now self.now.chip_of.items cell)
+        ensures { MatchOption result (HasNoGain board.now pins.now self.now.chip_of.items cell)
             (IsGain board.now pins.now self.now.chip_of.items cell) }
     {
         let own = pins.at(cell);
@@ -60,7 +60,7 @@ impl Deal {
             < spread board.now pins.now self.old.chip_of.items }
         ensures same { result ≡ false → self.new.chip_of.items ≡ self.old.chip_of.items }
         ensures settled { result ≡ false
-            → IsSettledCell board.now pins.now self.new.chip_of.items cell }
+            → HasNoGain board.now pins.now self.new.chip_of.items cell }
     {
         match self.target(board, pins, cell) {
             Some(chip) => {
@@ -79,7 +79,7 @@ impl Deal {
         ensures lower { result ≡ true → spread board.now pins.now self.new.chip_of.items
             < spread board.now pins.now self.old.chip_of.items }
         ensures settled { result ≡ false → (cell : ℕ) → cell < length self.new.chip_of.items
-            → IsSettledCell board.now pins.now self.new.chip_of.items cell }
+            → HasNoGain board.now pins.now self.new.chip_of.items cell }
     {
         let mut moved = false;
         for cell in 0..self.chip_of.len() {
@@ -96,7 +96,7 @@ impl Deal {
         ensures deal { IsDeal board.now pins.now self.new }
         ensures each { length self.new.chip_of.items ≡ length self.old.chip_of.items }
         ensures settled { (cell : ℕ) → cell < length self.new.chip_of.items
-            → IsSettledCell board.now pins.now self.new.chip_of.items cell }
+            → HasNoGain board.now pins.now self.new.chip_of.items cell }
     {
         while self.round(board, pins) {}
     }

@@ -18,7 +18,7 @@ use Rattle.vw_phase.specs.declared.task.Task.{Task}
 use Rattle.vw_phase.specs.Steps.Tasks.{AreRising, all_tasks, tasks_from}
 use Rattle.std.proofs.lemmas.Option.{same_Some}
 use Rattle.vw_phase.proofs.DoneTasks.{is_task-own, is_task-true}
-use Rattle.vw_phase.specs.Steps.Underway.{AreTasks, IsOfKind, is_done, is_task, no_task, task_at}
+use Rattle.vw_phase.specs.Steps.Underway.{AreTasks, IsOfKind, is_passed, is_task, no_task, task_at}
 
 -- how many of some tasks are this one
 abbrev times_listed : Bool → ℕ → List Task → ℕ
@@ -157,13 +157,13 @@ module _ (ordered : Ordered) (chip_of : List ℕ) (routes : List Route) where
     as_many : (sends : Bool) (place : ℕ) → times_listed sends place tasks ≡ times_listed sends place all
     as_many sends place = sum_by-IsPermutation (λ (one : Task). one_if (is_task sends place one)) all tasks same
 
-    is_there : (sends : Bool) (place : ℕ) → times_listed sends place all ≡ 1 → is_done tasks (length tasks) sends place ≡ true
+    is_there : (sends : Bool) (place : ℕ) → times_listed sends place all ≡ 1 → is_passed tasks (length tasks) sends place ≡ true
     is_there sends place one = ap (list_any (is_task sends place)) (take_all (length tasks) tasks (omega arith)) ∙ some_in (is_task sends place) tasks (omega (arith, one, as_many sends place))
 
     pub are_tasks : AreRising tasks → AreTasks ordered chip_of routes tasks
     are_tasks rising = record {
       kinds = λ place within. All-permutation (λ (task : Task). IsOfKind ordered chip_of routes task.sends task) all tasks same kinds_all place no_task within;
-      once = λ place within. ⊎_elim (λ done. absurd (omega (arith, twice_in (is_task (task_at tasks place).sends (task_at tasks place).place) tasks place within done (is_task-own (task_at tasks place)), as_many (task_at tasks place).sends (task_at tasks place).place, few_all (task_at tasks place).sends (task_at tasks place).place))) (λ not. not) (cases_Bool (is_done tasks place (task_at tasks place).sends (task_at tasks place).place));
+      once = λ place within. ⊎_elim (λ done. absurd (omega (arith, twice_in (is_task (task_at tasks place).sends (task_at tasks place).place) tasks place within done (is_task-own (task_at tasks place)), as_many (task_at tasks place).sends (task_at tasks place).place, few_all (task_at tasks place).sends (task_at tasks place).place))) (λ not. not) (cases_Bool (is_passed tasks place (task_at tasks place).sends (task_at tasks place).place));
       gates = λ place within. is_there false place (omega (arith, both false place, no_sending place, one_within (λ (number : ℕ). depth ordered.flat chip_of (ordered.flat.inputs + number)) false place 0 ordered.order (omega arith) (omega (arith, within))));
       routed = λ number within. is_there true number (omega (arith, both true number, no_gate number, one_within (λ (route : Route). depth ordered.flat chip_of route.net) true number 0 routes (omega arith) (omega (arith, within))));
       rising = rising;

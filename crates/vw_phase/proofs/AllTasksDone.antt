@@ -18,17 +18,17 @@ use Rattle.vw_net.specs.Lists.{greatest}
 use Rattle.vw_plan.specs.Needs.{depth}
 use Rattle.vw_plan.specs.Nets.{driving_cell, is_read_at, node_of}
 use Rattle.vw_plan.specs.Routes.{AreRoutes, steps_of}
-use Rattle.vw_plan.specs.Setting.{Setting, home, setting_of}
+use Rattle.vw_plan.specs.PlannedBoard.{PlannedBoard, home, planned_board}
 use Rattle.vw_plan.specs.Sound.{share_pin}
 use Rattle.vw_plan.specs.Walks.{IsWalk}
 use Rattle.vw_slots.specs.Slots.{is_taken}
 use Rattle.vw_phase.specs.declared.draft.Draft.{Draft}
 use Rattle.vw_phase.specs.declared.task.Task.{Task}
-use Rattle.vw_phase.specs.Steps.Along.{AreSent, hop_link}
-use Rattle.vw_phase.specs.Steps.Done.{IsAlong, IsTasksDone, IsSentWell, all_hops, uses}
+use Rattle.vw_phase.specs.Steps.SentHops.{AreSent, hop_link}
+use Rattle.vw_phase.specs.Steps.FinishedSchedules.{IsAlong, IsTasksDone, IsSentWell, all_hops, uses}
 use Rattle.vw_phase.specs.Steps.Drafts.{hops_at}
 use Rattle.vw_phase.specs.Steps.Leads.{usable_by, wires_of}
-use Rattle.vw_phase.specs.Steps.Underway.{AreTasks, IsSentOff, IsUnderway, is_done, is_task, lead_at_place, ready_by, start_by}
+use Rattle.vw_phase.specs.Steps.Underway.{AreTasks, IsSentOff, IsUnderway, is_passed, is_task, lead_at_place, ready_by, start_by}
 use Rattle.vw_phase.proofs.LeadsRight.{leads_right, right_at}
 use Rattle.vw_phase.proofs.NeededRoutes.{route_needed}
 use Rattle.vw_phase.proofs.TaskReady.{its_route, route_linked}
@@ -55,7 +55,7 @@ module _ (ordered : Ordered) (board : Board) (chip_of : List ℕ) (routes : List
   all_taken : take count tasks ≡ take (length tasks) tasks
   all_taken = take_all count tasks whole ∙ sym (take_all (length tasks) tasks (omega arith))
 
-  gate_done : (place : ℕ) → place < length ordered.order → is_done tasks count false place ≡ true
+  gate_done : (place : ℕ) → place < length ordered.order → is_passed tasks count false place ≡ true
   gate_done place within = ap (list_any (is_task false place)) all_taken ∙ are.gates place within
 
   off : (number : ℕ) (route : Route) → slice_get routes number ≡ Some route → IsSentOff ordered board chip_of routes draft route (hops_at draft number)
@@ -85,13 +85,13 @@ module _ (ordered : Ordered) (board : Board) (chip_of : List ℕ) (routes : List
 -- ---- with a plan
 
 module _ (ordered : Ordered) (board : Board) (plan : Plan) (routes : List Route) (tasks : List Task) (count : ℕ) (draft : Draft) (level start : ℕ) (are_routes : AreRoutes ordered.flat board plan.chip_of routes) (are : AreTasks ordered plan.chip_of routes tasks) (whole : length tasks ≤ count) (way : IsUnderway ordered board plan.chip_of routes tasks count draft level start) (wires : plan.wires ≡ wires_of routes draft.hops.items) where
-  abbrev setting : Setting
-  setting = setting_of ordered board plan
+  abbrev planned : PlannedBoard
+  planned = planned_board ordered board plan
 
   worked : (place : ℕ) → place < length ordered.order → slice_index draft.leads.items (ordered.flat.inputs + slice_index ordered.order place) ≡ lead_at_place ordered board plan.chip_of routes draft.hops.items draft.leads.items place
   worked place within = way.worked place within (gate_done ordered board plan.chip_of routes tasks count draft level start are_routes are whole way place within)
 
-  pub plan_leads : (net : ℕ) → lead setting (home setting net) net ≡ slice_index draft.leads.items net
+  pub plan_leads : (net : ℕ) → lead planned (home planned net) net ≡ slice_index draft.leads.items net
   plan_leads net = leads_right ordered board plan routes draft.hops.items draft.leads.items way.fit.long wires worked way.zero net
 
   -- a slot that is taken is used by a hop of the plan
@@ -103,13 +103,13 @@ module _ (ordered : Ordered) (board : Board) (plan : Plan) (routes : List Route)
       ∙ uses_some hop (all_hops draft.hops.items) (omega (arith, one))
 
   -- when a net is usable, and when its phase begins
-  usable_same : (net : ℕ) → usable setting (home setting net) net ≡ usable_by ordered.flat board plan.chip_of routes draft.hops.items draft.leads.items (node_of ordered.flat plan.chip_of net) net
-  usable_same net = ap (λ (lead : ℕ). lead + (if is_gate (driving_cell ordered.flat net) && eqb (home setting net) (home setting net) then board.settle else 0)) (right_at ordered board plan routes draft.hops.items draft.leads.items way.fit.long wires worked way.zero (home setting net) net (plan_leads net))
+  usable_same : (net : ℕ) → usable planned (home planned net) net ≡ usable_by ordered.flat board plan.chip_of routes draft.hops.items draft.leads.items (node_of ordered.flat plan.chip_of net) net
+  usable_same net = ap (λ (lead : ℕ). lead + (if is_gate (driving_cell ordered.flat net) && eqb (home planned net) (home planned net) then board.settle else 0)) (right_at ordered board plan routes draft.hops.items draft.leads.items way.fit.long wires worked way.zero (home planned net) net (plan_leads net))
 
-  begin_same : (limit : ℕ) → phase_start setting limit ≡ start_by ordered.flat board plan.chip_of limit routes draft.hops.items
+  begin_same : (limit : ℕ) → phase_start planned limit ≡ start_by ordered.flat board plan.chip_of limit routes draft.hops.items
   begin_same limit = ap (λ (list : List Wire). greatest (map (λ wire. if nat_lt (depth ordered.flat plan.chip_of wire.net) limit then after_last wire.hops else 0) list)) wires ∙ phase_same ordered board plan limit routes draft.hops.items way.fit.long
 
-  well : (number : ℕ) (route : Route) → slice_get routes number ≡ Some route → IsSentWell setting (record { net = route.net; to = route.to; hops = slice_index_or draft.hops.items number [] })
+  well : (number : ℕ) (route : Route) → slice_get routes number ≡ Some route → IsSentWell planned (record { net = route.net; to = route.to; hops = slice_index_or draft.hops.items number [] })
   well number route at =
       let sent = off ordered board plan.chip_of routes tasks count draft level start are_routes are whole way number route at in
       let hops = hops_at draft number in
@@ -123,8 +123,8 @@ module _ (ordered : Ordered) (board : Board) (plan : Plan) (routes : List Route)
         earliest = subst (λ (moment : ℕ). AreEarliest board plan moment hops) (sym (ap₂ max its_usable its_phase)) (early_from board plan draft.table.taken in_use sent.before ready (steps_of route.nodes) hops sent.sent sent.stays);
       }
 
-  pub all_well : All (IsSentWell setting) plan.wires
-  all_well = subst (All (IsSentWell setting)) (sym wires) (all_wires (IsSentWell setting) routes draft.hops.items way.fit.long well)
+  pub all_well : All (IsSentWell planned) plan.wires
+  all_well = subst (All (IsSentWell planned)) (sym wires) (all_wires (IsSentWell planned) routes draft.hops.items way.fit.long well)
 
 -- ---- all of it
 

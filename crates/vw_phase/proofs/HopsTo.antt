@@ -4,7 +4,7 @@ use Rattle.std.specs.Option.{option_or}
 use Rattle.std.specs.HashMap.{HashMap}
 use Rattle.vw_plan.specs.declared.need.Route.{Route}
 use Rattle.vw_plan.specs.declared.wire.Hop.{Hop}
-use Rattle.vw_check.specs.Firsts.{found_if}
+use Rattle.vw_check.specs.FirstFound.{found_if}
 use Rattle.vw_check.specs.Pairs.{first_pair, is_number_pair, pair_in, HasPairs}
 use Rattle.vw_net.proofs.Orders.{eqb_comm}
 use Rattle.vw_phase.specs.Steps.Leads.{hops_to, route_pairs}

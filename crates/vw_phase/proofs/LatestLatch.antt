@@ -1,7 +1,7 @@
 -- The greatest moment of latches, cell by cell.
 use Rattle.std.proofs.Common.{◌≡◌, ◌<◌, ◌+◌, ◌∙◌, ◌∷◌, ℕ, suc, List, length, drop, get_or, max, ap, sym, drop-cons, arith}
 use Rattle.vw_net.specs.declared.cell.Cell.{Cell}
-use Rattle.vw_phase.specs.Steps.Done.{latest}
+use Rattle.vw_phase.specs.Steps.FinishedSchedules.{latest}
 
 pub latest_step : (moment_of : ℕ → Cell → ℕ) (period moment next start : ℕ) (cells : List Cell) (place : ℕ) (cell : Cell) → place < length cells → cell ≡ get_or cells place cell → moment ≡ moment_of place cell → next ≡ max period moment
     → max period (latest moment_of place (drop place cells)) ≡ start → max next (latest moment_of (place + 1) (drop (place + 1) cells)) ≡ start

@@ -14,20 +14,20 @@ use Rattle.vw_plan.specs.Nets.{driving_cell}
 use Rattle.vw_plan.specs.Routes.{AreRoutes, steps_of}
 use Rattle.vw_phase.specs.declared.draft.Draft.{Draft}
 use Rattle.vw_phase.specs.declared.task.Task.{Task}
-use Rattle.vw_phase.specs.Steps.Along.{AreSent}
+use Rattle.vw_phase.specs.Steps.SentHops.{AreSent}
 use Rattle.vw_phase.specs.Steps.Drafts.{HasLead, hops_at, moment_limit}
-use Rattle.vw_phase.specs.Steps.Underway.{AreTasks, IsSentOff, IsUnderway, is_done, is_task, lead_at_place, task_at}
-use Rattle.vw_phase.proofs.DoneTasks.{done_at, is_done-more, is_task-true, kind_at, not_done_before}
+use Rattle.vw_phase.specs.Steps.Underway.{AreTasks, IsSentOff, IsUnderway, is_passed, is_task, lead_at_place, task_at}
+use Rattle.vw_phase.proofs.DoneTasks.{done_at, is_passed-more, is_task-true, kind_at, not_done_before}
 use Rattle.vw_phase.proofs.UntouchedMoments.{AreUntouched, IsHomeDone, RestsOnDone, place_kept, ready_kept}
 use Rattle.vw_phase.proofs.LeadLimits.{read_low}
-use Rattle.vw_net.proofs.Ready.{order_within}
+use Rattle.vw_net.proofs.ReadyNets.{order_within}
 use Rattle.vw_phase.proofs.SettledReads.{done_by, home_before, home_later, settled_before, settled_later, shallow_before}
 use Rattle.vw_plan.specs.Needs.{depth}
 
 -- of a task of another kind, what is done stays the same
-pub done_other : (tasks : List Task) (count : ℕ) (sends : Bool) (place : ℕ) → count < length tasks → ((task_at tasks count).sends ≡ sends → (task_at tasks count).place ≡ place → ⊥) → is_done tasks (count + 1) sends place ≡ true → is_done tasks count sends place ≡ true
+pub done_other : (tasks : List Task) (count : ℕ) (sends : Bool) (place : ℕ) → count < length tasks → ((task_at tasks count).sends ≡ sends → (task_at tasks count).place ≡ place → ⊥) → is_passed tasks (count + 1) sends place ≡ true → is_passed tasks count sends place ≡ true
 done_other tasks count sends place within differs done =
-    ⊎_elim (λ before. before) (λ here. let its = is_task-true sends place (task_at tasks count) here in absurd (differs its.0 its.1)) (or_cases (is_done tasks count sends place) (is_task sends place (task_at tasks count)) (sym (is_done-more tasks count sends place within) ∙ done))
+    ⊎_elim (λ before. before) (λ here. let its = is_task-true sends place (task_at tasks count) here in absurd (differs its.0 its.1)) (or_cases (is_passed tasks count sends place) (is_task sends place (task_at tasks count)) (sym (is_passed-more tasks count sends place within) ∙ done))
 
 -- a gate of the order drives its net
 pub gate_in_order : (ordered : Ordered) (place : ℕ) → place < length ordered.order → is_gate (driving_cell ordered.flat (ordered.flat.inputs + slice_index ordered.order place)) ≡ true
@@ -46,13 +46,13 @@ one_place ordered one other within other_within same = ⊎_elim (λ is. is) (λ 
 
 module _ (ordered : Ordered) (board : Board) (chip_of : List ℕ) (routes : List Route) (tasks : List Task) (each : length chip_of ≡ length ordered.flat.cells) (are : AreTasks ordered chip_of routes tasks) (are_routes : AreRoutes ordered.flat board chip_of routes) (count : ℕ) (within : count < length tasks) (start : ℕ) where
   -- a route whose hops are sent has its lead
-  pub home_done : (number : ℕ) (route : Route) → slice_get routes number ≡ Some route → is_done tasks count true number ≡ true → IsHomeDone ordered board chip_of routes tasks count route.net
+  pub home_done : (number : ℕ) (route : Route) → slice_get routes number ≡ Some route → is_passed tasks count true number ≡ true → IsHomeDone ordered board chip_of routes tasks count route.net
   home_done number route is done =
       let found = done_at tasks count true number (omega (arith, within)) done in
       home_later ordered board chip_of routes tasks each are are_routes found.0 count route.net (omega (arith, found.1)) (omega (arith, within)) (home_before ordered board chip_of routes tasks each are are_routes found.0 number route (omega (arith, found.1, within)) found.2 found.3 is)
 
   -- and routes of lesser depth are sent too
-  pub lesser_done : (number : ℕ) (route : Route) → slice_get routes number ≡ Some route → is_done tasks count true number ≡ true → (other : ℕ) (other_route : Route) → slice_get routes other ≡ Some other_route → depth ordered.flat chip_of other_route.net < depth ordered.flat chip_of route.net → is_done tasks count true other ≡ true
+  pub lesser_done : (number : ℕ) (route : Route) → slice_get routes number ≡ Some route → is_passed tasks count true number ≡ true → (other : ℕ) (other_route : Route) → slice_get routes other ≡ Some other_route → depth ordered.flat chip_of other_route.net < depth ordered.flat chip_of route.net → is_passed tasks count true other ≡ true
   lesser_done number route is done other other_route other_is less =
       let found = done_at tasks count true number (omega (arith, within)) done in
       let inside : found.0 < length tasks = omega (arith, found.1, within) in
@@ -61,7 +61,7 @@ module _ (ordered : Ordered) (board : Board) (chip_of : List ℕ) (routes : List
       done_by tasks found.0 count true other (omega (arith, found.1)) (omega (arith, within)) (shallow_before ordered board chip_of routes tasks each are are_routes found.0 inside other other_route other_is (omega (arith, less, deep)))
 
   -- what the gate of a done task reads is settled
-  pub reads_done : (place : ℕ) → is_done tasks count false place ≡ true → All (RestsOnDone ordered board chip_of routes tasks count (slice_index chip_of (slice_index ordered.order place))) (gate_inputs (slice_get ordered.flat.cells (slice_index ordered.order place)))
+  pub reads_done : (place : ℕ) → is_passed tasks count false place ≡ true → All (RestsOnDone ordered board chip_of routes tasks count (slice_index chip_of (slice_index ordered.order place))) (gate_inputs (slice_get ordered.flat.cells (slice_index ordered.order place)))
   reads_done place done =
       let found = done_at tasks count false place (omega (arith, within)) done in
       let settled = settled_before ordered board chip_of routes tasks each are are_routes found.0 place (omega (arith, found.1, within)) found.2 found.3 in
@@ -82,8 +82,8 @@ module _ (ordered : Ordered) (board : Board) (chip_of : List ℕ) (routes : List
     own_within : own < length ordered.order
     own_within = (kind_at ordered chip_of routes tasks are count false within leads).0
 
-    own_not_done : is_done tasks count false own ≡ false
-    own_not_done = subst (λ (kind : Bool). is_done tasks count kind own ≡ false) leads (are.once count within)
+    own_not_done : is_passed tasks count false own ≡ false
+    own_not_done = subst (λ (kind : Bool). is_passed tasks count kind own ≡ false) leads (are.once count within)
 
     own_inside : own_net < length draft.leads.items
     own_inside = omega (arith, order_within ordered.is_order own own_within, way.fit.nets)
@@ -91,7 +91,7 @@ module _ (ordered : Ordered) (board : Board) (chip_of : List ℕ) (routes : List
     other_lead : (net : ℕ) → (net ≡ own_net → ⊥) → slice_index new.leads.items net ≡ slice_index draft.leads.items net
     other_lead net apart = ap (λ (list : List ℕ). slice_index list net) has.leads ∙ get_or-set_other draft.leads.items own_net net _ 0 apart
 
-    no_sending : (number : ℕ) → is_done tasks (count + 1) true number ≡ true → is_done tasks count true number ≡ true
+    no_sending : (number : ℕ) → is_passed tasks (count + 1) true number ≡ true → is_passed tasks count true number ≡ true
     no_sending number done = done_other tasks count true number within (λ sends _. true≢false (sym sends ∙ leads)) done
 
     kept : AreUntouched ordered board chip_of routes tasks count draft.hops.items new.hops.items draft.leads.items new.leads.items
@@ -101,14 +101,14 @@ module _ (ordered : Ordered) (board : Board) (chip_of : List ℕ) (routes : List
       leads_same = λ net home. other_lead net (λ same.
           let found = home (ap (λ (n : ℕ). is_gate (driving_cell ordered.flat n)) same ∙ gate_in_order ordered own own_within) in
           let places : found.0 ≡ own = one_place ordered found.0 own found.1 own_within (let numbers : slice_index ordered.order found.0 ≡ slice_index ordered.order own = omega (arith, found.2, same) in numbers) in
-          true≢false (sym (ap (is_done tasks count false) (sym places) ∙ found.3) ∙ own_not_done));
+          true≢false (sym (ap (is_passed tasks count false) (sym places) ∙ found.3) ∙ own_not_done));
       hops_same = λ number done. ap (λ hops. slice_index_or hops.items number []) has.hops;
     }
 
     low : lead_at_place ordered board chip_of routes draft.hops.items draft.leads.items own ≤ moment_limit (length draft.table.taken)
     low = read_low ordered.flat board chip_of routes draft.hops.items draft.leads.items (moment_limit (length draft.table.taken)) way.fit.long way.fit.early.sent way.fit.early.soon (slice_index chip_of (slice_index ordered.order own)) (slice_get ordered.flat.cells (slice_index ordered.order own))
 
-    off : (number : ℕ) (route : Route) → slice_get routes number ≡ Some route → is_done tasks count true number ≡ true → IsSentOff ordered board chip_of routes draft route (hops_at draft number) → IsSentOff ordered board chip_of routes new route (hops_at new number)
+    off : (number : ℕ) (route : Route) → slice_get routes number ≡ Some route → is_passed tasks count true number ≡ true → IsSentOff ordered board chip_of routes draft route (hops_at draft number) → IsSentOff ordered board chip_of routes new route (hops_at new number)
     off number route is done sent = record {
       before = sent.before;
       sent = subst (λ (ready : ℕ). AreSent board sent.before ready (steps_of route.nodes) (hops_at new number)) (sym (ready_kept ordered board chip_of routes tasks count draft.hops.items new.hops.items draft.leads.items new.leads.items kept route.net (home_done number route is done) (lesser_done number route is done)))
@@ -119,9 +119,9 @@ module _ (ordered : Ordered) (board : Board) (chip_of : List ℕ) (routes : List
     place_same : (place : ℕ) → All (RestsOnDone ordered board chip_of routes tasks count (slice_index chip_of (slice_index ordered.order place))) (gate_inputs (slice_get ordered.flat.cells (slice_index ordered.order place))) → lead_at_place ordered board chip_of routes new.hops.items new.leads.items place ≡ lead_at_place ordered board chip_of routes draft.hops.items draft.leads.items place
     place_same place settled = place_kept ordered board chip_of routes tasks count draft.hops.items new.hops.items draft.leads.items new.leads.items kept place settled
 
-    worked_at : (place : ℕ) → place < length ordered.order → is_done tasks (count + 1) false place ≡ true → slice_index new.leads.items (ordered.flat.inputs + slice_index ordered.order place) ≡ lead_at_place ordered board chip_of routes new.hops.items new.leads.items place
+    worked_at : (place : ℕ) → place < length ordered.order → is_passed tasks (count + 1) false place ≡ true → slice_index new.leads.items (ordered.flat.inputs + slice_index ordered.order place) ≡ lead_at_place ordered board chip_of routes new.hops.items new.leads.items place
     worked_at place inside done =
-        let before = λ (is : is_done tasks count false place ≡ true).
+        let before = λ (is : is_passed tasks count false place ≡ true).
         kept.leads_same (ordered.flat.inputs + slice_index ordered.order place) (λ _. (place, inside, refl, is)) ∙ way.worked place inside is ∙ sym (place_same place (reads_done place is)) in
         let here = λ (is : is_task false place (task_at tasks count) ≡ true).
         let its = is_task-true false place (task_at tasks count) is in
@@ -129,7 +129,7 @@ module _ (ordered : Ordered) (board : Board) (chip_of : List ℕ) (routes : List
         subst (λ (p : ℕ). slice_index new.leads.items (ordered.flat.inputs + slice_index ordered.order p) ≡ lead_at_place ordered board chip_of routes draft.hops.items draft.leads.items p) its.1
         (ap (λ (list : List ℕ). slice_index list own_net) has.leads ∙ get_or-set_at draft.leads.items own_net own_net _ 0 refl own_inside) in
         value ∙ sym (place_same place (settled_before ordered board chip_of routes tasks each are are_routes count place within its.0 its.1)) in
-        ⊎_elim before here (or_cases (is_done tasks count false place) (is_task false place (task_at tasks count)) (sym (is_done-more tasks count false place within) ∙ done))
+        ⊎_elim before here (or_cases (is_passed tasks count false place) (is_task false place (task_at tasks count)) (sym (is_passed-more tasks count false place within) ∙ done))
 
     pub worked_more : IsUnderway ordered board chip_of routes tasks (count + 1) new (task_at tasks count).depth start
     worked_more = record {

@@ -1,4 +1,4 @@
--- Leads that are those of their gates' inputs are the leads of the setting.
+-- Leads that are those of their gates' inputs are the leads of the planned.
 use Rattle.std.proofs.Common.{◌≡◌, ◌<◌, ◌+◌, ◌-◌, ◌∙◌, ◌∷◌, ◌&&◌, ℕ, suc, Bool, true, false, List, [], length, eqb, nat_lt, if◌then◌else◌, slice_get, slice_index, Option, Some, None, ap, ap₂, refl, sym, ⊎_elim, true≢false, arith, eqb-true, eq-eqb, le-ltb}
 use Rattle.std.specs.List.{All, find}
 use Rattle.std.specs.Option.{option_map_or}
@@ -14,7 +14,7 @@ use Rattle.vw_plan.specs.declared.wire.Hop.{Hop}
 use Rattle.vw_plan.specs.declared.wire.Wire.{Wire}
 use Rattle.vw_plan.specs.Lead.{after_last, brings, brought_at, lead}
 use Rattle.vw_plan.specs.Nets.{driving_cell, greatest_read}
-use Rattle.vw_plan.specs.Setting.{Setting, home, setting_of}
+use Rattle.vw_plan.specs.PlannedBoard.{PlannedBoard, home, planned_board}
 use Rattle.vw_plan.proofs.AlongOrder.{every_net}
 use Rattle.vw_plan.proofs.LeadLevels.{lead-by_driver}
 use Rattle.vw_phase.specs.Steps.Leads.{hops_to, lead_by, wires_of}
@@ -44,29 +44,29 @@ no_gate_zero lead_at (Some (Latch d init)) none = refl
 module _ (ordered : Ordered) (board : Board) (plan : Plan) (routes : List Route) (hops : List (List Hop)) (leads : List ℕ) (long : length hops ≡ length routes) (wires : plan.wires ≡ wires_of routes hops)
     (worked : (place : ℕ) → place < length ordered.order → slice_index leads (ordered.flat.inputs + slice_index ordered.order place) ≡ lead_at_place ordered board plan.chip_of routes hops leads place)
     (zero_at : (net : ℕ) → is_gate (driving_cell ordered.flat net) ≡ false → slice_index leads net ≡ 0) where
-  abbrev setting : Setting
-  setting = setting_of ordered board plan
+  abbrev planned : PlannedBoard
+  planned = planned_board ordered board plan
 
   abbrev IsRight : ℕ → ℕ → Type 0
-  IsRight from net = lead setting (home setting net) net ≡ slice_index leads net
+  IsRight from net = lead planned (home planned net) net ≡ slice_index leads net
 
   -- at its own node
-  own_lead : (net : ℕ) → lead setting (home setting net) net ≡ greatest_read (lead setting (home setting net)) (driving_cell ordered.flat net)
-  own_lead net = lead-by_driver setting (home setting net) net ∙ ap (λ (own : Bool). if own then greatest_read (lead setting (home setting net)) (driving_cell ordered.flat net) else brought_at setting (home setting net) net) (eq-eqb (home setting net) (home setting net) refl)
+  own_lead : (net : ℕ) → lead planned (home planned net) net ≡ greatest_read (lead planned (home planned net)) (driving_cell ordered.flat net)
+  own_lead net = lead-by_driver planned (home planned net) net ∙ ap (λ (own : Bool). if own then greatest_read (lead planned (home planned net)) (driving_cell ordered.flat net) else brought_at planned (home planned net) net) (eq-eqb (home planned net) (home planned net) refl)
 
   -- where a net is right at home, it is right at each node
-  pub right_at : (node net : ℕ) → IsRight 0 net → lead setting node net ≡ lead_by ordered.flat board plan.chip_of routes hops leads node net
+  pub right_at : (node net : ℕ) → IsRight 0 net → lead planned node net ≡ lead_by ordered.flat board plan.chip_of routes hops leads node net
   right_at node net right =
-      let if_home = λ (is : eqb (home setting net) node ≡ true).
-      let here : home setting net ≡ node = eqb-true (home setting net) node is in
-      ap (λ (at : ℕ). lead setting at net) (sym here) ∙ right ∙ sym (ap (λ (own : Bool). if own then slice_index leads net else after_last (hops_to routes hops node net)) is) in
-      let if_away = λ (is : eqb (home setting net) node ≡ false).
-      lead-by_driver setting node net
-      ∙ ap (λ (own : Bool). if own then greatest_read (lead setting node) (driving_cell ordered.flat net) else brought_at setting node net) is
+      let if_home = λ (is : eqb (home planned net) node ≡ true).
+      let here : home planned net ≡ node = eqb-true (home planned net) node is in
+      ap (λ (at : ℕ). lead planned at net) (sym here) ∙ right ∙ sym (ap (λ (own : Bool). if own then slice_index leads net else after_last (hops_to routes hops node net)) is) in
+      let if_away = λ (is : eqb (home planned net) node ≡ false).
+      lead-by_driver planned node net
+      ∙ ap (λ (own : Bool). if own then greatest_read (lead planned node) (driving_cell ordered.flat net) else brought_at planned node net) is
       ∙ ap (λ (list : List Wire). option_map_or (λ wire. after_last wire.hops) (find (brings net node) list) 0) wires
       ∙ brought_same routes hops node net long
       ∙ sym (ap (λ (own : Bool). if own then slice_index leads net else after_last (hops_to routes hops node net)) is) in
-      ⊎_elim if_home if_away (cases_Bool (eqb (home setting net) node))
+      ⊎_elim if_home if_away (cases_Bool (eqb (home planned net) node))
 
   -- a net is right if the nets that its gate reads are
   right_step : (from net : ℕ) → All (IsRight from) (gate_inputs (driving_cell ordered.flat net)) → IsRight (suc from) net
@@ -78,13 +78,13 @@ module _ (ordered : Ordered) (board : Board) (plan : Plan) (routes : List Route)
       let same : ordered.flat.inputs + slice_index ordered.order found.0 ≡ net = omega (arith, its.0, number) in
       let no_input : nat_lt net ordered.flat.inputs ≡ false = le-ltb net ordered.flat.inputs its.0 in
       let its_driver : driving_cell ordered.flat net ≡ slice_get ordered.flat.cells (slice_index ordered.order found.0) = ap (λ (bit : Bool). if bit then None else slice_get ordered.flat.cells (net - ordered.flat.inputs)) no_input ∙ ap (slice_get ordered.flat.cells) (sym number) in
-      let its_node : home setting net ≡ slice_index plan.chip_of (slice_index ordered.order found.0) = ap (λ (bit : Bool). if bit then 0 else slice_index plan.chip_of (net - ordered.flat.inputs)) no_input ∙ ap (slice_index plan.chip_of) (sym number) in
+      let its_node : home planned net ≡ slice_index plan.chip_of (slice_index ordered.order found.0) = ap (λ (bit : Bool). if bit then 0 else slice_index plan.chip_of (net - ordered.flat.inputs)) no_input ∙ ap (slice_index plan.chip_of) (sym number) in
       own_lead net
-      ∙ greatest_read-agree (lead setting (home setting net)) (lead_by ordered.flat board plan.chip_of routes hops leads (home setting net)) (driving_cell ordered.flat net) (λ place default within. right_at (home setting net) _ (reads place default within))
+      ∙ greatest_read-agree (lead planned (home planned net)) (lead_by ordered.flat board plan.chip_of routes hops leads (home planned net)) (driving_cell ordered.flat net) (λ place default within. right_at (home planned net) _ (reads place default within))
       ∙ ap₂ (λ (at : ℕ) (cell : Option Cell). greatest_read (lead_by ordered.flat board plan.chip_of routes hops leads at) cell) its_node its_driver
       ∙ sym (worked found.0 found.1) ∙ ap (slice_index leads) same in
-      let if_not = λ (no : is_gate (driving_cell ordered.flat net) ≡ false). own_lead net ∙ no_gate_zero (lead setting (home setting net)) (driving_cell ordered.flat net) no ∙ sym (zero_at net no) in
+      let if_not = λ (no : is_gate (driving_cell ordered.flat net) ≡ false). own_lead net ∙ no_gate_zero (lead planned (home planned net)) (driving_cell ordered.flat net) no ∙ sym (zero_at net no) in
       ⊎_elim if_gate if_not (cases_Bool (is_gate (driving_cell ordered.flat net)))
 
-  pub leads_right : (net : ℕ) → lead setting (home setting net) net ≡ slice_index leads net
+  pub leads_right : (net : ℕ) → lead planned (home planned net) net ≡ slice_index leads net
   leads_right net = every_net ordered IsRight (λ from to other before right. right) right_step net

@@ -7,7 +7,7 @@ use Rattle.vw_plan.proofs.Shortest.{reached}
 use Rattle.vw_plan.specs.declared.board.Board.{Board}
 use Rattle.vw_plan.specs.declared.link.Link.{Link}
 use Rattle.vw_plan.specs.Walks.{has_link}
-use Rattle.vw_phase.specs.Steps.Along.{HasNumbers, link_place}
+use Rattle.vw_phase.specs.Steps.SentHops.{HasLinkNumbers, link_place}
 
 -- the table has the numbers of the links from a place on
 pub record HasFrom (links : List Link) (left : ℕ) (numbers : List ℕ) : Type 0 where
@@ -63,7 +63,7 @@ one_more_link links left numbers default at value some within from_low to_low is
   cut : drop (left - 1) links ≡ get_or links (left - 1) default ∷ drop left links
   cut = drop-cons links (left - 1) default (omega arith) ∙ ap (λ (number : ℕ). get_or links (left - 1) default ∷ drop number links) later
 
-pub all_numbers : (board : Board) (left : ℕ) (numbers : List ℕ) → left ≡ 0 → HasFrom board.links left numbers → HasNumbers board.links numbers
+pub all_numbers : (board : Board) (left : ℕ) (numbers : List ℕ) → left ≡ 0 → HasFrom board.links left numbers → HasLinkNumbers board.links numbers
 all_numbers board left numbers none has = λ from to is.
     let from_first : HasFrom board.links 0 numbers = subst (λ (place : ℕ). HasFrom board.links place numbers) none has in
     let low : to < 33 = omega (arith, reached board.chips board.links board.linked.separate.ends from to is, board.few_chips) in

@@ -14,7 +14,7 @@ use Rattle.vw_net.specs.Lists.{greatest}
 use Rattle.vw_plan.specs.Needs.{depth}
 use Rattle.vw_phase.specs.declared.draft.Draft.{Draft}
 use Rattle.vw_phase.specs.declared.task.Task.{Task}
-use Rattle.vw_phase.specs.Steps.Done.{all_hops}
+use Rattle.vw_phase.specs.Steps.FinishedSchedules.{all_hops}
 use Rattle.vw_phase.specs.Steps.Drafts.{IsUntouched}
 use Rattle.vw_phase.specs.Steps.Underway.{IsUnderway, start_by}
 use Rattle.vw_net.specs.declared.flat.Flat.{Flat}

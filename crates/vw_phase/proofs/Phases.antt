@@ -13,7 +13,7 @@ use Rattle.vw_phase.specs.declared.draft.Draft.{Draft}
 use Rattle.vw_phase.specs.declared.task.Task.{Task}
 use Rattle.vw_phase.specs.Steps.Drafts.{moment_limit}
 use Rattle.vw_phase.proofs.DoneTasks.{at_most, done_route}
-use Rattle.vw_phase.specs.Steps.Underway.{AreTasks, IsUnderway, is_done, start_by, task_at}
+use Rattle.vw_phase.specs.Steps.Underway.{AreTasks, IsUnderway, is_passed, start_by, task_at}
 
 module _ (flat : Flat) (board : Board) (chip_of : List ℕ) where
   -- where all hops are of lesser depth, the phase begins behind all of them
@@ -41,11 +41,11 @@ module _ (ordered : Ordered) (board : Board) (chip_of : List ℕ) (routes : List
   -- hops so far are of depths up to that of the phase
   sent_shallow : (level start : ℕ) → Way level start → (number : ℕ) (route : Route) → slice_get routes number ≡ Some route → (slice_index_or draft.hops.items number [] ≡ [] → ⊥) → depth ordered.flat chip_of route.net ≤ level
   sent_shallow level start way number route at some =
-      let if_done = λ (done : is_done tasks count true number ≡ true).
+      let if_done = λ (done : is_passed tasks count true number ≡ true).
       let found = done_route ordered chip_of routes tasks are count number route (omega (arith, within)) at done in
       let whole : depth ordered.flat chip_of route.net ≤ level = omega (arith, found.2, way.shallow found.0 found.1) in whole in
-      let if_not = λ (not : is_done tasks count true number ≡ false). let whole : depth ordered.flat chip_of route.net ≤ level = absurd (some (way.none number not)) in whole in
-      ⊎_elim if_done if_not (cases_Bool (is_done tasks count true number))
+      let if_not = λ (not : is_passed tasks count true number ≡ false). let whole : depth ordered.flat chip_of route.net ≤ level = absurd (some (way.none number not)) in whole in
+      ⊎_elim if_done if_not (cases_Bool (is_passed tasks count true number))
 
   -- later tasks are as deep as the next
   deep_from : (at : ℕ) → count ≤ at → at < length tasks → its ≤ (task_at tasks at).depth

@@ -21,12 +21,12 @@ use Rattle.vw_slots.specs.declared.slot.Taken.{Taken}
 use Rattle.vw_slots.specs.Slots.{is_taken}
 use Rattle.vw_phase.specs.declared.draft.Draft.{Draft}
 use Rattle.vw_phase.specs.declared.task.Task.{Task}
-use Rattle.vw_phase.specs.Steps.Along.{AreSent, hop_link, taken_by}
-use Rattle.vw_phase.specs.Steps.Done.{all_hops, uses}
+use Rattle.vw_phase.specs.Steps.SentHops.{AreSent, hop_link, taken_by}
+use Rattle.vw_phase.specs.Steps.FinishedSchedules.{all_hops, uses}
 use Rattle.vw_phase.specs.Steps.Drafts.{Does, IsSentMore, hops_at, moment_limit}
 use Rattle.vw_phase.specs.Steps.Leads.{usable_by}
-use Rattle.vw_phase.specs.Steps.Underway.{AreTasks, IsOfKind, IsSentOff, IsUnderway, is_done, is_task, ready_by, start_by, task_at}
-use Rattle.vw_phase.proofs.DoneTasks.{is_done-more, is_task-own, is_task-true, kind_at, not_done_before}
+use Rattle.vw_phase.specs.Steps.Underway.{AreTasks, IsOfKind, IsSentOff, IsUnderway, is_passed, is_task, ready_by, start_by, task_at}
+use Rattle.vw_phase.proofs.DoneTasks.{is_passed-more, is_task-own, is_task-true, kind_at, not_done_before}
 use Rattle.vw_phase.proofs.UntouchedMoments.{AreUntouched, place_kept, ready_kept, start_same}
 use Rattle.vw_phase.proofs.LeadLimits.{last_low, lead_low}
 use Rattle.vw_phase.proofs.TaskReady.{its_route, room, route_linked, sent_long}
@@ -68,8 +68,8 @@ module _ (ordered : Ordered) (board : Board) (chip_of : List ℕ) (routes : List
     kind : IsOfKind ordered chip_of routes true (task_at tasks count)
     kind = kind_at ordered chip_of routes tasks are count true within sends
 
-    not_done : is_done tasks count true number ≡ false
-    not_done = subst (λ (bit : Bool). is_done tasks count bit number ≡ false) sends (are.once count within)
+    not_done : is_passed tasks count true number ≡ false
+    not_done = subst (λ (bit : Bool). is_passed tasks count bit number ≡ false) sends (are.once count within)
 
     none_yet : hops_at draft number ≡ []
     none_yet = way.none number not_done
@@ -77,13 +77,13 @@ module _ (ordered : Ordered) (board : Board) (chip_of : List ℕ) (routes : List
     inside : number < length draft.hops.items
     inside = omega (arith, kind.0, way.fit.long)
 
-    own_done : is_done tasks (count + 1) true number ≡ true
-    own_done = is_done-more tasks count true number within ∙ or_right (is_done tasks count true number) _ (subst (λ (bit : Bool). is_task bit number (task_at tasks count) ≡ true) sends (is_task-own (task_at tasks count)))
+    own_done : is_passed tasks (count + 1) true number ≡ true
+    own_done = is_passed-more tasks count true number within ∙ or_right (is_passed tasks count true number) _ (subst (λ (bit : Bool). is_task bit number (task_at tasks count) ≡ true) sends (is_task-own (task_at tasks count)))
 
-    not_own : (other : ℕ) → is_done tasks count true other ≡ true → other ≡ number → ⊥
-    not_own other done same = true≢false (sym done ∙ ap (is_done tasks count true) same ∙ not_done)
+    not_own : (other : ℕ) → is_passed tasks count true other ≡ true → other ≡ number → ⊥
+    not_own other done same = true≢false (sym done ∙ ap (is_passed tasks count true) same ∙ not_done)
 
-    no_lead : (place : ℕ) → is_done tasks (count + 1) false place ≡ true → is_done tasks count false place ≡ true
+    no_lead : (place : ℕ) → is_passed tasks (count + 1) false place ≡ true → is_passed tasks count false place ≡ true
     no_lead place done = done_other tasks count false place within (λ leads _. true≢false (sym sends ∙ leads)) done
 
     module _ (route : Route) (there : slice_get routes number ≡ Some route) (has : IsSentMore board route number (max (usable_by ordered.flat board chip_of routes draft.hops.items draft.leads.items (node_of ordered.flat chip_of route.net) route.net) start) draft new) where
@@ -128,7 +128,7 @@ module _ (ordered : Ordered) (board : Board) (chip_of : List ℕ) (routes : List
       sent_low : All (λ hop. hop.at + 1 ≤ top) sent_hops
       sent_low place default early = omega (arith, has.soon place default early, ready_low, as_long, taken_long, early)
 
-      off : (other : ℕ) (its_own : Route) → slice_get routes other ≡ Some its_own → is_done tasks count true other ≡ true → IsSentOff ordered board chip_of routes draft its_own (hops_at draft other) → IsSentOff ordered board chip_of routes new its_own (hops_at new other)
+      off : (other : ℕ) (its_own : Route) → slice_get routes other ≡ Some its_own → is_passed tasks count true other ≡ true → IsSentOff ordered board chip_of routes draft its_own (hops_at draft other) → IsSentOff ordered board chip_of routes new its_own (hops_at new other)
       off other its_own is done sent = record {
         before = sent.before;
         sent = subst (λ (hops : List Hop). AreSent board sent.before (ready_by ordered board chip_of routes new.hops.items new.leads.items its_own.net) (steps_of its_own.nodes) hops) (sym (hops_other other (not_own other done)))
@@ -149,13 +149,13 @@ module _ (ordered : Ordered) (board : Board) (chip_of : List ℕ) (routes : List
         stays = λ link pin at is. ap (λ (list : List Taken). is_taken list link pin at) has.taken ∙ is;
       }
 
-      sent_at : (other : ℕ) (its_own : Route) → slice_get routes other ≡ Some its_own → is_done tasks (count + 1) true other ≡ true → IsSentOff ordered board chip_of routes new its_own (hops_at new other)
+      sent_at : (other : ℕ) (its_own : Route) → slice_get routes other ≡ Some its_own → is_passed tasks (count + 1) true other ≡ true → IsSentOff ordered board chip_of routes new its_own (hops_at new other)
       sent_at other its_own is done =
           let here = λ (own : is_task true other (task_at tasks count) ≡ true).
           let same : number ≡ other = (is_task-true true other (task_at tasks count) own).1 in
           let one : route ≡ its_own = same_Some route its_own (sym there ∙ ap (slice_get routes) same ∙ is) in
           subst (λ (r : Route). IsSentOff ordered board chip_of routes new r (hops_at new other)) one (subst (λ (n : ℕ). IsSentOff ordered board chip_of routes new route (hops_at new n)) same own_off) in
-          ⊎_elim (λ before. off other its_own is before (way.sent other its_own is before)) here (or_cases (is_done tasks count true other) (is_task true other (task_at tasks count)) (sym (is_done-more tasks count true other within) ∙ done))
+          ⊎_elim (λ before. off other its_own is before (way.sent other its_own is before)) here (or_cases (is_passed tasks count true other) (is_task true other (task_at tasks count)) (sym (is_passed-more tasks count true other within) ∙ done))
 
       slots_at : (hop : Hop) → uses hop (all_hops new.hops.items) ≡ (if is_taken new.table.taken (hop_link board hop) hop.pin hop.at then 1 else 0)
       slots_at hop =
@@ -180,7 +180,7 @@ module _ (ordered : Ordered) (board : Board) (chip_of : List ℕ) (routes : List
             last = omega (arith, has.last, way.fit.early.last, taken_long, last_low top sent_hops sent_low);
           };
         };
-        none = λ other not. hops_other other (λ same. true≢false (sym (ap (is_done tasks (count + 1) true) same ∙ own_done) ∙ not)) ∙ way.none other (not_done_before tasks count true other within not);
+        none = λ other not. hops_other other (λ same. true≢false (sym (ap (is_passed tasks (count + 1) true) same ∙ own_done) ∙ not)) ∙ way.none other (not_done_before tasks count true other within not);
         sent = sent_at;
         worked = λ place early done. ap (λ leads. slice_index leads.items (ordered.flat.inputs + slice_index ordered.order place)) has.leads ∙ way.worked place early (no_lead place done)
             ∙ sym (place_kept ordered board chip_of routes tasks count draft.hops.items new.hops.items draft.leads.items new.leads.items kept place (reads_done ordered board chip_of routes tasks each are are_routes count within start place (no_lead place done)));

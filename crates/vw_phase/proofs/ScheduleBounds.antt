@@ -18,7 +18,7 @@ use Rattle.vw_plan.specs.Lead.{after_last}
 use Rattle.vw_plan.specs.Nets.{driving_cell, node_of}
 use Rattle.vw_plan.specs.Routes.{steps_of}
 use Rattle.vw_phase.specs.declared.draft.Draft.{Draft}
-use Rattle.vw_phase.specs.Steps.Done.{IsAlong, cell_moment, latest}
+use Rattle.vw_phase.specs.Steps.FinishedSchedules.{IsAlong, cell_moment, latest}
 use Rattle.vw_phase.specs.Steps.Drafts.{IsFit, moment_limit}
 use Rattle.vw_phase.specs.Steps.Leads.{hops_to, lead_by, usable_by, wires_of}
 use Rattle.vw_phase.proofs.Scheduled.{last_within, latest_at_most}

@@ -13,13 +13,13 @@ use Rattle.vw_net.specs.declared.cell.Init.{Init}
 use Rattle.vw_net.specs.declared.flat.Flat.{Flat}
 use Rattle.vw_net.specs.declared.ordered.Ordered.{Ordered}
 use Rattle.vw_net.proofs.FittingCells.{cell_fits}
-use Rattle.vw_plan.specs.Good.{IsChip, cells_on}
+use Rattle.vw_plan.specs.Chips.{IsChip, cells_on}
 use Rattle.vw_plan.specs.Lead.{after_last, brings, usable}
 use Rattle.vw_net.specs.Lists.{greatest}
 use Rattle.vw_plan.specs.Needs.{is_pair, needed_pairs}
 use Rattle.vw_plan.specs.Nets.{is_needed, node_of}
 use Rattle.vw_plan.specs.Routes.{AreRoutes, FollowsRoute, IsRoute, need_of_route, steps_of}
-use Rattle.vw_plan.specs.Setting.{Setting, home, setting_of}
+use Rattle.vw_plan.specs.PlannedBoard.{PlannedBoard, home, planned_board}
 use Rattle.vw_plan.specs.Sound.{IsRising, IsRouted, IsSentWhenUsable, IsSound, share_pin}
 use Rattle.vw_plan.specs.Walks.{IsWalk}
 use Rattle.vw_plan.specs.declared.board.Board.{Board}
@@ -30,7 +30,7 @@ use Rattle.vw_plan.specs.declared.wire.Wire.{Wire}
 use Rattle.vw_plan.specs.Earliest.{AreEarliest, phase_start, ready_in_phase, wire_depth}
 use Rattle.vw_phase.specs.declared.draft.Draft.{Draft}
 use Rattle.vw_phase.specs.Schedules.{IsSchedule}
-use Rattle.vw_phase.specs.Steps.Done.{IsMadeOf, IsAlong, IsTasksDone, IsSentWell, all_hops, cell_moment, latest}
+use Rattle.vw_phase.specs.Steps.FinishedSchedules.{IsMadeOf, IsAlong, IsTasksDone, IsSentWell, all_hops, cell_moment, latest}
 use Rattle.vw_phase.specs.Steps.Leads.{wires_of}
 use Rattle.vw_phase.proofs.WiresOfRoutes.{as_many, before_last, follows, leads_along, once_apart}
 use Rattle.vw_plan.proofs.LeadLevels.{LeadsFollowDrivers}
@@ -77,51 +77,51 @@ abbrev pub Once : Type 0
 Once = (flat : Flat) (chip_of : List ℕ) (net node : ℕ) → count_by (is_pair net node) (needed_pairs flat chip_of) ≡ (if is_needed flat chip_of net node then 1 else 0)
 
 module _ (ordered : Ordered) (board : Board) (plan : Plan) where
-  abbrev setting : Setting
-  setting = setting_of ordered board plan
+  abbrev planned : PlannedBoard
+  planned = planned_board ordered board plan
 
   abbrev flat : Flat
   flat = ordered.flat
 
   -- a wire that follows a needed route leads to its node
-  routed_one : (route : Route) (sent : List Hop) → IsAlong board route sent → IsRoute flat board plan.chip_of route → is_needed flat plan.chip_of route.net route.to ≡ true → IsRouted setting (record { net = route.net; to = route.to; hops = sent })
+  routed_one : (route : Route) (sent : List Hop) → IsAlong board route sent → IsRoute flat board plan.chip_of route → is_needed flat plan.chip_of route.net route.to ≡ true → IsRouted planned (record { net = route.net; to = route.to; hops = sent })
   routed_one route sent along way needed = by way.further refl where
-    steps : map (λ hop. (hop.from, hop.to)) sent ≡ steps_of (home setting route.net ∷ way.further)
+    steps : map (λ hop. (hop.from, hop.to)) sent ≡ steps_of (home planned route.net ∷ way.further)
     steps = along.steps ∙ ap steps_of way.nodes
 
-    apart : home setting route.net ≡ route.to → ⊥
-    apart same = let no_own : not (eqb (home setting route.net) route.to) ≡ true = (and_parts (not (eqb (home setting route.net) route.to)) _ needed).0 in true≢false (sym no_own ∙ ap not (eq-eqb (home setting route.net) route.to same))
+    apart : home planned route.net ≡ route.to → ⊥
+    apart same = let no_own : not (eqb (home planned route.net) route.to) ≡ true = (and_parts (not (eqb (home planned route.net) route.to)) _ needed).0 in true≢false (sym no_own ∙ ap not (eq-eqb (home planned route.net) route.to same))
 
-    by : (further : List ℕ) → way.further ≡ further → IsRouted setting (record { net = route.net; to = route.to; hops = sent })
-    by [] is = absurd (apart (subst (λ (further : List ℕ). IsWalk board.links (home setting route.net) further route.to) is way.walk))
+    by : (further : List ℕ) → way.further ≡ further → IsRouted planned (record { net = route.net; to = route.to; hops = sent })
+    by [] is = absurd (apart (subst (λ (further : List ℕ). IsWalk board.links (home planned route.net) further route.to) is way.walk))
     by (next ∷ further) is =
-        let long : length sent ≡ length way.further = sym (length-map sent (λ (hop : Hop). (hop.from, hop.to))) ∙ ap length steps ∙ steps_long (home setting route.net) way.further in
-        record { some = omega (arith, long, ap length is); leads = leads_along board.links (home setting route.net) way.further route.to sent steps way.walk; pins = along.pins }
+        let long : length sent ≡ length way.further = sym (length-map sent (λ (hop : Hop). (hop.from, hop.to))) ∙ ap length steps ∙ steps_long (home planned route.net) way.further in
+        record { some = omega (arith, long, ap length is); leads = leads_along board.links (home planned route.net) way.further route.to sent steps way.walk; pins = along.pins }
 
-  routed_all : (routes : List Route) (hops : List (List Hop)) → AllZip (IsAlong board) routes hops → All (IsRoute flat board plan.chip_of) routes → All (λ route. is_needed flat plan.chip_of route.net route.to ≡ true) routes → All (IsRouted setting) (wires_of routes hops)
-  routed_all [] hops along ways needed = All-nil (IsRouted setting)
+  routed_all : (routes : List Route) (hops : List (List Hop)) → AllZip (IsAlong board) routes hops → All (IsRoute flat board plan.chip_of) routes → All (λ route. is_needed flat plan.chip_of route.net route.to ≡ true) routes → All (IsRouted planned) (wires_of routes hops)
+  routed_all [] hops along ways needed = All-nil (IsRouted planned)
   routed_all (route ∷ routes) [] along ways needed = absurd along
   routed_all (route ∷ routes) (sent ∷ hops) along ways needed =
-      All-cons (IsRouted setting) (record { net = route.net; to = route.to; hops = sent }) (wires_of routes hops)
+      All-cons (IsRouted planned) (record { net = route.net; to = route.to; hops = sent }) (wires_of routes hops)
       (routed_one route sent along.0 (All-head (IsRoute flat board plan.chip_of) route routes ways) (All-head (λ one. is_needed flat plan.chip_of one.net one.to ≡ true) route routes needed))
       (routed_all routes hops along.1 (All-tail (IsRoute flat board plan.chip_of) route routes ways) (All-tail (λ one. is_needed flat plan.chip_of one.net one.to ≡ true) route routes needed))
 
-  rising_all : (routes : List Route) (hops : List (List Hop)) → AllZip (IsAlong board) routes hops → greatest (map after_last hops) ≤ plan.period → All (IsRising setting) (wires_of routes hops)
-  rising_all [] hops along early = All-nil (IsRising setting)
+  rising_all : (routes : List Route) (hops : List (List Hop)) → AllZip (IsAlong board) routes hops → greatest (map after_last hops) ≤ plan.period → All (IsRising planned) (wires_of routes hops)
+  rising_all [] hops along early = All-nil (IsRising planned)
   rising_all (route ∷ routes) [] along early = absurd along
   rising_all (route ∷ routes) (sent ∷ hops) along early =
-      All-cons (IsRising setting) (record { net = route.net; to = route.to; hops = sent }) (wires_of routes hops)
+      All-cons (IsRising planned) (record { net = route.net; to = route.to; hops = sent }) (wires_of routes hops)
       (record { later = along.0.rising; within = All-weaker (λ hop. hop.at + 1 ≤ after_last sent) (λ hop. hop.at < plan.period) (λ hop is. omega (arith, is, early)) sent (before_last sent along.0.rising) })
       (rising_all routes hops along.1 (omega (arith, early)))
 
   -- where wires rise within a period, the last hop is within it
-  last_all : (routes : List Route) (hops : List (List Hop)) → length hops ≡ length routes → All (IsRising setting) (wires_of routes hops) → greatest (map after_last hops) ≤ plan.period
+  last_all : (routes : List Route) (hops : List (List Hop)) → length hops ≡ length routes → All (IsRising planned) (wires_of routes hops) → greatest (map after_last hops) ≤ plan.period
   last_all routes [] long rising = omega arith
   last_all [] (sent ∷ hops) long rising = absurd (omega (arith, long))
   last_all (route ∷ routes) (sent ∷ hops) long rising =
       let wire : Wire = record { net = route.net; to = route.to; hops = sent } in
-      let first : IsRising setting wire = All-head (IsRising setting) wire (wires_of routes hops) rising in
-      omega (arith, last_within plan.period sent first.within, last_all routes hops (omega (arith, long)) (All-tail (IsRising setting) wire (wires_of routes hops) rising))
+      let first : IsRising planned wire = All-head (IsRising planned) wire (wires_of routes hops) rising in
+      omega (arith, last_within plan.period sent first.within, last_all routes hops (omega (arith, long)) (All-tail (IsRising planned) wire (wires_of routes hops) rising))
 
   -- what a latch reads is a net
   latch_within : (number d : ℕ) (init : Init) → slice_get flat.cells number ≡ Some (Latch d init) → d < flat.inputs + length flat.cells
@@ -129,48 +129,48 @@ module _ (ordered : Ordered) (board : Board) (plan : Plan) where
       let nets = flat.inputs + length flat.cells in
       All-head (λ net. net < nets) d [] (cell_fits nets flat.cells number (Latch d init) flat.cells_fit is).1
 
-  module _ (chip_of : List ℕ) (routes : List Route) (draft : Draft) (done : IsTasksDone ordered board chip_of routes draft) (law : (one : Setting) → LeadsFollowDrivers one) (has : IsMadeOf chip_of routes draft.hops.items plan) where
+  module _ (chip_of : List ℕ) (routes : List Route) (draft : Draft) (done : IsTasksDone ordered board chip_of routes draft) (law : (one : PlannedBoard) → LeadsFollowDrivers one) (has : IsMadeOf chip_of routes draft.hops.items plan) where
     abbrev moment_of : ℕ → Cell → ℕ
     moment_of = cell_moment flat board chip_of routes draft.hops.items draft.leads.items
 
     -- what a latch reads is usable at its moment
-    latch_is : (number d : ℕ) (init : Init) → slice_get flat.cells number ≡ Some (Latch d init) → usable setting (home setting (flat.inputs + number)) d ≡ moment_of number (Latch d init)
+    latch_is : (number d : ℕ) (init : Init) → slice_get flat.cells number ≡ Some (Latch d init) → usable planned (home planned (flat.inputs + number)) d ≡ moment_of number (Latch d init)
     latch_is number d init is =
         let no_input : nat_lt (flat.inputs + number) flat.inputs ≡ false = le-ltb (flat.inputs + number) flat.inputs (omega arith) in
         let its_number : flat.inputs + number - flat.inputs ≡ number = omega arith in
-        let its_home : home setting (flat.inputs + number) ≡ slice_index plan.chip_of number = ap (λ (input : Bool). if input then 0 else slice_index plan.chip_of (flat.inputs + number - flat.inputs)) no_input ∙ ap (λ (at : ℕ). slice_index plan.chip_of at) its_number in
+        let its_home : home planned (flat.inputs + number) ≡ slice_index plan.chip_of number = ap (λ (input : Bool). if input then 0 else slice_index plan.chip_of (flat.inputs + number - flat.inputs)) no_input ∙ ap (λ (at : ℕ). slice_index plan.chip_of at) its_number in
         let within : d < flat.inputs + length flat.cells = latch_within number d init is in
-        ap (λ (node : ℕ). usable setting node d) its_home
-        ∙ usable_is ordered board plan routes draft.hops.items draft.leads.items has.wires (law setting) (slice_index plan.chip_of number) d (done.leads plan has d within)
+        ap (λ (node : ℕ). usable planned node d) its_home
+        ∙ usable_is ordered board plan routes draft.hops.items draft.leads.items has.wires (law planned) (slice_index plan.chip_of number) d (done.leads plan has d within)
         ∙ ap (λ (chips : List ℕ). cell_moment flat board chips routes draft.hops.items draft.leads.items number (Latch d init)) has.chips
 
     -- so the greatest of the moments is within the period where latches are in time
-    latest_within : ((number d : ℕ) (init : Init) → slice_get flat.cells number ≡ Some (Latch d init) → usable setting (home setting (flat.inputs + number)) d ≤ plan.period) → latest moment_of 0 flat.cells ≤ plan.period
+    latest_within : ((number d : ℕ) (init : Init) → slice_get flat.cells number ≡ Some (Latch d init) → usable planned (home planned (flat.inputs + number)) d ≤ plan.period) → latest moment_of 0 flat.cells ≤ plan.period
     latest_within in_time = latest_at_most moment_of plan.period 0 flat.cells each where
       each : (number : ℕ) (cell : Cell) → slice_get flat.cells number ≡ Some cell → moment_of (0 + number) cell ≤ plan.period
       each number (Gate ins cover) is = omega arith
       each number (Latch d init) is = let same : 0 + number ≡ number = omega arith in subst (λ (at : ℕ). moment_of at (Latch d init) ≤ plan.period) (sym same) (omega (arith, latch_is number d init is, in_time number d init is))
 
     -- a sound plan with these wires has no shorter period
-    pub period_long : IsSound setting → max (max draft.after 1) (latest moment_of 0 flat.cells) ≤ plan.period
+    pub period_long : IsSound planned → max (max draft.after 1) (latest moment_of 0 flat.cells) ≤ plan.period
     period_long sound =
-        let rising : All (IsRising setting) (wires_of routes draft.hops.items) = subst (All (IsRising setting)) has.wires sound.rising_microcycles in
+        let rising : All (IsRising planned) (wires_of routes draft.hops.items) = subst (All (IsRising planned)) has.wires sound.rising_microcycles in
         omega (arith, sound.a_period, done.last, last_all routes draft.hops.items done.fit.long rising, latest_within sound.latches_in_time)
 
     -- the latches are in time
-    latches : max (max draft.after 1) (latest moment_of 0 flat.cells) ≤ plan.period → (number d : ℕ) (init : Init) → slice_get flat.cells number ≡ Some (Latch d init) → usable setting (home setting (flat.inputs + number)) d ≤ plan.period
+    latches : max (max draft.after 1) (latest moment_of 0 flat.cells) ≤ plan.period → (number d : ℕ) (init : Init) → slice_get flat.cells number ≡ Some (Latch d init) → usable planned (home planned (flat.inputs + number)) d ≤ plan.period
     latches long number d init is =
         let same : 0 + number ≡ number = omega arith in
         omega (arith, long, latch_is number d init is, at_most_latest moment_of 0 flat.cells number (Latch d init) is, ap (λ (at : ℕ). moment_of at (Latch d init)) same)
 
 -- ---- all of it
 
-module _ (ordered : Ordered) (board : Board) (plan : Plan) (routes : List Route) (draft : Draft) (law : (one : Setting) → LeadsFollowDrivers one) (listed : Listed) (once : Once)
+module _ (ordered : Ordered) (board : Board) (plan : Plan) (routes : List Route) (draft : Draft) (law : (one : PlannedBoard) → LeadsFollowDrivers one) (listed : Listed) (once : Once)
     (each : length plan.chip_of ≡ length ordered.flat.cells) (chips : All (IsChip board) plan.chip_of) (room : (chip : ℕ) → cells_on plan.chip_of chip ≤ board.cells)
     (are : AreRoutes ordered.flat board plan.chip_of routes) (done : IsTasksDone ordered board plan.chip_of routes draft) (wires : plan.wires ≡ wires_of routes draft.hops.items)
     (period : plan.period ≡ max (max draft.after 1) (latest (cell_moment ordered.flat board plan.chip_of routes draft.hops.items draft.leads.items) 0 ordered.flat.cells)) where
-  abbrev its : Setting
-  its = setting_of ordered board plan
+  abbrev its : PlannedBoard
+  its = planned_board ordered board plan
 
   abbrev hops : List (List Hop)
   hops = draft.hops.items
@@ -212,7 +212,7 @@ module _ (ordered : Ordered) (board : Board) (plan : Plan) (routes : List Route)
         omega (arith, not_shorter, period, shorter);
   }
 
-pub scheduled_for : (ordered : Ordered) (board : Board) (plan : Plan) (routes : List Route) (draft : Draft) (chip_of : List ℕ) → plan.chip_of ≡ chip_of → ((one : Setting) → LeadsFollowDrivers one) → Listed → Once
+pub scheduled_for : (ordered : Ordered) (board : Board) (plan : Plan) (routes : List Route) (draft : Draft) (chip_of : List ℕ) → plan.chip_of ≡ chip_of → ((one : PlannedBoard) → LeadsFollowDrivers one) → Listed → Once
     → length chip_of ≡ length ordered.flat.cells → All (IsChip board) chip_of → ((chip : ℕ) → cells_on chip_of chip ≤ board.cells)
     → AreRoutes ordered.flat board chip_of routes → IsTasksDone ordered board chip_of routes draft → plan.wires ≡ wires_of routes draft.hops.items
     → plan.period ≡ max (max draft.after 1) (latest (cell_moment ordered.flat board chip_of routes draft.hops.items draft.leads.items) 0 ordered.flat.cells)

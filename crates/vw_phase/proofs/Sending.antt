@@ -12,7 +12,7 @@ use Rattle.vw_plan.specs.Walks.{has_link}
 use Rattle.vw_slots.specs.declared.slot.Slot.{Slot}
 use Rattle.vw_slots.specs.declared.slot.Taken.{Taken}
 use Rattle.vw_slots.specs.Slots.{Slots, IsFirstFree, with_slot}
-use Rattle.vw_phase.specs.Steps.Along.{AreLinked, AreSent, link_place, hop_link, slot_of, slots_of, taken_by}
+use Rattle.vw_phase.specs.Steps.SentHops.{AreLinked, AreSent, link_place, hop_link, slot_of, slots_of, taken_by}
 
 -- where there is a link, it has a number
 pub place_within : (links : List Link) (from to : ℕ) → has_link links from to ≡ true → link_place links from to < length links

@@ -12,7 +12,7 @@ use Rattle.vw_plan.specs.Routes.{steps_of}
 use Rattle.vw_plan.specs.Sound.{has_pin, rises}
 use Rattle.vw_plan.specs.Walks.{has_link}
 use Rattle.vw_slots.specs.declared.slot.Taken.{Taken}
-use Rattle.vw_phase.specs.Steps.Along.{AreLinked, AreSent, link_place, taken_by}
+use Rattle.vw_phase.specs.Steps.SentHops.{AreLinked, AreSent, link_place, taken_by}
 
 module _ (board : Board) where
   -- the hops go the steps

@@ -23,7 +23,7 @@ use Rattle.vw_plan.proofs.GreatestReads.{greatest_read-at}
 use Rattle.vw_plan.proofs.NeededPairs.{any-needed_pairs}
 use Rattle.vw_phase.specs.declared.task.Task.{Task}
 use Rattle.vw_phase.specs.Steps.Tasks.{rank}
-use Rattle.vw_phase.specs.Steps.Underway.{AreTasks, is_done, task_at}
+use Rattle.vw_phase.specs.Steps.Underway.{AreTasks, is_passed, task_at}
 use Rattle.vw_phase.proofs.DoneTasks.{done_earlier, done_later, kind_at}
 use Rattle.vw_phase.proofs.UntouchedMoments.{IsHomeDone, RestsOnDone, route_place}
 
@@ -80,12 +80,12 @@ place_listed (first ∷ routes) net node listed = by (eqb first.net net && eqb f
       rw is (omega (arith, rest.0), rest.1)
 
 -- what is done stays done
-pub done_to : (tasks : List Task) (from more : ℕ) (sends : Bool) (place : ℕ) → from + more ≤ length tasks → is_done tasks from sends place ≡ true → is_done tasks (from + more) sends place ≡ true
-done_to tasks from zero sends place within done = let same : from + 0 ≡ from = omega arith in ap (λ (n : ℕ). is_done tasks n sends place) same ∙ done
-done_to tasks from (suc more) sends place within done = let next : from + suc more ≡ (from + more) + 1 = omega arith in ap (λ (n : ℕ). is_done tasks n sends place) next ∙ done_later tasks (from + more) sends place (omega (arith, within)) (done_to tasks from more sends place (omega (arith, within)) done)
+pub done_to : (tasks : List Task) (from more : ℕ) (sends : Bool) (place : ℕ) → from + more ≤ length tasks → is_passed tasks from sends place ≡ true → is_passed tasks (from + more) sends place ≡ true
+done_to tasks from zero sends place within done = let same : from + 0 ≡ from = omega arith in ap (λ (n : ℕ). is_passed tasks n sends place) same ∙ done
+done_to tasks from (suc more) sends place within done = let next : from + suc more ≡ (from + more) + 1 = omega arith in ap (λ (n : ℕ). is_passed tasks n sends place) next ∙ done_later tasks (from + more) sends place (omega (arith, within)) (done_to tasks from more sends place (omega (arith, within)) done)
 
-pub done_by : (tasks : List Task) (from to : ℕ) (sends : Bool) (place : ℕ) → from ≤ to → to ≤ length tasks → is_done tasks from sends place ≡ true → is_done tasks to sends place ≡ true
-done_by tasks from to sends place before within done = let sum : from + (to - from) ≡ to = omega (arith, before) in ap (λ (n : ℕ). is_done tasks n sends place) (sym sum) ∙ done_to tasks from (to - from) sends place (omega (arith, sum, within)) done
+pub done_by : (tasks : List Task) (from to : ℕ) (sends : Bool) (place : ℕ) → from ≤ to → to ≤ length tasks → is_passed tasks from sends place ≡ true → is_passed tasks to sends place ≡ true
+done_by tasks from to sends place before within done = let sum : from + (to - from) ≡ to = omega (arith, before) in ap (λ (n : ℕ). is_passed tasks n sends place) (sym sum) ∙ done_to tasks from (to - from) sends place (omega (arith, sum, within)) done
 
 module _ (ordered : Ordered) (board : Board) (chip_of : List ℕ) (routes : List Route) (tasks : List Task) (each : length chip_of ≡ length ordered.flat.cells) (are : AreTasks ordered chip_of routes tasks) (are_routes : AreRoutes ordered.flat board chip_of routes) where
   -- what is settled stays so
@@ -96,7 +96,7 @@ module _ (ordered : Ordered) (board : Board) (chip_of : List ℕ) (routes : List
   settled_later from to node net before within settled = (λ home. home_later from to net before within (settled.0 home), λ away. done_by tasks from to true (route_place routes net node) before within (settled.1 away))
 
   -- routes of lesser depth are sent before a task
-  pub shallow_before : (at : ℕ) → at < length tasks → (number : ℕ) (route : Route) → slice_get routes number ≡ Some route → depth ordered.flat chip_of route.net < (task_at tasks at).depth → is_done tasks at true number ≡ true
+  pub shallow_before : (at : ℕ) → at < length tasks → (number : ℕ) (route : Route) → slice_get routes number ≡ Some route → depth ordered.flat chip_of route.net < (task_at tasks at).depth → is_passed tasks at true number ≡ true
   shallow_before at within number route is less = done_earlier ordered chip_of routes tasks are at true number within (are.routed number (slice_get_within routes number route is)) (λ other inside sends place most.
       let kind = kind_at ordered chip_of routes tasks are other true inside sends in
       let deep : (task_at tasks other).depth ≡ depth ordered.flat chip_of route.net = kind.1 route (ap (slice_get routes) place ∙ is) in
@@ -189,7 +189,7 @@ module _ (ordered : Ordered) (board : Board) (chip_of : List ℕ) (routes : List
         omega (arith, behind, other_place, is, found.2)) in
         (found.0, found.1, same, done)
 
-    away : (turn default : ℕ) → turn < length (gate_inputs (slice_get ordered.flat.cells (slice_index ordered.order place))) → (node_of ordered.flat chip_of (read turn default) ≡ slice_index chip_of (slice_index ordered.order place) → ⊥) → is_done tasks at true (route_place routes (read turn default) (slice_index chip_of (slice_index ordered.order place))) ≡ true
+    away : (turn default : ℕ) → turn < length (gate_inputs (slice_get ordered.flat.cells (slice_index ordered.order place))) → (node_of ordered.flat chip_of (read turn default) ≡ slice_index chip_of (slice_index ordered.order place) → ⊥) → is_passed tasks at true (route_place routes (read turn default) (slice_index chip_of (slice_index ordered.order place))) ≡ true
     away turn default inside apart =
         let net = read turn default in
         let node = slice_index chip_of (slice_index ordered.order place) in

@@ -15,8 +15,8 @@ use Rattle.vw_plan.specs.Sound.{share_pin}
 use Rattle.vw_plan.specs.Walks.{has_link}
 use Rattle.vw_slots.specs.declared.slot.Taken.{Taken}
 use Rattle.vw_slots.specs.Slots.{is_taken}
-use Rattle.vw_phase.specs.Steps.Along.{AreLinked, AreSent, link_place, hop_link, taken_by}
-use Rattle.vw_phase.specs.Steps.Done.{all_hops, uses}
+use Rattle.vw_phase.specs.Steps.SentHops.{AreLinked, AreSent, link_place, hop_link, taken_by}
+use Rattle.vw_phase.specs.Steps.FinishedSchedules.{all_hops, uses}
 
 -- links of one number are one
 same_ends : (links : List Link) (a b c d : ℕ) → has_link links a b ≡ true → link_place links a b ≡ link_place links c d → (a ≡ c) × (b ≡ d)

@@ -16,10 +16,10 @@ use Rattle.vw_plan.specs.Walks.{IsWalk}
 use Rattle.vw_slots.specs.declared.slot.Taken.{Taken}
 use Rattle.vw_phase.specs.declared.draft.Draft.{Draft}
 use Rattle.vw_phase.specs.declared.task.Task.{Task}
-use Rattle.vw_phase.specs.Steps.Along.{AreLinked, AreSent, taken_by}
-use Rattle.vw_phase.specs.Steps.Done.{all_hops}
+use Rattle.vw_phase.specs.Steps.SentHops.{AreLinked, AreSent, taken_by}
+use Rattle.vw_phase.specs.Steps.FinishedSchedules.{all_hops}
 use Rattle.vw_phase.specs.Steps.Drafts.{IsDraftReady, IsReadyKind, hops_at}
-use Rattle.vw_phase.specs.Steps.Underway.{AreTasks, IsOfKind, IsUnderway, is_done, task_at}
+use Rattle.vw_phase.specs.Steps.Underway.{AreTasks, IsOfKind, IsUnderway, is_passed, task_at}
 use Rattle.vw_phase.proofs.NeededRoutes.{route_net}
 
 -- hops have as many steps
@@ -79,15 +79,15 @@ module _ (ordered : Ordered) (board : Board) (chip_of : List ℕ) (routes : List
   -- hops so far are no more than steps
   few_so_far : (level start : ℕ) → IsUnderway ordered board chip_of routes tasks count draft level start → AreFew routes draft.hops.items
   few_so_far level start way number route at =
-      let if_done = λ (done : is_done tasks count true number ≡ true). let off = way.sent number route at done in let long = sent_long board off.before _ (steps_of route.nodes) (hops_at draft number) off.sent in let whole : length (hops_at draft number) ≤ length (steps_of route.nodes) = omega (arith, long) in whole in
-      let if_not = λ (not : is_done tasks count true number ≡ false). let empty : length (hops_at draft number) ≡ 0 = ap length (way.none number not) in let whole : length (hops_at draft number) ≤ length (steps_of route.nodes) = omega (arith, empty) in whole in
-      ⊎_elim if_done if_not (cases_Bool (is_done tasks count true number))
+      let if_done = λ (done : is_passed tasks count true number ≡ true). let off = way.sent number route at done in let long = sent_long board off.before _ (steps_of route.nodes) (hops_at draft number) off.sent in let whole : length (hops_at draft number) ≤ length (steps_of route.nodes) = omega (arith, long) in whole in
+      let if_not = λ (not : is_passed tasks count true number ≡ false). let empty : length (hops_at draft number) ≡ 0 = ap length (way.none number not) in let whole : length (hops_at draft number) ≤ length (steps_of route.nodes) = omega (arith, empty) in whole in
+      ⊎_elim if_done if_not (cases_Bool (is_passed tasks count true number))
 
   -- the room that a route needs
   pub room : (level start : ℕ) → IsUnderway ordered board chip_of routes tasks count draft level start → (number : ℕ) (route : Route) → slice_get routes number ≡ Some route → hops_at draft number ≡ [] → length draft.table.taken + length (steps_of route.nodes) < 2 ^ 30
   room level start way number route at none = omega (arith, way.size, few_more routes draft.hops.items way.fit.long (few_so_far level start way) number route at none, are_routes.few)
 
-  by_kind : (level start : ℕ) → IsUnderway ordered board chip_of routes tasks count draft level start → (sends : Bool) (task : Task) → IsOfKind ordered chip_of routes sends task → is_done tasks count sends task.place ≡ false → IsReadyKind ordered board routes sends task.place draft
+  by_kind : (level start : ℕ) → IsUnderway ordered board chip_of routes tasks count draft level start → (sends : Bool) (task : Task) → IsOfKind ordered chip_of routes sends task → is_passed tasks count sends task.place ≡ false → IsReadyKind ordered board routes sends task.place draft
   by_kind level start way false task kind not = kind.0
   by_kind level start way true task kind not = (
     kind.0,

@@ -14,7 +14,7 @@ use Rattle.vw_plan.specs.Nets.{driving_cell, node_of}
 use Rattle.vw_plan.proofs.GreatestReads.{greatest_read-agree}
 use Rattle.vw_phase.specs.declared.task.Task.{Task}
 use Rattle.vw_phase.specs.Steps.Leads.{hops_to, lead_by, usable_by}
-use Rattle.vw_phase.specs.Steps.Underway.{is_done, lead_at_place, ready_by, start_by}
+use Rattle.vw_phase.specs.Steps.Underway.{is_passed, lead_at_place, ready_by, start_by}
 
 -- the number of the first route that brings a net to a node; that of the routes where there is none
 abbrev pub route_place : List Route → ℕ → ℕ → ℕ
@@ -52,18 +52,18 @@ start_same flat board chip_of limit (route ∷ routes) (sent ∷ hops) (later �
 module _ (ordered : Ordered) (board : Board) (chip_of : List ℕ) (routes : List Route) (tasks : List Task) (count : ℕ) where
   -- if a gate drives a net, its lead is worked out
   abbrev pub IsHomeDone : ℕ → Type 0
-  IsHomeDone net = is_gate (driving_cell ordered.flat net) ≡ true → (place : ℕ) × (place < length ordered.order) × (net ≡ ordered.flat.inputs + slice_index ordered.order place) × (is_done tasks count false place ≡ true)
+  IsHomeDone net = is_gate (driving_cell ordered.flat net) ≡ true → (place : ℕ) × (place < length ordered.order) × (net ≡ ordered.flat.inputs + slice_index ordered.order place) × (is_passed tasks count false place ≡ true)
 
   -- the lead of a net at a node rests on what is done
   abbrev pub RestsOnDone : ℕ → ℕ → Type 0
-  RestsOnDone node net = (node_of ordered.flat chip_of net ≡ node → IsHomeDone net) × ((node_of ordered.flat chip_of net ≡ node → ⊥) → is_done tasks count true (route_place routes net node) ≡ true)
+  RestsOnDone node net = (node_of ordered.flat chip_of net ≡ node → IsHomeDone net) × ((node_of ordered.flat chip_of net ≡ node → ⊥) → is_passed tasks count true (route_place routes net node) ≡ true)
 
   -- hops and leads are the same where something is done
   pub record AreUntouched (hops more : List (List Hop)) (leads later : List ℕ) : Type 0 where
     pub long : length hops ≡ length routes
     pub long_more : length more ≡ length routes
     pub leads_same : (net : ℕ) → IsHomeDone net → slice_index later net ≡ slice_index leads net
-    pub hops_same : (number : ℕ) → is_done tasks count true number ≡ true → slice_index_or more number [] ≡ slice_index_or hops number []
+    pub hops_same : (number : ℕ) → is_passed tasks count true number ≡ true → slice_index_or more number [] ≡ slice_index_or hops number []
 
   module _ (hops more : List (List Hop)) (leads later : List ℕ) (kept : AreUntouched hops more leads later) where
     pub lead_kept : (node net : ℕ) → RestsOnDone node net → lead_by ordered.flat board chip_of routes more later node net ≡ lead_by ordered.flat board chip_of routes hops leads node net
@@ -93,6 +93,6 @@ module _ (ordered : Ordered) (board : Board) (chip_of : List ℕ) (routes : List
         let node = node_of ordered.flat chip_of net in
         ap (λ (lead : ℕ). lead + (if is_gate (driving_cell ordered.flat net) && eqb node node then board.settle else 0)) (lead_kept node net (λ _. home, λ apart. absurd (apart refl)))
 
-    pub ready_kept : (net : ℕ) → IsHomeDone net → ((number : ℕ) (route : Route) → slice_get routes number ≡ Some route → depth ordered.flat chip_of route.net < depth ordered.flat chip_of net → is_done tasks count true number ≡ true)
+    pub ready_kept : (net : ℕ) → IsHomeDone net → ((number : ℕ) (route : Route) → slice_get routes number ≡ Some route → depth ordered.flat chip_of route.net < depth ordered.flat chip_of net → is_passed tasks count true number ≡ true)
         → ready_by ordered board chip_of routes more later net ≡ ready_by ordered board chip_of routes hops leads net
     ready_kept net home before = ap₂ max (usable_kept net home) (start_same ordered.flat board chip_of (depth ordered.flat chip_of net) routes hops more kept.long kept.long_more (λ number route at less. kept.hops_same number (before number route at less)))

@@ -21,8 +21,8 @@ use Rattle.vw_plan.specs.Needs.{depth}
 use Rattle.vw_plan.specs.Sound.{has_pin, share_pin}
 use Rattle.vw_slots.specs.declared.slot.Taken.{Taken}
 use Rattle.vw_slots.specs.Slots.{is_taken}
-use Rattle.vw_phase.specs.Steps.Along.{AreSent, link_place, hop_link, taken_by}
-use Rattle.vw_phase.specs.Steps.Done.{all_hops, uses}
+use Rattle.vw_phase.specs.Steps.SentHops.{AreSent, link_place, hop_link, taken_by}
+use Rattle.vw_phase.specs.Steps.FinishedSchedules.{all_hops, uses}
 use Rattle.vw_phase.specs.Steps.Leads.{wires_of}
 use Rattle.vw_phase.specs.Steps.Underway.{start_by}
 

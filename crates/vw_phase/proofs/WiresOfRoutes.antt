@@ -16,7 +16,7 @@ use Rattle.vw_plan.specs.Routes.{FollowsRoute, need_of_route, steps_of}
 use Rattle.vw_plan.specs.Sound.{leads_to, rises, share_pin}
 use Rattle.vw_plan.specs.Walks.{IsWalk}
 use Rattle.vw_plan.proofs.NeededPairs.{count_cons}
-use Rattle.vw_phase.specs.Steps.Done.{IsAlong, uses}
+use Rattle.vw_phase.specs.Steps.FinishedSchedules.{IsAlong, uses}
 use Rattle.vw_phase.specs.Steps.Leads.{wires_of}
 
 pub follows : (board : Board) (routes : List Route) (hops : List (List Hop)) → AllZip (IsAlong board) routes hops → AllZip FollowsRoute routes (wires_of routes hops)

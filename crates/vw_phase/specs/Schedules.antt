@@ -8,13 +8,13 @@ use Rattle.vw_plan.specs.declared.need.Route.{Route}
 use Rattle.vw_plan.specs.declared.plan.Plan.{Plan}
 use Rattle.vw_plan.specs.Earliest.{IsPhased, HasLeastPeriod}
 use Rattle.vw_plan.specs.Routes.{FollowsRoute}
-use Rattle.vw_plan.specs.Setting.{setting_of}
+use Rattle.vw_plan.specs.PlannedBoard.{planned_board}
 use Rattle.vw_plan.specs.Sound.{IsSound}
 
 -- a plan for these chips and routes
 pub record IsSchedule (ordered : Ordered) (board : Board) (chip_of : List ℕ) (routes : List Route) (plan : Plan) : Type 0 where
   pub chips : plan.chip_of ≡ chip_of
   pub follows : AllZip FollowsRoute routes plan.wires
-  pub sound : IsSound (setting_of ordered board plan)
-  pub phased : IsPhased (setting_of ordered board plan)
-  pub least_period : HasLeastPeriod (setting_of ordered board plan)
+  pub sound : IsSound (planned_board ordered board plan)
+  pub phased : IsPhased (planned_board ordered board plan)
+  pub least_period : HasLeastPeriod (planned_board ordered board plan)

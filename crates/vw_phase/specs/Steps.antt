@@ -1,8 +1,8 @@
 -- What functions of this crate compute, step by step. No public clause cites it.
-pub mod Along
+pub mod SentHops
 pub mod Leads
 pub mod Tasks
 pub mod Drafts
-pub mod Done
+pub mod FinishedSchedules
 pub mod Underway
 pub mod Given

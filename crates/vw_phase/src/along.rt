@@ -2,7 +2,7 @@
 ghost use Rattle.std.specs.Prelude.{◌≡◌, ◌≤◌, ◌<◌, ◌+◌, ◌*◌, ◌^◌, ◌++◌, ◌∷◌, length, map, IfOk};
 ghost use Rattle.std.specs.List.{All};
 ghost use Rattle.vw_plan.specs.Routes.{steps_of};
-ghost use Rattle.vw_phase.specs.Steps.Along.{AreLinked, AreSent, taken_by};
+ghost use Rattle.vw_phase.specs.Steps.SentHops.{AreLinked, AreSent, taken_by};
 
 use crate::given::Given;
 use crate::links::link_between;

@@ -1,7 +1,7 @@
 //! Schedules in the making.
 ghost use Rattle.std.specs.Prelude.{◌≡◌, ◌≤◌, ◌<◌, ◌+◌, ◌^◌, ◌∷◌, ℕ, List, [], length, map, slice_index_or, OnOk};
 ghost use Rattle.vw_plan.specs.Routes.{steps_of};
-ghost use Rattle.vw_phase.specs.Steps.Along.{AreLinked};
+ghost use Rattle.vw_phase.specs.Steps.SentHops.{AreLinked};
 ghost use Rattle.vw_phase.specs.Steps.Drafts.{IsSentMore};
 
 use crate::along::send_along;

@@ -1,7 +1,7 @@
 //! Schedules in the making, task by task.
 ghost use Rattle.std.specs.Prelude.{◌≡◌, ◌<◌, ◌^◌, false, true, length, IfOk, OnOk, if◌then◌else◌};
 ghost use Rattle.std.specs.List.{All};
-ghost use Rattle.vw_plan.specs.Good.{IsChip};
+ghost use Rattle.vw_plan.specs.Chips.{IsChip};
 ghost use Rattle.vw_plan.specs.Routes.{AreRoutes};
 ghost use Rattle.vw_phase.specs.Steps.Given.{DoesFor, IsDoneFor, IsReadyFor, IsUntouchedFor};
 

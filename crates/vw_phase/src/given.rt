@@ -1,7 +1,7 @@
 //! What a schedule is made from.
 ghost use Rattle.std.specs.Prelude.{◌≡◌, length};
 ghost use Rattle.vw_check.specs.Pairs.{HasPairs};
-ghost use Rattle.vw_phase.specs.Steps.Along.{HasNumbers};
+ghost use Rattle.vw_phase.specs.Steps.SentHops.{HasLinkNumbers};
 ghost use Rattle.vw_phase.specs.Steps.Leads.{route_pairs};
 
 use vw_check::PairTable;
@@ -26,5 +26,5 @@ pub struct Given<'a> {
     pub numbers: &'a [u32],
     ghost each: { length chip_of.now ≡ length ordered.now.flat.cells },
     ghost has_places: { HasPairs (route_pairs routes.now) places.now.places },
-    ghost has_numbers: { HasNumbers board.now.links numbers.now },
+    ghost has_numbers: { HasLinkNumbers board.now.links numbers.now },
 }

@@ -1,7 +1,7 @@
 //! The numbers of links, by the nodes that they join.
 ghost use Rattle.std.specs.Prelude.{◌≡◌, IfOk, IsTrue};
 ghost use Rattle.vw_plan.specs.Walks.{has_link};
-ghost use Rattle.vw_phase.specs.Steps.Along.{HasNumbers, link_place};
+ghost use Rattle.vw_phase.specs.Steps.SentHops.{HasLinkNumbers, link_place};
 
 use crate::given::Given;
 use std::alloc::{AllocError, Global};
@@ -10,7 +10,7 @@ use vw_plan::Board;
 /// The number of the link from each node to each other. The row of the node that a link leads from has a place for each
 /// of 33 nodes. It is filled from the end, so that the first of equal links stays.
 pub fn link_numbers(alloc: Global, board: &Board) -> Result<Vec<u32>, AllocError>
-    ensures { IfOk result (λ numbers. HasNumbers board.now.links numbers.items) }
+    ensures { IfOk result (λ numbers. HasLinkNumbers board.now.links numbers.items) }
 {
     let links = board.links();
     let mut numbers = vec![in alloc; 0; 1089]?;

@@ -1,12 +1,13 @@
 //! Schedules.
-ghost use Rattle.std.specs.Prelude.{◌≡◌, ◌≤◌, ◌<◌, ◌^◌, ℕ, length, max, sum_by, IfOk, IfErr};
+ghost use Rattle.std.specs.Prelude.{◌≡◌, ◌≤◌, ◌<◌, ◌^◌, ℕ, length, max, IfOk, IfErr};
 ghost use Rattle.std.specs.List.{All};
 ghost use Rattle.vw_plan.specs.declared.plan.Plan.{Plan};
-ghost use Rattle.vw_plan.specs.Good.{IsChip, cells_on};
+ghost use Rattle.vw_plan.specs.Chips.{IsChip, cells_on};
+ghost use Rattle.vw_plan.specs.HopCounts.{hop_count};
 ghost use Rattle.vw_plan.specs.Routes.{AreRoutes};
 ghost use Rattle.vw_check.specs.Pairs.{HasPairs};
 ghost use Rattle.vw_phase.specs.Schedules.{IsSchedule};
-ghost use Rattle.vw_phase.specs.Steps.Done.{latest};
+ghost use Rattle.vw_phase.specs.Steps.FinishedSchedules.{latest};
 ghost use Rattle.vw_phase.specs.Steps.Given.{IsFitFor, cell_moment_for, net_count};
 ghost use Rattle.vw_net.specs.Cells.{read_nets};
 ghost use Rattle.vw_phase.specs.Steps.Leads.{route_pairs, wires_of};
@@ -20,7 +21,7 @@ use crate::refused::ScheduleRefused;
 use std::alloc::{AllocError, Global};
 use vw_check::PairTable;
 use vw_net::{Cell, Ordered, Sequence};
-use vw_plan::{Board, Hop, Plan, Route, Wire, leads_settle, needed_pairs_are_needed};
+use vw_plan::{Board, Hop, Plan, Route, Wire, leads_follow_drivers, needed_pairs_are_needed};
 
 /// The place of each route.
 fn route_table(alloc: Global, routes: &[Route]) -> Result<PairTable, AllocError>
@@ -98,7 +99,7 @@ fn plan_parts(
     requires few { length routes.now < 2 ^ 32 }
     ensures few_wires { IfOk result (λ parts. length parts.0.items < 2 ^ 32) }
     ensures few_hops { IfOk result
-        (λ parts. sum_by (λ wire. length wire.hops) parts.0.items < 2 ^ 30) }
+        (λ parts. hop_count parts.0.items < 2 ^ 30) }
     ensures early { IfOk result
         (λ parts. All (λ wire. All (λ hop. hop.at ≤ 2 ^ 62) wire.hops) parts.0.items) }
     ensures short { IfOk result (λ parts. parts.1 ≤ 2 ^ 62) }
@@ -106,7 +107,7 @@ fn plan_parts(
         (λ parts. (plan : Plan) → plan.chip_of ≡ chip_of.now → plan.wires ≡ parts.0.items
         → plan.period ≡ parts.1 → IsSchedule ordered.now board.now chip_of.now routes.now plan) }
 {
-    leads_settle();
+    leads_follow_drivers();
     needed_pairs_are_needed();
     let places = route_table(alloc, routes)?;
     let numbers = link_numbers(alloc, board)?;

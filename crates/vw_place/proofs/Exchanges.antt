@@ -10,7 +10,7 @@ use Rattle.vw_plan.specs.declared.board.Board.{Board}
 use Rattle.vw_plan.specs.Good.{exchanged}
 use Rattle.vw_place.specs.Numbering.{IsNumbering}
 use Rattle.vw_place.specs.Steps.NodeLists.{IsNodeList, moved}
-use Rattle.vw_place.specs.Steps.Tries.{AreTried, IsBefore, IsBoth, IsLater}
+use Rattle.vw_place.specs.Steps.Tries.{AreTried, IsBefore, IsBoth, IsOneAndLater}
 use Rattle.vw_place.proofs.Renumbered.{chip_stays, one_to_one}
 
 -- ---- two numbers exchanged
@@ -128,47 +128,47 @@ module _ (board : Board) (at : List ℕ) (nodes : IsNodeList board at) (one othe
 
 -- ---- tries
 
-module _ (way : List ℕ → ℕ) where
+module _ (cost : List ℕ → ℕ) where
   -- first some, then others
-  pub more_tried : (first later all : ℕ → ℕ → Type 0) (old between new : List ℕ) → AreTried way first old between → AreTried way later between new
-      → ((one other : ℕ) → all one other → first one other ⊎ later one other) → AreTried way all old new
+  pub more_tried : (first later all : ℕ → ℕ → Type 0) (old between new : List ℕ) → AreTried cost first old between → AreTried cost later between new
+      → ((one other : ℕ) → all one other → first one other ⊎ later one other) → AreTried cost all old new
   more_tried first later all old between new before after cases = record {
-    no_longer = omega (arith, before.no_longer, after.no_longer);
+    no_greater = omega (arith, before.no_greater, after.no_greater);
     same = λ as_long. after.same (later_long as_long) ∙ before.same (first_long as_long);
     useless = λ as_long one other is.
         let same : between ≡ old = before.same (first_long as_long) in
-        ⊎_elim (before.useless (first_long as_long) one other) (λ is_later. subst (λ (list : List ℕ). way list ≤ way (swap list one other)) same (after.useless (later_long as_long) one other is_later)) (cases one other is);
+        ⊎_elim (before.useless (first_long as_long) one other) (λ is_later. subst (λ (list : List ℕ). cost list ≤ cost (swap list one other)) same (after.useless (later_long as_long) one other is_later)) (cases one other is);
   } where
-    first_long : way new ≡ way old → way between ≡ way old
-    first_long as_long = omega (arith, before.no_longer, after.no_longer)
+    first_long : cost new ≡ cost old → cost between ≡ cost old
+    first_long as_long = omega (arith, before.no_greater, after.no_greater)
 
-    later_long : way new ≡ way old → way new ≡ way between
-    later_long as_long = omega (arith, before.no_longer, after.no_longer)
+    later_long : cost new ≡ cost old → cost new ≡ cost between
+    later_long as_long = omega (arith, before.no_greater, after.no_greater)
 
-  -- an exchange that makes the way shorter
-  pub shorter : (tried : ℕ → ℕ → Type 0) (old new : List ℕ) → way new < way old → AreTried way tried old new
-  shorter tried old new less = record { no_longer = omega arith; same = λ as_long. absurd (omega arith); useless = λ as_long one other is. absurd (omega arith) }
+  -- an exchange that lowers the cost
+  pub cheaper : (tried : ℕ → ℕ → Type 0) (old new : List ℕ) → cost new < cost old → AreTried cost tried old new
+  cheaper tried old new less = record { no_greater = omega arith; same = λ as_long. absurd (omega arith); useless = λ as_long one other is. absurd (omega arith) }
 
   -- and one that doesn't
-  pub no_shorter : (tried : ℕ → ℕ → Type 0) (old new : List ℕ) → new ≡ old → ((one other : ℕ) → tried one other → way old ≤ way (swap old one other)) → AreTried way tried old new
-  no_shorter tried old new is useless = record { no_longer = omega (arith, ap way is); same = λ as_long. is; useless = λ as_long. useless }
+  pub no_cheaper : (tried : ℕ → ℕ → Type 0) (old new : List ℕ) → new ≡ old → ((one other : ℕ) → tried one other → cost old ≤ cost (swap old one other)) → AreTried cost tried old new
+  no_cheaper tried old new is useless = record { no_greater = omega (arith, ap cost is); same = λ as_long. is; useless = λ as_long. useless }
 
   -- the one exchange of two places
-  pub useless_one : (at new : List ℕ) (one other old value : ℕ) → new ≡ swap at one other → old ≡ way at → value ≡ way new → old ≤ value → (first second : ℕ) → IsBoth one other first second → way at ≤ way (swap at first second)
+  pub useless_one : (at new : List ℕ) (one other old value : ℕ) → new ≡ swap at one other → old ≡ cost at → value ≡ cost new → old ≤ value → (first second : ℕ) → IsBoth one other first second → cost at ≤ cost (swap at first second)
   useless_one at new one other old value is_new is_old is_value no_less first second is =
-      let same : way (swap at first second) ≡ way new = ap (λ (place : ℕ). way (swap at place second)) is.0 ∙ ap (λ (place : ℕ). way (swap at one place)) is.1 ∙ ap way (sym is_new) in
+      let same : cost (swap at first second) ≡ cost new = ap (λ (place : ℕ). cost (swap at place second)) is.0 ∙ ap (λ (place : ℕ). cost (swap at one place)) is.1 ∙ ap cost (sym is_new) in
       omega (arith, same)
 
   -- fewer of them
-  pub fewer_tried : (tried fewer : ℕ → ℕ → Type 0) (old new : List ℕ) → ((one other : ℕ) → fewer one other → tried one other) → AreTried way tried old new → AreTried way fewer old new
-  fewer_tried tried fewer old new some are = record { no_longer = are.no_longer; same = are.same; useless = λ as_long one other is. are.useless as_long one other (some one other is) }
+  pub fewer_tried : (tried fewer : ℕ → ℕ → Type 0) (old new : List ℕ) → ((one other : ℕ) → fewer one other → tried one other) → AreTried cost tried old new → AreTried cost fewer old new
+  fewer_tried tried fewer old new some are = record { no_greater = are.no_greater; same = are.same; useless = λ as_long one other is. are.useless as_long one other (some one other is) }
 
 -- one more with each later one
-pub later_cases : (one end first second : ℕ) → IsLater one (end + 1) first second → IsLater one end first second ⊎ IsBoth one end first second
+pub later_cases : (one end first second : ℕ) → IsOneAndLater one (end + 1) first second → IsOneAndLater one end first second ⊎ IsBoth one end first second
 later_cases one end first second is =
     ⊎_elim (λ below. inl (is.0, is.1, below)) (λ past. let same : second ≡ end = omega (arith, is.2) in inr (is.0, same)) (cases_lt second end)
 
-pub before_cases : (one end first second : ℕ) → IsBefore (one + 1) end first second → IsBefore one end first second ⊎ IsLater one end first second
+pub before_cases : (one end first second : ℕ) → IsBefore (one + 1) end first second → IsBefore one end first second ⊎ IsOneAndLater one end first second
 before_cases one end first second is =
     ⊎_elim (λ below. inl (is.0, below, is.2, is.3)) (λ past. let same : first ≡ one = omega (arith, is.1) in inr (same, omega (arith, is.2), is.3)) (cases_lt first one)
 

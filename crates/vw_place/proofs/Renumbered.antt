@@ -15,7 +15,8 @@ use Rattle.vw_net.specs.Order.{is_among}
 use Rattle.vw_plan.specs.declared.board.Board.{Board}
 use Rattle.vw_plan.specs.declared.need.Need.{Need}
 use Rattle.vw_plan.specs.Distance.{distance}
-use Rattle.vw_plan.specs.Good.{NoMoveHelps, cells_on, pair_count, travel}
+use Rattle.vw_plan.specs.Chips.{cells_on}
+use Rattle.vw_plan.specs.Good.{NoMoveHelps, pair_count, travel}
 use Rattle.vw_net.specs.Lists.{greatest}
 use Rattle.vw_plan.specs.Needs.{needed_nodes, needed_pairs}
 use Rattle.vw_plan.specs.Nets.{is_needed, is_read_at, node_of}

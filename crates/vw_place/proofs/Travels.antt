@@ -1,4 +1,4 @@
--- The table of pairs, the way by it, and what the best exchange means for a placement.
+-- The table of pairs, the travel by it, and what the best exchange means for a placement.
 use Rattle.std.proofs.Common.{◌≡◌, ◌<◌, ◌≤◌, ◌+◌, ◌*◌, ℕ, List, [], ◌∷◌, map, ap, ap₂, refl, sym, ◌∙◌, ⊎_elim, All, arith}
 use Rattle.std.specs.Prelude.{count_by, sum_by}
 use Rattle.std.specs.List.{range_with_len, swap}
@@ -10,11 +10,12 @@ use Rattle.vw_net.specs.declared.flat.Flat.{Flat}
 use Rattle.vw_plan.specs.declared.board.Board.{Board}
 use Rattle.vw_plan.specs.declared.need.Need.{Need}
 use Rattle.vw_plan.specs.Distance.{distance, has_walk}
-use Rattle.vw_plan.specs.Good.{IsChip, NoExchangeHelps, exchanged, travel}
+use Rattle.vw_plan.specs.Chips.{IsChip}
+use Rattle.vw_plan.specs.Good.{NoExchangeHelps, exchanged, travel}
 use Rattle.vw_plan.specs.Needs.{needed_pairs}
 use Rattle.vw_plan.specs.Nets.{node_of}
 use Rattle.vw_place.specs.Steps.NodeLists.{IsNodeList, moved}
-use Rattle.vw_place.specs.Steps.Traffic.{IsTraffic, goes, way, way_between, way_from}
+use Rattle.vw_place.specs.Steps.Traffic.{IsTraffic, goes, travel_by, travel_between, travel_from}
 use Rattle.vw_place.specs.Steps.Tries.{NoneIsUseful}
 use Rattle.vw_place.proofs.Exchanges.{exchanged_itself, exchanged_turned, moved_exchanged, nodes_exchanged}
 use Rattle.vw_place.proofs.Renumbered.{old_chip, travel_moved}
@@ -27,11 +28,11 @@ pub distance_low : (board : Board) (from to : ℕ) → distance board from to �
 unfolding distance
 distance_low board from to = omega (arith, least-le (λ count. has_walk board.links count from to) board.chips, board.few_chips)
 
--- ---- the way by a table is that of the needed pairs
+-- ---- the travel by a table is that of the needed pairs
 
 module _ (flat : Flat) (board : Board) (chip_of : List ℕ) (low : All (λ chip. chip ≤ board.chips) chip_of) (table : List ℕ) (traffic : IsTraffic flat chip_of table) where
-  pub way_travels : (at : List ℕ) → IsNodeList board at → way table board at ≡ travel flat board (map (moved at) chip_of)
-  way_travels at nodes =
+  pub table_travels : (at : List ℕ) → IsNodeList board at → travel_by table board at ≡ travel flat board (map (moved at) chip_of)
+  table_travels at nodes =
       let many = board.chips + 1 in
       let needs = needed_pairs flat chip_of in
       let home = λ (need : Need). node_of flat chip_of need.net in
@@ -39,12 +40,12 @@ module _ (flat : Flat) (board : Board) (chip_of : List ℕ) (low : All (λ chip.
       let counted = λ (from to : ℕ). count_by (goes flat chip_of from to) needs * between from to in
       let within : All (λ need. (home need < many) × (need.to < many)) needs = All-weaker (IsPairWithin flat board.chips) (λ need. (home need < many) × (need.to < many)) (λ need is. (omega (arith, home_low flat chip_of board.chips need.net low), omega (arith, is.1))) needs (pairs_within flat chip_of board.chips low) in
       let row = λ (from : ℕ) (from_within : from < 0 + many).
-      range_agree (way_between table board at from) (counted from) 0 many (λ to to_within. ap (λ (count : ℕ). count * between from to) (traffic.counts from to (omega (arith, board.few_chips)) (omega (arith, board.few_chips)))) in
-      range_agree (λ from. way_from table board at from many) (λ from. sum_by (counted from) (range_with_len 0 many)) 0 many row
+      range_agree (travel_between table board at from) (counted from) 0 many (λ to to_within. ap (λ (count : ℕ). count * between from to) (traffic.counts from to (omega (arith, board.few_chips)) (omega (arith, board.few_chips)))) in
+      range_agree (λ from. travel_from table board at from many) (λ from. sum_by (counted from) (range_with_len 0 many)) 0 many row
       ∙ sym (by_numbers home (λ need. need.to) between many needs within)
       ∙ sym (travel_moved flat board at nodes chip_of low)
 
-  -- ---- where no exchange of two places shortens the way, no exchange of what is on two chips does
+  -- ---- where no exchange of two places lessens the travel, no exchange of what is on two chips does
 
   module _ (at : List ℕ) (nodes : IsNodeList board at) where
     abbrev placed : List ℕ
@@ -54,7 +55,7 @@ module _ (flat : Flat) (board : Board) (chip_of : List ℕ) (low : All (λ chip.
     old_of = nodes.from
 
     -- an exchange of chips is one of the places at which their numbers stand
-    exchange_travels : (one other : ℕ) → IsChip board one → IsChip board other → travel flat board (map (exchanged one other) placed) ≡ way table board (swap at (nodes.from one) (nodes.from other))
+    exchange_travels : (one other : ℕ) → IsChip board one → IsChip board other → travel flat board (map (exchanged one other) placed) ≡ travel_by table board (swap at (nodes.from one) (nodes.from other))
     exchange_travels one other one_chip other_chip =
         let first = nodes.from one in
         let second = nodes.from other in
@@ -63,7 +64,7 @@ module _ (flat : Flat) (board : Board) (chip_of : List ℕ) (low : All (λ chip.
         let at_node : (node : ℕ) → exchanged one other (moved at node) ≡ moved (swap at first second) node = λ node.
         ap₂ (λ (new newer : ℕ). exchanged new newer (moved at node)) (sym (nodes.numbering.back one)) (sym (nodes.numbering.back other)) ∙ sym (moved_exchanged board at nodes first second first_chip second_chip node) in
         let lists = map_twice (moved at) (exchanged one other) (moved (swap at first second)) at_node chip_of in
-        ap (λ (list : List ℕ). travel flat board list) lists ∙ sym (way_travels (swap at first second) (nodes_exchanged board at nodes first second first_chip second_chip))
+        ap (λ (list : List ℕ). travel flat board list) lists ∙ sym (table_travels (swap at first second) (nodes_exchanged board at nodes first second first_chip second_chip))
       where
         map_twice : (f g h : ℕ → ℕ) → ((node : ℕ) → g (f node) ≡ h node) → (list : List ℕ) → map g (map f list) ≡ map h list
         map_twice f g h same [] = refl
@@ -78,13 +79,13 @@ module _ (flat : Flat) (board : Board) (chip_of : List ℕ) (low : All (λ chip.
     unchanged one [] = refl
     unchanged one (number ∷ list) = ap₂ (λ (new : ℕ) (rest : List ℕ). new ∷ rest) (exchanged_itself one number) (unchanged one list)
 
-    pub none_helps : NoneIsUseful (way table board) (board.chips + 1) at → NoExchangeHelps flat board placed
+    pub none_helps : NoneIsUseful (travel_by table board) (board.chips + 1) at → NoExchangeHelps flat board placed
     none_helps none one other one_chip other_chip =
         let first = nodes.from one in
         let second = nodes.from other in
         let first_chip = old_chip board.chips (moved at) nodes.from nodes.numbering one one_chip in
         let second_chip = old_chip board.chips (moved at) nodes.from nodes.numbering other other_chip in
-        let now = way_travels at nodes in
+        let now = table_travels at nodes in
         let if_before = λ (before : first < second).
         let less : travel flat board placed ≤ travel flat board (map (exchanged one other) placed) = omega (arith, none first second first_chip.0 before (omega (arith, second_chip.1)), now, exchange_travels one other one_chip other_chip) in less in
         let if_after = λ (after : second < first).
@@ -96,7 +97,7 @@ module _ (flat : Flat) (board : Board) (chip_of : List ℕ) (low : All (λ chip.
         let less : travel flat board placed ≤ travel flat board (map (exchanged one other) placed) = omega (arith, whole) in less in
         ⊎_elim if_same (⊎_elim if_before if_after) (cases_order first second)
 
--- ---- the way is small
+-- ---- the travel is small
 
 pub product_low : (count far : ℕ) → count ≤ 2297856 → far ≤ 32 → count * far ≤ 73531392
 product_low count far few near = mul-le-mul few near

@@ -5,6 +5,6 @@
 mod exchange;
 mod placement;
 mod traffic;
-mod way;
+mod travel;
 
 pub use placement::{PlaceRefused, place};

@@ -1,10 +1,11 @@
 //! The chips of a placement, numbered anew.
 ghost use Rattle.std.specs.Prelude.{◌≡◌, ◌≤◌, ◌+◌, ℕ, length, map, IfOk, IfErr};
 ghost use Rattle.std.specs.List.{All};
-ghost use Rattle.vw_plan.specs.Good.{IsChip, NoExchangeHelps, NoMoveHelps, cells_on};
+ghost use Rattle.vw_plan.specs.Chips.{IsChip, cells_on};
+ghost use Rattle.vw_plan.specs.Good.{NoExchangeHelps, NoMoveHelps};
 ghost use Rattle.vw_place.specs.Numbering.{IsRenumbered};
 ghost use Rattle.vw_place.specs.Steps.NodeLists.{IsNodeList, moved};
-ghost use Rattle.vw_place.specs.Steps.Traffic.{IsPairTable, way};
+ghost use Rattle.vw_place.specs.Steps.Traffic.{IsPairTable, travel_by};
 ghost use Rattle.vw_place.specs.Steps.Tries.{NoneIsUseful};
 
 use crate::exchange::exchange;
@@ -33,7 +34,7 @@ fn own_numbers(alloc: Global, board: &Board) -> Result<Vec<u32>, AllocError>
     Ok(at)
 }
 
-/// The nodes of a board, exchanged until no exchange of two chips makes the way shorter.
+/// The nodes of a board, exchanged until no exchange of two chips lessens the travel.
 fn best_numbers(
     alloc: Global,
     board: &Board,
@@ -43,7 +44,7 @@ fn best_numbers(
     requires table { IsPairTable table.now }
     requires distances { distances.now ≡ board.now }
     ensures list { IfOk result (λ at. IsNodeList board.now at.items) }
-    ensures none { IfOk result (λ at. NoneIsUseful (way table.now board.now)
+    ensures none { IfOk result (λ at. NoneIsUseful (travel_by table.now board.now)
         (board.now.chips + 1) at.items) }
 {
     let mut at = own_numbers(alloc, board)?;
@@ -85,9 +86,9 @@ fn placed(
     numbered_anew(alloc, &at, chip_of)
 }
 
-/// Numbers the chips of a placement anew, so that no exchange of what is on two chips shortens the way of the needed
+/// Numbers the chips of a placement anew, so that no exchange of what is on two chips lessens the travel of the needed
 /// pairs. The cells that share a chip still share one. It takes memory for the needed pairs, a fixed table, and the
-/// answer. Each round tries to exchange each two chips, and each round but the last shortens the way.
+/// answer. Each round tries to exchange each two chips, and each round but the last lessens the travel.
 pub fn place(
     alloc: Global,
     ordered: &Ordered,

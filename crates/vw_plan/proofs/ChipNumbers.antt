@@ -2,7 +2,7 @@
 use Rattle.std.proofs.Common.{◌≤◌, ℕ, List, All}
 use Rattle.std.proofs.lemmas.List.Elements.{All-weaker}
 use Rattle.vw_plan.specs.declared.board.Board.{Board}
-use Rattle.vw_plan.specs.Good.{IsChip}
+use Rattle.vw_plan.specs.Chips.{IsChip}
 
 -- no chip is past the last
 pub low_chips : (board : Board) (chip_of : List ℕ) → All (IsChip board) chip_of → All (λ chip. chip ≤ board.chips) chip_of

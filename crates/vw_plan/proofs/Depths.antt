@@ -13,7 +13,7 @@ use Rattle.vw_net.proofs.Orders.{length-order}
 use Rattle.vw_net.specs.Lists.{greatest}
 use Rattle.vw_plan.specs.Needs.{crossing, depth, level_depth}
 use Rattle.vw_plan.specs.Nets.{driving_cell, greatest_read, node_of}
-use Rattle.vw_plan.specs.Ways.{IsDeepest, IsInlet, IsWayBack, is_read_by}
+use Rattle.vw_plan.specs.ChainsBack.{IsDeepest, IsInlet, IsChainBack, is_read_by}
 use Rattle.vw_plan.proofs.AlongOrder.{every_net}
 use Rattle.vw_plan.proofs.SettledLevels.{IsSettledFrom, settled_later}
 use Rattle.vw_plan.proofs.GreatestReads.{greatest_read-agree, greatest_read-least, greatest_read-small}
@@ -100,7 +100,7 @@ module _ (ordered : Ordered) (chip_of : List ℕ) where
   read_below net read is_read = omega (arith, depth-by_driver net, greatest_read-least (depth_read net) (driving_cell ordered.flat net) read is_read)
 
   -- so it is deeper than each inlet
-  inlet_below : (net : ℕ) (nets : List ℕ) (end inlet : ℕ) → IsWayBack ordered.flat chip_of net nets end → is_read_by ordered.flat end inlet ≡ true → (node_of ordered.flat chip_of inlet ≡ node_of ordered.flat chip_of end → ⊥) → depth ordered.flat chip_of inlet + 1 ≤ depth ordered.flat chip_of net
+  inlet_below : (net : ℕ) (nets : List ℕ) (end inlet : ℕ) → IsChainBack ordered.flat chip_of net nets end → is_read_by ordered.flat end inlet ≡ true → (node_of ordered.flat chip_of inlet ≡ node_of ordered.flat chip_of end → ⊥) → depth ordered.flat chip_of inlet + 1 ≤ depth ordered.flat chip_of net
   inlet_below net [] end inlet way is_read crosses =
       let there : depth ordered.flat chip_of net ≡ depth ordered.flat chip_of end = ap (depth ordered.flat chip_of) way in
       let one : crossing ordered.flat chip_of end inlet ≡ 1 = rw (ne_eqb _ _ crosses) refl in

@@ -23,7 +23,7 @@ use Rattle.vw_plan.specs.declared.wire.Wire.{Wire}
 use Rattle.vw_plan.specs.declared.plan.Plan.{Plan}
 use Rattle.vw_plan.specs.Walks.{IsJoined}
 use Rattle.vw_plan.specs.Links.{HaveSameEnds}
-use Rattle.vw_plan.specs.Setting.{Setting, home}
+use Rattle.vw_plan.specs.PlannedBoard.{PlannedBoard, home}
 use Rattle.vw_plan.specs.Needs.{depth, needed_pairs}
 use Rattle.vw_plan.specs.Nets.{is_needed}
 use Rattle.vw_plan.specs.Lead.{lead, usable, brings}
@@ -173,7 +173,7 @@ plan = record {
   short = omega arith;
 }
 
-abbrev setting_with : (settle : ℕ) → settle ≤ 15 → Setting
+abbrev setting_with : (settle : ℕ) → settle ≤ 15 → PlannedBoard
 setting_with settle quick = record { ordered = ordered; board = board_with settle quick; plan = plan }
 
 -- ---- it is sound
@@ -225,24 +225,24 @@ unfolding depth
 depths_there = refl
 
 module _ (settle : ℕ) (quick : settle ≤ 15) where
-  abbrev setting : Setting
-  setting = setting_with settle quick
+  abbrev planned : PlannedBoard
+  planned = setting_with settle quick
 
   few_on : (chip : ℕ) → count_by (λ other. other == chip) (1 ∷ 2 ∷ []) ≤ 1
   few_on chip = grind (arith, common_steps)
 
-  placed : IsPlaced setting
+  placed : IsPlaced planned
   placed = record { each = refl; chips = two (λ chip. (1 ≤ chip) × (chip ≤ 2)) 1 2 (omega arith) (omega arith); room = few_on }
 
-  routed : All (IsRouted setting) wires
-  routed = four (IsRouted setting) _ _ _ _
+  routed : All (IsRouted planned) wires
+  routed = four (IsRouted planned) _ _ _ _
       (record { some = omega arith; leads = refl; pins = one (λ sent. has_pin links sent ≡ true) _ refl })
       (record { some = omega arith; leads = refl; pins = one (λ sent. has_pin links sent ≡ true) _ refl })
       (record { some = omega arith; leads = refl; pins = one (λ sent. has_pin links sent ≡ true) _ refl })
       (record { some = omega arith; leads = refl; pins = one (λ sent. has_pin links sent ≡ true) _ refl })
 
-  rising : All (IsRising setting) wires
-  rising = four (IsRising setting) _ _ _ _
+  rising : All (IsRising planned) wires
+  rising = four (IsRising planned) _ _ _ _
       (record { later = refl; within = one (λ sent. sent.at < 2) _ (omega arith) })
       (record { later = refl; within = one (λ sent. sent.at < 2) _ (omega arith) })
       (record { later = refl; within = one (λ sent. sent.at < 2) _ (omega arith) })

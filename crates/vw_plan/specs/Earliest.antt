@@ -9,7 +9,7 @@ use Rattle.vw_plan.specs.declared.wire.Wire.{Wire}
 use Rattle.vw_plan.specs.Lead.{after_last, arrival, usable}
 use Rattle.vw_net.specs.Lists.{greatest}
 use Rattle.vw_plan.specs.Needs.{depth}
-use Rattle.vw_plan.specs.Setting.{Setting, setting_of, home}
+use Rattle.vw_plan.specs.PlannedBoard.{PlannedBoard, planned_board, home}
 use Rattle.vw_plan.specs.Sound.{IsSound, has_pin, hops_of, share_pin}
 
 -- whether a plan uses the pin and the microcycle of a hop
@@ -34,25 +34,25 @@ AreEarliest board plan ready (hop ∷ hops) = IsEarliest board plan ready hop ×
 -- ---- phases: the wires of one depth start only behind those of lesser depth
 
 -- how deep the net of a wire is
-abbrev pub wire_depth : Setting → Wire → ℕ
-wire_depth setting wire = depth setting.ordered.flat setting.plan.chip_of wire.net
+abbrev pub wire_depth : PlannedBoard → Wire → ℕ
+wire_depth planned wire = depth planned.ordered.flat planned.plan.chip_of wire.net
 
 -- one past the arrival of the last hop of all wires of lesser depth; 0 where there is none
-abbrev pub phase_start : Setting → ℕ → ℕ
-phase_start setting limit = greatest (map (λ wire. if nat_lt (wire_depth setting wire) limit then after_last wire.hops else 0) setting.plan.wires)
+abbrev pub phase_start : PlannedBoard → ℕ → ℕ
+phase_start planned limit = greatest (map (λ wire. if nat_lt (wire_depth planned wire) limit then after_last wire.hops else 0) planned.plan.wires)
 
 -- when the first hop of a wire is ready: its net is usable, and its phase has begun
-abbrev pub ready_in_phase : Setting → Wire → ℕ
-ready_in_phase setting wire = max (usable setting (home setting wire.net) wire.net) (phase_start setting (wire_depth setting wire))
+abbrev pub ready_in_phase : PlannedBoard → Wire → ℕ
+ready_in_phase planned wire = max (usable planned (home planned wire.net) wire.net) (phase_start planned (wire_depth planned wire))
 
 -- no wire begins before its phase, and each hop is earliest
-pub record IsPhased (setting : Setting) : Type 0 where
-  pub begun : All (λ wire. ForSome (slice_get wire.hops 0) (λ hop. phase_start setting (wire_depth setting wire) ≤ hop.at)) setting.plan.wires
-  pub earliest : All (λ wire. AreEarliest setting.board setting.plan (ready_in_phase setting wire) wire.hops) setting.plan.wires
+pub record IsPhased (planned : PlannedBoard) : Type 0 where
+  pub begun : All (λ wire. ForSome (slice_get wire.hops 0) (λ hop. phase_start planned (wire_depth planned wire) ≤ hop.at)) planned.plan.wires
+  pub earliest : All (λ wire. AreEarliest planned.board planned.plan (ready_in_phase planned wire) wire.hops) planned.plan.wires
 
 -- ---- periods
 
 -- the same plan with a smaller period isn't sound
-abbrev pub HasLeastPeriod : Setting → Type 0
-HasLeastPeriod setting = (other : Plan) → other.chip_of ≡ setting.plan.chip_of → other.wires ≡ setting.plan.wires → other.period < setting.plan.period
-    → ¬ (IsSound (setting_of setting.ordered setting.board other))
+abbrev pub HasLeastPeriod : PlannedBoard → Type 0
+HasLeastPeriod planned = (other : Plan) → other.chip_of ≡ planned.plan.chip_of → other.wires ≡ planned.plan.wires → other.period < planned.plan.period
+    → ¬ (IsSound (planned_board planned.ordered planned.board other))

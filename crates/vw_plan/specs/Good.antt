@@ -3,20 +3,13 @@ use Rattle.std.specs.Prelude.{◌≡◌, ◌≤◌, ◌<◌, ◌==◌, ℕ, List
 use Rattle.std.specs.List.{All}
 use Rattle.vw_net.specs.declared.flat.Flat.{Flat}
 use Rattle.vw_plan.specs.declared.board.Board.{Board}
+use Rattle.vw_plan.specs.Chips.{IsChip, cells_on}
 use Rattle.vw_plan.specs.Distance.{distance}
 use Rattle.vw_plan.specs.Earliest.{IsPhased, HasLeastPeriod}
 use Rattle.vw_plan.specs.Needs.{needed_pairs}
 use Rattle.vw_plan.specs.Nets.{node_of}
-use Rattle.vw_plan.specs.Setting.{Setting, home}
+use Rattle.vw_plan.specs.PlannedBoard.{PlannedBoard, home}
 use Rattle.vw_plan.specs.Sound.{IsSound}
-
--- a number of a chip
-abbrev pub IsChip : Board → ℕ → Type 0
-IsChip board chip = (1 ≤ chip) × (chip ≤ board.chips)
-
--- how many cells are on a chip
-abbrev pub cells_on : List ℕ → ℕ → ℕ
-cells_on chip_of chip = count_by (λ other. other == chip) chip_of
 
 -- how many pairs of a net and a node are needed
 abbrev pub pair_count : Flat → List ℕ → ℕ
@@ -45,19 +38,19 @@ NoExchangeHelps flat board chip_of =
 -- ---- good plans, of phases
 
 -- the wires stand by net and then by node
-abbrev pub AreInOrder : Setting → Type 0
-AreInOrder setting = map (λ wire. record { net = wire.net; to = wire.to }) setting.plan.wires ≡ needed_pairs setting.ordered.flat setting.plan.chip_of
+abbrev pub AreInOrder : PlannedBoard → Type 0
+AreInOrder planned = map (λ wire. record { net = wire.net; to = wire.to }) planned.plan.wires ≡ needed_pairs planned.ordered.flat planned.plan.chip_of
 
 -- each wire has as many hops as its nodes are apart
-abbrev pub AreShort : Setting → Type 0
-AreShort setting = All (λ wire. length wire.hops ≡ distance setting.board (home setting wire.net) wire.to) setting.plan.wires
+abbrev pub AreShort : PlannedBoard → Type 0
+AreShort planned = All (λ wire. length wire.hops ≡ distance planned.board (home planned wire.net) wire.to) planned.plan.wires
 
 -- what the program asks of its own plans
-pub record IsGood (setting : Setting) : Type 0 where
-  pub sound : IsSound setting
-  pub in_order : AreInOrder setting
-  pub no_move_helps : NoMoveHelps setting.ordered.flat setting.board setting.plan.chip_of
-  pub no_exchange_helps : NoExchangeHelps setting.ordered.flat setting.board setting.plan.chip_of
-  pub short : AreShort setting
-  pub phased : IsPhased setting
-  pub least_period : HasLeastPeriod setting
+pub record IsGood (planned : PlannedBoard) : Type 0 where
+  pub sound : IsSound planned
+  pub in_order : AreInOrder planned
+  pub no_move_helps : NoMoveHelps planned.ordered.flat planned.board planned.plan.chip_of
+  pub no_exchange_helps : NoExchangeHelps planned.ordered.flat planned.board planned.plan.chip_of
+  pub short : AreShort planned
+  pub phased : IsPhased planned
+  pub least_period : HasLeastPeriod planned

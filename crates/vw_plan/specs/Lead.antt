@@ -7,7 +7,7 @@ use Rattle.vw_net.specs.Order.{is_gate}
 use Rattle.vw_plan.specs.declared.wire.Hop.{Hop}
 use Rattle.vw_plan.specs.declared.wire.Wire.{Wire}
 use Rattle.vw_plan.specs.Nets.{driving_cell, greatest_read}
-use Rattle.vw_plan.specs.Setting.{Setting, home}
+use Rattle.vw_plan.specs.PlannedBoard.{PlannedBoard, home}
 
 -- the microcycle in which the bit of a hop arrives: the one in which it is sent
 abbrev pub arrival : Hop → ℕ
@@ -24,25 +24,25 @@ abbrev pub brings : ℕ → ℕ → Wire → Bool
 brings net node wire = wire.net == net && wire.to == node
 
 -- one past the arrival of a net at a node, by the first wire that brings it there; 0 where there is none
-abbrev pub brought_at : Setting → ℕ → ℕ → ℕ
-brought_at setting node net = option_map_or (λ wire. after_last wire.hops) (find (brings net node) setting.plan.wires) 0
+abbrev pub brought_at : PlannedBoard → ℕ → ℕ → ℕ
+brought_at planned node net = option_map_or (λ wire. after_last wire.hops) (find (brings net node) planned.plan.wires) 0
 
 -- the lead of a net at a node, where at most this many drivers are followed in a row
-abbrev pub level_lead : ℕ → Setting → ℕ → ℕ → ℕ
-level_lead zero setting node net = 0
-level_lead (suc level) setting node net =
-    if home setting net == node then greatest_read (level_lead level setting node) (driving_cell setting.ordered.flat net)
-    else brought_at setting node net
+abbrev pub level_lead : ℕ → PlannedBoard → ℕ → ℕ → ℕ
+level_lead zero planned node net = 0
+level_lead (suc level) planned node net =
+    if home planned net == node then greatest_read (level_lead level planned node) (driving_cell planned.ordered.flat net)
+    else brought_at planned node net
 
 -- the lead of a net at a node: the microcycle from which on what the net rests on is there. One level more than there
 -- are cells is enough, since gates don't read in a circle
-unfoldable pub lead : Setting → ℕ → ℕ → ℕ
-lead setting node net = level_lead (length setting.ordered.flat.cells + 1) setting node net
+unfoldable pub lead : PlannedBoard → ℕ → ℕ → ℕ
+lead planned node net = level_lead (length planned.ordered.flat.cells + 1) planned node net
 
 -- whether a net is a gate's, and the gate is on this node
-abbrev pub is_gate_at : Setting → ℕ → ℕ → Bool
-is_gate_at setting node net = is_gate (driving_cell setting.ordered.flat net) && home setting net == node
+abbrev pub is_gate_at : PlannedBoard → ℕ → ℕ → Bool
+is_gate_at planned node net = is_gate (driving_cell planned.ordered.flat net) && home planned net == node
 
 -- the microcycle from which on a node can use a net: a gate on the node needs time to settle
-abbrev pub usable : Setting → ℕ → ℕ → ℕ
-usable setting node net = lead setting node net + (if is_gate_at setting node net then setting.board.settle else 0)
+abbrev pub usable : PlannedBoard → ℕ → ℕ → ℕ
+usable planned node net = lead planned node net + (if is_gate_at planned node net then planned.board.settle else 0)

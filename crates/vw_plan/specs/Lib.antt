@@ -2,10 +2,12 @@ pub mod Walks
 pub mod Links
 pub mod Distance
 pub mod Nets
-pub mod Setting
+pub mod Chips
+pub mod HopCounts
+pub mod PlannedBoard
 pub mod Lead
 pub mod Needs
-pub mod Ways
+pub mod ChainsBack
 pub mod Sound
 pub mod Earliest
 pub mod Routes

@@ -8,25 +8,26 @@ use Rattle.vw_plan.specs.declared.link.Link.{Link}
 use Rattle.vw_plan.specs.declared.wire.Hop.{Hop}
 use Rattle.vw_plan.specs.declared.wire.Wire.{Wire}
 use Rattle.vw_plan.specs.declared.plan.Plan.{Plan}
+use Rattle.vw_plan.specs.Chips.{IsChip, cells_on}
 use Rattle.vw_plan.specs.Nets.{is_needed}
-use Rattle.vw_plan.specs.Setting.{Setting, home}
+use Rattle.vw_plan.specs.PlannedBoard.{PlannedBoard, home}
 use Rattle.vw_plan.specs.Lead.{arrival, brings, usable}
 
 -- ---- one chip each
 
 -- each cell has one entry, which is a chip; no chip has more cells than it has room for
-pub record IsPlaced (setting : Setting) : Type 0 where
-  pub each : length setting.plan.chip_of ≡ length setting.ordered.flat.cells
-  pub chips : All (λ chip. (1 ≤ chip) × (chip ≤ setting.board.chips)) setting.plan.chip_of
-  pub room : (chip : ℕ) → count_by (λ other. other == chip) setting.plan.chip_of ≤ setting.board.cells
+pub record IsPlaced (planned : PlannedBoard) : Type 0 where
+  pub each : length planned.plan.chip_of ≡ length planned.ordered.flat.cells
+  pub chips : All (IsChip planned.board) planned.plan.chip_of
+  pub room : (chip : ℕ) → cells_on planned.plan.chip_of chip ≤ planned.board.cells
 
 -- ---- one wire for each need
 
 -- each needed pair of a net and a node has one wire, and there is no other wire
-abbrev pub HasWires : Setting → Type 0
-HasWires setting = (net node : ℕ)
-    → count_by (brings net node) setting.plan.wires
-    ≡ (if is_needed setting.ordered.flat setting.plan.chip_of net node then 1 else 0)
+abbrev pub HasWires : PlannedBoard → Type 0
+HasWires planned = (net node : ℕ)
+    → count_by (brings net node) planned.plan.wires
+    ≡ (if is_needed planned.ordered.flat planned.plan.chip_of net node then 1 else 0)
 
 -- ---- routes
 
@@ -40,10 +41,10 @@ leads_to from [] to = from == to
 leads_to from (hop ∷ hops) to = hop.from == from && leads_to hop.to hops to
 
 -- a wire leads from its net's node to its own, over at least one hop
-pub record IsRouted (setting : Setting) (wire : Wire) : Type 0 where
+pub record IsRouted (planned : PlannedBoard) (wire : Wire) : Type 0 where
   pub some : 0 < length wire.hops
-  pub leads : IsTrue (leads_to (home setting wire.net) wire.hops wire.to)
-  pub pins : All (λ hop. IsTrue (has_pin setting.board.links hop)) wire.hops
+  pub leads : IsTrue (leads_to (home planned wire.net) wire.hops wire.to)
+  pub pins : All (λ hop. IsTrue (has_pin planned.board.links hop)) wire.hops
 
 -- ---- rising microcycles
 
@@ -54,9 +55,9 @@ rises (hop ∷ []) = true
 rises (hop ∷ next ∷ hops) = nat_lt (arrival hop) next.at && rises (next ∷ hops)
 
 -- the hops of a wire follow each other, and each arrives before the period ends
-pub record IsRising (setting : Setting) (wire : Wire) : Type 0 where
+pub record IsRising (planned : PlannedBoard) (wire : Wire) : Type 0 where
   pub later : IsTrue (rises wire.hops)
-  pub within : All (λ hop. arrival hop < setting.plan.period) wire.hops
+  pub within : All (λ hop. arrival hop < planned.plan.period) wire.hops
 
 -- ---- one hop a pin
 
@@ -71,25 +72,25 @@ share_pin hop other = (hop.from == other.from && hop.to == other.to) && (hop.pin
 -- ---- sent when usable
 
 -- the first hop of a wire isn't before its net is usable at its node
-abbrev pub IsSentWhenUsable : Setting → Wire → Type 0
-IsSentWhenUsable setting wire = ForSome (slice_get wire.hops 0) (λ hop. usable setting (home setting wire.net) wire.net ≤ hop.at)
+abbrev pub IsSentWhenUsable : PlannedBoard → Wire → Type 0
+IsSentWhenUsable planned wire = ForSome (slice_get wire.hops 0) (λ hop. usable planned (home planned wire.net) wire.net ≤ hop.at)
 
 -- ---- latches in time
 
 -- the net that a latch reads is usable on the latch's chip by the period
-abbrev pub AreLatchesInTime : Setting → Type 0
-AreLatchesInTime setting = (number d : ℕ) (init : Init)
-    → slice_get setting.ordered.flat.cells number ≡ Some (Latch d init)
-    → usable setting (home setting (setting.ordered.flat.inputs + number)) d ≤ setting.plan.period
+abbrev pub AreLatchesInTime : PlannedBoard → Type 0
+AreLatchesInTime planned = (number d : ℕ) (init : Init)
+    → slice_get planned.ordered.flat.cells number ≡ Some (Latch d init)
+    → usable planned (home planned (planned.ordered.flat.inputs + number)) d ≤ planned.plan.period
 
 -- ---- all of them
 
-pub record IsSound (setting : Setting) : Type 0 where
-  pub one_chip_each : IsPlaced setting
-  pub one_wire_for_each_need : HasWires setting
-  pub routes : All (IsRouted setting) setting.plan.wires
-  pub rising_microcycles : All (IsRising setting) setting.plan.wires
-  pub one_hop_a_pin : AllPairs (λ hop other. IsTrue (not (share_pin hop other))) (hops_of setting.plan)
-  pub sent_when_usable : All (IsSentWhenUsable setting) setting.plan.wires
-  pub latches_in_time : AreLatchesInTime setting
-  pub a_period : 1 ≤ setting.plan.period
+pub record IsSound (planned : PlannedBoard) : Type 0 where
+  pub one_chip_each : IsPlaced planned
+  pub one_wire_for_each_need : HasWires planned
+  pub routes : All (IsRouted planned) planned.plan.wires
+  pub rising_microcycles : All (IsRising planned) planned.plan.wires
+  pub one_hop_a_pin : AllPairs (λ hop other. IsTrue (not (share_pin hop other))) (hops_of planned.plan)
+  pub sent_when_usable : All (IsSentWhenUsable planned) planned.plan.wires
+  pub latches_in_time : AreLatchesInTime planned
+  pub a_period : 1 ≤ planned.plan.period

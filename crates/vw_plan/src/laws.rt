@@ -5,20 +5,20 @@ ghost use Rattle.vw_net.specs.declared.flat.Flat.{Flat};
 ghost use Rattle.vw_net.specs.declared.ordered.Ordered.{Ordered};
 ghost use Rattle.vw_plan.specs.declared.board.Board.{Board};
 ghost use Rattle.vw_plan.specs.Nets.{driving_cell, greatest_read, is_needed};
-ghost use Rattle.vw_plan.specs.Setting.{Setting, home};
+ghost use Rattle.vw_plan.specs.PlannedBoard.{PlannedBoard, home};
 ghost use Rattle.vw_plan.specs.Lead.{brought_at, lead};
 ghost use Rattle.vw_plan.specs.Needs.{comes_before, crossing, depth, is_pair, needed_pairs};
-ghost use Rattle.vw_plan.specs.Ways.{IsDeepest};
+ghost use Rattle.vw_plan.specs.ChainsBack.{IsDeepest};
 ghost use Rattle.vw_plan.specs.Distance.{IsDistance, distance};
 
 /// The lead of a net at its own node is that of what drives it: 0 for an input or a latch, and for a gate the greatest
 /// lead of the nets that it reads. At another node it is one past the arrival by the first wire that brings it.
-pub fn leads_settle()
-    ensures { (setting : Setting) (node net : ℕ)
-        → lead setting node net
-        ≡ (if home setting net == node
-        then greatest_read (lead setting node) (driving_cell setting.ordered.flat net)
-        else brought_at setting node net) }
+pub fn leads_follow_drivers()
+    ensures { (planned : PlannedBoard) (node net : ℕ)
+        → lead planned node net
+        ≡ (if home planned net == node
+        then greatest_read (lead planned node) (driving_cell planned.ordered.flat net)
+        else brought_at planned node net) }
 {}
 
 /// On a board, the distance of two nodes is the least number of links of a walk.
@@ -29,7 +29,7 @@ pub fn distances_are_least()
 
 /// Where there is an order, the depth of a net is that of what drives it: 0 for an input or a latch, and for a gate the
 /// greatest depth of the nets that it reads, each with one more where it comes from another node.
-pub fn depths_settle()
+pub fn depths_follow_drivers()
     ensures { (ordered : Ordered) (chip_of : List ℕ) (net : ℕ)
         → depth ordered.flat chip_of net
         ≡ greatest_read (λ read. depth ordered.flat chip_of read

@@ -13,8 +13,8 @@ mod wire;
 pub use board::Board;
 pub use checked::Checked;
 pub use laws::{
-    depths_are_deepest, depths_are_small, depths_settle, distances_are_least, leads_settle,
-    needed_pairs_are_needed,
+    depths_are_deepest, depths_are_small, depths_follow_drivers, distances_are_least,
+    leads_follow_drivers, needed_pairs_are_needed,
 };
 pub use link::Link;
 pub use need::{Need, Route};

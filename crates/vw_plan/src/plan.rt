@@ -1,4 +1,5 @@
-ghost use Rattle.std.specs.Prelude.{◌≡◌, ◌≤◌, ◌<◌, ◌^◌, length, sum_by};
+ghost use Rattle.std.specs.Prelude.{◌≡◌, ◌≤◌, ◌<◌, ◌^◌, length};
+ghost use Rattle.vw_plan.specs.HopCounts.{hop_count};
 ghost use Rattle.std.specs.List.{All};
 
 use crate::wire::Wire;
@@ -16,7 +17,7 @@ pub struct Plan {
     pub period: u64,
     ghost few_cells: { length chip_of < 2 ^ 32 },
     ghost few_wires: { length wires < 2 ^ 32 },
-    ghost few_hops: { sum_by (λ wire. length wire.hops) wires < 2 ^ 30 },
+    ghost few_hops: { hop_count wires < 2 ^ 30 },
     ghost early: { All (λ wire. All (λ hop. hop.at ≤ 2 ^ 62) wire.hops) wires },
     ghost short: { period ≤ 2 ^ 62 },
 }
@@ -26,7 +27,7 @@ impl Plan {
     pub fn make(chip_of: Sequence<u32>, wires: Sequence<Wire>, period: u64) -> Self
         requires few_cells { length chip_of < 2 ^ 32 }
         requires few_wires { length wires < 2 ^ 32 }
-        requires few_hops { sum_by (λ wire. length wire.hops) wires < 2 ^ 30 }
+        requires few_hops { hop_count wires < 2 ^ 30 }
         requires early { All (λ wire. All (λ hop. hop.at ≤ 2 ^ 62) wire.hops) wires }
         requires short { period ≤ 2 ^ 62 }
         ensures chip_of { result.chip_of ≡ chip_of }
@@ -56,7 +57,7 @@ impl Plan {
 
     /// The number of hops of all wires.
     pub fn hops(&self) -> u64
-        ensures { result ≡ sum_by (λ wire. length wire.hops) self.now.wires }
+        ensures { result ≡ hop_count self.now.wires }
     {
         let mut count = 0;
         for wire in self.wires.as_slice() {

@@ -2,7 +2,7 @@
 ghost use Rattle.std.specs.Prelude.{◌≡◌, nat_le, IfOk};
 ghost use Rattle.std.specs.Bool.{OnTrue};
 ghost use Rattle.std.specs.List.{All, list_all};
-ghost use Rattle.vw_plan.specs.Good.{IsChip};
+ghost use Rattle.vw_plan.specs.Chips.{IsChip};
 
 use std::alloc::{AllocError, Global};
 use std::test::Fail;

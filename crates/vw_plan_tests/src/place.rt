@@ -1,6 +1,6 @@
 ghost use Rattle.std.specs.Prelude.{◌≡◌, length};
 ghost use Rattle.std.specs.List.{All};
-ghost use Rattle.vw_plan.specs.Good.{IsChip};
+ghost use Rattle.vw_plan.specs.Chips.{IsChip};
 
 use crate::boards::{TRIANGLE, are_chips, board, chips_in_turns};
 use crate::netlists::{Netlist, Part, made, of_latches};

@@ -6,10 +6,11 @@ use Rattle.std.proofs.lemmas.List.Elements.{All-head, All-tail, All-push, All-ni
 use Rattle.std.proofs.lemmas.List.Sums.{sum_by-append}
 use Rattle.vw_plan.specs.declared.wire.Hop.{Hop}
 use Rattle.vw_plan.specs.declared.wire.Wire.{Wire}
-use Rattle.vw_plantext.specs.Content.{Content, hop_count, IsHopInRange, IsWireInRange, IsInRange}
+use Rattle.vw_plan.specs.HopCounts.{hop_count}
+use Rattle.vw_plantext.specs.Content.{Content, IsHopInRange, IsWireInRange, IsInRange}
 use Rattle.vw_plantext.specs.Grammar.{number_line, hop_line, wire_line, body_lines}
 use Rattle.vw_plantext.specs.Steps.Hops.{IsHopLine, IsNoHopLine, IsNoWireHeadLine}
-use Rattle.vw_plantext.specs.Steps.Bodies.{UnfinishedWire, BodyState, part_with_hop, FollowsWires, FollowsHops, FollowsPart, IsRestOfPlan, part_hops, part_count, IsPartInRange, FitsPart, Fits, TakesPlanLine, RefusesLine, ClosesWire}
+use Rattle.vw_plantext.specs.Steps.Bodies.{UnfinishedWire, BodyState, part_with_hop, FollowsWires, FollowsHops, FollowsPart, IsRestOfPlan, part_hops, part_count, IsPartInRange, FitsPart, IsBodyInRange, TakesPlanLine, RefusesLine, ClosesWire}
 use Rattle.vw_plantext.proofs.NumberLines.{AreSmall, number_line_injective}
 use Rattle.vw_plantext.proofs.Lines.{Fits64Bits, small_wire, hop_count-cons}
 use Rattle.vw_plantext.proofs.Spellings.{plain_wire, hop_line_injective, body_lines-cons}
@@ -150,7 +151,7 @@ hop_count-nil = refl
 pub same_part : (part other : Option UnfinishedWire) → part ≡ other → (left : ℕ) (done all : List Wire) (lines : List (List ℕ)) → FollowsPart part left done all lines → FollowsPart other left done all lines
 same_part part_ other same left done all lines follows = subst (λ (p : Option UnfinishedWire). FollowsPart p left done all lines) same follows
 
-module _ (state : BodyState) (fits : Fits state) (part : UnfinishedWire) (is : state.part ≡ Some part) where
+module _ (state : BodyState) (fits : IsBodyInRange state) (part : UnfinishedWire) (is : state.part ≡ Some part) where
   abbrev with_part : UnfinishedWire → BodyState
   with_part made = record { chip_of = state.chip_of; period = state.period; wires = state.wires; part = Some made; left = state.left; room = state.room }
 
@@ -165,7 +166,7 @@ module _ (state : BodyState) (fits : Fits state) (part : UnfinishedWire) (is : s
     old : state.part ≡ Some part
     old = is
 
-    new_fits : Fits (with_part (part_with_hop part hop))
+    new_fits : IsBodyInRange (with_part (part_with_hop part hop))
     new_fits = record {
       few_cells = fits.few_cells;
       chips = fits.chips;
@@ -194,7 +195,7 @@ module _ (state : BodyState) (fits : Fits state) (part : UnfinishedWire) (is : s
     old : state.part ≡ Some part
     old = is
 
-    new_fits : Fits done
+    new_fits : IsBodyInRange done
     new_fits = record {
       few_cells = fits.few_cells;
       chips = fits.chips;
@@ -211,7 +212,7 @@ module _ (state : BodyState) (fits : Fits state) (part : UnfinishedWire) (is : s
     makes : (content : Content) (more : List (List ℕ)) → IsRestOfPlan done content more → IsRestOfPlan state content more
     makes content more is_left = record { chip_of = is_left.chip_of; period = is_left.period; wires = same_part (Some part) state.part (sym old) state.left state.wires content.wires more (opened_wires part full state.left state.wires content.wires more is_left.wires) }
 
-module _ (state : BodyState) (fits : Fits state) (is : state.part ≡ None) where
+module _ (state : BodyState) (fits : IsBodyInRange state) (is : state.part ≡ None) where
   abbrev with_wire : UnfinishedWire → BodyState
   with_wire made = record { chip_of = state.chip_of; period = state.period; wires = state.wires; part = Some made; left = state.left - 1; room = state.room - made.left }
 
@@ -226,7 +227,7 @@ module _ (state : BodyState) (fits : Fits state) (is : state.part ≡ None) wher
     old : state.part ≡ None
     old = is
 
-    new_fits : Fits (with_wire (record { net = net; to = to; hops = []; left = count }))
+    new_fits : IsBodyInRange (with_wire (record { net = net; to = to; hops = []; left = count }))
     new_fits = record {
       few_cells = fits.few_cells;
       chips = fits.chips;

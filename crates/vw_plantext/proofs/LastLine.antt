@@ -6,7 +6,8 @@ use Rattle.vw_text.specs.Physical.{lines_text}
 use Rattle.vw_plan.specs.declared.wire.Wire.{Wire}
 use Rattle.vw_plan.specs.declared.plan.Plan.{Plan}
 use Rattle.vw_plantext.specs.declared.fault.PlanTextFault.{PlanTextFault}
-use Rattle.vw_plantext.specs.Content.{Content, hop_count, IsInRange}
+use Rattle.vw_plan.specs.HopCounts.{hop_count}
+use Rattle.vw_plantext.specs.Content.{Content, IsInRange}
 use Rattle.vw_plantext.specs.Grammar.{body_lines, plan_lines, spelling}
 use Rattle.vw_plantext.specs.CanStand.{CanStand, IsFirstBadLine}
 use Rattle.vw_plantext.specs.Steps.Cuts.{IsOneLine, IsLineCut}

@@ -10,7 +10,8 @@ use Rattle.std.proofs.lemmas.List.Sums.{sum_by-cons}
 use Rattle.std.proofs.lemmas.List.Folds.{list_any-append, list_any_none}
 use Rattle.vw_plan.specs.declared.wire.Hop.{Hop}
 use Rattle.vw_plan.specs.declared.wire.Wire.{Wire}
-use Rattle.vw_plantext.specs.Content.{Content, hop_count, IsHopInRange, IsWireInRange, IsInRange}
+use Rattle.vw_plan.specs.HopCounts.{hop_count}
+use Rattle.vw_plantext.specs.Content.{Content, IsHopInRange, IsWireInRange, IsInRange}
 use Rattle.vw_plantext.specs.Grammar.{numbers_text, number_line, hop_line, wire_line, wire_lines, body_lines, plan_lines}
 use Rattle.vw_plantext.proofs.Decimals.{decimal_above}
 use Rattle.vw_plantext.proofs.NumberLines.{AreSmall}

@@ -8,11 +8,12 @@ use Rattle.std.proofs.lemmas.List.Elements.{All-append, All-cons, All-nil, All-r
 use Rattle.vw_text.specs.Physical.{lines_text}
 use Rattle.vw_plan.specs.declared.wire.Hop.{Hop}
 use Rattle.vw_plan.specs.declared.wire.Wire.{Wire}
-use Rattle.vw_plantext.specs.Content.{Content, hop_count, IsHopInRange, IsWireInRange, IsInRange}
+use Rattle.vw_plan.specs.HopCounts.{hop_count}
+use Rattle.vw_plantext.specs.Content.{Content, IsHopInRange, IsWireInRange, IsInRange}
 use Rattle.vw_plantext.specs.Grammar.{number_line, head_line, chips_line, hop_line, wire_lines, body_lines, plan_lines}
 use Rattle.vw_plantext.specs.CanStand.{CanStand, IsFirstBadLine}
 use Rattle.vw_plantext.specs.Steps.Cuts.{IsOneLine, IsLineCut}
-use Rattle.vw_plantext.specs.Steps.Bodies.{UnfinishedWire, BodyState, FollowsWires, FollowsHops, FollowsPart, IsRestOfPlan, part_hops, part_count, IsPartInRange, FitsPart, Fits, HasRead, TakesPlanLine, RefusesLine, ClosesWire}
+use Rattle.vw_plantext.specs.Steps.Bodies.{UnfinishedWire, BodyState, FollowsWires, FollowsHops, FollowsPart, IsRestOfPlan, part_hops, part_count, IsPartInRange, FitsPart, IsBodyInRange, HasRead, TakesPlanLine, RefusesLine, ClosesWire}
 use Rattle.vw_plantext.specs.Steps.Starts.{head_numbers, IsReadTo, IsHeadLine, IsNoHeadLine, IsChipsLine, IsNoChipsLine}
 use Rattle.vw_plantext.specs.declared.start.PlanHead.{PlanHead}
 use Rattle.vw_plantext.proofs.NumberLines.{number_line_injective}
@@ -147,7 +148,7 @@ module _ (cells wires period : ℕ) (few_cells : cells < 2 ^ 32) (few_wires : wi
 
     pub read_two : HasRead (plan_line ∷ second_line ∷ []) begun
     read_two = record { fits = begun_fits; some_left = tt; stays = stays; makes = makes } where
-      begun_fits : Fits begun
+      begun_fits : IsBodyInRange begun
       begun_fits = record { few_cells = omega arith; chips = chips_fit; short = short; wires = All-nil IsWireInRange; part = tt; few_wires = omega arith; hops = let none : hop_count [] ≡ 0 = refl in omega arith }
 
       stays : (content : Content) (more : List (List ℕ)) → IsInRange content → (plan_line ∷ second_line ∷ []) ++ more ≡ plan_lines content → IsRestOfPlan begun content more

@@ -9,7 +9,8 @@ use Rattle.std.proofs.lemmas.List.Elements.{All-head, All-tail}
 use Rattle.vw_text.specs.Physical.{lines_text}
 use Rattle.vw_plan.specs.declared.wire.Hop.{Hop}
 use Rattle.vw_plan.specs.declared.wire.Wire.{Wire}
-use Rattle.vw_plantext.specs.Content.{Content, hop_count, IsHopInRange, IsWireInRange, IsInRange}
+use Rattle.vw_plan.specs.HopCounts.{hop_count}
+use Rattle.vw_plantext.specs.Content.{Content, IsHopInRange, IsWireInRange, IsInRange}
 use Rattle.vw_plantext.specs.Grammar.{number_line, hop_line, wire_line, wire_lines, body_lines, plan_lines, spelling}
 use Rattle.vw_plantext.proofs.NumberLines.{HasNoSpace, number_line_injective}
 use Rattle.vw_plantext.proofs.LineEnds.{IsMore, lines_within}

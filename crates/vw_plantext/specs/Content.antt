@@ -4,6 +4,7 @@ use Rattle.std.specs.List.{All}
 use Rattle.vw_plan.specs.declared.wire.Hop.{Hop}
 use Rattle.vw_plan.specs.declared.wire.Wire.{Wire}
 use Rattle.vw_plan.specs.declared.plan.Plan.{Plan}
+use Rattle.vw_plan.specs.HopCounts.{hop_count}
 
 -- the chip of each cell, the wires, and the period
 pub record Content : Type 0 where
@@ -26,10 +27,6 @@ pub record IsWireInRange (wire : Wire) : Type 0 where
   pub net : wire.net < 2 ^ 32
   pub to : wire.to < 2 ^ 32
   pub hops : All IsHopInRange wire.hops
-
--- the hops of some wires
-abbrev pub hop_count : List Wire → ℕ
-hop_count wires = sum_by (λ wire. length wire.hops) wires
 
 -- there are fewer than 2 ^ 32 cells and wires, and fewer than 2 ^ 30 hops in all
 pub record IsInRange (content : Content) : Type 0 where

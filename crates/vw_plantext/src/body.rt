@@ -1,7 +1,7 @@
 //! The lines of a plan text behind the first two.
 ghost use Rattle.std.specs.Prelude.{◌≡◌, ◌<◌, ◌≤◌, ◌^◌, false, Some, option_map, IfOk, MatchOption};
 ghost use Rattle.vw_plantext.specs.Steps.Hops.{IsHop, IsNoHop, IsHopLine, IsNoHopLine, IsWireHead, IsNoWireHead, IsWireHeadLine, IsNoWireHeadLine};
-ghost use Rattle.vw_plantext.specs.Steps.Bodies.{part_of, part_with_hop, state_of, is_complete, HasSomeLeft, Fits, TakesPlanLine, RefusesLine, ClosesWire};
+ghost use Rattle.vw_plantext.specs.Steps.Bodies.{part_of, part_with_hop, state_of, is_complete, HasSomeLeft, IsBodyInRange, TakesPlanLine, RefusesLine, ClosesWire};
 
 use crate::line::read_numbers;
 use std::alloc::{AllocError, Global};
@@ -124,7 +124,7 @@ impl Body {
 
     /// The same, where a wire that has all its hops is put to the others.
     pub fn closed(self) -> Result<Self, AllocError>
-        requires { Fits (state_of self) }
+        requires { IsBodyInRange (state_of self) }
         ensures { IfOk result (λ body. ClosesWire (state_of self) (state_of body)) }
     {
         let Body {
@@ -171,7 +171,7 @@ impl Body {
         line: &[u8],
         numbers: &mut Vec<u64>,
     ) -> Result<Option<Self>, AllocError>
-        requires fits { Fits (state_of self) }
+        requires fits { IsBodyInRange (state_of self) }
         requires some_left { HasSomeLeft (option_map part_of self.wire) }
         requires incomplete { is_complete (state_of self) ≡ false }
         ensures { IfOk result (λ taken. MatchOption taken (RefusesLine (state_of self) line.now)

@@ -10,7 +10,7 @@ bits_text (bit ∷ bits) = map (λ b. if b then 49 else 48) (bit ∷ bits)
 
 -- the numbers of outputs and latches
 abbrev pub head_text : ℕ → ℕ → List ℕ
-head_text outputs latches = codes "trace 1 " ++ decimal outputs ++ 32 ∷ decimal latches ++ 10 ∷ []
+head_text output_count latch_count = codes "trace 1 " ++ decimal output_count ++ 32 ∷ decimal latch_count ++ 10 ∷ []
 
 -- a clock: its number, its outputs, and the latch values before its step
 abbrev pub clock_text : ℕ → List Bool → List Bool → List ℕ
@@ -28,4 +28,4 @@ end_text clocks last = codes "end " ++ decimal clocks ++ 32 ∷ bits_text last +
 
 -- the trace of a history of this many outputs and latches
 abbrev pub trace_text : ℕ → ℕ → History → List ℕ
-trace_text outputs latches history = head_text outputs latches ++ rows_text 0 history.outputs history.states ++ end_text (length history.outputs) history.last
+trace_text output_count latch_count history = head_text output_count latch_count ++ rows_text 0 history.outputs history.states ++ end_text (length history.outputs) history.last

@@ -3,7 +3,7 @@ ghost use Rattle.std.specs.Prelude.{◌≡◌, ◌≢◌, ◌==◌, ℕ, List, B
 ghost use Rattle.std.specs.List.{before_first, after_first};
 ghost use Rattle.vw_text.specs.Bare.{is_blank};
 ghost use Rattle.vw_rows.specs.Stimulus.{is_bits, bits_of, line_words, row_of_bits, held_times, repeated, rows_added};
-ghost use Rattle.vw_rows.specs.Steps.Reading.{Answers, rows_asked, FitsRun, FindsWord};
+ghost use Rattle.vw_rows.specs.Steps.Reading.{IsWanted, rows_asked, FitsRun, FindsWord};
 
 use crate::stimulus::StimFault;
 use std::alloc::{AllocError, Global};
@@ -74,7 +74,7 @@ fn values_of(alloc: Global, word: &[u8]) -> Result<Vec<bool>, AllocError>
 /// The row that a word spells.
 fn row_of_word(alloc: Global, word: &[u8], width: u32, number: u64) -> Result<Asked, StimFault>
     ensures row { (before : List Bool) →
-        Answers (row_of_bits width number (bits_of word.now)) (rows_asked before) result }
+        IsWanted (row_of_bits width number (bits_of word.now)) (rows_asked before) result }
     ensures fits { IfOk result (FitsRun width) }
     ensures reads_nothing { result ≢ Err StimFault.ReadFault }
 {
@@ -92,7 +92,7 @@ fn row_of_word(alloc: Global, word: &[u8], width: u32, number: u64) -> Result<As
 /// What `hold` and a number ask for.
 fn hold_of_words(verb: &[u8], count: &[u8], number: u64) -> Result<Asked, StimFault>
     ensures hold { (before : List Bool) →
-        Answers (repeated number before (held_times verb.now count.now))
+        IsWanted (repeated number before (held_times verb.now count.now))
         (rows_asked before) result }
     ensures fits { (width : ℕ) → IfOk result (FitsRun width) }
     ensures reads_nothing { result ≢ Err StimFault.ReadFault }
@@ -109,7 +109,7 @@ fn hold_of_words(verb: &[u8], count: &[u8], number: u64) -> Result<Asked, StimFa
 /// What a line asks for.
 pub fn read_line(alloc: Global, line: &[u8], width: u32, number: u64) -> Result<Asked, StimFault>
     ensures asked { (before : List Bool) →
-        Answers (rows_added width number before (line_words line.now)) (rows_asked before) result }
+        IsWanted (rows_added width number before (line_words line.now)) (rows_asked before) result }
     ensures fits { IfOk result (FitsRun width) }
     ensures reads_nothing { result ≢ Err StimFault.ReadFault }
 {

@@ -4,7 +4,7 @@ ghost use Rattle.vw_outside.specs.Told.{absent, OfText};
 ghost use Rattle.vw_outside.specs.Reads.{CountsFault};
 ghost use Rattle.vw_text.specs.Physical.{text_lines};
 ghost use Rattle.vw_rows.specs.Stimulus.{row_before, joined_rows, with_rows_of, with_lines, stimulus_rows, is_of_text};
-ghost use Rattle.vw_rows.specs.Steps.Reading.{Answers, rows_asked, FitsRun, AnswersNew};
+ghost use Rattle.vw_rows.specs.Steps.Reading.{IsWanted, rows_asked, FitsRun, IsWantedAfter};
 
 use crate::line::{Asked, CLOCKS_LIMIT, read_line};
 use crate::row_runs::RowRuns;
@@ -21,7 +21,7 @@ fn add_asked(alloc: Global, rows: &mut RowRuns, asked: Asked, width: u32) -> Res
     requires fits { FitsRun width asked }
     requires widths { All (λ row. length row ≡ width) rows.old }
     requires clocks { length rows.old ≤ 4294967295 }
-    ensures rows { AnswersNew (joined_rows rows.old (Ok (rows_asked
+    ensures rows { IsWantedAfter (joined_rows rows.old (Ok (rows_asked
         (row_before width rows.old) asked)))
         rows.new result }
     ensures widths { OnOk result (All (λ row. length row ≡ width) rows.new) }
@@ -55,7 +55,7 @@ fn add_line(
 ) -> Result<(), StimFault>
     requires widths { All (λ row. length row ≡ width) rows.old }
     requires clocks { length rows.old ≤ 4294967295 }
-    ensures rows { AnswersNew (with_rows_of width number rows.old line.now) rows.new result }
+    ensures rows { IsWantedAfter (with_rows_of width number rows.old line.now) rows.new result }
     ensures widths { OnOk result (All (λ row. length row ≡ width) rows.new) }
     ensures clocks { OnOk result (length rows.new ≤ 4294967295) }
     ensures reads_nothing { result ≢ Err StimFault.ReadFault }

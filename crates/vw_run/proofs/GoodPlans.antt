@@ -15,7 +15,7 @@ use Rattle.vw_plan.specs.Good.{IsGood, NoMoveHelps, NoExchangeHelps}
 use Rattle.vw_plan.specs.Needs.{needed_pairs}
 use Rattle.vw_plan.specs.Nets.{node_of}
 use Rattle.vw_plan.specs.Routes.{AreRoutes, FollowsRoute, need_of_route}
-use Rattle.vw_plan.specs.Setting.{setting_of}
+use Rattle.vw_plan.specs.PlannedBoard.{planned_board}
 use Rattle.vw_phase.specs.Schedules.{IsSchedule}
 use Rattle.vw_run.specs.Shortest.{IsShortRoute}
 
@@ -54,7 +54,7 @@ short_wires flat board chip_of (route ∷ routes) (wire ∷ wires) follows short
     (short_wires flat board chip_of routes wires follows.1 (All-tail (IsShortRoute flat board chip_of) route routes short))
 
 pub good_plan : (ordered : Ordered) (board : Board) (chip_of : List ℕ) (routes : List Route) (plan : Plan) → IsSchedule ordered board chip_of routes plan → AreRoutes ordered.flat board chip_of routes → All (IsShortRoute ordered.flat board chip_of) routes
-    → NoMoveHelps ordered.flat board chip_of → NoExchangeHelps ordered.flat board chip_of → IsGood (setting_of ordered board plan)
+    → NoMoveHelps ordered.flat board chip_of → NoExchangeHelps ordered.flat board chip_of → IsGood (planned_board ordered board plan)
 good_plan ordered board chip_of routes plan is are short moves exchanges = record {
   sound = is.sound;
   in_order = pairs_followed routes plan.wires is.follows ∙ are.pairs ∙ ap (needed_pairs ordered.flat) (sym is.chips);

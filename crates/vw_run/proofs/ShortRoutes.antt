@@ -10,7 +10,7 @@ use Rattle.vw_net.specs.Order.{is_among}
 use Rattle.vw_plan.specs.declared.board.Board.{Board}
 use Rattle.vw_plan.specs.declared.need.Need.{Need}
 use Rattle.vw_plan.specs.declared.need.Route.{Route}
-use Rattle.vw_plan.specs.Good.{IsChip}
+use Rattle.vw_plan.specs.Chips.{IsChip}
 use Rattle.vw_plan.specs.Needs.{is_pair, needed_pairs}
 use Rattle.vw_plan.specs.Nets.{is_needed, is_read_at, node_of}
 use Rattle.vw_plan.specs.Routes.{AreRoutes, IsRoute, need_of_route, steps_of}

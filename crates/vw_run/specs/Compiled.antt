@@ -4,7 +4,7 @@ use Rattle.vw_net.specs.declared.ordered.Ordered.{Ordered}
 use Rattle.vw_plan.specs.declared.board.Board.{Board}
 use Rattle.vw_plan.specs.declared.checked.Checked.{Checked}
 use Rattle.vw_plan.specs.Good.{IsGood}
-use Rattle.vw_plan.specs.Setting.{setting_of}
+use Rattle.vw_plan.specs.PlannedBoard.{planned_board}
 use Rattle.vw_run.specs.declared.fault.CompileFault.{CompileFault}
 use Rattle.vw_run.specs.declared.fault.CompileFault.TheVariants.{TooManyCells, NoMemory}
 use Rattle.vw_run.specs.declared.fault.CompileRefused.{CompileRefused}
@@ -13,7 +13,7 @@ use Rattle.vw_run.specs.declared.fault.CompileRefused.{CompileRefused}
 pub record IsCompiled (ordered : Ordered) (board : Board) (checked : Checked) : Type 0 where
   pub ordered_same : checked.ordered ≡ ordered
   pub board_same : checked.board ≡ board
-  pub good : IsGood (setting_of ordered board checked.plan)
+  pub good : IsGood (planned_board ordered board checked.plan)
 
 -- the two numbers by which a design has no room; of want of memory nothing is said
 abbrev pub IsCompileFault : Ordered → Board → CompileFault → Type 0

@@ -1,8 +1,9 @@
 //! From a design and a board to a plan.
 ghost use Rattle.std.specs.Prelude.{◌≡◌, ◌≤◌, ℕ, length, IfOk, IfErr};
 ghost use Rattle.std.specs.List.{All};
-ghost use Rattle.vw_plan.specs.Good.{IsChip, IsGood, NoExchangeHelps, NoMoveHelps, cells_on};
-ghost use Rattle.vw_plan.specs.Setting.{setting_of};
+ghost use Rattle.vw_plan.specs.Chips.{IsChip, cells_on};
+ghost use Rattle.vw_plan.specs.Good.{IsGood, NoExchangeHelps, NoMoveHelps};
+ghost use Rattle.vw_plan.specs.PlannedBoard.{planned_board};
 ghost use Rattle.vw_run.specs.Compiled.{IsCompileFault, IsCompiled, IsCompileRefused};
 
 use crate::fault::{CompileFault, CompileRefused};
@@ -51,7 +52,7 @@ fn plan_by(
     distances: &Distances,
 ) -> Result<Plan, CompileFault>
     requires distances { distances.now ≡ board.now }
-    ensures good { IfOk result (λ plan. IsGood (setting_of ordered.now board.now plan)) }
+    ensures good { IfOk result (λ plan. IsGood (planned_board ordered.now board.now plan)) }
     ensures fault { IfErr result (IsCompileFault ordered.now board.now) }
 {
     let chip_of = placement_of(alloc, ordered, board, distances)?;
@@ -64,7 +65,7 @@ fn plan_by(
 
 /// A good plan.
 fn good_plan_of(alloc: Global, ordered: &Ordered, board: &Board) -> Result<Plan, CompileFault>
-    ensures good { IfOk result (λ plan. IsGood (setting_of ordered.now board.now plan)) }
+    ensures good { IfOk result (λ plan. IsGood (planned_board ordered.now board.now plan)) }
     ensures fault { IfErr result (IsCompileFault ordered.now board.now) }
 {
     let distances = Distances::of(alloc, board)?;

@@ -1,7 +1,7 @@
 //! Shortest routes for the needed pairs of a placement.
 ghost use Rattle.std.specs.Prelude.{◌≡◌, ◌≢◌, ◌≤◌, ◌<◌, ◌+◌, length, IfOk};
 ghost use Rattle.std.specs.List.{All};
-ghost use Rattle.vw_plan.specs.Good.{IsChip};
+ghost use Rattle.vw_plan.specs.Chips.{IsChip};
 ghost use Rattle.vw_plan.specs.Nets.{node_of};
 ghost use Rattle.vw_plan.specs.Routes.{AreRoutes};
 ghost use Rattle.vw_run.specs.Shortest.{IsShortRoute};

@@ -12,7 +12,7 @@ use Rattle.vw_net.specs.declared.cell.Cell.TheVariants.{Gate}
 use Rattle.vw_net.specs.declared.cover.Cover.{Cover}
 use Rattle.vw_net.specs.Cover.{cover_value}
 use Rattle.vw_net.specs.Order.{IsOrder, is_ready, read_nets_at}
-use Rattle.vw_net.proofs.Ready.{order_within, ready_before}
+use Rattle.vw_net.proofs.ReadyNets.{order_within, ready_before}
 use Rattle.vw_net.proofs.Levels.{map_agree}
 
 module _ {inputs : ℕ} {cells : List Cell} {order : List ℕ} (is_order : IsOrder inputs cells order) where

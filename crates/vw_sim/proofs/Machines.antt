@@ -12,7 +12,7 @@ use Rattle.vw_net.proofs.TruthTables.{place_of-below}
 use Rattle.vw_sim.specs.declared.machine.GateStep.{GateStep}
 use Rattle.vw_sim.specs.Steps.Machine.{step_of, gate_steps, gathered_reads}
 use Rattle.vw_net.proofs.FittingCells.{cell_fits}
-use Rattle.vw_net.proofs.Ready.{order_gate}
+use Rattle.vw_net.proofs.ReadyNets.{order_gate}
 
 module _ (cells : List Cell) (order : List ℕ) (place : ℕ) (within : place < length order) where
   -- one more gate is kept

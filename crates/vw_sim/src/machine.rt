@@ -9,12 +9,14 @@ ghost use Rattle.vw_net.specs.History.{next_state};
 ghost use Rattle.vw_net.specs.Value.{net_value};
 ghost use Rattle.vw_net.specs.TruthTable.{place_of};
 ghost use Rattle.vw_sim.specs.Steps.Values.{SettlesGates, bits_at};
-ghost use Rattle.vw_sim.specs.Steps.Machine.{step_of, gate_steps, gathered_reads, latch_nets, with_bits, IsReady};
+ghost use Rattle.vw_sim.specs.Steps.Machine.{step_of, gate_steps, gathered_reads, latch_nets, with_bits, AreMachineTables};
 
 use crate::clock::{gate_value, put_inputs};
 use std::alloc::{AllocError, Global};
 use std::marker::Model;
-use vw_net::{Bits, Cell, Flat, Ordered, TRUTH_TABLE_INPUTS, bit_of, gates_settle, truth_tables_agree};
+use vw_net::{
+    Bits, Cell, Flat, Ordered, TRUTH_TABLE_INPUTS, bit_of, gates_settle, truth_tables_agree,
+};
 
 /// A gate of a machine.
 #[derive(Drop)]
@@ -41,14 +43,14 @@ pub struct Machine<'a> {
 
 impl<'a> Model for Machine<'a> {
     ghost use Rattle.vw_net.specs.declared.ordered.Ordered.{Ordered};
-    ghost use Rattle.vw_sim.specs.Steps.Machine.{IsReady};
+    ghost use Rattle.vw_sim.specs.Steps.Machine.{AreMachineTables};
 
     ghost Value = { Ordered };
 
     ghost view = { λ machine. machine.ordered.now };
 
     ghost invariant = { λ machine.
-        IsReady machine.ordered.now machine.gates.items machine.reads.items
+        AreMachineTables machine.ordered.now machine.gates.items machine.reads.items
         machine.latches.items machine.taken.items };
 }
 

@@ -3,7 +3,7 @@ use Rattle.std.proofs.Common.{◌≡◌, ◌<◌, ◌⊎◌, ℕ, List, [], ◌�
 use Rattle.vw_net.specs.declared.ordered.Ordered.{Ordered}
 use Rattle.vw_plan.specs.declared.board.Board.{Board}
 use Rattle.vw_plan.specs.declared.plan.Plan.{Plan}
-use Rattle.vw_plan.specs.Setting.{Setting, setting_of}
+use Rattle.vw_plan.specs.PlannedBoard.{PlannedBoard, planned_board}
 use Rattle.vw_board.specs.BoardText.{Spells as SpellsBoard}
 use Rattle.vw_board.proofs.OneBoard.{accepted_once}
 use Rattle.vw_plantext.specs.PlanText.{Spells as SpellsPlan}
@@ -34,10 +34,10 @@ use Rattle.vw_top.proofs.JudgedTexts.{judged_netlist, judged_board, status_one, 
 -- ---- netlists, boards and plans of one text
 
 setting_same : (d b p : List ℕ) (ordered other : Ordered) (board its_board : Board) (plan its_plan : Plan) → AreSpelled d b p ordered board plan → AreSpelled d b p other its_board its_plan
-    → plan_fault (setting_of ordered board plan) ≡ plan_fault (setting_of other its_board its_plan)
+    → plan_fault (planned_board ordered board plan) ≡ plan_fault (planned_board other its_board its_plan)
 setting_same d b p ordered other board its_board plan its_plan are its =
     fault_same board plan ordered other (netlist_same d ordered other are.netlist its.netlist)
-    ∙ ap₂ (λ (one : Board) (two : Plan). plan_fault (setting_of other one two)) (accepted_once b board its_board are.board_is its.board_is) (spelled_once p plan its_plan are.plan_is its.plan_is)
+    ∙ ap₂ (λ (one : Board) (two : Plan). plan_fault (planned_board other one two)) (accepted_once b board its_board are.board_is its.board_is) (spelled_once p plan its_plan are.plan_is its.plan_is)
 
 no_text_left : (p : List ℕ) (plan : Plan) → SpellsPlan p plan → IsNoPlanText p → ⊥
 no_text_left p plan is none = plan_text_apart p plan none.0 is none.1
@@ -45,8 +45,8 @@ no_text_left p plan is none = plan_text_apart p plan none.0 is none.1
 text_status : (p : List ℕ) (reason : Reason) → RefusesPlanText p reason → reason_status reason ≡ 4
 text_status p reason refused = ap reason_status refused.1
 
-plan_status : (setting : Setting) (reason : Reason) → RefusesPlan setting reason → reason_status reason ≡ 4
-plan_status setting reason refused = ap reason_status refused.1
+plan_status : (planned : PlannedBoard) (reason : Reason) → RefusesPlan planned reason → reason_status reason ≡ 4
+plan_status planned reason refused = ap reason_status refused.1
 
 module _ (design board plan : List ℕ) (told : List ℕ → Told) where
   abbrev course : Course
@@ -59,7 +59,7 @@ module _ (design board plan : List ℕ) (told : List ℕ → Told) where
     bad_text : (d b p : List ℕ) (ordered : Ordered) (its : Board) → IsTextOf (told design) d → IsNetlistOf d ordered → IsTextOf (told board) b → SpellsBoard b its → IsTextOf (told plan) p
         → RefusesPlanText p reason → WhyRefused reason
     unsound : (d b p : List ℕ) (ordered : Ordered) (its : Board) (content : Plan) → IsTextOf (told design) d → IsTextOf (told board) b → IsTextOf (told plan) p → AreSpelled d b p ordered its content
-        → RefusesPlan (setting_of ordered its content) reason → WhyRefused reason
+        → RefusesPlan (planned_board ordered its content) reason → WhyRefused reason
 
   why : (reason : Reason) → MayRefuse course told reason → WhyRefused reason
   why reason (d, d_is, inl refused) = bad_design d d_is refused
@@ -98,7 +98,7 @@ module _ (design board plan : List ℕ) (told : List ℕ → Told) where
   plan_refuses : (ordered : Ordered) (its : Board) → RefusesWith (4 ∷ []) (check_plan_course ordered its plan)
   plan_refuses ordered its = λ p. (
     λ reason refused. inl (text_status p reason refused),
-    λ content is. (λ reason refused. inl (plan_status (setting_of ordered its content) reason refused), λ done sound_is. tt),
+    λ content is. (λ reason refused. inl (plan_status (planned_board ordered its content) reason refused), λ done sound_is. tt),
   )
 
   board_refuses : (ordered : Ordered) → RefusesWith (3 ∷ 4 ∷ []) (check_board_course ordered board plan)
@@ -151,8 +151,8 @@ module _ (design board plan : List ℕ) (told : List ℕ → Told) where
                     (content, has.are.plan_is),
                     λ third third_is.
                         let its : AreSpelled d b p other another third = record { netlist = other_is; board_is = another_is; plan_is = third_is } in
-                        let none = setting_same d b p other has.ordered another has.board third content its has.are ∙ faultless (setting_of has.ordered has.board content) has.sound in
-                        inr ((tt, sound (setting_of other another third) none), λ done is. refl),
+                        let none = setting_same d b p other has.ordered another has.board third content its has.are ∙ faultless (planned_board has.ordered has.board content) has.sound in
+                        inr ((tt, sound (planned_board other another third) none), λ done is. refl),
                   )),
             )),
       ))
@@ -215,7 +215,7 @@ module _ (design board plan : List ℕ) (before after : Outside) (err_before err
   four_comes d b ordered its reason held_d held_b are (bad_design text text_is refused) = absurd (no_refused_design (told design) d text ordered reason held_d are.netlist text_is refused)
   four_comes d b ordered its reason held_d held_b are (bad_board text_d text other d_is other_is b_is refused) = absurd (no_refused_board (told board) b text its reason held_b are.board_is b_is refused)
   four_comes d b ordered its reason held_d held_b are (bad_text text_d text_b text other content d_is other_is b_is content_is p_is refused) = text_status text reason refused
-  four_comes d b ordered its reason held_d held_b are (unsound text_d text_b text_p other spelled content d_is b_is p_is other_are refused) = plan_status (setting_of other spelled content) reason refused
+  four_comes d b ordered its reason held_d held_b are (unsound text_d text_b text_p other spelled content d_is b_is p_is other_are refused) = plan_status (planned_board other spelled content) reason refused
 
   -- ---- what is written is of the one plan of the texts
 

@@ -8,7 +8,7 @@ use Rattle.vw_net.proofs.Counts.{length-start_values}
 use Rattle.vw_design.specs.declared.design.Design.{Design}
 use Rattle.vw_design.specs.Paths.{Net}
 use Rattle.vw_design.specs.Preorder.{Site, latches}
-use Rattle.vw_design.specs.Reads.{root_outputs}
+use Rattle.vw_design.specs.NetReads.{root_outputs}
 use Rattle.vw_design.specs.Flattened.{number_of, IsFlatOf}
 use Rattle.vw_design.specs.PathHistory.{latch_start}
 use Rattle.vw_design.proofs.FlatHistories.{histories_agree}

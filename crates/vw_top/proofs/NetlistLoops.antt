@@ -24,7 +24,7 @@ use Rattle.vw_design.proofs.ListElements.{Has, Has-at}
 use Rattle.vw_design.proofs.PairedLists.{AllZip-length, AllZip-back, AllZip-push}
 use Rattle.vw_flat.specs.Printed.{printed_site}
 use Rattle.vw_order.specs.Loops as orders
-use Rattle.vw_order.specs.Reads as nets
+use Rattle.vw_order.specs.GateReads as nets
 use Rattle.vw_top.specs.Designs.{IsLoopOf}
 
 module _ {A B : Type 0} (R : A → B → Type 0) where
@@ -111,7 +111,7 @@ module _ (design : Design) (flat : Flat) (is : IsFlatOf design flat) where
       (λ (later : Has number numbers). circle_gates numbers others each.1 number later) has
 
   -- such numbers are those of cells
-  pub within_cells : (numbers : List ℕ) → orders.IsLoop flat numbers → All (λ number. number < cell_count design) numbers
+  pub within_cells : (numbers : List ℕ) → orders.IsListedLoop flat numbers → All (λ number. number < cell_count design) numbers
   within_cells numbers loop k d within =
       let at = slice_get-get_or numbers k d within in
       let gate = gate_is (get_or numbers k d) (circle_gates numbers (turned numbers) loop.circle.each (get_or numbers k d) (Has-at (get_or numbers k d) numbers k at)) in
@@ -128,7 +128,7 @@ module _ (design : Design) (flat : Flat) (is : IsFlatOf design flat) where
       ap₂ (λ (w : Word) (ws : List Word). w ∷ ws) (sym same) (named numbers gates names at.1 name.1)
 
   -- the loop by the nets that its gates drive
-  pub loop_named : (numbers : List ℕ) → orders.IsLoop flat numbers → (names : List Word)
+  pub loop_named : (numbers : List ℕ) → orders.IsListedLoop flat numbers → (names : List Word)
       → AllZip (λ number name. option_map printed_site (slice_get (cells design) number) ≡ Some name) numbers names → IsLoopOf design names
   loop_named numbers loop names are =
       let found = gates_at numbers (circle_gates numbers (turned numbers) loop.circle.each) in

@@ -2,12 +2,12 @@
 use Rattle.std.proofs.Common.{◌≡◌, ◌==◌, ◌&&◌, ℕ, zero, suc, max, Bool, false, nat_le, List, [], ◌∷◌, length, cond, ap, ap₂, refl, ◌∙◌, None, arith}
 use Rattle.std.specs.List.{find}
 use Rattle.std.proofs.lemmas.Bool.{ne_eqb}
-use Rattle.vw_top.specs.Words.{Place, Form, fits, matched, has_form, furthest, commands, nothing, spelled_by}
+use Rattle.vw_top.specs.Words.{Place, Form, suits, matched, has_form, furthest, commands, nothing, spelled_by}
 
 -- a form has a first place, and the word isn't what it has there
 abbrev IsOther : List Place → List ℕ → Type 0
 IsOther [] word = ⊥
-IsOther (place ∷ places) word = fits place word ≡ false
+IsOther (place ∷ places) word = suits place word ≡ false
 
 -- so for each of some forms
 abbrev pub AreOthers : List Form → List ℕ → Type 0

@@ -15,7 +15,7 @@ use Rattle.vw_top.specs.Course.{Course, writes, refuses, Outside, outside, MayWr
 use Rattle.vw_top.specs.Statuses.{Statuses, IsRefused, IsWantOfMemory}
 use Rattle.vw_top.specs.Commands.{sim_course, sim_rows_course, trace_of, IsRowsOf, RefusesRows, rows_apart}
 use Rattle.vw_top.specs.CommandStatuses.{CountsFaultAt, UsageStatuses}
-use Rattle.vw_top.specs.SimStatuses.{AreAccepted, SimStatuses}
+use Rattle.vw_top.specs.SimStatuses.{HoldAndSpell, SimStatuses}
 use Rattle.vw_top.proofs.ReadsAndRefusals.{IsOneOf, ReadsOnly, reads_one_of, RefusesWith}
 use Rattle.vw_top.proofs.FirstFile.{its_text, at_held, Judged, first_reads, first_refuses, first_refused, first_comes, first_absent}
 use Rattle.vw_top.proofs.SecondFile.{second_refused, second_comes, second_absent}
@@ -91,7 +91,7 @@ module _ (design stimulus : List ℕ) (unknown : Bool) (before after : Outside) 
   no_other = refused_one_of table (1 ∷ 5 ∷ []) (refuse design stimulus unknown told)
 
   -- what `sim` writes is the trace of the design and the rows that its files have
-  text_of : (spelled : Spelled) (rows : List (List Bool)) (text : List ℕ) (accepted : AreAccepted design stimulus before spelled rows) → MayWrite (sim_course design stimulus unknown) told text → text ≡ trace_of unknown spelled rows
+  text_of : (spelled : Spelled) (rows : List (List Bool)) (text : List ℕ) (accepted : HoldAndSpell design stimulus before spelled rows) → MayWrite (sim_course design stimulus unknown) told text → text ≡ trace_of unknown spelled rows
   text_of spelled rows text accepted may =
       let w = what design stimulus unknown told text may in
       let its_design : IsDesignOf accepted.design_text w.spelled = subst (λ (t : List ℕ). IsDesignOf t w.spelled) (its_text (told design) w.d accepted.design_text accepted.design_held w.d_is) w.its_design in

@@ -3,7 +3,7 @@ use Rattle.std.specs.Prelude.{◌≡◌, ◌≢◌, ◌⊎◌, ℕ, List, [], �
 use Rattle.vw_net.specs.declared.ordered.Ordered.{Ordered}
 use Rattle.vw_plan.specs.declared.board.Board.{Board}
 use Rattle.vw_plan.specs.declared.plan.Plan.{Plan}
-use Rattle.vw_plan.specs.Setting.{setting_of}
+use Rattle.vw_plan.specs.PlannedBoard.{planned_board}
 use Rattle.vw_plan.specs.Sound.{IsSound}
 use Rattle.vw_board.specs.BoardText.{Spells as SpellsBoard}
 use Rattle.vw_plantext.specs.PlanText.{Spells as SpellsPlan}
@@ -33,7 +33,7 @@ pub record HasPlanFault (d b p : List ℕ) (fault : PlanFault) : Type 0 where
   pub board : Board
   pub plan : Plan
   pub are : AreSpelled d b p ordered board plan
-  pub is : plan_fault (setting_of ordered board plan) ≡ Some fault
+  pub is : plan_fault (planned_board ordered board plan) ≡ Some fault
 
 -- the plan text has a fault, or its plan isn't sound
 abbrev pub IsNoPlan : List ℕ → List ℕ → List ℕ → Type 0
@@ -44,7 +44,7 @@ pub record IsSoundPlan (d b p : List ℕ) (plan : Plan) : Type 0 where
   pub ordered : Ordered
   pub board : Board
   pub are : AreSpelled d b p ordered board plan
-  pub sound : IsSound (setting_of ordered board plan)
+  pub sound : IsSound (planned_board ordered board plan)
 
 module _ (design board plan : List ℕ) where
   -- the files of `check`

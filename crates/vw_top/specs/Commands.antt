@@ -6,19 +6,20 @@ use Rattle.std.proofs.lemmas.Option.{none-some}
 use Rattle.vw_net.specs.declared.ordered.Ordered.{Ordered}
 use Rattle.vw_design.specs.declared.design.Design.{Design}
 use Rattle.vw_design.specs.Preorder.{latches}
-use Rattle.vw_design.specs.Reads.{root_outputs}
+use Rattle.vw_design.specs.NetReads.{root_outputs}
 use Rattle.vw_design.specs.Clocks.{columns}
 use Rattle.vw_design.specs.PathHistory.{path_history}
 use Rattle.vw_plan.specs.declared.board.Board.{Board}
 use Rattle.vw_plan.specs.declared.plan.Plan.{Plan}
 use Rattle.vw_plan.specs.Good.{IsGood}
-use Rattle.vw_plan.specs.Setting.{Setting, setting_of}
+use Rattle.vw_plan.specs.PlannedBoard.{PlannedBoard, planned_board}
 use Rattle.vw_plan.specs.Sound.{IsSound}
 use Rattle.vw_board.specs.declared.fault.BoardFault.{BoardFault}
 use Rattle.vw_board.specs.BoardText.{Spells as SpellsBoard, Refuses as RefusesBoardText, is_text_fault as is_board_fault}
 use Rattle.vw_board.proofs.OneBoard.{accepted_unrefused as board_unrefused}
 use Rattle.vw_plantext.specs.declared.fault.PlanTextFault.{PlanTextFault}
-use Rattle.vw_plantext.specs.Content.{content_of, hop_count}
+use Rattle.vw_plan.specs.HopCounts.{hop_count}
+use Rattle.vw_plantext.specs.Content.{content_of}
 use Rattle.vw_plantext.specs.Grammar.{spelling}
 use Rattle.vw_plantext.specs.PlanText.{Spells as SpellsPlan, Refuses as RefusesPlanLines, is_text_fault as is_plan_text_fault}
 use Rattle.vw_plantext.proofs.OnePlan.{spelled_unrefused as plan_unrefused}
@@ -78,11 +79,11 @@ abbrev pub plan_text_apart : (text : List ℕ) (plan : Plan) (reason : Reason) �
 plan_text_apart text plan reason is refused = plan_unrefused text plan refused.0 is refused.2 refused.3
 
 -- why a plan isn't sound
-abbrev pub RefusesPlan : Setting → Reason → Type 0
-RefusesPlan setting reason = (fault : PlanFault) × (reason ≡ reasons.Plan fault) × (plan_fault setting ≡ Some fault)
+abbrev pub RefusesPlan : PlannedBoard → Reason → Type 0
+RefusesPlan planned reason = (fault : PlanFault) × (reason ≡ reasons.Plan fault) × (plan_fault planned ≡ Some fault)
 
-abbrev pub plan_apart : (setting : Setting) (reason : Reason) → IsSound setting → RefusesPlan setting reason → ⊥
-plan_apart setting reason is refused = none-some refused.0 (sym (faultless setting is) ∙ refused.2)
+abbrev pub plan_apart : (planned : PlannedBoard) (reason : Reason) → IsSound planned → RefusesPlan planned reason → ⊥
+plan_apart planned reason is refused = none-some refused.0 (sym (faultless planned is) ∙ refused.2)
 
 -- ---- what is good and bad of a design on a board
 
@@ -94,8 +95,8 @@ RefusesFit ordered board reason = (reason ≡ Fit (TooManyCells (length ordered.
 abbrev pub HasRoom : Ordered → Board → Type 0
 HasRoom ordered board = length ordered.flat.cells ≤ board.chips * board.cells
 
-abbrev pub good_apart : (ordered : Ordered) (board : Board) (plan : Plan) (reason : Reason) → IsGood (setting_of ordered board plan) → RefusesFit ordered board reason → ⊥
-good_apart ordered board plan reason good refused = omega (arith, sound_plans_fit (setting_of ordered board plan) good.sound, refused.1)
+abbrev pub good_apart : (ordered : Ordered) (board : Board) (plan : Plan) (reason : Reason) → IsGood (planned_board ordered board plan) → RefusesFit ordered board reason → ⊥
+good_apart ordered board plan reason good refused = omega (arith, sound_plans_fit (planned_board ordered board plan) good.sound, refused.1)
 
 abbrev pub room_apart : (ordered : Ordered) (board : Board) (reason : Reason) → HasRoom ordered board → RefusesFit ordered board reason → ⊥
 room_apart ordered board reason room refused = omega (arith, room, refused.1)
@@ -124,7 +125,7 @@ sound_text plan = codes "sound " ++ (decimal (length plan.wires) ++ (32 ∷ deci
 -- a plan is sound for a netlist on a board, or has a fault
 abbrev pub sound_course : Ordered → Board → Plan → Course
 sound_course ordered board plan =
-    judges (Unit {0}) (λ _. IsSound (setting_of ordered board plan)) (RefusesPlan (setting_of ordered board plan)) (λ _ reason is refused. plan_apart (setting_of ordered board plan) reason is refused)
+    judges (Unit {0}) (λ _. IsSound (planned_board ordered board plan)) (RefusesPlan (planned_board ordered board plan)) (λ _ reason is refused. plan_apart (planned_board ordered board plan) reason is refused)
     (λ _ sound. writes (sound_text plan))
 
 -- the plan is read, and judged
@@ -149,7 +150,7 @@ text_of_plan plan = spelling (content_of plan)
 -- a good plan is made wherever the cells have room
 abbrev pub good_course : Ordered → Board → Course
 good_course ordered board =
-    makes Plan (λ plan. IsGood (setting_of ordered board plan)) (RefusesFit ordered board) (HasRoom ordered board) (good_apart ordered board) (room_apart ordered board)
+    makes Plan (λ plan. IsGood (planned_board ordered board plan)) (RefusesFit ordered board) (HasRoom ordered board) (good_apart ordered board) (room_apart ordered board)
     (λ plan good. writes (text_of_plan plan))
 
 -- the board is read before it

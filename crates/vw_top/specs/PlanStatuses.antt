@@ -4,7 +4,7 @@ use Rattle.vw_net.specs.declared.ordered.Ordered.{Ordered}
 use Rattle.vw_plan.specs.declared.board.Board.{Board}
 use Rattle.vw_plan.specs.declared.plan.Plan.{Plan}
 use Rattle.vw_plan.specs.Good.{IsGood}
-use Rattle.vw_plan.specs.Setting.{setting_of}
+use Rattle.vw_plan.specs.PlannedBoard.{planned_board}
 use Rattle.vw_top.specs.Designs.{IsNetlistOf, IsNoDesign}
 use Rattle.vw_top.specs.Course.{Outside}
 use Rattle.vw_top.specs.Statuses.{LeavesPart}
@@ -16,7 +16,7 @@ pub record IsGoodPlan (d b : List ℕ) (plan : Plan) : Type 0 where
   pub ordered : Ordered
   pub board : Board
   pub are : AreSpelledOn d b ordered board
-  pub good : IsGood (setting_of ordered board plan)
+  pub good : IsGood (planned_board ordered board plan)
 
 -- all chips have room for the cells of the design
 pub record HaveRoom (d b : List ℕ) : Type 0 where

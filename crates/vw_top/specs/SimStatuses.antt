@@ -19,7 +19,7 @@ abbrev pub HasRowFault : List ℕ → Design → StimFault → Type 0
 HasRowFault s spelled fault = stimulus_rows (length (columns spelled)) s ≡ Err fault
 
 -- the texts are held, and stand for this design and these rows
-pub record AreAccepted (design stimulus : List ℕ) (before : Outside)
+pub record HoldAndSpell (design stimulus : List ℕ) (before : Outside)
     (spelled : Design) (rows : List (List Bool)) : Type 0 where
   pub design_text : List ℕ
   pub stimulus_text : List ℕ
@@ -56,7 +56,7 @@ module _ (design stimulus : List ℕ) (unknown : Bool) where
     pub others : (status ≢ 2) × (status ≢ 3) × (status ≢ 4) × (status ≢ 6)
     -- whatever the status, out has a part of what status 0 would have written
     pub part : (spelled : Design) (rows : List (List Bool))
-        → AreAccepted design stimulus before spelled rows
+        → HoldAndSpell design stimulus before spelled rows
         → LeavesPart (trace_of unknown spelled rows) before.out after.out
     -- a file that is told to be absent
     pub absent_design : IsAbsent before design → EndsAbsent before after status
@@ -65,5 +65,5 @@ module _ (design stimulus : List ℕ) (unknown : Bool) where
         → EndsAbsent before after status
     -- where no count rose, accepted texts are run, unless memory runs out
     pub complete : (spelled : Design) (rows : List (List Bool))
-        → AreAccepted design stimulus before spelled rows
+        → HoldAndSpell design stimulus before spelled rows
         → CompletesAt its_files before after status

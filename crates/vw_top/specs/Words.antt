@@ -9,9 +9,9 @@ pub data Place : Type 0 where
   keyword : List ℕ → Place
   file : Place
 
-abbrev pub fits : Place → List ℕ → Bool
-fits (keyword wanted) word = bytes_eq word wanted
-fits file word = not (length word == 0)
+abbrev pub suits : Place → List ℕ → Bool
+suits (keyword wanted) word = bytes_eq word wanted
+suits file word = not (length word == 0)
 
 -- what may be set: the value that free latches start at
 pub data WordSetting : Type 0 where
@@ -49,7 +49,7 @@ matched_settings settings before (word ∷ words) =
 abbrev pub matched : List Place → List WordSetting → List (List ℕ) → ℕ
 matched [] settings words = matched_settings settings [] words
 matched (place ∷ places) settings [] = zero
-matched (place ∷ places) settings (word ∷ words) = if fits place word then suc (matched places settings words) else zero
+matched (place ∷ places) settings (word ∷ words) = if suits place word then suc (matched places settings words) else zero
 
 -- whether words are those of a command: all places, and settings behind them
 abbrev pub has_form : Form → List (List ℕ) → Bool

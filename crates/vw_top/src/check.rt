@@ -1,6 +1,6 @@
 //! The command `check`.
 ghost use Rattle.std.specs.Prelude.{◌≡◌, IfOk};
-ghost use Rattle.vw_plan.specs.Setting.{setting_of};
+ghost use Rattle.vw_plan.specs.PlannedBoard.{planned_board};
 ghost use Rattle.vw_top.specs.Course.{Follows, outside};
 ghost use Rattle.vw_top.specs.Commands.{RefusesPlan, check_board_course, check_course, check_plan_course, sound_course, sound_text};
 ghost use Rattle.vw_top.specs.Steps.Plans.{EndsPlanFault, IsCheckedPlan};
@@ -55,8 +55,8 @@ fn sound_plan(
     board: Board,
     plan: Plan,
 ) -> Result<Checked, Unfinished>
-    ensures { JudgesText (IsCheckedPlan (setting_of ordered board plan))
-        (RefusesPlan (setting_of ordered board plan)) result }
+    ensures { JudgesText (IsCheckedPlan (planned_board ordered board plan))
+        (RefusesPlan (planned_board ordered board plan)) result }
 {
     match check_plan(alloc, ordered, board, plan) {
         Ok(checked) => Ok(checked),

@@ -10,7 +10,7 @@ use Rattle.vw_net.specs.declared.cell.Cell.{Cell}
 use Rattle.vw_net.specs.declared.flat.Flat.{Flat}
 use Rattle.vw_net.specs.declared.ordered.Ordered.{Ordered}
 use Rattle.vw_net.specs.Order.{is_ready, read_nets_at}
-use Rattle.vw_net.proofs.Ready.{order_within, ready_before, all_ready}
+use Rattle.vw_net.proofs.ReadyNets.{order_within, ready_before, all_ready}
 use Rattle.vw_plan.specs.Needs.{crossing, depth}
 use Rattle.vw_plan.specs.Nets.{driving_cell, greatest_read}
 use Rattle.vw_plan.proofs.AlongOrder.{All-gate_reads}

@@ -8,7 +8,7 @@ ghost use Rattle.vw_plan.specs.Nets.{greatest_read, node_of};
 use crate::crossing::node_of_net;
 use std::alloc::{AllocError, Global};
 use vw_net::{Cell, Flat, Ordered};
-use vw_plan::{depths_are_small, depths_settle};
+use vw_plan::{depths_are_small, depths_follow_drivers};
 
 /// The depth of a net as a node has it: one more where the net comes from another node.
 fn depth_there(flat: &Flat, chip_of: &[u32], table: &[u32], node: u32, net: u32) -> u32
@@ -64,7 +64,7 @@ pub fn depth_table(
     ensures { IfOk result (λ table. (net : ℕ)
         → slice_index table.items net ≡ depth ordered.now.flat chip_of.now net) }
 {
-    depths_settle();
+    depths_follow_drivers();
     depths_are_small();
     let flat = ordered.flat();
     let nets = flat.inputs() as usize + flat.cells().len();

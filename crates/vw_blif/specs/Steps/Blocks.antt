@@ -10,11 +10,11 @@ use Rattle.vw_design.specs.Paths.{Word}
 use Rattle.vw_blif.specs.Kinds.{input, output, clocked}
 use Rattle.vw_blif.specs.Spelled.{SpelledItem, table, SpelledModel, spelled_item}
 use Rattle.vw_blif.specs.Rows.{value_word, row_marks, are_on_set}
-use Rattle.vw_blif.specs.Blocks.{CutList}
+use Rattle.vw_blif.specs.CutLists.{CutList}
 use Rattle.vw_blif.specs.Designs.{groups, item_of, ports_of}
 use Rattle.vw_blif.specs.Before.{OpenTable, is_open, open_table, ports_before}
 use Rattle.vw_blif.specs.Faults.{fault_at}
-use Rattle.vw_blif.specs.Steps.Says.{Says}
+use Rattle.vw_blif.specs.Steps.FaultAnswers.{Says}
 
 -- ---- tables
 

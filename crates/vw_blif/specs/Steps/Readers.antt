@@ -11,13 +11,13 @@ use Rattle.vw_blif.specs.declared.block.Block.{Block}
 use Rattle.vw_blif.specs.declared.reader.Reader.{Reader}
 use Rattle.vw_blif.specs.Words.{first_word}
 use Rattle.vw_blif.specs.Spelled.{SpelledModel, spelled_model}
-use Rattle.vw_blif.specs.Blocks.{CutList}
+use Rattle.vw_blif.specs.CutLists.{CutList}
 use Rattle.vw_blif.specs.Designs.{blocks, model_of}
-use Rattle.vw_blif.specs.Before.{is_open, model_names}
+use Rattle.vw_blif.specs.Before.{is_open, names_of_models}
 use Rattle.vw_blif.specs.Faults.{fault_at}
 use Rattle.vw_blif.specs.Read.{is_text_fault}
 use Rattle.vw_blif.specs.Steps.Names.{opened, names_so_far}
-use Rattle.vw_blif.specs.Steps.Says.{Says}
+use Rattle.vw_blif.specs.Steps.FaultAnswers.{Says}
 use Rattle.vw_blif.specs.Steps.Blocks.{block_made, IsAsBefore}
 
 -- the models that the open model and what a cut has make
@@ -37,7 +37,7 @@ HasOpenSaid before (Some b) = IsAsBefore before b
 -- what the lines before say is what the design has
 pub record HasAllSaid (before : List Line) (r : Reader) : Type 0 where
   pub open_ : is_open before ≡ is_some (opened r.block)
-  pub names : model_names before ≡ names_so_far r.models.items (opened r.block)
+  pub names : names_of_models before ≡ names_so_far r.models.items (opened r.block)
   pub block : HasOpenSaid before (opened r.block)
 
 -- nothing was read

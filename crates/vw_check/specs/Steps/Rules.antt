@@ -5,14 +5,14 @@ use Rattle.vw_plan.specs.declared.link.Link.{Link}
 use Rattle.vw_plan.specs.declared.board.Board.{Board}
 use Rattle.vw_plan.specs.declared.wire.Hop.{Hop}
 use Rattle.vw_plan.specs.declared.wire.Wire.{Wire}
-use Rattle.vw_plan.specs.Setting.{Setting, home}
+use Rattle.vw_plan.specs.PlannedBoard.{PlannedBoard, home}
 use Rattle.vw_plan.specs.Lead.{arrival}
 use Rattle.vw_plan.specs.Sound.{has_pin}
 use Rattle.vw_check.specs.declared.fault.PlanFault.{PlanFault}
 use Rattle.vw_check.specs.declared.fault.PlanFault.TheVariants.{BrokenRoute, BadPin, OutOfOrder, PastPeriod}
 use Rattle.vw_check.specs.declared.hops.Rule.{Rule}
 use Rattle.vw_check.specs.declared.hops.Rule.TheVariants.{Route, Pin, Order, Period}
-use Rattle.vw_check.specs.Firsts.{first_at, found_unless}
+use Rattle.vw_check.specs.FirstFound.{first_at, found_unless}
 use Rattle.vw_check.specs.HopFaults.{fits_route, is_later}
 
 -- the number of pins of the link from a node to another; 0 where there is none
@@ -38,5 +38,5 @@ first_in_wire rule board period from number wire =
     first_at (λ place hop. found_unless (keeps rule board period from wire place hop) (rule_fault rule number place)) 0 wire.hops
 
 -- the first hop of all
-abbrev pub first_breaking : Rule → Setting → Option PlanFault
-first_breaking rule setting = first_at (λ number wire. first_in_wire rule setting.board setting.plan.period (home setting wire.net) number wire) 0 setting.plan.wires
+abbrev pub first_breaking : Rule → PlannedBoard → Option PlanFault
+first_breaking rule planned = first_at (λ number wire. first_in_wire rule planned.board planned.plan.period (home planned wire.net) number wire) 0 planned.plan.wires

@@ -5,7 +5,7 @@ ghost use Rattle.vw_design.specs.declared.model.Model.{Model};
 ghost use Rattle.vw_design.specs.Paths.{Word, Path, Net, model_at};
 ghost use Rattle.vw_design.specs.Drivers.{Source, turn, follow_turn, driver};
 ghost use Rattle.vw_design.specs.Preorder.{cells};
-ghost use Rattle.vw_design.specs.Reads.{data_reads};
+ghost use Rattle.vw_design.specs.NetReads.{data_reads};
 ghost use Rattle.vw_design.specs.Clocks.{columns};
 ghost use Rattle.vw_design.specs.Claims.{claims};
 ghost use Rattle.vw_design.specs.NetFaults.{two_drivers};

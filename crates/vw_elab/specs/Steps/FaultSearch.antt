@@ -36,6 +36,6 @@ pub record HasDrivers (design : Design) : Type 0 where
   pub one_driver : two_drivers design ≡ None
 
 -- something is made of a design, or the design is refused
-abbrev pub Judges : {A : Type 0} → Design → (A → Type 0) → Result A DesignFault → Type 0
-Judges design Good (Ok x) = Good x
-Judges design Good (Err fault) = IsRefusal design fault
+abbrev pub IsMadeOrRefused : {A : Type 0} → Design → (A → Type 0) → Result A DesignFault → Type 0
+IsMadeOrRefused design Good (Ok x) = Good x
+IsMadeOrRefused design Good (Err fault) = IsRefusal design fault

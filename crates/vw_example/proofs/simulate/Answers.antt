@@ -17,7 +17,7 @@ use Rattle.vw_top.specs.Commands.{sim_course, course_of, trace_of}
 use Rattle.vw_top.specs.Endings.{IsCallOf, IsReported}
 use Rattle.vw_top.specs.Statuses.{IsRefused, Statuses}
 use Rattle.vw_top.specs.SimStatuses.{SimStatuses}
-use Rattle.vw_example.specs.Outcome.{HasBadDesign, HasBadRows, IsOutcome}
+use Rattle.vw_example.specs.SimulateStatuses.{HasBadDesign, HasBadRows, SimulateStatuses}
 use Rattle.vw_example.proofs.simulate.Goals as goal
 
 -- what two files of these names hold
@@ -124,7 +124,7 @@ SimLaw = (design stimulus : List ℕ) (unknown : Bool) (before after : Outside) 
 
 outcome : CallLaw → SimLaw → (its_words : List (List ℕ)) (before after : Outside) (err_before err_after : SeenSink) (status : ℕ) (design stimulus out err : List ℕ) → its_words ≡ codes "sim" ∷ codes "design" ∷ codes "stimulus" ∷ []
     → IsCallOf (course_of (spelled_by its_words)) before after err_before err_after status → before.shelf.told (codes "design") ≡ held design → before.shelf.told (codes "stimulus") ≡ held stimulus
-    → before.out.told ≡ Some [] → after.out.told ≡ Some out → err_before ≡ seen_bytes [] 0 → err_after ≡ seen_bytes err 0 → IsOutcome design stimulus out err status
+    → before.out.told ≡ Some [] → after.out.told ≡ Some out → err_before ≡ seen_bytes [] 0 → err_after ≡ seen_bytes err 0 → SimulateStatuses design stimulus out err status
 outcome statuses_of_call statuses_of_sim its_words before after err_before err_after status design stimulus out err are its_call design_held stimulus_held none some unsaid said =
     let call : IsCallOf (course_of its_sim) before after err_before err_after status = subst (λ (spelled : Spelled). IsCallOf (course_of spelled) before after err_before err_after status) (ap spelled_by are ∙ spells_sim) its_call in
     let its = statuses_of_call its_sim before after err_before err_after status call in

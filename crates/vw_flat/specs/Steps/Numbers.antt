@@ -4,7 +4,7 @@ use Rattle.vw_net.specs.declared.cell.Cell.{Cell}
 use Rattle.vw_design.specs.declared.item.Item.{Item}
 use Rattle.vw_design.specs.declared.design.Design.{Design}
 use Rattle.vw_design.specs.Preorder.{Site, cells}
-use Rattle.vw_design.specs.Reads.{data_of}
+use Rattle.vw_design.specs.NetReads.{data_of}
 use Rattle.vw_design.specs.Clocks.{columns}
 use Rattle.vw_design.specs.Flattened.{number_of, IsCellOf}
 use Rattle.vw_elab.specs.declared.driver.Driver.{Driver}

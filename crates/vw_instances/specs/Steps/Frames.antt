@@ -59,7 +59,7 @@ abbrev pub placed_in_frame : Frame → ℕ → ℕ → Placed
 placed_in_frame frame model cells = record { model = model; parent = frame.instance; place = frame.before + 1; cells = cells }
 
 -- the tables have the sites that are done, and the frames, of which the last one comes first, have the others
-pub record IsUnderWay (design : Design) (table : List Placed) (made : List CellSite) (frames : List Frame) : Type 0 where
+pub record IsPartlyListed (design : Design) (table : List Placed) (made : List CellSite) (frames : List Frame) : Type 0 where
   pub done : List Site
   pub levels : List FrameLevel
   pub all : done ++ flat_map (sites_left design) levels ≡ sites design

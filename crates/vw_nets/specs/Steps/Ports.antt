@@ -5,7 +5,7 @@ use Rattle.vw_design.specs.declared.design.Design.{Design}
 use Rattle.vw_design.specs.Clocks.{port_of, inputs_of, clocks_of}
 use Rattle.vw_design.specs.Drivers.{driver}
 use Rattle.vw_design.specs.Paths.{Word, Path, model_at}
-use Rattle.vw_design.specs.Reads.{controls_of}
+use Rattle.vw_design.specs.NetReads.{controls_of}
 use Rattle.vw_drivers.specs.declared.source.Source.{Source}
 use Rattle.vw_drivers.specs.declared.source.Source.TheVariants.{Port, Cell}
 
@@ -20,9 +20,9 @@ abbrev pub item_ports : Design → Path → Item → List Word
 item_ports design path item = filter_map (λ name. port_of (driver design path name)) (controls_of item)
 
 -- whether a number that was found is this one
-abbrev pub has_number : Option ℕ → ℕ → Bool
-has_number None number = false
-has_number (Some found) number = found == number
+abbrev pub is_found_number : Option ℕ → ℕ → Bool
+is_found_number None number = false
+is_found_number (Some found) number = found == number
 
 -- the ports of the root
 abbrev pub root_ports : Design → List Word

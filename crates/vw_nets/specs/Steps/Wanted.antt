@@ -7,7 +7,7 @@ use Rattle.vw_design.specs.Distinct.{has_name}
 use Rattle.vw_design.specs.Paths.{Word, Path, Net, model_at, model_outputs}
 use Rattle.vw_design.specs.Drivers.{Source as PathSource, driver}
 use Rattle.vw_design.specs.Preorder.{cells, instances}
-use Rattle.vw_design.specs.Reads.{net_at, nets_at, data_of, controls_of}
+use Rattle.vw_design.specs.NetReads.{net_at, nets_at, data_of, controls_of}
 use Rattle.vw_design.specs.Clocks.{clock_ports}
 use Rattle.vw_design.specs.NetFaults.{is_cell_source, is_clock_source}
 use Rattle.vw_drivers.specs.Firsts.{First, number_named}
@@ -23,7 +23,7 @@ use Rattle.vw_nets.specs.Steps.Items.{AreNumbersOf}
 abbrev pub wants : Design → Wanted → Option PathSource → Bool
 wants design Undriven source = is_none source
 wants design Gated source = is_cell_source source
-wants design (ClockPort marks) source = is_clock_source design source
+wants design (ClockPort clock_flags) source = is_clock_source design source
 
 -- the same by the driver's number
 abbrev pub is_cell_number : Option Source → Bool
@@ -32,30 +32,30 @@ is_cell_number (Some (Port number)) = false
 is_cell_number (Some (Cell number)) = true
 
 abbrev pub is_marked : List Bool → Option Source → Bool
-is_marked marks None = false
-is_marked marks (Some (Port number)) = slice_index_or marks number false
-is_marked marks (Some (Cell number)) = false
+is_marked clock_flags None = false
+is_marked clock_flags (Some (Port number)) = slice_index_or clock_flags number false
+is_marked clock_flags (Some (Cell number)) = false
 
 abbrev pub takes : Wanted → Option Source → Bool
 takes Undriven source = is_none source
 takes Gated source = is_cell_number source
-takes (ClockPort marks) source = is_marked marks.now source
+takes (ClockPort clock_flags) source = is_marked clock_flags.now source
 
 -- for each claim of the root, by its number, whether its name is a clock port
-abbrev pub AreClockMarks : Design → List First → List Bool → Type 0
-AreClockMarks design root marks =
-    (name : Word) (number : ℕ) → number_named root name ≡ Some number → slice_get marks number ≡ Some (has_name (clock_ports design) name)
+abbrev pub AreClockFlags : Design → List First → List Bool → Type 0
+AreClockFlags design root clock_flags =
+    (name : Word) (number : ℕ) → number_named root name ≡ Some number → slice_get clock_flags number ≡ Some (has_name (clock_ports design) name)
 
 abbrev pub HasMarks : Design → List First → Wanted → Type 0
 HasMarks design root Undriven = Unit {0}
 HasMarks design root Gated = Unit {0}
-HasMarks design root (ClockPort marks) = AreClockMarks design root marks.now
+HasMarks design root (ClockPort clock_flags) = AreClockFlags design root clock_flags.now
 
 -- the names of an item among which it is looked for
 abbrev pub wanted_names : Wanted → Item → List Word
 wanted_names Undriven item = data_of item ++ controls_of item
 wanted_names Gated item = controls_of item
-wanted_names (ClockPort marks) item = data_of item
+wanted_names (ClockPort clock_flags) item = data_of item
 
 -- the first of some names of an instance, and the first of those that the gates and latches read
 abbrev pub wanted_among : Design → Wanted → Path → List Word → Option Word
@@ -70,7 +70,7 @@ abbrev pub first_wanted : Design → Wanted → Option Net
 first_wanted design wanted =
     option_or (wanted_read design wanted) (option_map (net_at []) (wanted_among design wanted [] (model_outputs (model_at design []))))
 
--- what is looked for has its marks, by the tables of some nets
+-- what is looked for has its clock_flags, by the tables of some nets
 abbrev pub HasMarksOf : Nets → Wanted → Type 0
 HasMarksOf nets wanted = HasMarks nets.design.now (root_firsts nets.tables.now) wanted
 

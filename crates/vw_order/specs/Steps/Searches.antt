@@ -4,36 +4,36 @@ use Rattle.std.specs.Prelude.{◌≡◌, ◌<◌, ◌==◌, ℕ, List, [], ◌�
 use Rattle.std.specs.Global.{Vec}
 use Rattle.std.specs.List.{IsDistinct}
 use Rattle.vw_net.specs.Order.{is_among}
-use Rattle.vw_order.specs.declared.mark.Progress.{Progress}
-use Rattle.vw_order.specs.declared.mark.Progress.TheVariants.{Fresh, Open, Done}
+use Rattle.vw_order.specs.declared.progress.Progress.{Progress}
+use Rattle.vw_order.specs.declared.progress.Progress.TheVariants.{Fresh, Open, Done}
 use Rattle.vw_order.specs.declared.depth.Depth.{Depth}
 use Rattle.vw_order.specs.Graphs.{Graph, ReadsAt, Reads}
 use Rattle.vw_order.specs.Orders.{IsBehind}
 use Rattle.vw_order.specs.Circles.{IsNumberCircle}
 
--- the mark of a number
-abbrev pub mark_of : List ℕ → List ℕ → ℕ → Progress
-mark_of order stack number = if is_among order number then Done else (if is_among stack number then Open else Fresh)
+-- the progress of a number
+abbrev pub progress_of : List ℕ → List ℕ → ℕ → Progress
+progress_of order stack number = if is_among order number then Done else (if is_among stack number then Open else Fresh)
 
 -- each number reads the next one
-abbrev pub Leads : Graph → List ℕ → Type 0
-Leads graph [] = Unit {0}
-Leads graph (number ∷ []) = Unit {0}
-Leads graph (number ∷ next ∷ rest) = Reads graph number next × Leads graph (next ∷ rest)
+abbrev pub IsReadChain : Graph → List ℕ → Type 0
+IsReadChain graph [] = Unit {0}
+IsReadChain graph (number ∷ []) = Unit {0}
+IsReadChain graph (number ∷ next ∷ rest) = Reads graph number next × IsReadChain graph (next ∷ rest)
 
 -- how far a search has come
-pub record IsSearch (graph : Graph) (marks : List Progress) (cursors order stack : List ℕ) : Type 0 where
-  pub marks_each : length marks ≡ graph.count
+pub record IsSearch (graph : Graph) (progress : List Progress) (cursors order stack : List ℕ) : Type 0 where
+  pub progress_each : length progress ≡ graph.count
   pub cursors_each : length cursors ≡ graph.count
-  pub marked : (number : ℕ) → slice_index_or marks number Fresh ≡ mark_of order stack number
+  pub known : (number : ℕ) → slice_index_or progress number Fresh ≡ progress_of order stack number
   pub done : (number place other : ℕ) → place < slice_index cursors number → ReadsAt graph number place other → IsTrue (is_among order other)
   pub behind : IsBehind graph order
   pub once : IsDistinct ◌==◌ (order ++ stack)
-  pub leads : Leads graph stack
+  pub leads : IsReadChain graph stack
   pub counted : (number : ℕ) → IsTrue (is_among (order ++ stack) number) → IsTrue (graph.counts number)
 
 abbrev pub IsDepth : Graph → Depth → Type 0
-IsDepth graph depth = IsSearch graph depth.marks.items depth.cursors.items depth.order.items depth.stack.items
+IsDepth graph depth = IsSearch graph depth.progress.items depth.cursors.items depth.order.items depth.stack.items
 
 -- what was done or open is done or open
 abbrev pub IsKept : Depth → Depth → Type 0

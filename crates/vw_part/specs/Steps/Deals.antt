@@ -2,7 +2,7 @@
 use Rattle.std.specs.Prelude.{◌≡◌, ◌≢◌, ◌≤◌, ◌<◌, ◌+◌, ◌==◌, ℕ, List, [], ◌∷◌, length, nat_lt, slice_index, slice_index_or, if◌then◌else◌}
 use Rattle.std.specs.List.{All, range_with_len}
 use Rattle.vw_plan.specs.declared.board.Board.{Board}
-use Rattle.vw_plan.specs.Good.{IsChip, cells_on}
+use Rattle.vw_plan.specs.Chips.{IsChip, cells_on}
 use Rattle.vw_part.specs.declared.deal.Deal.{Deal}
 use Rattle.vw_part.specs.declared.load.Load.{Load}
 use Rattle.vw_part.specs.declared.pins.Pins.{Pins}
@@ -50,7 +50,7 @@ abbrev pub met : Pins → List ℕ → ℕ → ℕ → ℕ
 met pins chip_of cell chip = total (λ net. one_if (nat_lt 0 (pins_held chip_of pins.of_cells.items chip net))) (cell_nets pins cell)
 
 -- a chip to which a cell may be moved: another one, with room
-pub record IsTarget (board : Board) (chip_of : List ℕ) (cell chip : ℕ) : Type 0 where
+pub record MayMoveTo (board : Board) (chip_of : List ℕ) (cell chip : ℕ) : Type 0 where
   pub real : IsChip board chip
   pub away : slice_index chip_of cell ≢ chip
   pub room : cells_on chip_of chip < board.cells
@@ -61,9 +61,9 @@ Helps pins chip_of cell chip = length (cell_nets pins cell) < freed pins chip_of
 
 -- a move that is allowed, and lowers the spread
 pub record IsGain (board : Board) (pins : Pins) (chip_of : List ℕ) (cell chip : ℕ) : Type 0 where
-  pub target : IsTarget board chip_of cell chip
+  pub target : MayMoveTo board chip_of cell chip
   pub helps : Helps pins chip_of cell chip
 
 -- no move of a cell lowers the spread
-abbrev pub IsSettledCell : Board → Pins → List ℕ → ℕ → Type 0
-IsSettledCell board pins chip_of cell = (chip : ℕ) → IsTarget board chip_of cell chip → ¬ (Helps pins chip_of cell chip)
+abbrev pub HasNoGain : Board → Pins → List ℕ → ℕ → Type 0
+HasNoGain board pins chip_of cell = (chip : ℕ) → MayMoveTo board chip_of cell chip → ¬ (Helps pins chip_of cell chip)

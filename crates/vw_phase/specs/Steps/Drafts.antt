@@ -10,7 +10,7 @@ use Rattle.vw_plan.specs.Nets.{greatest_read, node_of}
 use Rattle.vw_plan.specs.Routes.{steps_of}
 use Rattle.vw_slots.specs.Slots.{no_slots}
 use Rattle.vw_phase.specs.declared.draft.Draft.{Draft}
-use Rattle.vw_phase.specs.Steps.Along.{AreLinked, AreSent, taken_by}
+use Rattle.vw_phase.specs.Steps.SentHops.{AreLinked, AreSent, taken_by}
 use Rattle.vw_phase.specs.Steps.Leads.{lead_by, usable_by}
 
 -- how late the moments of a draft may be that has so many taken slots

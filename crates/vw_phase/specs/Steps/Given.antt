@@ -5,7 +5,7 @@ use Rattle.vw_net.specs.declared.cell.Cell.{Cell}
 use Rattle.vw_plan.specs.declared.wire.Hop.{Hop}
 use Rattle.vw_phase.specs.declared.draft.Draft.{Draft}
 use Rattle.vw_phase.specs.declared.given.Given.{Given}
-use Rattle.vw_phase.specs.Steps.Done.{IsTasksDone, cell_moment}
+use Rattle.vw_phase.specs.Steps.FinishedSchedules.{IsTasksDone, cell_moment}
 use Rattle.vw_phase.specs.Steps.Drafts.{Does, IsFit, IsDraftReady, IsUntouched}
 use Rattle.vw_phase.specs.Steps.Leads.{lead_by, usable_by}
 

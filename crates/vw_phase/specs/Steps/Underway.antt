@@ -16,8 +16,8 @@ use Rattle.vw_slots.specs.declared.slot.Taken.{Taken}
 use Rattle.vw_slots.specs.Slots.{is_taken}
 use Rattle.vw_phase.specs.declared.draft.Draft.{Draft}
 use Rattle.vw_phase.specs.declared.task.Task.{Task}
-use Rattle.vw_phase.specs.Steps.Along.{AreSent, hop_link, taken_by}
-use Rattle.vw_phase.specs.Steps.Done.{all_hops, uses}
+use Rattle.vw_phase.specs.Steps.SentHops.{AreSent, hop_link, taken_by}
+use Rattle.vw_phase.specs.Steps.FinishedSchedules.{all_hops, uses}
 use Rattle.vw_phase.specs.Steps.Drafts.{IsFit, hops_at, moment_limit}
 use Rattle.vw_phase.specs.Steps.Leads.{lead_by, usable_by}
 use Rattle.vw_phase.specs.Steps.Tasks.{AreRising, rank}
@@ -29,8 +29,8 @@ abbrev pub is_task : Bool → ℕ → Task → Bool
 is_task sends place task = rank task.sends == rank sends && task.place == place
 
 -- whether a task is among the first so many
-abbrev pub is_done : List Task → ℕ → Bool → ℕ → Bool
-is_done tasks count sends place = list_any (is_task sends place) (take count tasks)
+abbrev pub is_passed : List Task → ℕ → Bool → ℕ → Bool
+is_passed tasks count sends place = list_any (is_task sends place) (take count tasks)
 
 abbrev pub no_task : Task
 no_task = record { depth = 0; sends = false; place = 0 }
@@ -46,9 +46,9 @@ IsOfKind ordered chip_of routes true task = (task.place < length routes) × ((ro
 -- tasks in their order: one for each gate, and one for each route
 pub record AreTasks (ordered : Ordered) (chip_of : List ℕ) (routes : List Route) (tasks : List Task) : Type 0 where
   pub kinds : (place : ℕ) → place < length tasks → IsOfKind ordered chip_of routes (task_at tasks place).sends (task_at tasks place)
-  pub once : (place : ℕ) → place < length tasks → is_done tasks place (task_at tasks place).sends (task_at tasks place).place ≡ false
-  pub gates : (place : ℕ) → place < length ordered.order → is_done tasks (length tasks) false place ≡ true
-  pub routed : (number : ℕ) → number < length routes → is_done tasks (length tasks) true number ≡ true
+  pub once : (place : ℕ) → place < length tasks → is_passed tasks place (task_at tasks place).sends (task_at tasks place).place ≡ false
+  pub gates : (place : ℕ) → place < length ordered.order → is_passed tasks (length tasks) false place ≡ true
+  pub routed : (number : ℕ) → number < length routes → is_passed tasks (length tasks) true number ≡ true
   pub rising : AreRising tasks
 
 -- ---- leads and phases, by the hops and leads so far
@@ -83,9 +83,9 @@ pub record IsSentOff (ordered : Ordered) (board : Board) (chip_of : List ℕ) (r
 -- so many tasks are done, and a phase of a depth has begun
 pub record IsUnderway (ordered : Ordered) (board : Board) (chip_of : List ℕ) (routes : List Route) (tasks : List Task) (count : ℕ) (draft : Draft) (level start : ℕ) : Type 0 where
   pub fit : IsFit ordered board routes draft
-  pub none : (number : ℕ) → is_done tasks count true number ≡ false → hops_at draft number ≡ []
-  pub sent : (number : ℕ) (route : Route) → slice_get routes number ≡ Some route → is_done tasks count true number ≡ true → IsSentOff ordered board chip_of routes draft route (hops_at draft number)
-  pub worked : (place : ℕ) → place < length ordered.order → is_done tasks count false place ≡ true
+  pub none : (number : ℕ) → is_passed tasks count true number ≡ false → hops_at draft number ≡ []
+  pub sent : (number : ℕ) (route : Route) → slice_get routes number ≡ Some route → is_passed tasks count true number ≡ true → IsSentOff ordered board chip_of routes draft route (hops_at draft number)
+  pub worked : (place : ℕ) → place < length ordered.order → is_passed tasks count false place ≡ true
       → slice_index draft.leads.items (ordered.flat.inputs + slice_index ordered.order place) ≡ lead_at_place ordered board chip_of routes draft.hops.items draft.leads.items place
   pub zero : (net : ℕ) → is_gate (driving_cell ordered.flat net) ≡ false → slice_index draft.leads.items net ≡ 0
   pub last : draft.after ≡ greatest (map after_last draft.hops.items)

@@ -24,17 +24,17 @@ pub record IsTraffic (flat : Flat) (chip_of table : List ℕ) : Type 0 where
   pub counts : (from to : ℕ) → from < 33 → to < 33 → slice_index table (from * 33 + to) ≡ count_by (goes flat chip_of from to) (needed_pairs flat chip_of)
 
 -- how far the pairs between two nodes go, with nodes numbered by a list
-abbrev pub way_between : List ℕ → Board → List ℕ → ℕ → ℕ → ℕ
-way_between table board at from to = slice_index table (from * 33 + to) * distance board (moved at from) (moved at to)
+abbrev pub travel_between : List ℕ → Board → List ℕ → ℕ → ℕ → ℕ
+travel_between table board at from to = slice_index table (from * 33 + to) * distance board (moved at from) (moved at to)
 
 -- those from a node to the nodes before one
-abbrev pub way_from : List ℕ → Board → List ℕ → ℕ → ℕ → ℕ
-way_from table board at from nodes = sum_by (way_between table board at from) (range_with_len 0 nodes)
+abbrev pub travel_from : List ℕ → Board → List ℕ → ℕ → ℕ → ℕ
+travel_from table board at from nodes = sum_by (travel_between table board at from) (range_with_len 0 nodes)
 
 -- those from the nodes before one
-abbrev pub way_before : List ℕ → Board → List ℕ → ℕ → ℕ
-way_before table board at nodes = sum_by (λ from. way_from table board at from (board.chips + 1)) (range_with_len 0 nodes)
+abbrev pub travel_before : List ℕ → Board → List ℕ → ℕ → ℕ
+travel_before table board at nodes = sum_by (λ from. travel_from table board at from (board.chips + 1)) (range_with_len 0 nodes)
 
 -- all of them
-abbrev pub way : List ℕ → Board → List ℕ → ℕ
-way table board at = way_before table board at (board.chips + 1)
+abbrev pub travel_by : List ℕ → Board → List ℕ → ℕ
+travel_by table board at = travel_before table board at (board.chips + 1)

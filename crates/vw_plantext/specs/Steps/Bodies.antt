@@ -5,7 +5,8 @@ use Rattle.vw_plan.specs.declared.wire.Hop.{Hop}
 use Rattle.vw_plan.specs.declared.wire.Wire.{Wire}
 use Rattle.vw_plantext.specs.declared.body.OpenWire.{OpenWire}
 use Rattle.vw_plantext.specs.declared.body.Body.{Body}
-use Rattle.vw_plantext.specs.Content.{Content, hop_count, IsHopInRange, IsWireInRange, IsInRange}
+use Rattle.vw_plan.specs.HopCounts.{hop_count}
+use Rattle.vw_plantext.specs.Content.{Content, IsHopInRange, IsWireInRange, IsInRange}
 use Rattle.vw_plantext.specs.Grammar.{hop_line, body_lines, plan_lines}
 
 -- a wire whose hops are being read: the hops so far, and how many are left
@@ -81,7 +82,7 @@ FitsPart None = Unit {0}
 FitsPart (Some part) = IsPartInRange part
 
 -- what was read is in range, and so is what is left
-pub record Fits (state : BodyState) : Type 0 where
+pub record IsBodyInRange (state : BodyState) : Type 0 where
   pub few_cells : length state.chip_of < 2 ^ 32
   pub chips : All (λ chip. chip < 2 ^ 32) state.chip_of
   pub short : state.period ≤ 2 ^ 62
@@ -105,14 +106,14 @@ is_complete state = is_complete_but state.part state.left
 
 -- these lines were read
 pub record HasRead (lines : List (List ℕ)) (state : BodyState) : Type 0 where
-  pub fits : Fits state
+  pub fits : IsBodyInRange state
   pub some_left : HasSomeLeft state.part
   pub stays : (content : Content) (more : List (List ℕ)) → IsInRange content → lines ++ more ≡ plan_lines content → IsRestOfPlan state content more
   pub makes : (content : Content) (more : List (List ℕ)) → IsRestOfPlan state content more → lines ++ more ≡ plan_lines content
 
 -- a line was taken
 pub record TakesPlanLine (old : BodyState) (line : List ℕ) (new : BodyState) : Type 0 where
-  pub fits : Fits new
+  pub fits : IsBodyInRange new
   pub stays : (content : Content) (more : List (List ℕ)) → IsInRange content → IsRestOfPlan old content (line ∷ more) → IsRestOfPlan new content more
   pub makes : (content : Content) (more : List (List ℕ)) → IsRestOfPlan new content more → IsRestOfPlan old content (line ∷ more)
 
@@ -122,7 +123,7 @@ RefusesLine old line = (content : Content) (more : List (List ℕ)) → IsInRang
 
 -- a wire that has all its hops is put to the others
 pub record ClosesWire (old new : BodyState) : Type 0 where
-  pub fits : Fits new
+  pub fits : IsBodyInRange new
   pub some_left : HasSomeLeft new.part
   pub stays : (content : Content) (more : List (List ℕ)) → IsRestOfPlan old content more → IsRestOfPlan new content more
   pub makes : (content : Content) (more : List (List ℕ)) → IsRestOfPlan new content more → IsRestOfPlan old content more

@@ -8,9 +8,9 @@ use Rattle.vw_rows.specs.declared.line.Asked.TheVariants.{Nothing, Row, Hold}
 use Rattle.vw_rows.specs.Stimulus.{is_text_fault}
 
 -- an answer is the wanted one, unless it says nothing of the text
-abbrev pub Answers : {A B : Type 0} → Result B StimFault → (A → B) → Result A StimFault → Type 0
-Answers wanted made (Ok x) = wanted ≡ Ok (made x)
-Answers wanted made (Err fault) = is_text_fault fault ≡ true → wanted ≡ Err fault
+abbrev pub IsWanted : {A B : Type 0} → Result B StimFault → (A → B) → Result A StimFault → Type 0
+IsWanted wanted made (Ok x) = wanted ≡ Ok (made x)
+IsWanted wanted made (Err fault) = is_text_fault fault ≡ true → wanted ≡ Err fault
 
 -- the rows that are asked for behind a row
 abbrev pub rows_asked : List Bool → Asked → List (List Bool)
@@ -35,5 +35,5 @@ ReadsRow old None new = (old ≡ []) × (new ≡ [])
 ReadsRow old (Some row) new = old ≡ row.now ∷ new
 
 -- the same of an answer that leaves rows behind
-abbrev pub AnswersNew : {B : Type 0} → Result B StimFault → B → Result (Unit {0}) StimFault → Type 0
-AnswersNew wanted rows result = Answers wanted (λ _. rows) result
+abbrev pub IsWantedAfter : {B : Type 0} → Result B StimFault → B → Result (Unit {0}) StimFault → Type 0
+IsWantedAfter wanted rows result = IsWanted wanted (λ _. rows) result

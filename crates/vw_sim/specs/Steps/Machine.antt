@@ -33,7 +33,7 @@ with_bits (net ∷ nets) [] values = values
 with_bits (net ∷ nets) (bit ∷ bits) values = with_bits nets bits (slice_set values net bit)
 
 -- the gates, the nets that they read, the nets of the latches, and the nets that the latches take, of an ordered netlist
-pub record IsReady (ordered : Ordered) (steps : List GateStep) (read drive take : List ℕ) : Type 0 where
+pub record AreMachineTables (ordered : Ordered) (steps : List GateStep) (read drive take : List ℕ) : Type 0 where
   pub gates : steps ≡ gate_steps ordered.flat.cells ordered.order
   pub reads : read ≡ gathered_reads ordered.flat.cells ordered.order
   pub latches : drive ≡ latch_nets ordered.flat.inputs ordered.flat.cells

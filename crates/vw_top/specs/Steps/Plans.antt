@@ -1,7 +1,7 @@
 -- What is made of a plan that is sound.
 use Rattle.std.specs.Prelude.{◌≡◌, ℕ, IsTrue}
 use Rattle.vw_plan.specs.declared.checked.Checked.{Checked}
-use Rattle.vw_plan.specs.Setting.{Setting}
+use Rattle.vw_plan.specs.PlannedBoard.{PlannedBoard}
 use Rattle.vw_plan.specs.Sound.{IsSound}
 use Rattle.vw_check.specs.declared.fault.PlanFault.{PlanFault}
 use Rattle.vw_check.specs.Answers.{is_plan_fault}
@@ -11,10 +11,10 @@ use Rattle.vw_top.specs.declared.reason.Reason.TheVariants as reasons
 use Rattle.vw_top.specs.declared.endings.Unfinished.{Unfinished}
 use Rattle.vw_top.specs.Steps.Stage.{EndsFor}
 
--- the plan of the setting, which is sound
-pub record IsCheckedPlan (setting : Setting) (checked : Checked) : Type 0 where
-  pub sound : IsSound setting
-  pub plan : checked.plan ≡ setting.plan
+-- the plan of the planned, which is sound
+pub record IsCheckedPlan (planned : PlannedBoard) (checked : Checked) : Type 0 where
+  pub sound : IsSound planned
+  pub plan : checked.plan ≡ planned.plan
 
 -- the command refuses for the fault; for want of memory, and for nothing else, it is stopped
 abbrev pub EndsPlanFault : PlanFault → Unfinished → Type 0

@@ -9,7 +9,7 @@ use Rattle.vw_design.specs.declared.item.Bind.{Bind}
 use Rattle.vw_design.specs.Distinct.{has_name}
 use Rattle.vw_design.specs.Paths.{Word}
 use Rattle.vw_blif.specs.Bindings.{formal_of, actual_part, is_no_bind, repeats}
-use Rattle.vw_blif.specs.Steps.Says.{AreBinds}
+use Rattle.vw_blif.specs.Steps.FaultAnswers.{AreBinds}
 use Rattle.vw_design.specs.WordSets.{has_word}
 use Rattle.vw_blif.proofs.Repeats.{more_words, cut_at, has_name-push}
 use Rattle.vw_blif.proofs.Binds.{binds_more, formal_again}

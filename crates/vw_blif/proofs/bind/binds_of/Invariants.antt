@@ -1,7 +1,7 @@
 -- the bindings so far, and their formals
 use Rattle.std.proofs.Common.{map, take}
 use Rattle.vw_blif.specs.Bindings.{formal_of}
-use Rattle.vw_blif.specs.Steps.Says.{AreBinds}
+use Rattle.vw_blif.specs.Steps.FaultAnswers.{AreBinds}
 use Rattle.vw_blif.specs.Steps.Seen.{Knows}
 use Rattle.vw_blif.proofs.bind.binds_of.Given as goal
 

@@ -1,5 +1,5 @@
 use Rattle.vw_plan.proofs.FewLinks.{few_links}
-use Rattle.vw_board.proofs.Joins.{long_lists, links_of_board, apart_where_none}
+use Rattle.vw_board.proofs.LinksOfWalks.{long_lists, links_of_board, apart_where_none}
 use Rattle.vw_board.proofs.board_text.make_board.Goals as goal
 
 pub first_over-requires-clause-few : goal.first_over-requires-clause-few

@@ -1,7 +1,7 @@
 -- the count so far, and that of the rest
 use Rattle.std.proofs.Common.{◌≡◌, ◌≤◌, ◌+◌, ◌==◌, drop}
 use Rattle.std.specs.Prelude.{count_by}
-use Rattle.vw_plan.specs.Good.{cells_on}
+use Rattle.vw_plan.specs.Chips.{cells_on}
 use Rattle.vw_check.proofs.cells.cells_on.Given as goal
 
 abbrev pub invariant-loop-other : goal.invariant-loop-other

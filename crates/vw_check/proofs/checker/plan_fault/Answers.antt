@@ -1,6 +1,6 @@
 use Rattle.std.proofs.Common.{◌≡◌, ◌∙◌, ap, sym, subst, Option, None, is_some, IfOk}
 use Rattle.vw_net.specs.declared.flat.Flat.{Flat}
-use Rattle.vw_plan.specs.Setting.{setting_of}
+use Rattle.vw_plan.specs.PlannedBoard.{planned_board}
 use Rattle.vw_check.specs.declared.fault.PlanFault.{PlanFault}
 use Rattle.vw_check.specs.Faults.{cell_fault}
 use Rattle.vw_check.proofs.FaultOrder.{by_cells, by_hops, by_moments, by_wires, cells, no_fault, wires}
@@ -11,14 +11,14 @@ use Rattle.vw_check.proofs.checker.plan_fault.Goals.{Else-is_some, Else-is_some-
 -- a fault of the cells is the first
 pub returns-then-is_some : goal.returns-then-is_some
 returns-then-is_some c =
-    let setting = setting_of c.args.ordered.now c.args.board.now c.args.plan.now in
-    let is : c.cell_fault-cells.result ≡ cells setting = c.cell_fault-cells.ensures ∙ ap (λ (flat : Flat). cell_fault flat setting.board setting.plan) c.flat.ensures in
-    is ∙ by_cells setting (c.if-is_some.ensures ∙ ap is_some is)
+    let planned = planned_board c.args.ordered.now c.args.board.now c.args.plan.now in
+    let is : c.cell_fault-cells.result ≡ cells planned = c.cell_fault-cells.ensures ∙ ap (λ (flat : Flat). cell_fault flat planned.board planned.plan) c.flat.ensures in
+    is ∙ by_cells planned (c.if-is_some.ensures ∙ ap is_some is)
 
-no_cells : (c : Else-is_some) → cells (setting_of c.args.ordered.now c.args.board.now c.args.plan.now) ≡ None
+no_cells : (c : Else-is_some) → cells (planned_board c.args.ordered.now c.args.board.now c.args.plan.now) ≡ None
 no_cells c =
-    let setting = setting_of c.args.ordered.now c.args.board.now c.args.plan.now in
-    let is : c.cell_fault-cells.result ≡ cells setting = c.cell_fault-cells.ensures ∙ ap (λ (flat : Flat). cell_fault flat setting.board setting.plan) c.flat.ensures in
+    let planned = planned_board c.args.ordered.now c.args.board.now c.args.plan.now in
+    let is : c.cell_fault-cells.result ≡ cells planned = c.cell_fault-cells.ensures ∙ ap (λ (flat : Flat). cell_fault flat planned.board planned.plan) c.flat.ensures in
     sym is ∙ no_fault c.cell_fault-cells.result c.if-is_some.ensures
 
 -- without one, each cell has a chip
@@ -28,10 +28,10 @@ wire_fault-requires-clause-chips c = (chips_fine c.args.ordered.now.flat c.args.
 -- a fault of the wires comes next
 pub returns-then-is_some-2 : goal.returns-then-is_some-2
 returns-then-is_some-2 c =
-    let setting = setting_of c.args.ordered.now c.args.board.now c.args.plan.now in
-    c.in_ok-wires.ensures ∙ by_wires setting (no_cells (goal.at.returns-then-is_some-2 c).Else-is_some) (c.if-is_some-2.ensures ∙ ap is_some c.in_ok-wires.ensures)
+    let planned = planned_board c.args.ordered.now c.args.board.now c.args.plan.now in
+    c.in_ok-wires.ensures ∙ by_wires planned (no_cells (goal.at.returns-then-is_some-2 c).Else-is_some) (c.if-is_some-2.ensures ∙ ap is_some c.in_ok-wires.ensures)
 
-no_wires : (c : Else-is_some-2) → wires (setting_of c.args.ordered.now c.args.board.now c.args.plan.now) ≡ None
+no_wires : (c : Else-is_some-2) → wires (planned_board c.args.ordered.now c.args.board.now c.args.plan.now) ≡ None
 no_wires c = sym c.in_ok-wires.ensures ∙ no_fault c.in_ok-wires.wires c.if-is_some-2.ensures
 
 -- without a fault of the wires, each brings one of the nets
@@ -41,9 +41,9 @@ hop_fault-requires-clause-nets c = wires_fine c.args.ordered.now.flat c.args.pla
 -- then one of the hops
 pub returns-then-is_some-3 : goal.returns-then-is_some-3
 returns-then-is_some-3 c =
-    let setting = setting_of c.args.ordered.now c.args.board.now c.args.plan.now in
+    let planned = planned_board c.args.ordered.now c.args.board.now c.args.plan.now in
     let at = goal.at.returns-then-is_some-3 c in
-    c.in_ok-hops.ensures ∙ by_hops setting (no_cells at.Else-is_some) (no_wires at.Else-is_some-2) (c.if-is_some-3.ensures ∙ ap is_some c.in_ok-hops.ensures)
+    c.in_ok-hops.ensures ∙ by_hops planned (no_cells at.Else-is_some) (no_wires at.Else-is_some-2) (c.if-is_some-3.ensures ∙ ap is_some c.in_ok-hops.ensures)
 
 pub moment_fault-requires-clause-nets : goal.moment_fault-requires-clause-nets
 moment_fault-requires-clause-nets c = wires_fine c.args.ordered.now.flat c.args.plan.now (no_wires (goal.at.moment_fault-requires-clause-nets c).Else-is_some-2)
@@ -51,7 +51,7 @@ moment_fault-requires-clause-nets c = wires_fine c.args.ordered.now.flat c.args.
 -- and then one of the moments
 pub returns : goal.returns
 returns c =
-    let setting = setting_of c.args.ordered.now c.args.board.now c.args.plan.now in
+    let planned = planned_board c.args.ordered.now c.args.board.now c.args.plan.now in
     let at = goal.at.returns c in
     let no_hops = sym c.in_ok-hops.ensures ∙ no_fault c.in_ok-hops.hops c.if-is_some-3.ensures in
-    subst (λ (fault : Option PlanFault). IfOk c.moment_fault.result (λ found. found ≡ fault)) (by_moments setting (no_cells at.Else-is_some) (no_wires at.Else-is_some-2) no_hops) c.moment_fault.ensures
+    subst (λ (fault : Option PlanFault). IfOk c.moment_fault.result (λ found. found ≡ fault)) (by_moments planned (no_cells at.Else-is_some) (no_wires at.Else-is_some-2) no_hops) c.moment_fault.ensures

@@ -1,6 +1,6 @@
 use Rattle.std.proofs.Common.{◌<◌, ◌∙◌, ℕ, Bool, length, get_or, ap, sym, List, arith}
 use Rattle.vw_plan.specs.declared.wire.Hop.{Hop}
-use Rattle.vw_check.specs.Firsts.{found_unless}
+use Rattle.vw_check.specs.FirstFound.{found_unless}
 use Rattle.vw_check.specs.Steps.Rules.{keeps, rule_fault}
 use Rattle.vw_check.proofs.Clashes.{no_hop}
 use Rattle.vw_check.proofs.ListSearches.{search_on}

@@ -3,7 +3,7 @@ use Rattle.std.proofs.lemmas.Option.{slice_get_read}
 use Rattle.vw_plan.specs.declared.wire.Hop.{Hop}
 use Rattle.vw_plan.specs.declared.wire.Wire.{Wire}
 use Rattle.vw_plan.specs.Lead.{brings, after_last}
-use Rattle.vw_plan.specs.Setting.{setting_of}
+use Rattle.vw_plan.specs.PlannedBoard.{planned_board}
 use Rattle.vw_check.proofs.FirstPlaces.{LeadsTo}
 use Rattle.vw_check.proofs.WiresBrought.{brought_by, brought_none, wire_leads}
 use Rattle.vw_check.proofs.moments.brought_at.Goals as goal
@@ -35,9 +35,9 @@ returns-in-Some-clause-value c =
     let there = subst (LeadsTo (brings c.args.net c.args.node) wires) (sym c.first.ensures ∙ c.in-Some.is) (wire_leads wires c.args.wires.now.places c.requires c.args.net c.args.node) in
     let same = c.index-wires-wire.is ∙ ap (λ (list : List Wire). get_or list c.in-Some.wire c.index-wires-wire.result) c.wires.ensures in
     c.after_last.ensures.value ∙ ap after_last c.hops.ensures
-    ∙ brought_by (setting_of c.args.ordered.now c.args.board.now c.args.plan.now) c.args.node c.args.net c.in-Some.wire c.index-wires-wire.result (slice_get_read wires (length wires) c.in-Some.wire c.index-wires-wire.result refl there.0 same) there
+    ∙ brought_by (planned_board c.args.ordered.now c.args.board.now c.args.plan.now) c.args.node c.args.net c.in-Some.wire c.index-wires-wire.result (slice_get_read wires (length wires) c.in-Some.wire c.index-wires-wire.result refl there.0 same) there
 
 pub returns-in-None-clause-value : goal.returns-in-None-clause-value
 returns-in-None-clause-value c =
     let wires = c.args.plan.now.wires in
-    brought_none (setting_of c.args.ordered.now c.args.board.now c.args.plan.now) c.args.node c.args.net (subst (LeadsTo (brings c.args.net c.args.node) wires) (sym c.first.ensures ∙ c.in-None.is) (wire_leads wires c.args.wires.now.places c.requires c.args.net c.args.node))
+    brought_none (planned_board c.args.ordered.now c.args.board.now c.args.plan.now) c.args.node c.args.net (subst (LeadsTo (brings c.args.net c.args.node) wires) (sym c.first.ensures ∙ c.in-None.is) (wire_leads wires c.args.wires.now.places c.requires c.args.net c.args.node))

@@ -3,15 +3,15 @@ use Rattle.std.proofs.Common.{◌≡◌, ◌≤◌, ◌+◌, ◌^◌, ℕ, true,
 use Rattle.std.specs.List.{All}
 use Rattle.vw_net.specs.Order.{is_ready}
 use Rattle.vw_plan.specs.Lead.{lead}
-use Rattle.vw_plan.specs.Setting.{home, setting_of}
+use Rattle.vw_plan.specs.PlannedBoard.{home, planned_board}
 use Rattle.vw_check.proofs.moments.home_leads.Given as goal
 
 abbrev pub invariant-loop-number : goal.invariant-loop-number
 invariant-loop-number l =
     let flat = l.ordered.flat in
-    let setting = setting_of l.ordered l.board l.plan in
+    let planned = planned_board l.ordered l.board l.plan in
     record {
       long : length l.leads.items ≡ flat.inputs + length flat.cells;
       low : All (λ number. number ≤ 2 ^ 62 + 1) l.leads.items;
-      right : (net : ℕ) → is_ready flat.inputs flat.cells (take l.number-index l.ordered.order) net ≡ true → slice_index_or l.leads.items net 0 ≡ lead setting (home setting net) net;
+      right : (net : ℕ) → is_ready flat.inputs flat.cells (take l.number-index l.ordered.order) net ≡ true → slice_index_or l.leads.items net 0 ≡ lead planned (home planned net) net;
     }

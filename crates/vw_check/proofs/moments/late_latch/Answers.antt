@@ -7,8 +7,8 @@ use Rattle.vw_net.specs.declared.flat.Flat.{Flat}
 use Rattle.vw_net.proofs.FittingCells.{cell_fits}
 use Rattle.vw_plan.specs.Lead.{usable}
 use Rattle.vw_plan.specs.Nets.{node_of}
-use Rattle.vw_plan.specs.Setting.{Setting, home, setting_of}
-use Rattle.vw_check.specs.Firsts.{found_unless}
+use Rattle.vw_plan.specs.PlannedBoard.{PlannedBoard, home, planned_board}
+use Rattle.vw_check.specs.FirstFound.{found_unless}
 use Rattle.vw_check.specs.MomentFaults.{late_cell, latch_moment}
 use Rattle.vw_check.specs.declared.fault.PlanFault.TheVariants.{LateLatch}
 use Rattle.vw_check.proofs.ListSearches.{search_ends, search_on}
@@ -23,10 +23,10 @@ node_of_cell flat chip_of number =
     rw (behind, same) refl
 
 -- what the code finds usable on a latch's chip is the latch's moment
-moment : (setting : Setting) (chip_of : List ℕ) (number d found : ℕ) → chip_of ≡ setting.plan.chip_of → found ≡ usable setting (get_or chip_of number 0) d → found ≡ latch_moment setting number d
-moment setting chip_of number d found chips is =
-    let node : get_or chip_of number 0 ≡ home setting (setting.ordered.flat.inputs + number) = ap (λ (chips : List ℕ). get_or chips number 0) chips ∙ sym (node_of_cell setting.ordered.flat setting.plan.chip_of number) in
-    is ∙ ap (λ (one : ℕ). usable setting one d) node
+moment : (planned : PlannedBoard) (chip_of : List ℕ) (number d found : ℕ) → chip_of ≡ planned.plan.chip_of → found ≡ usable planned (get_or chip_of number 0) d → found ≡ latch_moment planned number d
+moment planned chip_of number d found chips is =
+    let node : get_or chip_of number 0 ≡ home planned (planned.ordered.flat.inputs + number) = ap (λ (chips : List ℕ). get_or chips number 0) chips ∙ sym (node_of_cell planned.ordered.flat planned.plan.chip_of number) in
+    is ∙ ap (λ (one : ℕ). usable planned one d) node
 
 pub bounds-chip_of-number : goal.bounds-chip_of-number
 bounds-chip_of-number c = omega (arith, ap length c.cells-cell-items.ensures, ap (λ (flat : Flat). length flat.cells) c.flat.ensures, ap length c.chip_of.ensures)
@@ -44,34 +44,34 @@ overflow_cast-result c = omega (arith, ap length c.cells-cell-items.ensures, ap 
 -- a latch that is late is the first of those that are looked for
 pub returns-then-period-usable : goal.returns-then-period-usable
 returns-then-period-usable c =
-    let setting = setting_of c.args.ordered.now c.args.board.now c.args.plan.now in
+    let planned = planned_board c.args.ordered.now c.args.board.now c.args.plan.now in
     let number = c.loop-number.number in
-    let cells = setting.ordered.flat.cells in
+    let cells = planned.ordered.flat.cells in
     let listed : c.cells-cell-items.result.now ≡ cells = c.cells-cell-items.ensures ∙ ap (λ flat. flat.cells) c.flat.ensures in
-    let at : c.usable_at-usable.result ≡ latch_moment setting number c.in-Latch.d = moment setting c.chip_of.result.now number c.in-Latch.d c.usable_at-usable.result c.chip_of.ensures c.usable_at-usable.ensures in
-    let late : nat_le c.usable_at-usable.result setting.plan.period ≡ false = lt-leb c.usable_at-usable.result setting.plan.period (omega (arith, c.period.ensures, c.if-period-usable.true)) in
-    let found : late_cell setting number c.cell-item.result ≡ Some (LateLatch number c.usable_at-usable.result) =
-    ap (late_cell setting number) c.in-Latch.is
-    ∙ ap (λ (one : ℕ). found_unless (nat_le one setting.plan.period) (LateLatch number one)) (sym at)
+    let at : c.usable_at-usable.result ≡ latch_moment planned number c.in-Latch.d = moment planned c.chip_of.result.now number c.in-Latch.d c.usable_at-usable.result c.chip_of.ensures c.usable_at-usable.ensures in
+    let late : nat_le c.usable_at-usable.result planned.plan.period ≡ false = lt-leb c.usable_at-usable.result planned.plan.period (omega (arith, c.period.ensures, c.if-period-usable.true)) in
+    let found : late_cell planned number c.cell-item.result ≡ Some (LateLatch number c.usable_at-usable.result) =
+    ap (late_cell planned number) c.in-Latch.is
+    ∙ ap (λ (one : ℕ). found_unless (nat_le one planned.plan.period) (LateLatch number one)) (sym at)
     ∙ ap (λ (fits : Bool). found_unless fits (LateLatch number c.usable_at-usable.result)) late in
     let within = rw listed at c.loop-number-test.true in
     let here = rw listed at c.cell-item.is in
-    search_ends (late_cell setting) number cells c.cell-item.result within (LateLatch number c.usable_at-usable.result) (ap (late_cell setting number) (sym here) ∙ found) ∙ c.loop-number.invariant
+    search_ends (late_cell planned) number cells c.cell-item.result within (LateLatch number c.usable_at-usable.result) (ap (late_cell planned number) (sym here) ∙ found) ∙ c.loop-number.invariant
 
 -- a cell that isn't late is none of those that are looked for
 pub loop-number-preserved : goal.loop-number-preserved
 loop-number-preserved c =
-    let setting = setting_of c.args.ordered.now c.args.board.now c.args.plan.now in
+    let planned = planned_board c.args.ordered.now c.args.board.now c.args.plan.now in
     let number = c.loop-number.number in
-    let cells = setting.ordered.flat.cells in
+    let cells = planned.ordered.flat.cells in
     let listed : c.cells-cell-items.result.now ≡ cells = c.cells-cell-items.ensures ∙ ap (λ flat. flat.cells) c.flat.ensures in
-    let none : late_cell setting number c.cell-item.result ≡ None = elim c.match-cell.branch [
+    let none : late_cell planned number c.cell-item.result ≡ None = elim c.match-cell.branch [
       | in-Latch+else-period-usable w ↦
-          let at : w.usable_at-usable.result ≡ latch_moment setting number w.in-Latch.d = moment setting w.chip_of.result.now number w.in-Latch.d w.usable_at-usable.result w.chip_of.ensures w.usable_at-usable.ensures in
-          let in_time : nat_le (latch_moment setting number w.in-Latch.d) setting.plan.period ≡ true = le-leb (latch_moment setting number w.in-Latch.d) setting.plan.period (omega (arith, at, w.period.ensures, w.if-period-usable.false)) in
-          ap (late_cell setting number) w.in-Latch.is ∙ ap (λ (fits : Bool). found_unless fits (LateLatch number (latch_moment setting number w.in-Latch.d))) in_time
-      | in_default w ↦ ap (late_cell setting number) w.in_default.is
+          let at : w.usable_at-usable.result ≡ latch_moment planned number w.in-Latch.d = moment planned w.chip_of.result.now number w.in-Latch.d w.usable_at-usable.result w.chip_of.ensures w.usable_at-usable.ensures in
+          let in_time : nat_le (latch_moment planned number w.in-Latch.d) planned.plan.period ≡ true = le-leb (latch_moment planned number w.in-Latch.d) planned.plan.period (omega (arith, at, w.period.ensures, w.if-period-usable.false)) in
+          ap (late_cell planned number) w.in-Latch.is ∙ ap (λ (fits : Bool). found_unless fits (LateLatch number (latch_moment planned number w.in-Latch.d))) in_time
+      | in_default w ↦ ap (late_cell planned number) w.in_default.is
     ] in
     let within = rw listed at c.loop-number-test.true in
     let here = rw listed at c.cell-item.is in
-    search_on (late_cell setting) number cells c.cell-item.result within (ap (late_cell setting number) (sym here) ∙ none) ∙ c.loop-number.invariant
+    search_on (late_cell planned) number cells c.cell-item.result within (ap (late_cell planned number) (sym here) ∙ none) ∙ c.loop-number.invariant

@@ -5,10 +5,10 @@ use Rattle.std.specs.Option.{option_and_then, option_copied}
 use Rattle.vw_net.specs.declared.flat.Flat.{Flat}
 use Rattle.vw_plan.specs.Lead.{usable}
 use Rattle.vw_plan.specs.Nets.{node_of}
-use Rattle.vw_plan.specs.Setting.{Setting, setting_of}
+use Rattle.vw_plan.specs.PlannedBoard.{PlannedBoard, planned_board}
 use Rattle.vw_plan.specs.declared.wire.Hop.{Hop}
 use Rattle.vw_plan.specs.declared.wire.Wire.{Wire}
-use Rattle.vw_check.specs.Firsts.{found_unless}
+use Rattle.vw_check.specs.FirstFound.{found_unless}
 use Rattle.vw_check.specs.MomentFaults.{early_wire, usable_at_home}
 use Rattle.vw_check.specs.declared.fault.PlanFault.{PlanFault}
 use Rattle.vw_check.specs.declared.fault.PlanFault.TheVariants.{TooEarly}
@@ -16,58 +16,58 @@ use Rattle.vw_check.proofs.ListSearches.{search_ends, search_on}
 use Rattle.vw_check.proofs.moments.too_early.Goals as goal
 use Rattle.vw_check.proofs.moments.too_early.Goals.{in-Some+else-at-usable, in_default}
 
-module _ (setting : Setting) (number : ℕ) (wire : Wire) where
+module _ (planned : PlannedBoard) (number : ℕ) (wire : Wire) where
   abbrev home_moment : ℕ
-  home_moment = usable_at_home setting wire.net
+  home_moment = usable_at_home planned wire.net
 
   abbrev fault_of : Hop → Option PlanFault
   fault_of hop = found_unless (nat_le home_moment hop.at) (TooEarly number hop.at home_moment)
 
   -- what the code finds usable at a net's own node is the net's moment
-  moment : (flat : Flat) (chips : List ℕ) (net again node found : ℕ) → flat ≡ setting.ordered.flat → chips ≡ setting.plan.chip_of → net ≡ wire.net → again ≡ wire.net → node ≡ node_of flat chips net → found ≡ usable setting node again → found ≡ home_moment
+  moment : (flat : Flat) (chips : List ℕ) (net again node found : ℕ) → flat ≡ planned.ordered.flat → chips ≡ planned.plan.chip_of → net ≡ wire.net → again ≡ wire.net → node ≡ node_of flat chips net → found ≡ usable planned node again → found ≡ home_moment
   moment flat chips net again node found flats listed one other home is =
-      is ∙ ap₂ (usable setting) (home ∙ ap (λ (netlist : Flat). node_of netlist chips net) flats ∙ ap₂ (node_of setting.ordered.flat) listed one) other
+      is ∙ ap₂ (usable planned) (home ∙ ap (λ (netlist : Flat). node_of netlist chips net) flats ∙ ap₂ (node_of planned.ordered.flat) listed one) other
 
-  early : (hop : Hop) (sent found : ℕ) → slice_get wire.hops 0 ≡ Some hop → found ≡ home_moment → sent ≡ hop.at → sent < found → early_wire setting number wire ≡ Some (TooEarly number sent found)
+  early : (hop : Hop) (sent found : ℕ) → slice_get wire.hops 0 ≡ Some hop → found ≡ home_moment → sent ≡ hop.at → sent < found → early_wire planned number wire ≡ Some (TooEarly number sent found)
   early hop sent found first at when before =
       ap (option_and_then fault_of) first
       ∙ ap₂ (λ (hop_at from : ℕ). found_unless (nat_le from hop_at) (TooEarly number hop_at from)) (sym when) (sym at)
       ∙ ap (λ (fits : Bool). found_unless fits (TooEarly number sent found)) (lt-leb found sent before)
 
-  in_time : (hop : Hop) → slice_get wire.hops 0 ≡ Some hop → home_moment ≤ hop.at → early_wire setting number wire ≡ None
+  in_time : (hop : Hop) → slice_get wire.hops 0 ≡ Some hop → home_moment ≤ hop.at → early_wire planned number wire ≡ None
   in_time hop first after =
       ap (option_and_then fault_of) first
       ∙ ap (λ (fits : Bool). found_unless fits (TooEarly number hop.at home_moment)) (le-leb home_moment hop.at after)
 
-  no_hop : slice_get wire.hops 0 ≡ None → early_wire setting number wire ≡ None
+  no_hop : slice_get wire.hops 0 ≡ None → early_wire planned number wire ≡ None
   no_hop none = ap (option_and_then fault_of) none
 
 -- a wire that is sent too early is the first of those that are looked for
 pub returns-then-at-usable : goal.returns-then-at-usable
 returns-then-at-usable c =
-    let setting = setting_of c.args.ordered.now c.args.board.now c.args.plan.now in
+    let planned = planned_board c.args.ordered.now c.args.board.now c.args.plan.now in
     let number = c.loop-number.number in
     let wire = c.wire-item.result in
     let first = ap (λ (hops : List Hop). slice_get hops 0) (sym c.hops.ensures) ∙ sym c.in-Some.ensures.value in
-    let at = moment setting number wire c.flat.result.now c.chip_of.result.now c.net.result c.net-in-Some.result c.node_of-node.result c.usable_at-usable.result c.flat.ensures c.chip_of.ensures c.net.ensures c.net-in-Some.ensures c.node_of-node.ensures c.usable_at-usable.ensures in
-    let found = early setting number wire c.in-Some.hop.now c.at-then-at-usable.result c.usable_at-usable.result first at c.at-then-at-usable.ensures (omega (arith, c.at.ensures, c.at-then-at-usable.ensures, c.if-at-usable.true)) in
+    let at = moment planned number wire c.flat.result.now c.chip_of.result.now c.net.result c.net-in-Some.result c.node_of-node.result c.usable_at-usable.result c.flat.ensures c.chip_of.ensures c.net.ensures c.net-in-Some.ensures c.node_of-node.ensures c.usable_at-usable.ensures in
+    let found = early planned number wire c.in-Some.hop.now c.at-then-at-usable.result c.usable_at-usable.result first at c.at-then-at-usable.ensures (omega (arith, c.at.ensures, c.at-then-at-usable.ensures, c.if-at-usable.true)) in
     let within = rw c.wires-wire-items.ensures at c.loop-number-test.true in
     let here = rw c.wires-wire-items.ensures at c.wire-item.is in
-    search_ends (early_wire setting) number setting.plan.wires wire within (TooEarly number c.at-then-at-usable.result c.usable_at-usable.result) (ap (early_wire setting number) (sym here) ∙ found) ∙ c.loop-number.invariant
+    search_ends (early_wire planned) number planned.plan.wires wire within (TooEarly number c.at-then-at-usable.result c.usable_at-usable.result) (ap (early_wire planned number) (sym here) ∙ found) ∙ c.loop-number.invariant
 
 -- a wire that isn't is none of them
 pub loop-number-preserved : goal.loop-number-preserved
 loop-number-preserved c =
-    let setting = setting_of c.args.ordered.now c.args.board.now c.args.plan.now in
+    let planned = planned_board c.args.ordered.now c.args.board.now c.args.plan.now in
     let number = c.loop-number.number in
     let wire = c.wire-item.result in
     let listed = ap (λ (hops : List Hop). slice_get hops 0) (sym c.hops.ensures) in
-    let none : early_wire setting number wire ≡ None = elim c.match-first.branch [
+    let none : early_wire planned number wire ≡ None = elim c.match-first.branch [
       | in-Some+else-at-usable w ↦
-          let at = moment setting number wire w.flat.result.now w.chip_of.result.now w.net.result w.net-in-Some.result w.node_of-node.result w.usable_at-usable.result w.flat.ensures w.chip_of.ensures w.net.ensures w.net-in-Some.ensures w.node_of-node.ensures w.usable_at-usable.ensures in
-          in_time setting number wire w.in-Some.hop.now (listed ∙ sym w.in-Some.ensures.value) (omega (arith, at, w.at.ensures, w.if-at-usable.false))
-      | in_default w ↦ no_hop setting number wire (listed ∙ sym c.first.ensures.value ∙ ap option_copied w.in_default.is)
+          let at = moment planned number wire w.flat.result.now w.chip_of.result.now w.net.result w.net-in-Some.result w.node_of-node.result w.usable_at-usable.result w.flat.ensures w.chip_of.ensures w.net.ensures w.net-in-Some.ensures w.node_of-node.ensures w.usable_at-usable.ensures in
+          in_time planned number wire w.in-Some.hop.now (listed ∙ sym w.in-Some.ensures.value) (omega (arith, at, w.at.ensures, w.if-at-usable.false))
+      | in_default w ↦ no_hop planned number wire (listed ∙ sym c.first.ensures.value ∙ ap option_copied w.in_default.is)
     ] in
     let within = rw c.wires-wire-items.ensures at c.loop-number-test.true in
     let here = rw c.wires-wire-items.ensures at c.wire-item.is in
-    search_on (early_wire setting) number setting.plan.wires wire within (ap (early_wire setting number) (sym here) ∙ none) ∙ c.loop-number.invariant
+    search_on (early_wire planned) number planned.plan.wires wire within (ap (early_wire planned number) (sym here) ∙ none) ∙ c.loop-number.invariant

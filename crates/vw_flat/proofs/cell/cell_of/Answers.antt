@@ -10,7 +10,7 @@ use Rattle.vw_design.specs.declared.item.Item.{Item}
 use Rattle.vw_design.specs.declared.item.Item.TheVariants.{Latch as LatchItem}
 use Rattle.vw_design.specs.Paths.{Word}
 use Rattle.vw_design.specs.Preorder.{Site, cells}
-use Rattle.vw_design.specs.Reads.{data_of}
+use Rattle.vw_design.specs.NetReads.{data_of}
 use Rattle.vw_design.specs.Flattened.{number_of, IsCellOf}
 use Rattle.vw_flat.specs.Steps.Numbers.{net_count, item_with_numbers, numbers_at, IsCellAt}
 use Rattle.vw_flat.proofs.Items.{never_placed}

@@ -4,7 +4,7 @@ use Rattle.std.proofs.lemmas.Option.{slice_get-map, slice_get_read}
 use Rattle.vw_design.specs.declared.design.Design.{Design}
 use Rattle.vw_design.specs.declared.model.Model.{Model}
 use Rattle.vw_design.specs.Paths.{Word, Net, model_at, model_outputs}
-use Rattle.vw_design.specs.Reads.{net_at, root_outputs}
+use Rattle.vw_design.specs.NetReads.{net_at, root_outputs}
 use Rattle.vw_design.specs.Flattened.{number_of}
 use Rattle.vw_flat.specs.Steps.Numbers.{net_count}
 use Rattle.vw_flat.proofs.LongerLists.{maps_more, all_more}

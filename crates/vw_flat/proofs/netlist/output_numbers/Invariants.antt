@@ -1,7 +1,7 @@
 use Rattle.std.proofs.Common.{◌≡◌, ◌<◌, Some, map, take}
 use Rattle.std.specs.List.{All}
 use Rattle.vw_design.specs.Flattened.{number_of}
-use Rattle.vw_design.specs.Reads.{root_outputs}
+use Rattle.vw_design.specs.NetReads.{root_outputs}
 use Rattle.vw_flat.specs.Steps.Numbers.{net_count}
 use Rattle.vw_flat.proofs.netlist.output_numbers.Given as goal
 

@@ -1,5 +1,5 @@
 use Rattle.std.proofs.Common.{[], refl}
-use Rattle.vw_design.specs.Reads.{net_at}
+use Rattle.vw_design.specs.NetReads.{net_at}
 use Rattle.vw_flat.proofs.Readings.{IsNumbered, numbered, output_has}
 use Rattle.vw_flat.proofs.number.number_output.Goals.{After-driver}
 use Rattle.vw_flat.proofs.number.number_output.Goals as goal

@@ -1,5 +1,5 @@
 use Rattle.std.proofs.Common.{ℕ, Option, Some, ◌∙◌, ap}
-use Rattle.vw_design.specs.Reads.{net_at}
+use Rattle.vw_design.specs.NetReads.{net_at}
 use Rattle.vw_flat.proofs.Readings.{IsReadAt, IsNumbered, numbered, read_at}
 use Rattle.vw_flat.proofs.number.number_read.Goals.{After-read}
 use Rattle.vw_flat.proofs.number.number_read.Goals as goal

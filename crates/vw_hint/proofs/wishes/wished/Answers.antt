@@ -1,7 +1,7 @@
 -- a further wish is one more number of a chip
 use Rattle.std.proofs.Common.{◌≡◌, ℕ, List, [], ◌∷◌, ◌++◌, All, sym, ap, length, subst, arith, length-append}
 use Rattle.std.proofs.lemmas.List.Elements.{All-append, All-cons, All-nil}
-use Rattle.vw_plan.specs.Good.{IsChip}
+use Rattle.vw_plan.specs.Chips.{IsChip}
 use Rattle.vw_hint.proofs.wishes.wished.Goals as goal
 
 all_more : (P : ℕ → Type 0) (xs more : List ℕ) (x : ℕ) → All P xs → P x → more ≡ xs ++ x ∷ [] → All P more

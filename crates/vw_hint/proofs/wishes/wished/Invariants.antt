@@ -1,6 +1,6 @@
 -- a chip for each cell so far
 use Rattle.std.proofs.Common.{◌≡◌, length, All}
-use Rattle.vw_plan.specs.Good.{IsChip}
+use Rattle.vw_plan.specs.Chips.{IsChip}
 use Rattle.vw_hint.proofs.wishes.wished.Given as goal
 
 abbrev pub invariant-loop-cell : goal.invariant-loop-cell

@@ -1,9 +1,9 @@
-use Rattle.vw_instances.specs.Steps.Frames.{IsUnderWay, steps_left}
+use Rattle.vw_instances.specs.Steps.Frames.{IsPartlyListed, steps_left}
 use Rattle.vw_instances.proofs.preorder.list_instances.Given as goal
 
 -- the tables have what was listed, and the frames have the rest
 abbrev pub invariant-loop-frame : goal.invariant-loop-frame
-invariant-loop-frame l = IsUnderWay l.design l.state.instances.items l.state.cells.items l.state.frames.items
+invariant-loop-frame l = IsPartlyListed l.design l.state.instances.items l.state.cells.items l.state.frames.items
 
 -- each step lists an item or leaves a frame out
 abbrev pub decreases-loop-frame : goal.decreases-loop-frame

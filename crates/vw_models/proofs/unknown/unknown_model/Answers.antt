@@ -5,7 +5,7 @@ use Rattle.vw_design.specs.declared.model.Model.{Model}
 use Rattle.vw_design.specs.declared.design.Design.{Design}
 use Rattle.vw_design.specs.Lists.{first_found}
 use Rattle.vw_design.specs.ModelFaults.{is_reached}
-use Rattle.vw_design.specs.ModelNumbers.{AreModelMarks}
+use Rattle.vw_design.specs.ModelNumbers.{AreModelsReached}
 use Rattle.vw_models.specs.Steps.Unknown.{unknown_of}
 use Rattle.vw_models.proofs.Unknowns.{AreAlong}
 use Rattle.vw_models.proofs.FirstUnknown.{passed_over, nothing_here, found_here, unknown_is, nothing_left}
@@ -37,7 +37,7 @@ unknown_item-line-requires c =
     (subst (λ (l : List (Option ℕ)). AreAlong design model.items l) (sym list) (along_at design targets number model c.requires.targets at))
 
 -- the facts of a turn
-module _ (design : Design) (marks : List Bool) (others : List Model) (i : ℕ) (model : Model) (are_marks : AreModelMarks design marks) (are : others ≡ design.models) (within : i < length others) (at : model ≡ get_or others i model) where
+module _ (design : Design) (marks : List Bool) (others : List Model) (i : ℕ) (model : Model) (are_marks : AreModelsReached design marks) (are : others ≡ design.models) (within : i < length others) (at : model ≡ get_or others i model) where
   listed : model ≡ get_or design.models i model
   listed = subst (λ (l : List Model). model ≡ get_or l i model) are at
 

@@ -3,11 +3,11 @@ use Rattle.std.specs.Vec.{vec_len}
 use Rattle.std.specs.Option.{option_to_list, MatchOption}
 use Rattle.std.proofs.lemmas.Option.{none-some}
 use Rattle.vw_net.specs.Order.{is_among}
-use Rattle.vw_order.specs.declared.mark.Progress.{Progress}
-use Rattle.vw_order.specs.declared.mark.Progress.TheVariants.{Fresh, Open, Done}
+use Rattle.vw_order.specs.declared.progress.Progress.{Progress}
+use Rattle.vw_order.specs.declared.progress.Progress.TheVariants.{Fresh, Open, Done}
 use Rattle.vw_order.specs.declared.depth.Depth.{Depth}
 use Rattle.vw_order.specs.Circles.{IsNumberCircle}
-use Rattle.vw_order.specs.Steps.Marks.{is_open_mark}
+use Rattle.vw_order.specs.Steps.SearchProgress.{is_open_progress}
 use Rattle.vw_order.specs.Steps.Rounds.{round_from}
 use Rattle.vw_order.specs.Steps.Searches.{IsKept, IsSearch}
 use Rattle.vw_order.proofs.DepthSearches.{IsAtTop, at_top, moved, finished, joined, opened_on, circled, same_search}
@@ -16,13 +16,13 @@ use Rattle.vw_order.proofs.depth_first.go_on.Goals as goal
 use Rattle.vw_order.proofs.depth_first.go_on.Goals.{In-Some}
 use Rattle.vw_order.proofs.NoValue.{none_is}
 
--- what a test of a mark says
-open_is : (mark : Progress) → is_open_mark mark ≡ true → mark ≡ Open
+-- what a test of a progress says
+open_is : (progress : Progress) → is_open_progress progress ≡ true → progress ≡ Open
 open_is Fresh is = absurd (true≢false (sym is))
 open_is Open is = refl
 open_is Done is = absurd (true≢false (sym is))
 
-open_not : (mark : Progress) → is_open_mark mark ≡ false → mark ≢ Open
+open_not : (progress : Progress) → is_open_progress progress ≡ false → progress ≢ Open
 open_not Fresh is same = cc
 open_not Open is same = absurd (true≢false is)
 open_not Done is same = cc
@@ -50,16 +50,16 @@ smaller n a b a' b' most some more = omega arith
 
 -- the search with the last open number apart
 far : (g : Over) (c : In-Some g) → let depth = c.loop-number.depth in
-    IsSearch (g.D.Digraph.graph c.args.digraph.now) depth.marks.items depth.cursors.items depth.order.items (c.pop.new.self.items ++ c.in-Some.number ∷ [])
+    IsSearch (g.D.Digraph.graph c.args.digraph.now) depth.progress.items depth.cursors.items depth.order.items (c.pop.new.self.items ++ c.in-Some.number ∷ [])
 far g c =
     let depth = c.loop-number.depth in
-    subst (λ (l : List ℕ). IsSearch (g.D.Digraph.graph c.args.digraph.now) depth.marks.items depth.cursors.items depth.order.items l) c.in-Some.ensures.items c.loop-number.invariant.0
+    subst (λ (l : List ℕ). IsSearch (g.D.Digraph.graph c.args.digraph.now) depth.progress.items depth.cursors.items depth.order.items l) c.in-Some.ensures.items c.loop-number.invariant.0
 
 top : (g : Over) (c : In-Some g) → let depth = c.loop-number.depth in
-    IsAtTop (g.D.Digraph.graph c.args.digraph.now) depth.marks.items depth.cursors.items depth.order.items c.pop.new.self.items c.in-Some.number
+    IsAtTop (g.D.Digraph.graph c.args.digraph.now) depth.progress.items depth.cursors.items depth.order.items c.pop.new.self.items c.in-Some.number
 top g c =
     let depth = c.loop-number.depth in
-    at_top (g.D.Digraph.graph c.args.digraph.now) c.requires.within depth.marks.items depth.cursors.items depth.order.items c.pop.new.self.items c.in-Some.number (far g c)
+    at_top (g.D.Digraph.graph c.args.digraph.now) c.requires.within depth.progress.items depth.cursors.items depth.order.items c.pop.new.self.items c.in-Some.number (far g c)
 
 pub ahead-requires-clause-number : goal.ahead-requires-clause-number
 ahead-requires-clause-number g c = omega (arith, (top g (goal.at.ahead-requires-clause-number g c).In-Some).in_cursors)
@@ -68,7 +68,7 @@ pub ahead-requires-clause-within : goal.ahead-requires-clause-within
 ahead-requires-clause-within g c = λ place other reads. omega (arith, (top g (goal.at.ahead-requires-clause-within g c).In-Some).read_in place other reads)
 
 pub finish-requires : goal.finish-requires
-finish-requires g c = omega (arith, (top g (goal.at.finish-requires g c).In-Some).in_marks)
+finish-requires g c = omega (arith, (top g (goal.at.finish-requires g c).In-Some).in_progress)
 
 pub loop-number-smaller-in_default-ahead : goal.loop-number-smaller-in_default-ahead
 loop-number-smaller-in_default-ahead g c =
@@ -91,9 +91,9 @@ loop-number-preserved-in_default-ahead g c =
     let number = c.in-Some.number in
     let far = far g (goal.at.loop-number-preserved-in_default-ahead g c).In-Some in
     let new = c.in_ok-finish.ensures in (
-      same_search graph _ _ _ _ _ _ _ _ (finished graph c.requires.within depth.marks.items depth.cursors.items depth.order.items stack number far c.in_default-ahead.ensures) new.marks new.cursors new.order new.stack,
+      same_search graph _ _ _ _ _ _ _ _ (finished graph c.requires.within depth.progress.items depth.cursors.items depth.order.items stack number far c.in_default-ahead.ensures) new.progress new.cursors new.order new.stack,
       kept c.args.depth.now depth c.finish.new.self stack (depth.order.items ++ number ∷ []) stack number c.in-Some.ensures.items new.order new.stack c.loop-number.invariant.1
-          (moved graph c.requires.within depth.marks.items depth.cursors.items depth.order.items stack number far),
+          (moved graph c.requires.within depth.progress.items depth.cursors.items depth.order.items stack number far),
     )
 
 pub is_on_stack-requires : goal.is_on_stack-requires
@@ -108,10 +108,10 @@ returns-then-is_on_stack g c =
     let number = c.in-Some.number in
     let next = c.in-Some-ahead.ahead in
     let far = far g (goal.at.returns-then-is_on_stack g c).In-Some in
-    let on = open_is (get_or depth.marks.items next.number Fresh) (sym c.is_on_stack.ensures ∙ c.if-is_on_stack.true) in
+    let on = open_is (get_or depth.progress.items next.number Fresh) (sym c.is_on_stack.ensures ∙ c.if-is_on_stack.true) in
     let is : c.in_ok-circle.circle.items ≡ round_from next.number stack ++ number ∷ [] =
     ◌∙◌ {b = round_from next.number c.as_slice.result.now ++ number ∷ []} c.in_ok-circle.ensures (ap (λ (l : List ℕ). round_from next.number l ++ number ∷ []) c.as_slice.ensures.value) in
-    subst (λ (l : List ℕ). IsNumberCircle graph l) (sym is) (circled graph c.requires.within depth.marks.items depth.cursors.items depth.order.items stack number far next c.in-Some-ahead.ensures on)
+    subst (λ (l : List ℕ). IsNumberCircle graph l) (sym is) (circled graph c.requires.within depth.progress.items depth.cursors.items depth.order.items stack number far next c.in-Some-ahead.ensures on)
 
 pub open_ahead-requires-clause-number : goal.open_ahead-requires-clause-number
 open_ahead-requires-clause-number g c = omega (arith, (top g (goal.at.open_ahead-requires-clause-number g c).In-Some).in_cursors)
@@ -143,10 +143,10 @@ loop-number-preserved g c =
     let next = c.in-Some-ahead.ahead in
     let far = far g (goal.at.loop-number-preserved g c).In-Some in
     let new = c.in_ok-open_ahead.ensures in
-    let off = open_not (get_or depth.marks.items next.number Fresh) (sym c.is_on_stack.ensures ∙ c.if-is_on_stack.false) in (
-      same_search graph _ _ _ _ _ _ _ _ (opened_on graph c.requires.within depth.marks.items depth.cursors.items depth.order.items stack number far next c.in-Some-ahead.ensures off) new.marks new.cursors new.order new.stack,
+    let off = open_not (get_or depth.progress.items next.number Fresh) (sym c.is_on_stack.ensures ∙ c.if-is_on_stack.false) in (
+      same_search graph _ _ _ _ _ _ _ _ (opened_on graph c.requires.within depth.progress.items depth.cursors.items depth.order.items stack number far next c.in-Some-ahead.ensures off) new.progress new.cursors new.order new.stack,
       kept c.args.depth.now depth c.open_ahead.new.self stack depth.order.items (stack ++ number ∷ next.number ∷ []) number c.in-Some.ensures.items new.order new.stack c.loop-number.invariant.1
-          (joined graph c.requires.within depth.marks.items depth.cursors.items depth.order.items stack number far next c.in-Some-ahead.ensures),
+          (joined graph c.requires.within depth.progress.items depth.cursors.items depth.order.items stack number far next c.in-Some-ahead.ensures),
     )
 
 pub returns : goal.returns
@@ -159,7 +159,7 @@ returns g c =
     let rests : left ≡ [] = rest_empty depth.stack.items left c.pop.result none empty c.pop.ensures.items in
     let same : depth.stack.items ≡ left = empty ∙ sym rests in
     record {
-      depth = subst (λ (l : List ℕ). IsSearch graph depth.marks.items depth.cursors.items depth.order.items l) same c.loop-number.invariant.0;
+      depth = subst (λ (l : List ℕ). IsSearch graph depth.progress.items depth.cursors.items depth.order.items l) same c.loop-number.invariant.0;
       rests = rests;
       kept = λ number among. subst (λ (l : List ℕ). is_among (depth.order.items ++ l) number ≡ true) same (c.loop-number.invariant.1 number among);
     }

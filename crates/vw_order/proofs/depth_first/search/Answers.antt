@@ -1,5 +1,5 @@
 use Rattle.std.proofs.Common.{◌≤◌, ℕ, List, replicate, sym, ◌∙◌, ap, subst, arith}
-use Rattle.vw_order.specs.declared.mark.Progress.TheVariants.{Fresh}
+use Rattle.vw_order.specs.declared.progress.Progress.TheVariants.{Fresh}
 use Rattle.vw_order.specs.Circles.{IsNumberCircle, BeginsWithLeast}
 use Rattle.vw_order.proofs.LeastFirst.{from_least}
 use Rattle.vw_order.proofs.DepthSearches.{begun, same_search, visited_further, all_visited}
@@ -9,7 +9,7 @@ pub loop-number-init : goal.loop-number-init
 loop-number-init g c =
     let graph = g.D.Digraph.graph c.args.digraph.now in
     let made = c.in_ok-depth.ensures in (
-      same_search graph _ _ _ _ _ _ _ _ (begun graph) (made.marks ∙ ap (λ (n : ℕ). replicate n Fresh) c.count.ensures) (made.cursors ∙ ap (λ (n : ℕ). replicate {A = ℕ} n 0) c.count.ensures) made.order made.stack,
+      same_search graph _ _ _ _ _ _ _ _ (begun graph) (made.progress ∙ ap (λ (n : ℕ). replicate n Fresh) c.count.ensures) (made.cursors ∙ ap (λ (n : ℕ). replicate {A = ℕ} n 0) c.count.ensures) made.order made.stack,
       made.stack,
       λ number before. absurd (omega arith),
     )

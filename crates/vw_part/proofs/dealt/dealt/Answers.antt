@@ -1,5 +1,6 @@
 use Rattle.std.proofs.Common.{◌≡◌, ◌≤◌, ℕ, List, length, ap, sym, subst, arith}
-use Rattle.vw_plan.specs.Good.{NoMoveHelps, cells_on}
+use Rattle.vw_plan.specs.Chips.{cells_on}
+use Rattle.vw_plan.specs.Good.{NoMoveHelps}
 use Rattle.vw_part.proofs.NoMoveHelps.{least}
 use Rattle.vw_part.proofs.CellNets.{pins_long}
 use Rattle.vw_part.proofs.dealt.dealt.Goals as goal

@@ -3,7 +3,7 @@ use Rattle.std.proofs.lemmas.List.{append-nil, length-map}
 use Rattle.std.proofs.Math.ListN.{drop_of_length-le}
 use Rattle.vw_plan.specs.declared.link.Link.{Link}
 use Rattle.vw_plan.specs.Routes.{steps_of}
-use Rattle.vw_phase.specs.Steps.Along.{AreLinked, AreSent}
+use Rattle.vw_phase.specs.Steps.SentHops.{AreLinked, AreSent}
 use Rattle.vw_phase.proofs.Sending.{cut_at, further_on, place_within}
 use Rattle.vw_phase.proofs.along.send_along.Goals as goal
 

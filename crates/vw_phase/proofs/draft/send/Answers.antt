@@ -4,7 +4,7 @@ use Rattle.std.proofs.lemmas.Grind.{get_or-set_at}
 use Rattle.vw_plan.specs.declared.wire.Hop.{Hop}
 use Rattle.vw_plan.specs.Lead.{after_last}
 use Rattle.vw_plan.specs.Routes.{steps_of}
-use Rattle.vw_phase.specs.Steps.Along.{AreSent, taken_by}
+use Rattle.vw_phase.specs.Steps.SentHops.{AreSent, taken_by}
 use Rattle.vw_phase.proofs.StepsOf.{steps_long}
 use Rattle.vw_phase.proofs.draft.send.Goals as goal
 

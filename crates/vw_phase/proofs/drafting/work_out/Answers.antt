@@ -1,5 +1,5 @@
 use Rattle.std.proofs.Common.{◌≡◌, get_or, arith}
-use Rattle.vw_net.proofs.Ready.{order_within}
+use Rattle.vw_net.proofs.ReadyNets.{order_within}
 use Rattle.vw_phase.proofs.drafting.work_out.Goals as goal
 
 -- the number of a gate is below the number of cells

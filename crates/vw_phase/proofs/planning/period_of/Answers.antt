@@ -1,7 +1,7 @@
 use Rattle.std.proofs.Common.{◌≡◌, ◌<◌, ◌∙◌, List, length, get_or, ap, arith}
 use Rattle.vw_net.specs.declared.cell.Cell.{Cell}
 use Rattle.vw_net.specs.declared.flat.Flat.{Flat}
-use Rattle.vw_phase.specs.Steps.Done.{cell_moment}
+use Rattle.vw_phase.specs.Steps.FinishedSchedules.{cell_moment}
 use Rattle.vw_phase.proofs.LatestLatch.{latest_step}
 use Rattle.vw_phase.proofs.planning.period_of.Goals as goal
 

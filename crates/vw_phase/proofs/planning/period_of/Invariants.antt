@@ -1,6 +1,6 @@
 -- the greatest so far, or that of the cells that are left
 use Rattle.std.proofs.Common.{◌≡◌, drop, max}
-use Rattle.vw_phase.specs.Steps.Done.{cell_moment, latest}
+use Rattle.vw_phase.specs.Steps.FinishedSchedules.{cell_moment, latest}
 use Rattle.vw_phase.proofs.planning.period_of.Given as goal
 
 abbrev pub invariant-loop-number : goal.invariant-loop-number

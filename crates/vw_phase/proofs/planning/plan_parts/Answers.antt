@@ -30,4 +30,4 @@ returns-clause-short c =
 pub returns-clause-schedule : goal.returns-clause-schedule
 returns-clause-schedule c = λ plan chips wires period.
     let done = c.in_ok-draft.ensures in
-    scheduled_for c.args.ordered.now c.args.board.now plan c.args.routes.now c.in_ok-draft.draft c.args.chip_of.now chips c.leads_settle.ensures c.needed_pairs_are_needed.ensures.listed c.needed_pairs_are_needed.ensures.once c.requires.each c.requires.chips c.requires.room c.requires.routes done (wires ∙ c.in_ok-wires.ensures) (period ∙ c.period_of-period.ensures)
+    scheduled_for c.args.ordered.now c.args.board.now plan c.args.routes.now c.in_ok-draft.draft c.args.chip_of.now chips c.leads_follow_drivers.ensures c.needed_pairs_are_needed.ensures.listed c.needed_pairs_are_needed.ensures.once c.requires.each c.requires.chips c.requires.room c.requires.routes done (wires ∙ c.in_ok-wires.ensures) (period ∙ c.period_of-period.ensures)

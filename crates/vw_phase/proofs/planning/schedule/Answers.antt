@@ -1,5 +1,5 @@
 use Rattle.std.proofs.Common.{◌≤◌, ℕ, List, length, ap, sym, subst, arith}
-use Rattle.vw_plan.specs.Good.{cells_on}
+use Rattle.vw_plan.specs.Chips.{cells_on}
 use Rattle.vw_phase.proofs.Scheduled.{few_routes}
 use Rattle.vw_phase.proofs.planning.schedule.Goals as goal
 

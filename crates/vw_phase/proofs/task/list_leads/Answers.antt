@@ -2,7 +2,7 @@ use Rattle.std.proofs.Common.{◌≡◌, ◌<◌, ◌+◌, ◌++◌, ◌∙◌, 
 use Rattle.vw_phase.specs.declared.task.Task.{Task}
 use Rattle.vw_phase.specs.Steps.Tasks.{tasks_from}
 use Rattle.vw_phase.proofs.GatePlaces.{few_places}
-use Rattle.vw_net.proofs.Ready.{order_within}
+use Rattle.vw_net.proofs.ReadyNets.{order_within}
 use Rattle.vw_phase.proofs.task.list_leads.Goals as goal
 
 pub overflow_add-inputs : goal.overflow_add-inputs

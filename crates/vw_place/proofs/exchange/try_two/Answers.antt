@@ -1,14 +1,14 @@
 use Rattle.std.proofs.Common.{◌≡◌, ◌<◌, ℕ, List, length, ap, sym, subst, ◌∙◌, arith}
 use Rattle.std.specs.List.{swap}
 use Rattle.vw_place.specs.Steps.NodeLists.{IsNodeList}
-use Rattle.vw_place.specs.Steps.Traffic.{way}
+use Rattle.vw_place.specs.Steps.Traffic.{travel_by}
 use Rattle.vw_place.specs.Steps.Tries.{IsBoth}
-use Rattle.vw_place.proofs.Exchanges.{no_shorter, nodes_exchanged, swap_twice, useless_one}
+use Rattle.vw_place.proofs.Exchanges.{no_cheaper, nodes_exchanged, swap_twice, useless_one}
 use Rattle.vw_place.proofs.exchange.try_two.Goals as goal
 
 -- the list with the two exchanged
-pub whole_way-new-requires-clause-list : goal.whole_way-new-requires-clause-list
-whole_way-new-requires-clause-list c =
+pub whole_travel-new-requires-clause-list : goal.whole_travel-new-requires-clause-list
+whole_travel-new-requires-clause-list c =
     subst (λ (list : List ℕ). IsNodeList c.args.distances.now list) (sym c.swap.ensures.after) (nodes_exchanged c.args.distances.now c.args.at.now c.requires.list c.args.one c.args.other (c.requires.one, omega (arith, c.requires.other, c.requires.chip)) (omega (arith, c.requires.one, c.requires.other), c.requires.chip))
 
 pub returns-then-new-old-clause-list : goal.returns-then-new-old-clause-list
@@ -24,13 +24,13 @@ returns-clause-list c =
     let same = back c.args.at.now c.swap.new.self c.swap-2.new.self c.args.one c.args.other (omega (arith, c.requires.list.long, c.requires.other, c.requires.chip)) (omega (arith, c.requires.list.long, c.requires.chip)) c.swap.ensures.after c.swap-2.ensures.after in
     subst (λ (list : List ℕ). IsNodeList c.args.distances.now list) (sym same) c.requires.list
 
-pub returns-clause-way : goal.returns-clause-way
-returns-clause-way c =
+pub returns-clause-travel : goal.returns-clause-travel
+returns-clause-travel c =
     let same = back c.args.at.now c.swap.new.self c.swap-2.new.self c.args.one c.args.other (omega (arith, c.requires.list.long, c.requires.other, c.requires.chip)) (omega (arith, c.requires.list.long, c.requires.chip)) c.swap.ensures.after c.swap-2.ensures.after in
-    c.requires.old ∙ ap (way c.args.table.now c.args.distances.now) (sym same)
+    c.requires.old ∙ ap (travel_by c.args.table.now c.args.distances.now) (sym same)
 
 pub returns-clause-tried : goal.returns-clause-tried
 returns-clause-tried c =
-    let by_way = way c.args.table.now c.args.distances.now in
+    let by_travel = travel_by c.args.table.now c.args.distances.now in
     let same = back c.args.at.now c.swap.new.self c.swap-2.new.self c.args.one c.args.other (omega (arith, c.requires.list.long, c.requires.other, c.requires.chip)) (omega (arith, c.requires.list.long, c.requires.chip)) c.swap.ensures.after c.swap-2.ensures.after in
-    no_shorter by_way (IsBoth c.args.one c.args.other) c.args.at.now c.swap-2.new.self same (useless_one by_way c.args.at.now c.swap.new.self c.args.one c.args.other c.args.old c.whole_way-new.result c.swap.ensures.after c.requires.old c.whole_way-new.ensures c.if-new-old.false)
+    no_cheaper by_travel (IsBoth c.args.one c.args.other) c.args.at.now c.swap-2.new.self same (useless_one by_travel c.args.at.now c.swap.new.self c.args.one c.args.other c.args.old c.whole_travel-new.result c.swap.ensures.after c.requires.old c.whole_travel-new.ensures c.if-new-old.false)

@@ -1,6 +1,6 @@
 use Rattle.std.proofs.Common.{◌≡◌, ◌≤◌, ℕ, List, ap, sym, subst, All, arith}
 use Rattle.vw_plan.specs.declared.board.Board.{Board}
-use Rattle.vw_plan.specs.Good.{IsChip, cells_on}
+use Rattle.vw_plan.specs.Chips.{IsChip, cells_on}
 use Rattle.vw_place.specs.Numbering.{IsRenumbered}
 use Rattle.vw_place.proofs.Renumbered.{cells_moved, chips_stay}
 use Rattle.vw_place.proofs.placement.place.Goals as goal

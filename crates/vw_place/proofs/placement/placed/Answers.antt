@@ -5,7 +5,7 @@ use Rattle.vw_plan.specs.Good.{NoExchangeHelps, NoMoveHelps}
 use Rattle.vw_plan.proofs.ChipNumbers.{low_chips}
 use Rattle.vw_place.specs.Numbering.{IsRenumbered}
 use Rattle.vw_place.specs.Steps.NodeLists.{IsNodeList, moved}
-use Rattle.vw_place.specs.Steps.Traffic.{IsTraffic, way}
+use Rattle.vw_place.specs.Steps.Traffic.{IsTraffic, travel_by}
 use Rattle.vw_place.specs.Steps.Tries.{NoneIsUseful}
 use Rattle.vw_place.proofs.Renumbered.{moves_moved}
 use Rattle.vw_place.proofs.Travels.{none_helps}
@@ -30,7 +30,7 @@ returns-clause-exchanges c =
     let at = c.in_ok-at.at.items in
     let same : c.deref-2.result.now ≡ at = c.deref-2.ensures.value in
     let traffic : IsTraffic flat chip_of c.in_ok-table.table.items = subst (λ (own : Flat). IsTraffic own chip_of c.in_ok-table.table.items) c.flat.ensures c.in_ok-table.ensures in
-    let none : NoneIsUseful (way c.in_ok-table.table.items board) (board.chips + 1) at = subst (λ (table : List ℕ). NoneIsUseful (way table board) (board.chips + 1) at) c.deref.ensures.value c.in_ok-at.ensures.none in
+    let none : NoneIsUseful (travel_by c.in_ok-table.table.items board) (board.chips + 1) at = subst (λ (table : List ℕ). NoneIsUseful (travel_by table board) (board.chips + 1) at) c.deref.ensures.value c.in_ok-at.ensures.none in
     let helps = none_helps flat board chip_of (low_chips board chip_of c.requires.chips) c.in_ok-table.table.items traffic at c.in_ok-at.ensures.list none in
     IfOk-weaker c.numbered_anew.result (λ new. new ≡ map (moved c.deref-2.result.now) chip_of) (NoExchangeHelps flat board) (λ new is. subst (λ (list : List ℕ). NoExchangeHelps flat board list) (sym (is ∙ ap (λ (list : List ℕ). map (moved list) chip_of) same)) helps) c.numbered_anew.ensures
 

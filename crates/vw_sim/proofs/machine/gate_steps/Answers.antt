@@ -1,7 +1,7 @@
 use Rattle.std.proofs.Common.{◌≡◌, ◌<◌, ◌++◌, [], ◌∷◌, length, get_or, slice_get, Some, ap, ap₂, ◌∙◌, arith}
 use Rattle.vw_sim.specs.declared.machine.GateStep.{GateStep}
 use Rattle.vw_sim.proofs.Gates.{order_cell}
-use Rattle.vw_net.proofs.Ready.{order_within}
+use Rattle.vw_net.proofs.ReadyNets.{order_within}
 use Rattle.vw_sim.proofs.Machines.{steps_more}
 use Rattle.vw_sim.proofs.machine.gate_steps.Goals as goal
 

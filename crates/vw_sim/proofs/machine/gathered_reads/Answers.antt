@@ -2,7 +2,7 @@ use Rattle.std.proofs.Common.{◌≡◌, ◌<◌, ◌++◌, ℕ, List, length, g
 use Rattle.vw_net.specs.declared.cell.Cell.{Cell}
 use Rattle.vw_net.specs.Order.{gate_inputs}
 use Rattle.vw_sim.proofs.Gates.{order_cell}
-use Rattle.vw_net.proofs.Ready.{order_within}
+use Rattle.vw_net.proofs.ReadyNets.{order_within}
 use Rattle.vw_sim.proofs.Machines.{reads_more}
 use Rattle.vw_sim.proofs.machine.gathered_reads.Goals as goal
 use Rattle.vw_sim.proofs.machine.gathered_reads.Goals.{in-Gate+in_ok-extend_from_slice, in_default}

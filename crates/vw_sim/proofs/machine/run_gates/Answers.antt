@@ -6,7 +6,7 @@ use Rattle.vw_net.specs.declared.flat.Flat.{Flat}
 use Rattle.vw_net.specs.Cover.{cover_value}
 use Rattle.vw_sim.specs.Steps.Machine.{step_of}
 use Rattle.vw_sim.proofs.Gates.{more_have_values}
-use Rattle.vw_net.proofs.Ready.{order_within, all_ready}
+use Rattle.vw_net.proofs.ReadyNets.{order_within, all_ready}
 use Rattle.vw_sim.proofs.Machines.{AtGate, at_gate}
 use Rattle.vw_sim.proofs.machine.run_gates.Goals as goal
 use Rattle.vw_sim.proofs.machine.run_gates.Goals.{In-loop-gate}

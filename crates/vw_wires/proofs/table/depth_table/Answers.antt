@@ -1,6 +1,6 @@
 use Rattle.std.proofs.Common.{◌≡◌, ◌<◌, ◌≤◌, ◌+◌, ℕ, length, get_or, ap, ap₂, ◌∙◌, arith}
 use Rattle.vw_wires.proofs.DepthTable.{KeepsDepths, all_right, more_kept, same_depth}
-use Rattle.vw_net.proofs.Ready.{order_within}
+use Rattle.vw_net.proofs.ReadyNets.{order_within}
 use Rattle.vw_wires.proofs.table.depth_table.Goals as goal
 
 -- the gate's net is one of fewer than 2 ^ 17
@@ -35,8 +35,8 @@ loop-number-preserved c =
     let inputs : c.inputs-in-loop-number.result ≡ ordered.flat.inputs = cc in
     let net : c.inputs-in-loop-number.result + get_or c.order-number-items.result.now place 0 ≡ ordered.flat.inputs + get_or ordered.order place 0 = ap₂ (λ (first second : ℕ). first + second) inputs number in
     let value = c.depth_of_cell-depth.ensures ∙ same_depth c.flat-flat.result.now ordered.flat chip_of c.as_slice.result.now table _ _ _ _ c.flat-flat.ensures c.as_slice.ensures.value number net in
-    let before : KeepsDepths ordered chip_of (c.depths_settle.ensures ordered chip_of) _ table = record { long = c.loop-number.invariant.long; low = c.loop-number.invariant.low; right = c.loop-number.invariant.right } in
-    let after = more_kept ordered chip_of (c.depths_settle.ensures ordered chip_of) place table _ _ within (c.depths_are_small.ensures ordered.flat chip_of) net value before in
+    let before : KeepsDepths ordered chip_of (c.depths_follow_drivers.ensures ordered chip_of) _ table = record { long = c.loop-number.invariant.long; low = c.loop-number.invariant.low; right = c.loop-number.invariant.right } in
+    let after = more_kept ordered chip_of (c.depths_follow_drivers.ensures ordered chip_of) place table _ _ within (c.depths_are_small.ensures ordered.flat chip_of) net value before in
     record { long = after.long; low = after.low; right = after.right }
 
 -- when the whole order is done, every net is ready
@@ -45,4 +45,4 @@ returns c =
     let ordered = c.args.ordered.now in
     let chip_of = c.args.chip_of.now in
     let whole : length ordered.order ≤ c.loop-number.number-index = omega (arith, ap length c.order-number-items.ensures) in
-    all_right ordered chip_of (c.depths_settle.ensures ordered chip_of) c.loop-number.number-index c.loop-number.table.items whole c.loop-number.invariant.long c.loop-number.invariant.right
+    all_right ordered chip_of (c.depths_follow_drivers.ensures ordered chip_of) c.loop-number.number-index c.loop-number.table.items whole c.loop-number.invariant.long c.loop-number.invariant.right

@@ -1,4 +1,4 @@
-use Rattle.vw_design.proofs.Closed.{reached_at, reached_closed, reached_least}
+use Rattle.vw_design.proofs.ReachedFromRoot.{reached_at, reached_closed, reached_least}
 use Rattle.vw_design.proofs.laws.models.reached_models.Goals as goal
 
 -- a model that stands deep stands at a path without a round, too, which is listed

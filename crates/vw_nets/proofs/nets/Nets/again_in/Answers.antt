@@ -2,7 +2,7 @@ use Rattle.std.proofs.Common.{◌≡◌, ℕ, Some, slice_get, refl, sym, ◌∙
 use Rattle.vw_instances.specs.declared.tables.Placed.{Placed}
 use Rattle.vw_drivers.specs.declared.model_claims.ModelClaims.{ModelClaims}
 use Rattle.vw_drivers.specs.declared.tables.Tables.{Tables}
-use Rattle.vw_nets.specs.Steps.Seconds.{again_by}
+use Rattle.vw_nets.specs.Steps.SecondClaims.{again_by}
 use Rattle.vw_nets.proofs.CellItems.{listed_at}
 use Rattle.vw_nets.proofs.nets.Nets.again_in.Goals as goal
 

@@ -2,7 +2,7 @@ use Rattle.std.proofs.Common.{◌∙◌, ◌++◌, ℕ, List, ap₂, filter_map}
 use Rattle.vw_design.specs.Paths.{Word}
 use Rattle.vw_drivers.specs.Firsts.{First, number_named}
 use Rattle.vw_drivers.specs.Tables.{root_firsts}
-use Rattle.vw_nets.proofs.ClockMarks.{clock_numbers}
+use Rattle.vw_nets.proofs.ClockFlags.{clock_numbers}
 use Rattle.vw_nets.proofs.nets.Nets.clock_numbers.Goals as goal
 
 pub returns : goal.returns

@@ -1,7 +1,7 @@
 use Rattle.std.proofs.Common.{◌≡◌, ◌∷◌, [], ◌∙◌, ℕ, Option, map, sym, ap}
 use Rattle.std.specs.Prelude.{option_to_list}
 use Rattle.vw_design.specs.Drivers.{driver}
-use Rattle.vw_design.specs.Reads.{controls_of}
+use Rattle.vw_design.specs.NetReads.{controls_of}
 use Rattle.vw_drivers.specs.Firsts.{number_named}
 use Rattle.vw_drivers.specs.Tables.{root_firsts}
 use Rattle.vw_nets.proofs.CellItems.{item_here, numbers_here}

@@ -3,7 +3,7 @@ use Rattle.vw_design.specs.Preorder.{instances}
 use Rattle.vw_design.proofs.ListPlaces.{at_within}
 use Rattle.vw_instances.specs.declared.tables.Placed.{Placed}
 use Rattle.vw_nets.specs.declared.two_drivers.Second.{Second}
-use Rattle.vw_nets.specs.Steps.Seconds.{IsFirstSecond}
+use Rattle.vw_nets.specs.Steps.SecondClaims.{IsFirstSecond}
 use Rattle.vw_nets.proofs.FirstAgain.{taken, kept}
 use Rattle.vw_nets.proofs.nets.Nets.first_second.Goals as goal
 use Rattle.vw_nets.proofs.nets.Nets.first_second.Goals.{then-comes_first, else-comes_first}

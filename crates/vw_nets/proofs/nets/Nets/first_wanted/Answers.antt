@@ -1,7 +1,7 @@
 use Rattle.std.proofs.Common.{◌≡◌, ◌∙◌, [], Option, None, Some, is_some, false, option_map, sym, ap, refl, true≢false}
 use Rattle.std.specs.Option.{option_or}
 use Rattle.vw_design.specs.Paths.{Word, Net, printed, model_at, model_outputs}
-use Rattle.vw_design.specs.Reads.{net_at}
+use Rattle.vw_design.specs.NetReads.{net_at}
 use Rattle.vw_nets.specs.Nets.{printed_net}
 use Rattle.vw_nets.specs.Steps.Wanted.{wanted_among, wanted_read}
 use Rattle.vw_nets.proofs.nets.Nets.first_wanted.Goals as goal

@@ -2,7 +2,7 @@ use Rattle.std.proofs.Common.{◌≡◌, Option, sym, refl, subst}
 use Rattle.std.specs.Prelude.{IfOk}
 use Rattle.vw_design.specs.Drivers.{driver}
 use Rattle.vw_design.specs.Paths.{Net}
-use Rattle.vw_design.specs.Reads.{controls_of}
+use Rattle.vw_design.specs.NetReads.{controls_of}
 use Rattle.vw_design.specs.NetFaults.{is_cell_source}
 use Rattle.vw_nets.specs.Nets.{printed_net}
 use Rattle.vw_nets.proofs.Reading.{at_cells}

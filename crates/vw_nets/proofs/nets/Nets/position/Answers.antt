@@ -2,7 +2,7 @@ use Rattle.std.proofs.Common.{◌≡◌, ◌+◌, ℕ, List, Some, slice_get, re
 use Rattle.vw_instances.specs.declared.sizes.Before.{Before}
 use Rattle.vw_instances.specs.declared.tables.Placed.{Placed}
 use Rattle.vw_drivers.specs.declared.tables.Tables.{Tables}
-use Rattle.vw_nets.specs.Steps.Seconds.{position_by}
+use Rattle.vw_nets.specs.Steps.SecondClaims.{position_by}
 use Rattle.vw_nets.proofs.CellItems.{listed_at}
 use Rattle.vw_nets.proofs.nets.Nets.position.Goals as goal
 

@@ -5,7 +5,7 @@ use Rattle.vw_design.specs.declared.design.Design.{Design}
 use Rattle.vw_design.specs.declared.item.Item.{Item}
 use Rattle.vw_design.specs.Drivers.{driver}
 use Rattle.vw_design.specs.Paths.{Word, Path}
-use Rattle.vw_design.specs.Reads.{data_of, controls_of}
+use Rattle.vw_design.specs.NetReads.{data_of, controls_of}
 use Rattle.vw_nets.specs.Steps.Wanted.{wants, wanted_among, wanted_names}
 use Rattle.vw_nets.specs.declared.wanted.Wanted.{Wanted}
 use Rattle.vw_nets.specs.declared.wanted.Wanted.TheVariants.{Undriven}

@@ -6,7 +6,7 @@ use Rattle.vw_design.specs.PathValue.{item_at, place_of_site}
 use Rattle.vw_design.specs.Preorder.{sites}
 use Rattle.vw_drivers.specs.declared.claim.RepeatedClaim.{RepeatedClaim}
 use Rattle.vw_drivers.specs.Claimed.{IsRepeatedClaim}
-use Rattle.vw_nets.specs.Steps.Seconds.{position_by, IsClaimedAt, AreFrom}
+use Rattle.vw_nets.specs.Steps.SecondClaims.{position_by, IsClaimedAt, AreFrom}
 use Rattle.vw_nets.proofs.InstanceClaimsAgain.{weights, entry, again_is, position_is, first_claimed, first_least}
 use Rattle.vw_nets.proofs.nets.Nets.second_in.Goals as goal
 

@@ -3,7 +3,7 @@ use Rattle.std.proofs.lemmas.Option.{none-some, same_Some}
 use Rattle.vw_design.specs.Paths.{Word, lent}
 use Rattle.vw_drivers.specs.Tables.{root_firsts}
 use Rattle.vw_nets.specs.Steps.Ports.{root_ports}
-use Rattle.vw_nets.proofs.ClockMarks.{found_by_number}
+use Rattle.vw_nets.proofs.ClockFlags.{found_by_number}
 use Rattle.vw_nets.proofs.nets.Nets.two_ports.Goals as goal
 
 pub returns-in_default : goal.returns-in_default

@@ -3,7 +3,7 @@ use Rattle.std.specs.Prelude.{IfOk}
 use Rattle.vw_design.specs.declared.item.Item.{Item}
 use Rattle.vw_design.specs.Drivers.{driver}
 use Rattle.vw_design.specs.Paths.{Net}
-use Rattle.vw_design.specs.Reads.{data_of, controls_of}
+use Rattle.vw_design.specs.NetReads.{data_of, controls_of}
 use Rattle.vw_nets.specs.Nets.{printed_net}
 use Rattle.vw_nets.proofs.Reading.{then_outputs}
 use Rattle.vw_nets.proofs.nets.Nets.undriven.Goals as goal

@@ -1,6 +1,6 @@
 use Rattle.std.proofs.Common.{◌≡◌, ◌<◌, ◌≤◌, ℕ, ⊎_elim, arith, subst}
 use Rattle.std.proofs.lemmas.Bool.{cases_lt}
-use Rattle.vw_plan.specs.Good.{cells_on}
+use Rattle.vw_plan.specs.Chips.{cells_on}
 use Rattle.vw_part.proofs.Dealing.{loaded, not_all_full}
 use Rattle.vw_part.proofs.deal.Deal.chip_with_room.Goals as goal
 

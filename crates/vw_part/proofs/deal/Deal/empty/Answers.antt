@@ -2,7 +2,7 @@ use Rattle.std.proofs.Common.{◌≡◌, ◌∙◌, ℕ, zero, suc, List, [], ap
 use Rattle.std.proofs.Math.ListN.{length-replicate}
 use Rattle.std.proofs.lemmas.List.{length_push}
 use Rattle.std.proofs.lemmas.List.Elements.{All-nil, All-push}
-use Rattle.vw_plan.specs.Good.{IsChip}
+use Rattle.vw_plan.specs.Chips.{IsChip}
 use Rattle.vw_part.specs.declared.load.Load.{Load}
 use Rattle.vw_part.specs.declared.pins.Pins.{Pins}
 use Rattle.vw_part.specs.Steps.Deals.{IsLoad}

@@ -1,6 +1,6 @@
 -- where no move helped so far, the cells so far are settled; where some did, the spread is lower
 use Rattle.std.proofs.Common.{◌≡◌, ◌<◌, ◌≤◌, ℕ, true, false, length}
-use Rattle.vw_part.specs.Steps.Deals.{IsDeal, IsSettledCell, spread}
+use Rattle.vw_part.specs.Steps.Deals.{IsDeal, HasNoGain, spread}
 use Rattle.vw_part.proofs.deal.Deal.round.Given as goal
 
 abbrev pub invariant-loop-cell : goal.invariant-loop-cell
@@ -9,5 +9,5 @@ invariant-loop-cell l = record {
   each : length l.self.chip_of.items ≡ length l.initial.self.chip_of.items;
   no_higher : spread l.board l.pins l.self.chip_of.items ≤ spread l.board l.pins l.initial.self.chip_of.items;
   lower : l.moved ≡ true → spread l.board l.pins l.self.chip_of.items < spread l.board l.pins l.initial.self.chip_of.items;
-  settled : l.moved ≡ false → (cell : ℕ) → cell < l.cell → IsSettledCell l.board l.pins l.self.chip_of.items cell;
+  settled : l.moved ≡ false → (cell : ℕ) → cell < l.cell → HasNoGain l.board l.pins l.self.chip_of.items cell;
 }

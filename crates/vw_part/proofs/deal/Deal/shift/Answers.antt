@@ -1,7 +1,7 @@
 use Rattle.std.proofs.Common.{◌≡◌, ◌<◌, ◌≤◌, ◌∙◌, ℕ, List, [], length, get_or, set, ap, refl, sym, subst, arith}
 use Rattle.std.proofs.lemmas.List.{get_or-set_other, get_or_default}
 use Rattle.std.proofs.lemmas.List.Elements.{All-get_or}
-use Rattle.vw_plan.specs.Good.{IsChip}
+use Rattle.vw_plan.specs.Chips.{IsChip}
 use Rattle.vw_part.specs.declared.load.Load.{Load}
 use Rattle.vw_part.specs.Steps.Deals.{pins_held, cell_nets}
 use Rattle.vw_part.specs.Steps.Pins.{times_among}

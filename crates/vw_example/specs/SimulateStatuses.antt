@@ -1,0 +1,44 @@
+-- What a caller knows of a simulation by its status.
+use Rattle.std.specs.Prelude.{◌≡◌, ◌≢◌, ℕ, Bool, false, List, [], length, Ok, Err}
+use Rattle.vw_design.specs.declared.design.Design.{Design}
+use Rattle.vw_design.specs.Clocks.{columns}
+use Rattle.vw_rows.specs.declared.stimulus.StimFault.{StimFault}
+use Rattle.vw_rows.specs.Stimulus.{stimulus_rows}
+use Rattle.vw_top.specs.declared.reason.Reason.{Reason}
+use Rattle.vw_top.specs.declared.reason.Reason.TheVariants.{Stimulus}
+use Rattle.vw_top.specs.Designs.{IsDesignOf, RefusesDesign}
+use Rattle.vw_top.specs.Reasons.{reason_line}
+use Rattle.vw_top.specs.Commands.{trace_of}
+
+-- out is the trace of the design that the text spells, over the rows of the stimulus, and err is empty
+pub record IsSimulated (design stimulus out err : List ℕ) : Type 0 where
+  pub spelled : Design
+  pub rows : List (List Bool)
+  pub is : IsDesignOf design spelled
+  pub read : stimulus_rows (length (columns spelled)) stimulus ≡ Ok rows
+  pub trace : out ≡ trace_of false spelled rows
+  pub no_message : err ≡ []
+
+-- the design text is refused for a reason; out is empty, and err is the message of this reason
+pub record HasBadDesign (design out err : List ℕ) : Type 0 where
+  pub reason : Reason
+  pub refused : RefusesDesign design reason
+  pub no_trace : out ≡ []
+  pub message : err ≡ reason_line reason
+
+-- the text spells a design that runs, and the stimulus has a fault for its columns; out is empty, and err is the
+-- message of this fault
+pub record HasBadRows (design stimulus out err : List ℕ) : Type 0 where
+  pub spelled : Design
+  pub fault : StimFault
+  pub is : IsDesignOf design spelled
+  pub read : stimulus_rows (length (columns spelled)) stimulus ≡ Err fault
+  pub no_trace : out ≡ []
+  pub message : err ≡ reason_line (Stimulus fault)
+
+-- what each status says of the two texts, of out and of err
+pub record SimulateStatuses (design stimulus out err : List ℕ) (status : ℕ) : Type 0 where
+  pub done : status ≡ 0 → IsSimulated design stimulus out err
+  pub no_design : status ≡ 1 → HasBadDesign design out err
+  pub no_rows : status ≡ 5 → HasBadRows design stimulus out err
+  pub others : (status ≢ 2) × (status ≢ 3) × (status ≢ 4) × (status ≢ 6)

@@ -1,0 +1,16 @@
+use Rattle.std.proofs.Common.{Ok, Err}
+use Rattle.std.specs.Result.{IfOk}
+use Rattle.std.specs.declared.result.Result.{Result}
+use Rattle.vw_models.proofs.ReachMarks.{are_marks}
+use Rattle.vw_models.proofs.Models.{within}
+use Rattle.vw_models.proofs.reached.models_reached.Goals as goal
+
+if_ok : {A E : Type 0} (P Q : A → Type 0) → ((x : A) → P x → Q x) → (result : Result A E) → IfOk result P → IfOk result Q
+if_ok P Q step (Ok x) holds = step x holds
+if_ok P Q step (Err error) holds = tt
+
+pub reach-requires : goal.reach-requires
+reach-requires c = within c.args.design.now c.args.targets.now c.requires
+
+pub returns : goal.returns
+returns c = if_ok _ _ (λ marks reach. are_marks c.args.design.now c.args.targets.now marks.items c.requires reach) c.reach.result c.reach.ensures

@@ -1,0 +1,10 @@
+use Rattle.std.proofs.Common.{◌+◌, arith}
+use Rattle.vw_place.specs.Steps.Traffic.{travel_from}
+use Rattle.vw_place.proofs.SumsOverLists.{range_next}
+use Rattle.vw_place.proofs.travel.whole_travel.Goals as goal
+
+pub loop-from-preserved : goal.loop-from-preserved
+loop-from-preserved c = record {
+  so_far = range_next (λ from. travel_from c.args.table.now c.args.distances.now c.args.at.now from (c.args.distances.now.chips + 1)) c.loop-from.from _ _ c.loop-from.invariant.so_far c.travel_from-travel.ensures.travel;
+  small = omega (arith, c.loop-from.invariant.small, c.travel_from-travel.ensures.low);
+}
