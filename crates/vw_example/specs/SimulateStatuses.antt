@@ -1,5 +1,5 @@
 -- What a caller knows of a simulation by its status.
-use Rattle.std.specs.Prelude.{◌≡◌, ◌≢◌, ℕ, Bool, false, List, [], length, Ok, Err}
+use Rattle.std.specs.Prelude.{◌≡◌, ◌≢◌, ◌≤◌, ◌<◌, ℕ, Bool, false, List, [], length, take, Ok, Err}
 use Rattle.vw_design.specs.declared.design.Design.{Design}
 use Rattle.vw_design.specs.Clocks.{columns}
 use Rattle.vw_rows.specs.declared.stimulus.StimFault.{StimFault}
@@ -36,9 +36,18 @@ pub record HasBadRows (design stimulus out err : List ℕ) : Type 0 where
   pub no_trace : out ≡ []
   pub message : err ≡ reason_line (Stimulus fault)
 
--- what each status says of the two texts, of out and of err
+-- out is a front of a text
+abbrev pub IsFront : List ℕ → List ℕ → Type 0
+IsFront out text = (count : ℕ) × (count ≤ length text) × (out ≡ take count text)
+
+-- what statuses 0, 1 and 5 say of the two texts, of out and of err; that only 7, 8 and 9 may come besides; and that out
+-- is a front of the trace wherever the texts have one, whatever the status
 pub record SimulateStatuses (design stimulus out err : List ℕ) (status : ℕ) : Type 0 where
   pub done : status ≡ 0 → IsSimulated design stimulus out err
   pub no_design : status ≡ 1 → HasBadDesign design out err
   pub no_rows : status ≡ 5 → HasBadRows design stimulus out err
   pub others : (status ≢ 2) × (status ≢ 3) × (status ≢ 4) × (status ≢ 6)
+  pub known : status < 10
+  pub part : (spelled : Design) (rows : List (List Bool)) → IsDesignOf design spelled
+      → stimulus_rows (length (columns spelled)) stimulus ≡ Ok rows
+      → IsFront out (trace_of false spelled rows)

@@ -25,7 +25,8 @@ fn owned_name(alloc: Global, bytes: &[u8]) -> Result<Name, AllocError>
 
 /// Runs `sim` over two texts in memory. After status 0, out is the trace of the design over the stimulus. After 1, the
 /// design text has no design that runs, and after 5, the stimulus has a fault; then err is the message, and out is
-/// empty. Where there is no memory for the whole message, the call ends with an error.
+/// empty. Besides these only 7, 8 and 9 may come, and then out is a front of the trace, where the texts have one. Where
+/// there is no memory for the whole message, the call ends with an error.
 pub fn simulate(alloc: Global, design: Vec<u8>, stimulus: Vec<u8>) -> Result<Simulated, AllocError>
     ensures { IfOk result (λ simulated.
         SimulateStatuses design.items stimulus.items simulated.out.items simulated.err.items

@@ -66,82 +66,108 @@ rows_apart width text rows reason are refused =
 
 -- why a board text is refused
 abbrev pub RefusesBoard : List ℕ → Reason → Type 0
-RefusesBoard text reason = (fault : BoardFault) × (reason ≡ reasons.Board fault) × IsTrue (is_board_fault fault) × RefusesBoardText text fault
+RefusesBoard text reason =
+    (fault : BoardFault) × (reason ≡ reasons.Board fault) × IsTrue (is_board_fault fault)
+    × RefusesBoardText text fault
 
-abbrev pub board_apart : (text : List ℕ) (board : Board) (reason : Reason) → SpellsBoard text board → RefusesBoard text reason → ⊥
+abbrev pub board_apart : (text : List ℕ) (board : Board) (reason : Reason)
+    → SpellsBoard text board → RefusesBoard text reason → ⊥
 board_apart text board reason is refused = board_unrefused text board refused.0 is refused.2 refused.3
 
 -- why a plan text is refused
 abbrev pub RefusesPlanText : List ℕ → Reason → Type 0
-RefusesPlanText text reason = (fault : PlanTextFault) × (reason ≡ PlanText fault) × IsTrue (is_plan_text_fault fault) × RefusesPlanLines text fault
+RefusesPlanText text reason =
+    (fault : PlanTextFault) × (reason ≡ PlanText fault) × IsTrue (is_plan_text_fault fault)
+    × RefusesPlanLines text fault
 
-abbrev pub plan_text_apart : (text : List ℕ) (plan : Plan) (reason : Reason) → SpellsPlan text plan → RefusesPlanText text reason → ⊥
+abbrev pub plan_text_apart : (text : List ℕ) (plan : Plan) (reason : Reason)
+    → SpellsPlan text plan → RefusesPlanText text reason → ⊥
 plan_text_apart text plan reason is refused = plan_unrefused text plan refused.0 is refused.2 refused.3
 
 -- why a plan isn't sound
 abbrev pub RefusesPlan : PlannedBoard → Reason → Type 0
-RefusesPlan planned reason = (fault : PlanFault) × (reason ≡ reasons.Plan fault) × (plan_fault planned ≡ Some fault)
+RefusesPlan planned reason =
+    (fault : PlanFault) × (reason ≡ reasons.Plan fault) × (plan_fault planned ≡ Some fault)
 
-abbrev pub plan_apart : (planned : PlannedBoard) (reason : Reason) → IsSound planned → RefusesPlan planned reason → ⊥
+abbrev pub plan_apart : (planned : PlannedBoard) (reason : Reason)
+    → IsSound planned → RefusesPlan planned reason → ⊥
 plan_apart planned reason is refused = none-some refused.0 (sym (faultless planned is) ∙ refused.2)
 
 -- ---- what is good and bad of a design on a board
 
 -- why there is no plan: all chips have room for fewer cells
 abbrev pub RefusesFit : Ordered → Board → Reason → Type 0
-RefusesFit ordered board reason = (reason ≡ Fit (TooManyCells (length ordered.flat.cells) (board.chips * board.cells))) × (board.chips * board.cells < length ordered.flat.cells)
+RefusesFit ordered board reason =
+    (reason ≡ Fit (TooManyCells (length ordered.flat.cells) (board.chips * board.cells)))
+    × (board.chips * board.cells < length ordered.flat.cells)
 
 -- all chips have room for the cells
 abbrev pub HasRoom : Ordered → Board → Type 0
 HasRoom ordered board = length ordered.flat.cells ≤ board.chips * board.cells
 
-abbrev pub good_apart : (ordered : Ordered) (board : Board) (plan : Plan) (reason : Reason) → IsGood (planned_board ordered board plan) → RefusesFit ordered board reason → ⊥
-good_apart ordered board plan reason good refused = omega (arith, sound_plans_fit (planned_board ordered board plan) good.sound, refused.1)
+abbrev pub good_apart : (ordered : Ordered) (board : Board) (plan : Plan) (reason : Reason)
+    → IsGood (planned_board ordered board plan) → RefusesFit ordered board reason → ⊥
+good_apart ordered board plan reason good refused =
+    omega (arith, sound_plans_fit (planned_board ordered board plan) good.sound, refused.1)
 
-abbrev pub room_apart : (ordered : Ordered) (board : Board) (reason : Reason) → HasRoom ordered board → RefusesFit ordered board reason → ⊥
+abbrev pub room_apart : (ordered : Ordered) (board : Board) (reason : Reason)
+    → HasRoom ordered board → RefusesFit ordered board reason → ⊥
 room_apart ordered board reason room refused = omega (arith, room, refused.1)
 
 -- ---- the commands
 
 -- the trace of a design over rows, by its paths, where free latches start at `unknown`
 abbrev pub trace_of : Bool → Design → List (List Bool) → List ℕ
-trace_of unknown design rows = trace_text (length (root_outputs design)) (length (latches design)) (path_history design unknown rows)
+trace_of unknown design rows =
+    trace_text (length (root_outputs design)) (length (latches design)) (path_history design unknown rows)
 
 -- the rows of the stimulus for the columns of a design
 abbrev pub sim_rows_course : Design → List ℕ → Bool → Course
 sim_rows_course spelled stimulus unknown =
-    reads files.Stimulus stimulus (λ s. judges (List (List Bool)) (IsRowsOf (length (columns spelled)) s) (RefusesRows (length (columns spelled)) s) (rows_apart (length (columns spelled)) s)
+    reads files.Stimulus stimulus (λ s. judges (List (List Bool))
+    (IsRowsOf (length (columns spelled)) s)
+    (RefusesRows (length (columns spelled)) s)
+    (rows_apart (length (columns spelled)) s)
     (λ rows are. writes (trace_of unknown spelled rows)))
 
 -- the design first
 abbrev pub sim_course : List ℕ → List ℕ → Bool → Course
 sim_course design stimulus unknown =
-    reads files.Design design (λ d. judges Design (IsDesignOf d) (RefusesDesign d) (design_apart d) (λ spelled is. sim_rows_course spelled stimulus unknown))
+    reads files.Design design (λ d. judges Design (IsDesignOf d) (RefusesDesign d) (design_apart d)
+    (λ spelled is. sim_rows_course spelled stimulus unknown))
 
 -- what is written of a sound plan: its wires, its hops, and its period
 abbrev pub sound_text : Plan → List ℕ
-sound_text plan = codes "sound " ++ (decimal (length plan.wires) ++ (32 ∷ decimal (hop_count plan.wires) ++ (32 ∷ decimal plan.period ++ 10 ∷ [])))
+sound_text plan =
+    codes "sound " ++ (decimal (length plan.wires)
+    ++ (32 ∷ decimal (hop_count plan.wires) ++ (32 ∷ decimal plan.period ++ 10 ∷ [])))
 
 -- a plan is sound for a netlist on a board, or has a fault
 abbrev pub sound_course : Ordered → Board → Plan → Course
 sound_course ordered board plan =
-    judges (Unit {0}) (λ _. IsSound (planned_board ordered board plan)) (RefusesPlan (planned_board ordered board plan)) (λ _ reason is refused. plan_apart (planned_board ordered board plan) reason is refused)
+    judges (Unit {0})
+    (λ _. IsSound (planned_board ordered board plan))
+    (RefusesPlan (planned_board ordered board plan))
+    (λ _ reason is refused. plan_apart (planned_board ordered board plan) reason is refused)
     (λ _ sound. writes (sound_text plan))
 
 -- the plan is read, and judged
 abbrev pub check_plan_course : Ordered → Board → List ℕ → Course
 check_plan_course ordered board plan =
-    reads files.Plan plan (λ p. judges Plan (SpellsPlan p) (RefusesPlanText p) (plan_text_apart p) (λ spelled is. sound_course ordered board spelled))
+    reads files.Plan plan (λ p. judges Plan (SpellsPlan p) (RefusesPlanText p) (plan_text_apart p)
+    (λ spelled is. sound_course ordered board spelled))
 
 -- the board before it
 abbrev pub check_board_course : Ordered → List ℕ → List ℕ → Course
 check_board_course ordered board plan =
-    reads files.Board board (λ b. judges Board (SpellsBoard b) (RefusesBoard b) (board_apart b) (λ spelled is. check_plan_course ordered spelled plan))
+    reads files.Board board (λ b. judges Board (SpellsBoard b) (RefusesBoard b) (board_apart b)
+    (λ spelled is. check_plan_course ordered spelled plan))
 
 -- the design first
 abbrev pub check_course : List ℕ → List ℕ → List ℕ → Course
 check_course design board plan =
-    reads files.Design design (λ d. judges Ordered (IsNetlistOf d) (RefusesDesign d) (netlist_apart d) (λ ordered is. check_board_course ordered board plan))
+    reads files.Design design (λ d. judges Ordered (IsNetlistOf d) (RefusesDesign d) (netlist_apart d)
+    (λ ordered is. check_board_course ordered board plan))
 
 -- the text of a plan
 abbrev pub text_of_plan : Plan → List ℕ
@@ -150,18 +176,23 @@ text_of_plan plan = spelling (content_of plan)
 -- a good plan is made wherever the cells have room
 abbrev pub good_course : Ordered → Board → Course
 good_course ordered board =
-    makes Plan (λ plan. IsGood (planned_board ordered board plan)) (RefusesFit ordered board) (HasRoom ordered board) (good_apart ordered board) (room_apart ordered board)
+    makes Plan
+    (λ plan. IsGood (planned_board ordered board plan))
+    (RefusesFit ordered board) (HasRoom ordered board)
+    (good_apart ordered board) (room_apart ordered board)
     (λ plan good. writes (text_of_plan plan))
 
 -- the board is read before it
 abbrev pub plan_board_course : Ordered → List ℕ → Course
 plan_board_course ordered board =
-    reads files.Board board (λ b. judges Board (SpellsBoard b) (RefusesBoard b) (board_apart b) (λ spelled is. good_course ordered spelled))
+    reads files.Board board (λ b. judges Board (SpellsBoard b) (RefusesBoard b) (board_apart b)
+    (λ spelled is. good_course ordered spelled))
 
 -- the design first
 abbrev pub plan_course : List ℕ → List ℕ → Course
 plan_course design board =
-    reads files.Design design (λ d. judges Ordered (IsNetlistOf d) (RefusesDesign d) (netlist_apart d) (λ ordered is. plan_board_course ordered board))
+    reads files.Design design (λ d. judges Ordered (IsNetlistOf d) (RefusesDesign d) (netlist_apart d)
+    (λ ordered is. plan_board_course ordered board))
 
 abbrev pub course_of : Spelled → Course
 course_of (words.sim design stimulus unknown) = sim_course design stimulus unknown

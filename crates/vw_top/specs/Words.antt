@@ -1,6 +1,5 @@
 -- The words of commands: a keyword, names of files, and then settings.
-use Rattle.std.specs.Prelude.{ℕ, zero, suc, max, Bool, not, ◌&&◌, ◌||◌, List, [], ◌∷◌, ◌++◌, length, codes, if◌then◌else◌, nat_le, ◌==◌, ◌+◌}
-use Rattle.std.specs.Option.{option_map_or}
+use Rattle.std.specs.Prelude.{ℕ, zero, suc, max, Bool, not, ◌&&◌, ◌||◌, List, [], ◌∷◌, ◌++◌, length, codes, if◌then◌else◌, nat_le, ◌==◌, ◌+◌, Option, Some, None, option_and_then, unwrap_or}
 use Rattle.std.specs.List.{find, list_any}
 use Rattle.std.specs.Str.{bytes_eq}
 
@@ -28,12 +27,11 @@ pub data Spelled : Type 0 where
   plan : (design board : List ℕ) → Spelled
   nothing : (place : ℕ) → Spelled
 
--- the places of a command; its settings, which stand behind them in any order; and what words spell that have this form,
--- which is asked of no others
+-- the places of a command; its settings, which stand behind them in any order; and what words spell that have this form
 pub record Form : Type 0 where
   pub places : List Place
   pub settings : List WordSetting
-  pub spells : List (List ℕ) → Spelled
+  pub spells : List (List ℕ) → Option Spelled
 
 -- whether a word gives a setting that no word before it gives
 abbrev pub is_new_setting : List WordSetting → List (List ℕ) → List ℕ → Bool
@@ -60,25 +58,25 @@ abbrev pub unknown_in : List (List ℕ) → Bool
 unknown_in settings = list_any (λ word. bytes_eq word (codes "unknown=1")) settings
 
 -- sim DESIGN STIM [unknown=0|1]
-abbrev pub sim_of : List (List ℕ) → Spelled
-sim_of (verb ∷ design ∷ stimulus ∷ settings) = sim design stimulus (unknown_in settings)
-sim_of words = nothing 0
+abbrev pub sim_of : List (List ℕ) → Option Spelled
+sim_of (verb ∷ design ∷ stimulus ∷ settings) = Some (sim design stimulus (unknown_in settings))
+sim_of words = None
 
 abbrev pub sim_form : Form
 sim_form = record { places = keyword (codes "sim") ∷ file ∷ file ∷ []; settings = unknown_bit ∷ []; spells = sim_of }
 
 -- check DESIGN BOARD PLAN
-abbrev pub check_of : List (List ℕ) → Spelled
-check_of (verb ∷ design ∷ board ∷ its_plan ∷ settings) = check design board its_plan
-check_of words = nothing 0
+abbrev pub check_of : List (List ℕ) → Option Spelled
+check_of (verb ∷ design ∷ board ∷ its_plan ∷ settings) = Some (check design board its_plan)
+check_of words = None
 
 abbrev pub check_form : Form
 check_form = record { places = keyword (codes "check") ∷ file ∷ file ∷ file ∷ []; settings = []; spells = check_of }
 
 -- plan DESIGN BOARD
-abbrev pub plan_of : List (List ℕ) → Spelled
-plan_of (verb ∷ design ∷ board ∷ settings) = plan design board
-plan_of words = nothing 0
+abbrev pub plan_of : List (List ℕ) → Option Spelled
+plan_of (verb ∷ design ∷ board ∷ settings) = Some (plan design board)
+plan_of words = None
 
 abbrev pub plan_form : Form
 plan_form = record { places = keyword (codes "plan") ∷ file ∷ file ∷ []; settings = []; spells = plan_of }
@@ -94,4 +92,5 @@ furthest (form ∷ forms) words = max (matched form.places form.settings words) 
 
 -- what words spell: the command whose form they have, or none, and the place of the first wrong word
 abbrev pub spelled_by : List (List ℕ) → Spelled
-spelled_by words = option_map_or (λ form. form.spells words) (find (λ form. has_form form words) commands) (nothing (furthest commands words + 1))
+spelled_by words =
+    unwrap_or (option_and_then (λ form. form.spells words) (find (λ form. has_form form words) commands)) (nothing (furthest commands words + 1))

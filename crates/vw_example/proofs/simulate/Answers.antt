@@ -15,9 +15,9 @@ use Rattle.vw_top.specs.Words as words
 use Rattle.vw_top.specs.Course.{Outside, outside, MayRefuse}
 use Rattle.vw_top.specs.Commands.{sim_course, course_of, trace_of}
 use Rattle.vw_top.specs.Endings.{IsCallOf, IsReported}
-use Rattle.vw_top.specs.Statuses.{IsRefused, Statuses}
+use Rattle.vw_top.specs.Statuses.{IsRefused, LeavesPart, Statuses}
 use Rattle.vw_top.specs.SimStatuses.{SimStatuses}
-use Rattle.vw_example.specs.SimulateStatuses.{HasBadDesign, HasBadRows, SimulateStatuses}
+use Rattle.vw_example.specs.SimulateStatuses.{HasBadDesign, HasBadRows, IsFront, SimulateStatuses}
 use Rattle.vw_example.proofs.simulate.Goals as goal
 
 -- what two files of these names hold
@@ -31,9 +31,18 @@ hold_both files first second design stimulus are first_is second_is d s =
     rw (are, first_is, second_is) (record { design_held = ap held d; stimulus_held = ap held s })
 
 -- the bytes of a sink that had none before a text was appended
+told_text : (before after : SeenSink) (text out : List ℕ) → before.told ≡ Some [] → after.told ≡ Some out → after.told ≡ (appended before text).told → out ≡ text
+told_text before after text out none some same =
+    let told : Some out ≡ Some text = sym some ∙ same ∙ ap (option_map (λ so_far. so_far ++ text)) none in cc
+
 whole_text : (before after : SeenSink) (text out : List ℕ) → before.told ≡ Some [] → after.told ≡ Some out → after ≡ appended before text → out ≡ text
-whole_text before after text out none some same =
-    let told : Some out ≡ Some text = sym some ∙ ap (λ (sink : SeenSink). sink.told) same ∙ ap (option_map (λ so_far. so_far ++ text)) none in cc
+whole_text before after text out none some same = told_text before after text out none some (ap (λ (sink : SeenSink). sink.told) same)
+
+-- the same of a part of a text, whether a write failed behind it or not
+front_of_text : (before after : SeenSink) (text out : List ℕ) → before.told ≡ Some [] → after.told ≡ Some out → LeavesPart text before after → IsFront out text
+front_of_text before after text out none some (inl (count, within, same)) = (count, (within, whole_text before after (take count text) out none some same))
+front_of_text before after text out none some (inr (count, within, same)) =
+    (count, (within, told_text before after (take count text) out none some (ap (λ (sink : SeenSink). sink.told) same)))
 
 -- what the words spell
 abbrev its_sim : Spelled
@@ -144,6 +153,15 @@ outcome statuses_of_call statuses_of_sim its_words before after err_before err_a
       no_design = heard.no_design;
       no_rows = heard.no_rows;
       others = table.others;
+      known = its.known;
+      part = λ spelled rows is read. front_of_text before.out after.out (trace_of false spelled rows) out none some (table.part spelled rows (record {
+        design_text = design;
+        stimulus_text = stimulus;
+        design_held = design_held;
+        stimulus_held = stimulus_held;
+        is = is;
+        read = read;
+      }));
     }
 
 pub returns : goal.returns
