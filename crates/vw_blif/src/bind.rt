@@ -7,10 +7,9 @@ ghost use Rattle.vw_blif.specs.Steps.FaultAnswers.{SaysBind, SaysPlace, AreBinds
 
 use crate::copies::copy;
 use crate::fault::TextFault;
-use crate::seen::Seen;
 use bstr::ByteSlice;
 use std::alloc::{AllocError, Global};
-use vw_design::{Bind, Item};
+use vw_design::{Bind, Item, WordSet};
 use vw_net::Sequence;
 use vw_outside::Name;
 
@@ -47,7 +46,7 @@ fn binds_of(alloc: Global, line: u64, words: &[Name]) -> Result<Vec<Bind>, TextF
     ensures fault { IfErr result (SaysBind line words.now) }
 {
     let mut binds = Vec::new(alloc);
-    let mut seen = Seen::new(alloc);
+    let mut seen = WordSet::none(alloc);
     for word in words {
         let Some((formal, actual)) = sides(word.as_slice()) else {
             return Err(TextFault::BadBind(line));

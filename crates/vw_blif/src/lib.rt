@@ -6,6 +6,7 @@ mod block;
 mod copies;
 mod design;
 mod fault;
+mod kept_words;
 mod kind;
 mod latch;
 mod laws;
@@ -13,7 +14,6 @@ mod open_table;
 mod ports;
 mod reader;
 mod row;
-mod seen;
 mod table;
 mod take;
 

@@ -1,14 +1,15 @@
 //! The ports of a model.
 ghost use Rattle.std.specs.Prelude.{◌≡◌, [], IsTrue, IfOk, IfErr, OnOk};
 ghost use Rattle.vw_design.specs.Distinct.{are_distinct};
-ghost use Rattle.vw_blif.specs.Steps.Seen.{Knows};
+ghost use Rattle.vw_blif.specs.Steps.KeptWords.{Knows};
 
 use crate::copies::{copy, further};
 use crate::fault::TextFault;
-use crate::seen::Seen;
+use crate::kept_words::keep_all;
 use bumpalo::Bump;
 use std::alloc::Global;
 use std::mem::replace;
+use vw_design::WordSet;
 use vw_outside::Name;
 use vw_text::Line;
 
@@ -16,7 +17,7 @@ use vw_text::Line;
 #[derive(Drop)]
 pub struct Ports<'a> {
     pub names: Vec<Name>,
-    pub seen: Seen<'a>,
+    pub seen: WordSet<'a>,
     ghost knows: { Knows names.items seen.words },
     ghost distinct: { IsTrue (are_distinct names.items) },
 }
@@ -30,7 +31,7 @@ impl<'a> Ports<'a> {
     {
         Ports {
             names: Vec::new(alloc),
-            seen: Seen::new(alloc),
+            seen: WordSet::none(alloc),
         }
     }
 
@@ -44,7 +45,7 @@ impl<'a> Ports<'a> {
             mut seen,
         } = self;
         let words = further(line);
-        if !seen.keep_all(arena, words)? {
+        if !keep_all(&mut seen, arena, words)? {
             return Err(TextFault::DuplicatePort(line.number()));
         }
         for word in words {

@@ -3,18 +3,18 @@ ghost use Rattle.std.specs.Prelude.{◌≡◌, ◌≢◌, IsTrue, IfOk, IfErr};
 ghost use Rattle.std.specs.List.{All};
 ghost use Rattle.vw_design.specs.Distinct.{are_distinct};
 ghost use Rattle.vw_design.specs.Shape.{IsWellMade};
-ghost use Rattle.vw_blif.specs.Steps.Seen.{Knows};
+ghost use Rattle.vw_blif.specs.Steps.KeptWords.{Knows};
 ghost use Rattle.vw_blif.specs.Steps.Names.{opened, names_so_far};
 
 use crate::block::Block;
 use crate::copies::{copy, further};
 use crate::fault::TextFault;
+use crate::kept_words::keep;
 use crate::kind::{Kind, line_kind};
-use crate::seen::Seen;
 use crate::take::take;
 use bumpalo::Bump;
 use std::alloc::{AllocError, Global};
-use vw_design::Model;
+use vw_design::{Model, WordSet};
 use vw_outside::Name;
 use vw_text::Line;
 
@@ -24,7 +24,7 @@ pub struct Reader<'a> {
     /// The models that have ended.
     pub models: Vec<Model>,
     /// The names of the models so far.
-    pub names: Box<Seen<'a>>,
+    pub names: Box<WordSet<'a>>,
     /// The model to which the next line belongs.
     pub block: Option<Box<Block<'a>>>,
     ghost knows: { Knows (names_so_far models.items (opened block)) names.value.words },
@@ -43,7 +43,7 @@ impl<'a> Reader<'a> {
     {
         Ok(Reader {
             models: Vec::new(alloc),
-            names: Box::new(alloc, Seen::new(alloc))?,
+            names: Box::new(alloc, WordSet::none(alloc))?,
             block: None,
         })
     }
@@ -82,7 +82,7 @@ impl<'a> Reader<'a> {
             mut names,
             block: _,
         } = self.end()?;
-        if !names.keep(arena, name.as_slice())? {
+        if !keep(&mut names, arena, name.as_slice())? {
             return Err(TextFault::DuplicateModel(line.number()));
         }
         Ok(Reader {

@@ -1,5 +1,5 @@
 //! Sets of words.
-ghost use Rattle.std.specs.Prelude.{◌≡◌, ◌||◌, not, false, OnOk, filter, find, length, map};
+ghost use Rattle.std.specs.Prelude.{◌≡◌, ◌||◌, not, false, IfOk, OnOk, filter, find, length, map};
 ghost use Rattle.std.specs.Str.{bytes_eq};
 ghost use Rattle.vw_design.specs.Distinct.{has_name};
 ghost use Rattle.vw_design.specs.Paths.{Word, lent};
@@ -35,13 +35,21 @@ impl<'a> WordSet<'a> {
         self.words.get(word).is_some()
     }
 
-    /// Adds a word.
-    fn add(&mut self, word: &'a [u8]) -> Result<(), AllocError>
-        ensures { OnOk result ((other : Word) → has_word self.new.words other
+    /// Adds a word, and says whether it is new.
+    pub fn insert(&mut self, word: &'a [u8]) -> Result<bool, AllocError>
+        ensures is_new { IfOk result (λ is_new. is_new ≡ not (has_word self.old.words word.now)) }
+        ensures words { OnOk result ((other : Word) → has_word self.new.words other
             ≡ (bytes_eq word.now other || has_word self.old.words other)) }
     {
-        self.words.insert(word, ())?;
-        Ok(())
+        let old = self.words.insert(word, ())?;
+        Ok(old.is_none())
+    }
+
+    /// Takes memory for so many words more.
+    pub fn reserve(&mut self, count: usize) -> Result<(), AllocError>
+        ensures { (word : Word) → has_word self.new.words word ≡ has_word self.old.words word }
+    {
+        self.words.reserve(count)
     }
 
     /// Adds names.
@@ -50,7 +58,7 @@ impl<'a> WordSet<'a> {
             ≡ (has_name names.now other || has_word self.old.words other)) }
     {
         for name in names {
-            self.add(name.as_slice())?;
+            self.insert(name.as_slice())?;
         }
         Ok(())
     }
@@ -62,7 +70,7 @@ impl<'a> WordSet<'a> {
             || has_word self.old.words other)) }
     {
         for bind in binds {
-            self.add(bind.formal().as_slice())?;
+            self.insert(bind.formal().as_slice())?;
         }
         Ok(())
     }

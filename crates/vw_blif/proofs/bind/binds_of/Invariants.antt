@@ -2,7 +2,7 @@
 use Rattle.std.proofs.Common.{map, take}
 use Rattle.vw_blif.specs.Bindings.{formal_of}
 use Rattle.vw_blif.specs.Steps.FaultAnswers.{AreBinds}
-use Rattle.vw_blif.specs.Steps.Seen.{Knows}
+use Rattle.vw_blif.specs.Steps.KeptWords.{Knows}
 use Rattle.vw_blif.proofs.bind.binds_of.Given as goal
 
 abbrev pub invariant-loop-word : goal.invariant-loop-word

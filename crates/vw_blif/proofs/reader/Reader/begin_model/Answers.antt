@@ -2,7 +2,7 @@ use Rattle.std.proofs.Common.{rules, ◌≡◌, ◌∷◌, ◌++◌, [], ℕ, tr
 use Rattle.std.specs.Str.{bytes_eq}
 use Rattle.vw_design.specs.Distinct.{has_name, are_distinct}
 use Rattle.vw_blif.specs.declared.fault.TextFault.TheVariants.{BadWords, DuplicateModel}
-use Rattle.vw_blif.specs.declared.seen.Seen.{Seen}
+use Rattle.vw_design.specs.declared.word_set.WordSet.{WordSet}
 use Rattle.vw_design.specs.Paths.{Word}
 use Rattle.vw_blif.specs.Kinds.{further}
 use Rattle.vw_blif.specs.Steps.Names.{opened, names_so_far}
@@ -29,7 +29,7 @@ returns-then-not-branch-clause-refuses c =
     sym c.further.ensures ∙ one_word c.further.result.now name c.in-len1.len_at_least c.in-len1.len_below c.name-item.is in
     let again : has_name (names_so_far mid.models.items (opened mid.block)) name ≡ true =
     seen_before (names_so_far mid.models.items (opened mid.block)) name (old name) c.in_ok-keep.field-0 (mid.knows name)
-    (c.in_ok-keep.ensures.is_new ∙ ap₂ (λ (s : Seen) (w : Word). not (has_word s.words w)) c.deref_mut.ensures.value c.as_slice.ensures) ∙ ap not c.if-not-branch.true in
+    (c.in_ok-keep.ensures.is_new ∙ ap₂ (λ (s : WordSet) (w : Word). not (has_word s.words w)) c.deref_mut.ensures.value c.as_slice.ensures) ∙ ap not c.if-not-branch.true in
     λ before told is.
     model_again c.args.self mid c.args.line.now name c.requires one c.in_ok-models.ensures again before told
     ∙ ap (λ (n : ℕ). Some (DuplicateModel n)) (sym c.number-then-not-branch.ensures)
@@ -39,15 +39,15 @@ invariant_of-result c =
     let mid = c.in_ok-models.field-0 in
     let name = c.name-item.result in
     let old = λ (w : Word). has_word mid.names.value.words w in
-    let new = λ (w : Word). has_word c.keep.new.self.words w in
+    let new = λ (w : Word). has_word c.keep.new.words.words w in
     let names = names_so_far mid.models.items (opened mid.block) in
     let more : names_so_far mid.models.items (Some c.in_ok-new.field-0.value) ≡ names ++ name ∷ [] =
     names_begun mid.models.items (opened mid.block) c.in_ok-new.field-0.value name c.in_ok-models.ensures.block (c.in_ok-new.ensures.named ∙ c.in_ok-copy.ensures ∙ c.as_slice-2.ensures) in
     let unseen : has_name names name ≡ false =
     seen_before names name (old name) c.in_ok-keep.field-0 (mid.knows name)
-    (c.in_ok-keep.ensures.is_new ∙ ap₂ (λ (s : Seen) (w : Word). not (has_word s.words w)) c.deref_mut.ensures.value c.as_slice.ensures) ∙ ap not c.if-not-branch.false in
+    (c.in_ok-keep.ensures.is_new ∙ ap₂ (λ (s : WordSet) (w : Word). not (has_word s.words w)) c.deref_mut.ensures.value c.as_slice.ensures) ∙ ap not c.if-not-branch.false in
     let adds : (other : Word) → new other ≡ (bytes_eq name other || old other) =
-    λ other. c.in_ok-keep.ensures.words other ∙ ap₂ (λ (s : Seen) (w : Word). bytes_eq w other || has_word s.words other) c.deref_mut.ensures.value c.as_slice.ensures in
+    λ other. c.in_ok-keep.ensures.words other ∙ ap₂ (λ (s : WordSet) (w : Word). bytes_eq w other || has_word s.words other) c.deref_mut.ensures.value c.as_slice.ensures in
     record {
       knows = λ word. knows_more names name old new mid.knows adds word ∙ ap (λ (ns : List Word). has_name ns word) (sym more);
       distinct = ap are_distinct more ∙ are_distinct-push names name mid.distinct unseen;
@@ -63,7 +63,7 @@ returns-clause-reads c =
     sym c.further.ensures ∙ one_word c.further.result.now name c.in-len1.len_at_least c.in-len1.len_below c.name-item.is in
     let unseen : has_name (names_so_far mid.models.items (opened mid.block)) name ≡ false =
     seen_before (names_so_far mid.models.items (opened mid.block)) name (old name) c.in_ok-keep.field-0 (mid.knows name)
-    (c.in_ok-keep.ensures.is_new ∙ ap₂ (λ (s : Seen) (w : Word). not (has_word s.words w)) c.deref_mut.ensures.value c.as_slice.ensures) ∙ ap not c.if-not-branch.false in
+    (c.in_ok-keep.ensures.is_new ∙ ap₂ (λ (s : WordSet) (w : Word). not (has_word s.words w)) c.deref_mut.ensures.value c.as_slice.ensures) ∙ ap not c.if-not-branch.false in
     let same : c.in_ok-copy.field-0 ≡ name = c.in_ok-copy.ensures ∙ c.as_slice-2.ensures in
     let fresh : IsNew name c.in_ok-new.field-0.value = record {
       named = c.in_ok-new.ensures.named ∙ same;

@@ -2,7 +2,7 @@ use Rattle.std.proofs.Common.{◌∙◌, ap, is_some}
 use Rattle.std.specs.Str.{bytes_eq}
 use Rattle.std.proofs.lemmas.Map.Text.{hash_map_updates_str}
 use Rattle.vw_design.proofs.WordSets.{some_or}
-use Rattle.vw_blif.proofs.seen.Seen.insert.Goals as goal
+use Rattle.vw_design.proofs.word_set.WordSet.insert.Goals as goal
 
 pub returns-clause-words : goal.returns-clause-words
 returns-clause-words c = λ other.

@@ -1,4 +1,4 @@
--- Which words a set has seen.
+-- Which words a set has, and which words were added to it.
 use Rattle.std.specs.Prelude.{◌≡◌, ℕ, Bool, true, not, List, ◌++◌}
 use Rattle.std.specs.HashMap as hash
 use Rattle.std.specs.Borrow.{Bor}
@@ -7,7 +7,7 @@ use Rattle.vw_design.specs.Paths.{Word}
 use Rattle.vw_design.specs.WordSets.{has_word}
 use Rattle.vw_blif.specs.Bindings.{repeats}
 
--- the words that were seen are these
+-- the words of the set are these
 abbrev pub Knows : {X S : Type 0} → List Word → hash.HashMap (Bor (List ℕ)) X S → Type 0
 Knows names words = (word : Word) → has_word words word ≡ has_name names word
 
