@@ -13,7 +13,7 @@ use Rattle.vw_text.specs.Number.{spelled_number}
 use Rattle.vw_plan.specs.declared.link.Link.{Link}
 use Rattle.vw_plan.specs.Walks.{has_link}
 use Rattle.vw_board.specs.declared.fault.BoardFault.{BoardFault}
-use Rattle.vw_board.specs.Words.{word_at, within, number_within, has_words}
+use Rattle.vw_board.specs.Words.{word_at, within, number_within, is_line_of}
 use Rattle.vw_board.specs.LinkLines.{link_of, link_fault, first_link_fault}
 use Rattle.vw_plan.specs.Links.{AreSeparate, HaveSameEnds}
 use Rattle.vw_board.specs.Steps.Links.{ReadsLink, ReadsSoFar}
@@ -36,7 +36,7 @@ was_within least greatest value None found = cc
 was_within least greatest value (Some number) found = in_range least greatest value number (leb least number && leb number greatest) refl found
 
 -- a line with its form and with three numbers in their ranges is the line of a link that isn't at fault
-pub link_fine : (chips : ℕ) (links : List Link) (line : Line) (link : Link) → has_words (codes "link") 4 line ≡ true → number_within 0 chips 1 line ≡ Some link.from → number_within 0 chips 2 line ≡ Some link.to → number_within 1 64 3 line ≡ Some link.width → link.from ≢ link.to → has_link links link.from link.to ≡ false → ReadsLink chips links line link
+pub link_fine : (chips : ℕ) (links : List Link) (line : Line) (link : Link) → is_line_of (codes "link") 4 line ≡ true → number_within 0 chips 1 line ≡ Some link.from → number_within 0 chips 2 line ≡ Some link.to → number_within 1 64 3 line ≡ Some link.width → link.from ≢ link.to → has_link links link.from link.to ≡ false → ReadsLink chips links line link
 link_fine chips links line link form is_from is_to is_width apart new =
     let at_from : IsFoundInRange 0 chips link.from (spelled_number (word_at 1 line)) = was_within 0 chips link.from (spelled_number (word_at 1 line)) is_from in
     let at_to : IsFoundInRange 0 chips link.to (spelled_number (word_at 2 line)) = was_within 0 chips link.to (spelled_number (word_at 2 line)) is_to in

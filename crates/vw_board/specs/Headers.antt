@@ -4,7 +4,7 @@ use Rattle.std.specs.Option.{option_map_or, option_or}
 use Rattle.vw_text.specs.declared.line.Line.{Line}
 use Rattle.vw_board.specs.declared.fault.BoardFault.{BoardFault}
 use Rattle.vw_board.specs.declared.fault.BoardFault.TheVariants.{BadLine, BadNumber}
-use Rattle.vw_board.specs.Words.{has_words, number_within, number_at}
+use Rattle.vw_board.specs.Words.{is_line_of, number_within, number_at}
 
 -- one of these lines: a word, and a number from the least to the greatest
 pub record Header : Type 0 where
@@ -30,7 +30,7 @@ pins_header = record { word = codes "pins"; least = 1; greatest = 4096 }
 -- the fault of a line that has to be one of these; of two the one of the lesser number
 abbrev pub header_fault : Header → Line → Option BoardFault
 header_fault header line =
-    if not (has_words header.word 2 line) then Some (BadLine line.number)
+    if not (is_line_of header.word 2 line) then Some (BadLine line.number)
     else if is_none (number_within header.least header.greatest 1 line) then Some (BadNumber line.number)
     else None
 

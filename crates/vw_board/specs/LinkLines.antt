@@ -6,7 +6,7 @@ use Rattle.vw_plan.specs.declared.link.Link.{Link}
 use Rattle.vw_plan.specs.Walks.{has_link}
 use Rattle.vw_board.specs.declared.fault.BoardFault.{BoardFault}
 use Rattle.vw_board.specs.declared.fault.BoardFault.TheVariants.{BadLine, BadNumber, SelfLink, DuplicateLink}
-use Rattle.vw_board.specs.Words.{has_words, number_within, number_at}
+use Rattle.vw_board.specs.Words.{is_line_of, number_within, number_at}
 
 -- the link of a line: the node that it leaves, the node that it reaches, and its width
 abbrev pub link_of : Line → Link
@@ -21,7 +21,7 @@ has_bad_number chips line =
 -- the fault of a line behind these links; of several the one of the least number
 abbrev pub link_fault : ℕ → List Link → Line → Option BoardFault
 link_fault chips links line =
-    if not (has_words (codes "link") 4 line) then Some (BadLine line.number)
+    if not (is_line_of (codes "link") 4 line) then Some (BadLine line.number)
     else if has_bad_number chips line then Some (BadNumber line.number)
     else if number_at 1 line == number_at 2 line then Some (SelfLink (number_at 1 line))
     else if has_link links (number_at 1 line) (number_at 2 line) then Some (DuplicateLink (number_at 1 line) (number_at 2 line))

@@ -9,8 +9,8 @@ abbrev pub word_at : ℕ → Line → List ℕ
 word_at place line = slice_index_or line.words place []
 
 -- whether a line has this many words, and begins with a word
-abbrev pub has_words : List ℕ → ℕ → Line → Bool
-has_words word count line = length line.words == count && bytes_eq (word_at 0 line) word
+abbrev pub is_line_of : List ℕ → ℕ → Line → Bool
+is_line_of word count line = length line.words == count && bytes_eq (word_at 0 line) word
 
 -- a number, where it is in a range
 abbrev pub within : ℕ → ℕ → Option ℕ → Option ℕ

@@ -1,7 +1,7 @@
 //! The first five lines of a board text.
 ghost use Rattle.std.specs.Prelude.{◌≡◌, ◌<◌, ◌≤◌, ◌^◌, length, slice_get, Some, None, IsTrue, IfOk, IfErr};
 ghost use Rattle.std.specs.List.{All};
-ghost use Rattle.vw_board.specs.Words.{has_words, number_within};
+ghost use Rattle.vw_board.specs.Words.{is_line_of, number_within};
 ghost use Rattle.vw_board.specs.Headers.{next_number, place_fault, headers_fault, header_number};
 ghost use Rattle.vw_board.specs.Steps.Faults.{is_line_fault};
 ghost use Rattle.vw_board.specs.Steps.Heads.{IsBoardHead};
@@ -19,9 +19,9 @@ pub struct BoardHead {
 }
 
 /// Whether a line has this many words, at least one, and begins with a word.
-pub fn has_words(line: &Line, word: &[u8], count: usize) -> bool
+pub fn is_line_of(line: &Line, word: &[u8], count: usize) -> bool
     requires { 0 < count }
-    ensures { result ≡ has_words word.now count line.now }
+    ensures { result ≡ is_line_of word.now count line.now }
 {
     let words = line.words();
     words.len() == count && words[0].as_slice() == word
@@ -72,7 +72,7 @@ fn header(
     let Some(line) = lines.get(place) else {
         return Err(BoardFault::BadLine(next_number(lines)));
     };
-    if !has_words(line, word, 2) {
+    if !is_line_of(line, word, 2) {
         return Err(BoardFault::BadLine(line.number()));
     }
     match number_within(line, 1, least, greatest) {

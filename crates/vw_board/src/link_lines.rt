@@ -7,7 +7,7 @@ ghost use Rattle.vw_board.specs.Steps.Faults.{is_line_fault};
 ghost use Rattle.vw_board.specs.Steps.Links.{ReadsLink, ReadsLinks};
 
 use crate::fault::BoardFault;
-use crate::head::{has_words, number_within};
+use crate::head::{is_line_of, number_within};
 use std::alloc::Global;
 use vw_plan::Link;
 use vw_text::Line;
@@ -27,7 +27,7 @@ fn read_link(chips: u32, links: &[Link], line: &Line) -> Result<Link, BoardFault
     ensures fault { IfErr result (λ fault. link_fault chips links.now line.now ≡ Some fault) }
     ensures of_line { IfErr result (λ fault. IsTrue (is_line_fault fault)) }
 {
-    if !has_words(line, b"link", 4) {
+    if !is_line_of(line, b"link", 4) {
         return Err(BoardFault::BadLine(line.number()));
     }
     let nodes = u64::from(chips);

@@ -1,7 +1,8 @@
 -- What a caller knows of a simulation by its status.
-use Rattle.std.specs.Prelude.{◌≡◌, ◌≢◌, ◌≤◌, ◌<◌, ℕ, Bool, false, List, [], length, take, Ok, Err}
+use Rattle.std.specs.Prelude.{◌≡◌, ◌≢◌, ◌<◌, ℕ, Bool, false, List, [], length, Ok, Err}
 use Rattle.vw_design.specs.declared.design.Design.{Design}
 use Rattle.vw_design.specs.Clocks.{columns}
+use Rattle.vw_outside.specs.Fronts.{IsFront}
 use Rattle.vw_rows.specs.declared.stimulus.StimFault.{StimFault}
 use Rattle.vw_rows.specs.Stimulus.{stimulus_rows}
 use Rattle.vw_top.specs.declared.reason.Reason.{Reason}
@@ -35,10 +36,6 @@ pub record HasBadRows (design stimulus out err : List ℕ) : Type 0 where
   pub read : stimulus_rows (length (columns spelled)) stimulus ≡ Err fault
   pub no_trace : out ≡ []
   pub message : err ≡ reason_line (Stimulus fault)
-
--- out is a front of a text
-abbrev pub IsFront : List ℕ → List ℕ → Type 0
-IsFront out text = (count : ℕ) × (count ≤ length text) × (out ≡ take count text)
 
 -- what statuses 0, 1 and 5 say of the two texts, of out and of err; that only 7, 8 and 9 may come besides; and that out
 -- is a front of the trace wherever the texts have one, whatever the status

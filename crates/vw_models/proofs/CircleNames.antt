@@ -21,7 +21,7 @@ use Rattle.vw_order.specs.Circles.{IsNumberCircle, BeginsWithLeast}
 use Rattle.vw_net.proofs.Orders.{among_at, at_among}
 use Rattle.vw_order.proofs.Among.{among_right, once_apart}
 use Rattle.vw_models.specs.Steps.ModelGraphs.{graph_of_models}
-use Rattle.vw_models.specs.Steps.ModelNames.{name_of, numbered_names}
+use Rattle.vw_models.specs.Steps.ModelNames.{name_if_any, numbered_names}
 use Rattle.vw_models.proofs.NumbersInLists.{Has_among}
 use Rattle.vw_design.proofs.ModelNumbers.{place_of_model, named_at, same_number}
 use Rattle.vw_design.proofs.PairedLists.{AllZip-maps}
@@ -37,15 +37,15 @@ first_apart number numbers once among =
 module _ (design : Design) where
   -- the name of a number
   abbrev called : ℕ → Word
-  called number = name_of (slice_get design.models number)
+  called number = name_if_any (slice_get design.models number)
 
   called_apart : (one other : ℕ) → one < length design.models → other < length design.models → called one ≡ called other → one ≡ other
   called_apart one other within_one within_other same =
       let a = at_within design.models one within_one in
       let b = at_within design.models other within_other in
-      same_number design one other a.0 b.0 a.1 b.1 (sym (ap name_of a.1) ∙ same ∙ ap name_of b.1)
+      same_number design one other a.0 b.0 a.1 b.1 (sym (ap name_if_any a.1) ∙ same ∙ ap name_if_any b.1)
 
-  names_apart : (numbers : List ℕ) → IsDistinct eqb numbers → ((number : ℕ) → is_among numbers number ≡ true → number < length design.models) → are_distinct (map (λ number. name_of (slice_get design.models number)) numbers) ≡ true
+  names_apart : (numbers : List ℕ) → IsDistinct eqb numbers → ((number : ℕ) → is_among numbers number ≡ true → number < length design.models) → are_distinct (map (λ number. name_if_any (slice_get design.models number)) numbers) ≡ true
   names_apart [] once inside = refl
   names_apart (number ∷ numbers) once inside =
       and_from (not (has_name (map called numbers) (called number))) (are_distinct (map called numbers))
@@ -62,14 +62,14 @@ module _ (design : Design) where
 
   reached_called : (number : ℕ) → is_reached_model design (slice_get design.models number) ≡ true → is_reached design (called number) ≡ true
   reached_called number reached = by (slice_get design.models number) reached where
-    by : (found : Option Model) → is_reached_model design found ≡ true → is_reached design (name_of found) ≡ true
+    by : (found : Option Model) → is_reached_model design found ≡ true → is_reached design (name_if_any found) ≡ true
     by None reached = absurd (true≢false (sym reached))
     by (Some model) reached = reached
 
   place_of_called : (number : ℕ) → number < length design.models → place_in_file design (called number) ≡ number
   place_of_called number inside =
       let model = at_within design.models number inside in
-      ap (λ (m : Option Model). place_in_file design (name_of m)) model.1 ∙ place_of_model design number model.0 model.1
+      ap (λ (m : Option Model). place_in_file design (name_if_any m)) model.1 ∙ place_of_model design number model.0 model.1
 
   module _ (targets : Targets) (are : AreTargets design targets) (circle : List ℕ) (is_circle : IsNumberCircle (graph_of_models design targets) circle) where
     pub circle_within : (number : ℕ) → is_among circle number ≡ true → number < length design.models
@@ -87,8 +87,8 @@ module _ (design : Design) where
     placed_pair : (number next : ℕ) → Reads (graph_of_models design targets) number next → model_places (model_named design.models (called number)) (called next) ≡ true
     placed_pair number next places =
         let is = placed design targets are number places.0 next places.1 in
-        ap (λ (w : Word). model_places (model_named design.models (called number)) w) (ap name_of is.next_at)
-        ∙ ap (λ (w : Word). model_places (model_named design.models w) is.next.name) (ap name_of is.at)
+        ap (λ (w : Word). model_places (model_named design.models (called number)) w) (ap name_if_any is.next_at)
+        ∙ ap (λ (w : Word). model_places (model_named design.models w) is.next.name) (ap name_if_any is.at)
         ∙ ap (λ (m : Option Model). model_places m is.next.name) (named_at design number is.model is.at) ∙ is.places
 
     pub is_circle_of_names : BeginsWithLeast circle → IsModelCircle design (numbered_names design circle)

@@ -23,7 +23,7 @@ use std::alloc::{AllocError, Global};
 
 /// How far a search has come. It keeps its own stack, since a chain of numbers may be as long as there are any.
 #[derive(Drop)]
-pub struct Depth {
+pub struct DepthSearch {
     pub progress: Vec<Progress>,
     /// For each number, how many of its places are known to read what is done.
     pub cursors: Vec<usize>,
@@ -33,7 +33,7 @@ pub struct Depth {
     pub stack: Vec<u32>,
 }
 
-impl Depth {
+impl DepthSearch {
     /// The start over so many numbers: nothing is open.
     pub fn start(alloc: Global, count: usize) -> Result<Self, AllocError>
         ensures progress { IfOk result (λ depth. depth.progress.items ≡ replicate count Progress.Fresh) }
@@ -41,7 +41,7 @@ impl Depth {
         ensures order { IfOk result (λ depth. depth.order.items ≡ []) }
         ensures stack { IfOk result (λ depth. depth.stack.items ≡ []) }
     {
-        Ok(Depth {
+        Ok(DepthSearch {
             progress: vec![in alloc; Progress::Fresh; count]?,
             cursors: vec![in alloc; 0; count]?,
             order: Vec::new(alloc),

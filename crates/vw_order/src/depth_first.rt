@@ -2,10 +2,10 @@
 ghost use Rattle.std.specs.Prelude.{◌≡◌, ◌<◌, [], IfOk};
 ghost use Rattle.vw_order.specs.Graphs.{IsWithin};
 ghost use Rattle.vw_order.specs.SearchResults.{IsFound};
-ghost use Rattle.vw_order.specs.Steps.Searches.{IsDepth, IsGoneOn, IsVisited};
+ghost use Rattle.vw_order.specs.Steps.Searches.{IsDepthSearch, IsGoneOn, IsVisited};
 
 use crate::circle::{from_least, round};
-use crate::depth::Depth;
+use crate::depth::DepthSearch;
 use crate::digraph::Digraph;
 use std::alloc::{AllocError, Global};
 
@@ -23,10 +23,10 @@ pub enum Found {
 fn go_on<D: Digraph>(
     alloc: Global,
     digraph: &D,
-    depth: &mut Depth,
+    depth: &mut DepthSearch,
 ) -> Result<Option<Vec<u32>>, AllocError>
     requires within { IsWithin (D.graph digraph.now) }
-    requires depth { IsDepth (D.graph digraph.now) depth.old }
+    requires depth { IsDepthSearch (D.graph digraph.now) depth.old }
     ensures { IfOk result (IsGoneOn (D.graph digraph.now) depth.old depth.new) }
 {
     while let Some(number) = depth.stack.pop() {
@@ -47,11 +47,11 @@ fn go_on<D: Digraph>(
 fn visit<D: Digraph>(
     alloc: Global,
     digraph: &D,
-    depth: &mut Depth,
+    depth: &mut DepthSearch,
     number: u32,
 ) -> Result<Option<Vec<u32>>, AllocError>
     requires within { IsWithin (D.graph digraph.now) }
-    requires depth { IsDepth (D.graph digraph.now) depth.old }
+    requires depth { IsDepthSearch (D.graph digraph.now) depth.old }
     requires rests { depth.old.stack.items ≡ [] }
     requires number { number < (D.graph digraph.now).count }
     ensures { IfOk result (IsVisited (D.graph digraph.now) depth.old depth.new number) }
@@ -69,7 +69,7 @@ pub fn search<D: Digraph>(alloc: Global, digraph: &D) -> Result<Found, AllocErro
     requires { IsWithin (D.graph digraph.now) }
     ensures { IfOk result (IsFound (D.graph digraph.now)) }
 {
-    let mut depth = Depth::start(alloc, digraph.count() as usize)?;
+    let mut depth = DepthSearch::start(alloc, digraph.count() as usize)?;
     for number in 0..digraph.count() {
         if let Some(circle) = visit(alloc, digraph, &mut depth, number)? {
             return Ok(Found::Circle(from_least(alloc, &circle)?));

@@ -2,11 +2,8 @@
 use Rattle.std.proofs.Common.{◌≡◌, ◌≤◌, ◌<◌, ℕ, ◌+◌, List, ◌++◌, length, take, drop, sym, ◌∙◌, ap, arith, length-take, length-drop, length-append}
 use Rattle.std.proofs.lemmas.List.{take-append-le, take_all}
 use Rattle.std.proofs.Math.Seq.{take-add}
+use Rattle.vw_outside.specs.Fronts.{IsFront}
 use Rattle.vw_outside.specs.Reads.{Fills}
-
--- what was read so far is the front of a text
-abbrev pub IsFront : List ℕ → List ℕ → Type 0
-IsFront so_far bytes = (so_far ≡ take (length so_far) bytes) × (length so_far ≤ length bytes)
 
 -- a read more
 pub front_further : (so_far buffer rest bytes : List ℕ) (count : ℕ) → IsFront so_far bytes → Fills bytes (length so_far) buffer count → count ≤ length buffer → IsFront (so_far ++ take count (buffer ++ rest)) bytes

@@ -14,7 +14,7 @@ use std::{fs, io};
 
 /// A file that was opened by a name.
 #[derive(Drop)]
-struct Opened<F: Drop> {
+struct LastFile<F: Drop> {
     name: Name,
     file: F,
 }
@@ -27,7 +27,7 @@ struct Opened<F: Drop> {
 pub struct FileShelf<R: Files + Drop> {
     alloc: Global,
     files: R,
-    last: Option<Opened<R::File>>,
+    last: Option<LastFile<R::File>>,
     faults: u64,
 }
 
@@ -52,13 +52,13 @@ fn open_regular<R: Files>(files: &R, path: &str) -> io::Result<R::File> {
 }
 
 /// Opens the regular file of a name.
-fn open_name<R: Files>(alloc: Global, files: &R, name: &Name) -> io::Result<Opened<R::File>> {
+fn open_name<R: Files>(alloc: Global, files: &R, name: &Name) -> io::Result<LastFile<R::File>> {
     let Ok(path) = str::from_utf8(name.as_slice()) else {
         return Err(io::Error::from(io::ErrorKind::InvalidInput));
     };
     let file = open_regular(files, path)?;
     let name = name.copy(alloc)?;
-    Ok(Opened { name, file })
+    Ok(LastFile { name, file })
 }
 
 /// Goes to a place of a file and reads once.
@@ -83,7 +83,7 @@ impl<R: Files + Drop> FileShelf<R> {
     }
 
     /// Takes the last file if it was opened by this name, else opens one now. None stays behind.
-    fn take_opened(&mut self, name: &Name) -> io::Result<Opened<R::File>>
+    fn take_opened(&mut self, name: &Name) -> io::Result<LastFile<R::File>>
         ensures { self.new ≡ self.old }
     {
         if let Some(opened) = self.last.take()

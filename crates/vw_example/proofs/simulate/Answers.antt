@@ -1,9 +1,10 @@
-use Rattle.std.proofs.Common.{◌≡◌, ℕ, Bool, false, List, [], ◌∷◌, ◌++◌, length, take, Some, Err, refl, sym, ◌∙◌, ap, ap₂, subst, inl, inr, arith, rules}
+use Rattle.std.proofs.Common.{◌≡◌, ◌≤◌, ℕ, Bool, false, List, [], ◌∷◌, ◌++◌, length, length-take, take, Some, Err, refl, sym, ◌∙◌, ap, ap₂, subst, inl, inr, arith, rules}
 use Rattle.std.specs.Prelude.{codes, option_map}
 use Rattle.vw_design.specs.Clocks.{columns}
 use Rattle.vw_rows.specs.Stimulus.{stimulus_rows}
 use Rattle.vw_outside.specs.declared.held.Held.{Held}
 use Rattle.vw_outside.specs.Told.{Told, held, IsTextOf}
+use Rattle.vw_outside.specs.Fronts.{IsFront}
 use Rattle.vw_outside.specs.HeldTexts.{told_in}
 use Rattle.vw_outside.specs.Memory.{seen_shelf, seen_sink}
 use Rattle.vw_outside.specs.Writes.{SeenSink, appended, faulted, seen_bytes}
@@ -17,7 +18,7 @@ use Rattle.vw_top.specs.Commands.{sim_course, course_of, trace_of}
 use Rattle.vw_top.specs.Endings.{IsCallOf, IsReported}
 use Rattle.vw_top.specs.Statuses.{IsRefused, LeavesPart, Statuses}
 use Rattle.vw_top.specs.SimStatuses.{SimStatuses}
-use Rattle.vw_example.specs.SimulateStatuses.{HasBadDesign, HasBadRows, IsFront, SimulateStatuses}
+use Rattle.vw_example.specs.SimulateStatuses.{HasBadDesign, HasBadRows, SimulateStatuses}
 use Rattle.vw_example.proofs.simulate.Goals as goal
 
 -- what two files of these names hold
@@ -38,11 +39,18 @@ told_text before after text out none some same =
 whole_text : (before after : SeenSink) (text out : List ℕ) → before.told ≡ Some [] → after.told ≡ Some out → after ≡ appended before text → out ≡ text
 whole_text before after text out none some same = told_text before after text out none some (ap (λ (sink : SeenSink). sink.told) same)
 
+-- so many of the first bytes of a text are a front of it
+first_bytes : (text out : List ℕ) (count : ℕ) → count ≤ length text → out ≡ take count text → IsFront out text
+first_bytes text out count within same =
+    let size : length out ≡ count = omega (arith, ap length same, length-take count text, within) in
+    (same ∙ ap (λ (n : ℕ). take n text) (sym size), omega (arith, size, within))
+
 -- the same of a part of a text, whether a write failed behind it or not
 front_of_text : (before after : SeenSink) (text out : List ℕ) → before.told ≡ Some [] → after.told ≡ Some out → LeavesPart text before after → IsFront out text
-front_of_text before after text out none some (inl (count, within, same)) = (count, (within, whole_text before after (take count text) out none some same))
+front_of_text before after text out none some (inl (count, within, same)) =
+    first_bytes text out count within (whole_text before after (take count text) out none some same)
 front_of_text before after text out none some (inr (count, within, same)) =
-    (count, (within, told_text before after (take count text) out none some (ap (λ (sink : SeenSink). sink.told) same)))
+    first_bytes text out count within (told_text before after (take count text) out none some (ap (λ (sink : SeenSink). sink.told) same))
 
 -- what the words spell
 abbrev its_sim : Spelled

@@ -5,9 +5,9 @@ use Rattle.vw_design.specs.declared.design.Design.{Design}
 use Rattle.vw_design.specs.Paths.{Word}
 
 -- the name of a model that may be there, and the names of numbered models
-abbrev pub name_of : Option Model → Word
-name_of None = []
-name_of (Some model) = model.name
+abbrev pub name_if_any : Option Model → Word
+name_if_any None = []
+name_if_any (Some model) = model.name
 
 abbrev pub numbered_names : Design → List ℕ → List Word
-numbered_names design numbers = map (λ number. name_of (slice_get design.models number)) numbers
+numbered_names design numbers = map (λ number. name_if_any (slice_get design.models number)) numbers

@@ -6,7 +6,7 @@ use Rattle.std.specs.List.{IsDistinct}
 use Rattle.vw_net.specs.Order.{is_among}
 use Rattle.vw_order.specs.declared.progress.Progress.{Progress}
 use Rattle.vw_order.specs.declared.progress.Progress.TheVariants.{Fresh, Open, Done}
-use Rattle.vw_order.specs.declared.depth.Depth.{Depth}
+use Rattle.vw_order.specs.declared.depth.DepthSearch.{DepthSearch}
 use Rattle.vw_order.specs.Graphs.{Graph, ReadsAt, Reads}
 use Rattle.vw_order.specs.Orders.{IsBehind}
 use Rattle.vw_order.specs.Circles.{IsNumberCircle}
@@ -32,27 +32,27 @@ pub record IsSearch (graph : Graph) (progress : List Progress) (cursors order st
   pub leads : IsReadChain graph stack
   pub counted : (number : ℕ) → IsTrue (is_among (order ++ stack) number) → IsTrue (graph.counts number)
 
-abbrev pub IsDepth : Graph → Depth → Type 0
-IsDepth graph depth = IsSearch graph depth.progress.items depth.cursors.items depth.order.items depth.stack.items
+abbrev pub IsDepthSearch : Graph → DepthSearch → Type 0
+IsDepthSearch graph depth = IsSearch graph depth.progress.items depth.cursors.items depth.order.items depth.stack.items
 
 -- what was done or open is done or open
-abbrev pub IsKept : Depth → Depth → Type 0
+abbrev pub IsKept : DepthSearch → DepthSearch → Type 0
 IsKept old new =
     (number : ℕ) → IsTrue (is_among (old.order.items ++ old.stack.items) number) → IsTrue (is_among (new.order.items ++ new.stack.items) number)
 
 -- nothing is open, and what was done or open is done
-pub record IsAtRest (graph : Graph) (old new : Depth) : Type 0 where
-  pub depth : IsDepth graph new
+pub record IsAtRest (graph : Graph) (old new : DepthSearch) : Type 0 where
+  pub depth : IsDepthSearch graph new
   pub rests : new.stack.items ≡ []
   pub kept : IsKept old new
 
 -- a search that has gone on rests, or has found a circle
-abbrev pub IsGoneOn : Graph → Depth → Depth → Option (Vec ℕ) → Type 0
+abbrev pub IsGoneOn : Graph → DepthSearch → DepthSearch → Option (Vec ℕ) → Type 0
 IsGoneOn graph old new None = IsAtRest graph old new
 IsGoneOn graph old new (Some circle) = IsNumberCircle graph circle.items
 
 -- one that has visited a number has done with it, where it has to be reached
-abbrev pub IsVisited : Graph → Depth → Depth → ℕ → Option (Vec ℕ) → Type 0
+abbrev pub IsVisited : Graph → DepthSearch → DepthSearch → ℕ → Option (Vec ℕ) → Type 0
 IsVisited graph old new number None =
     IsAtRest graph old new × (IsTrue (graph.starts number) → IsTrue (is_among new.order.items number))
 IsVisited graph old new number (Some circle) = IsNumberCircle graph circle.items

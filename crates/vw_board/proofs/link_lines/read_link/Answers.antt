@@ -1,7 +1,7 @@
 use Rattle.std.proofs.Common.{◌≡◌, ◌≢◌, true, false, Some, rules, arith}
 use Rattle.std.specs.Prelude.{codes}
 use Rattle.vw_plan.specs.Walks.{has_link}
-use Rattle.vw_board.specs.Words.{has_words, number_within}
+use Rattle.vw_board.specs.Words.{is_line_of, number_within}
 use Rattle.vw_board.proofs.LinkReads.{link_fine}
 use Rattle.vw_board.proofs.link_lines.read_link.Goals as goal
 
@@ -9,7 +9,7 @@ pub returns-clause-fine : goal.returns-clause-fine
 returns-clause-fine c =
     let line = c.args.line.now in
     let link = c.make.result in
-    let form : has_words (codes "link") 4 line ≡ true = search rules in
+    let form : is_line_of (codes "link") 4 line ≡ true = search rules in
     let from : number_within 0 c.args.chips 1 line ≡ Some link.from = search rules in
     let to : number_within 0 c.args.chips 2 line ≡ Some link.to = search rules in
     let width : number_within 1 64 3 line ≡ Some link.width = search rules in

@@ -5,7 +5,7 @@ use Rattle.std.proofs.lemmas.Option.{none-some}
 use Rattle.vw_net.specs.Order.{is_among}
 use Rattle.vw_order.specs.declared.progress.Progress.{Progress}
 use Rattle.vw_order.specs.declared.progress.Progress.TheVariants.{Fresh, Open, Done}
-use Rattle.vw_order.specs.declared.depth.Depth.{Depth}
+use Rattle.vw_order.specs.declared.depth.DepthSearch.{DepthSearch}
 use Rattle.vw_order.specs.Circles.{IsNumberCircle}
 use Rattle.vw_order.specs.Steps.SearchProgress.{is_open_progress}
 use Rattle.vw_order.specs.Steps.Rounds.{round_from}
@@ -38,7 +38,7 @@ rest_empty stack rest None none empty items = sym (append-nil rest) ∙ sym item
 rest_empty stack rest (Some x) none empty items = absurd (none-some x (sym none))
 
 -- what was done or open before is so afterwards
-kept : (old depth new : Depth) (stack order' stack' : List ℕ) (number : ℕ) → depth.stack.items ≡ stack ++ number ∷ [] → new.order.items ≡ order' → new.stack.items ≡ stack' → IsKept old depth
+kept : (old depth new : DepthSearch) (stack order' stack' : List ℕ) (number : ℕ) → depth.stack.items ≡ stack ++ number ∷ [] → new.order.items ≡ order' → new.stack.items ≡ stack' → IsKept old depth
     → ((other : ℕ) → is_among (depth.order.items ++ (stack ++ number ∷ [])) other ≡ true → is_among (order' ++ stack') other ≡ true) → IsKept old new
 kept old depth new stack order' stack' number was order_is stack_is before step = λ other among.
     let there : is_among (depth.order.items ++ (stack ++ number ∷ [])) other ≡ true = subst (λ (l : List ℕ). is_among (depth.order.items ++ l) other ≡ true) was (before other among) in

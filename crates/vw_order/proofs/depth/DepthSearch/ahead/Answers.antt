@@ -4,8 +4,8 @@ use Rattle.std.specs.Prelude.{slice_index}
 use Rattle.vw_order.specs.declared.progress.Progress.{Progress}
 use Rattle.vw_order.specs.declared.progress.Progress.TheVariants.{Fresh, Open, Done}
 use Rattle.vw_order.specs.Steps.SearchProgress.{AreDone, is_done_progress}
-use Rattle.vw_order.proofs.depth.Depth.ahead.Goals as goal
-use Rattle.vw_order.proofs.depth.Depth.ahead.Goals.{in-Some+else-not-is_finished, in_default}
+use Rattle.vw_order.proofs.depth.DepthSearch.ahead.Goals as goal
+use Rattle.vw_order.proofs.depth.DepthSearch.ahead.Goals.{in-Some+else-not-is_finished, in_default}
 
 done_is : (progress : Progress) → is_done_progress progress ≡ true → progress ≡ Done
 done_is Fresh is = absurd (true≢false (sym is))

@@ -1,7 +1,7 @@
 -- what stands before the place is done
 use Rattle.std.specs.Prelude.{slice_index}
 use Rattle.vw_order.specs.Steps.SearchProgress.{AreDone}
-use Rattle.vw_order.proofs.depth.Depth.ahead.Given as goal
+use Rattle.vw_order.proofs.depth.DepthSearch.ahead.Given as goal
 
 abbrev pub invariant-loop-place : goal.invariant-loop-place
 invariant-loop-place g l =
