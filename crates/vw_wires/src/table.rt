@@ -55,13 +55,15 @@ fn depth_of_cell(flat: &Flat, chip_of: &[u32], table: &[u32], number: u32, net: 
     }
 }
 
-/// The depth of each net: one pass over the gates in their order.
+/// The depth of each net, and of nothing else: one pass over the gates in their order.
 pub fn depth_table(
     alloc: Global,
     ordered: &Ordered,
     chip_of: &[u32],
 ) -> Result<Vec<u32>, AllocError>
-    ensures { IfOk result (λ table. (net : ℕ)
+    ensures nets { IfOk result (λ table.
+        length table.items ≡ ordered.now.flat.inputs + length ordered.now.flat.cells) }
+    ensures depths { IfOk result (λ table. (net : ℕ)
         → slice_index table.items net ≡ depth ordered.now.flat chip_of.now net) }
 {
     depths_follow_drivers();

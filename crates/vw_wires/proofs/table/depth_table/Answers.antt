@@ -45,4 +45,7 @@ returns c =
     let ordered = c.args.ordered.now in
     let chip_of = c.args.chip_of.now in
     let whole : length ordered.order ≤ c.loop-number.number-index = omega (arith, ap length c.order-number-items.ensures) in
-    all_right ordered chip_of (c.depths_follow_drivers.ensures ordered chip_of) c.loop-number.number-index c.loop-number.table.items whole c.loop-number.invariant.long c.loop-number.invariant.right
+    record {
+      nets = c.loop-number.invariant.long;
+      depths = all_right ordered chip_of (c.depths_follow_drivers.ensures ordered chip_of) c.loop-number.number-index c.loop-number.table.items whole c.loop-number.invariant.long c.loop-number.invariant.right;
+    }

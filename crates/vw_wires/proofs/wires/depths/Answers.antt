@@ -29,7 +29,7 @@ loop-need-preserved c =
       | in-Some w ↦ w.depth-is ∙ (rw w.in-Some.is at found)
       | in-None w ↦ w.depth-is ∙ (rw w.in-None.is at found)
     ] in
-    let value = read ∙ ap (λ (numbers : List ℕ). get_or numbers net 0) c.deref.ensures.value ∙ c.in_ok-table.ensures net ∙ ap (depth c.args.ordered.now.flat c.args.chip_of.now) c.net.ensures in
+    let value = read ∙ ap (λ (numbers : List ℕ). get_or numbers net 0) c.deref.ensures.value ∙ c.in_ok-table.ensures.depths net ∙ ap (depth c.args.ordered.now.flat c.args.chip_of.now) c.net.ensures in
     one_more (λ need. depth c.args.ordered.now.flat c.args.chip_of.now need.net) c.args.needs.now c.loop-need.need-index c.loop-need.depths.items c.push.new.self.items c.match-get.depth c.loop-need-test.true value c.in_ok-push.ensures.items c.loop-need.invariant
 
 pub returns : goal.returns
