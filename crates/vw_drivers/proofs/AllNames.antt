@@ -16,7 +16,7 @@ use Rattle.vw_drivers.specs.declared.model_names.PlacedNames.{PlacedNames}
 use Rattle.vw_drivers.specs.declared.model_names.ModelNames.{ModelNames}
 use Rattle.vw_drivers.specs.Names.{reads_of, firsts_of, AreModelNames}
 use Rattle.vw_drivers.specs.Steps.GatheredNames.{placed_from}
-use Rattle.vw_drivers.proofs.PlacedItems.{placed_names}
+use Rattle.vw_drivers.proofs.PlacedItems.{placed_count, placed_names}
 
 -- the models below a number have their names
 abbrev pub AreNamesBelow : Design → List ModelClaims → ℕ → List ModelNames → Type 0
@@ -38,6 +38,7 @@ module _ (design : Design) (targets : List (List (Option ℕ))) (are : AreTarget
       let targets_are = subst (λ (numbers : List (Option ℕ)). AllZip (λ placing number. IsNumberOfModel design placing.model number) (placings model.items) numbers) same along.2 in
       subst (λ (own : List First). AreModelNames design claims own model.items names) firsts (record {
         reads = reads;
+        count = ap (λ (list : List PlacedNames). length list) placed ∙ placed_count own.firsts claims row 0 0 model.items;
         placed = λ before placing at.
             let entry = placed_names design claims long own.firsts model.items row targets_are before placing at in
             (entry.0, ap (λ (list : List PlacedNames). slice_get list before) placed ∙ entry.1, entry.2);

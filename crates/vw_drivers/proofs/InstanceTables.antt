@@ -48,7 +48,7 @@ module _ (design : Design) (faultless : HasNoModelFault design) (tables : Tables
   pub instance_of : (number : ℕ) (path : Path) → slice_get (instances design) number ≡ Some path → HasInstance design tables number path
   instance_of number path listed =
       let found = are.placed.each number path listed in
-      let claims = are.claims found.0.model found.2.model found.2.model_is in
+      let claims = are.claims.each found.0.model found.2.model found.2.model_is in
       record {
         entry = found.0;
         at = found.1;
@@ -69,7 +69,7 @@ module _ (design : Design) (faultless : HasNoModelFault design) (tables : Tables
 
     pub before_is : (item : ℕ) (what : Item) → slice_get has.is.model.items item ≡ Some what → HasBefore item
     before_is item what at =
-        let entries = are.before path has.is.model has.entry.model has.is.stands has.is.model_is in
+        let entries = are.before.each path has.is.model has.entry.model has.is.stands has.is.model_is in
         by entries.0 entries.1 entries.2 entries.3 (slice_get entries.0 item) refl
       where
         by : (entries : List Before) → slice_get tables.before has.entry.model ≡ Some entries → length entries ≡ length has.is.model.items
@@ -116,7 +116,7 @@ module _ (design : Design) (faultless : HasNoModelFault design) (tables : Tables
 
     pub placed_is : (before : ℕ) (placing : Placing) → slice_get (placings has.is.model.items) before ≡ Some placing → HasPlaced before placing
     placed_is before placing at =
-        let names = are.names has.entry.model has.is.model has.is.model_is in
+        let names = are.names.each has.entry.model has.is.model has.is.model_is in
         let placed = names.2.placed before placing at in
         let less : suc before - 1 ≡ before = omega arith in
         record {

@@ -36,7 +36,7 @@ module _ (design : Design) (faultless : HasNoModelFault design) (tables : Tables
   -- a port of the root is claimed
   pub port_number : (name : Word) (root : Model) → model_at design [] ≡ Some root → is_port root name ≡ true → (number : ℕ) × (number_named (root_firsts tables) name ≡ Some number)
   port_number name root stands is =
-      let claims = are.claims 0 root stands in
+      let claims = are.claims.each 0 root stands in
       let first : first_claim design (Some root) name ≡ Some port =
       ap (λ (b : Bool). slice_get ((if b then port ∷ [] else []) ++ flat_map (λ (entry : Numbered). item_claims design name entry.number entry.before entry.item) (numbered 0 0 root.items)) 0) is in
       let kind : claim_named claims.0.firsts name ≡ Some ClaimedPort =

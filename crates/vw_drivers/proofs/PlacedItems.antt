@@ -121,6 +121,12 @@ module _ (own : List First) (claims : List ModelClaims) (targets : List (Option 
       let rest = made_at (suc number) (suc before) items k placing at in
       (rest.0, rest.1, behind number before line model binds items k placing rest.0 rest.2)
 
+  pub placed_count : (number before : ℕ) (items : List Item) → length (placed_from own claims targets number before items) ≡ length (placings items)
+  placed_count number before [] = refl
+  placed_count number before (Names line ins out cover ∷ items) = placed_count (suc number) before items
+  placed_count number before (Latch line d q edge control init ∷ items) = placed_count (suc number) before items
+  placed_count number before (Sub line model binds ∷ items) = ap suc (placed_count (suc number) (suc before) items)
+
 module _ (design : Design) (claims : List ModelClaims) (long : length claims ≡ length design.models) where
   -- the claims of a placed model are those of its number
   no_claims : (number : ℕ) → slice_get design.models number ≡ None → firsts_of claims (Some number) ≡ []

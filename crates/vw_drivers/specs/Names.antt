@@ -49,11 +49,12 @@ pub record IsPlacedNames (design : Design) (claims : List ModelClaims) (own : Li
 -- the numbers of all items of a model with these claims
 pub record AreModelNames (design : Design) (claims : List ModelClaims) (own : List First) (items : List Item) (names : ModelNames) : Type 0 where
   pub reads : names.reads ≡ map (λ item. map (number_named own) (reads_of item)) items
+  pub count : length names.placed ≡ length (placings items)
   pub placed : (before : ℕ) (placing : Placing) → slice_get (placings items) before ≡ Some placing
       → (entry : PlacedNames) × (slice_get names.placed before ≡ Some entry) × IsPlacedNames design claims own items before placing entry
 
 -- those of all models
-abbrev pub AreNames : Design → List ModelClaims → List ModelNames → Type 0
-AreNames design claims names =
-    (number : ℕ) (model : Model) → slice_get design.models number ≡ Some model
-    → (found : ModelNames) × (slice_get names number ≡ Some found) × AreModelNames design claims (firsts_of claims (Some number)) model.items found
+pub record AreNames (design : Design) (claims : List ModelClaims) (names : List ModelNames) : Type 0 where
+  pub count : length names ≡ length design.models
+  pub each : (number : ℕ) (model : Model) → slice_get design.models number ≡ Some model
+      → (found : ModelNames) × (slice_get names number ≡ Some found) × AreModelNames design claims (firsts_of claims (Some number)) model.items found

@@ -1,5 +1,5 @@
 -- Tables of a design by numbers.
-use Rattle.std.specs.Prelude.{◌≡◌, ℕ, List, slice_get, Some, option_map}
+use Rattle.std.specs.Prelude.{◌≡◌, ℕ, List, length, slice_get, Some, option_map}
 use Rattle.vw_design.specs.declared.model.Model.{Model}
 use Rattle.vw_design.specs.declared.design.Design.{Design}
 use Rattle.vw_drivers.specs.declared.model_claims.ModelClaims.{ModelClaims}
@@ -11,10 +11,10 @@ use Rattle.vw_instances.specs.Tables.{ArePlaced}
 use Rattle.vw_drivers.specs.declared.tables.Tables.{Tables}
 
 -- the claims of each model
-abbrev pub AreModelClaims : Design → List ModelClaims → Type 0
-AreModelClaims design claims =
-    (number : ℕ) (model : Model) → slice_get design.models number ≡ Some model
-    → (found : ModelClaims) × (slice_get claims number ≡ Some found) × AreClaims design (Some model) found
+pub record AreModelClaims (design : Design) (claims : List ModelClaims) : Type 0 where
+  pub count : length claims ≡ length design.models
+  pub each : (number : ℕ) (model : Model) → slice_get design.models number ≡ Some model
+      → (found : ModelClaims) × (slice_get claims number ≡ Some found) × AreClaims design (Some model) found
 
 -- the tables are those of the design
 pub record AreTables (design : Design) (tables : Tables) : Type 0 where

@@ -1,5 +1,5 @@
 //! The claims of all models.
-ghost use Rattle.std.specs.Prelude.{◌≡◌, length, IfOk};
+ghost use Rattle.std.specs.Prelude.{IfOk};
 ghost use Rattle.vw_design.specs.ModelNumbers.{AreTargets};
 ghost use Rattle.vw_drivers.specs.Tables.{AreModelClaims};
 
@@ -17,8 +17,7 @@ pub fn all_claims(
     targets: &[Sequence<Option<u32>>],
 ) -> Result<Vec<ModelClaims>, AllocError>
     requires { AreTargets design.now targets.now }
-    ensures claims { IfOk result (λ claims. AreModelClaims design.now claims.items) }
-    ensures each { IfOk result (λ claims. length claims.items ≡ length design.now.models) }
+    ensures { IfOk result (λ claims. AreModelClaims design.now claims.items) }
 {
     let outputs = output_sets(alloc, design)?;
     let mut claims = Vec::with_capacity(alloc, design.models().len())?;

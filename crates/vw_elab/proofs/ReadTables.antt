@@ -78,7 +78,7 @@ module _ (design : Design) where
       let entry = found.0 in
       let placed = are.tables.placed.each entry.instance site.path found.2.instance_is in
       let model = placed.2.model in
-      let names = are.tables.names placed.0.model model placed.2.model_is in
+      let names = are.tables.names.each placed.0.model model placed.2.model_is in
       let own = firsts_of tables.claims (Some placed.0.model) in
       let each = λ (item : Item). map (number_named own) (reads_of item) in
       let listed = (from-filter (λ (s : Site). is_cell s.item) site (sites design) (Has-at site (cells design) cell at)).0 in

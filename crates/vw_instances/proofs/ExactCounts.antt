@@ -16,7 +16,7 @@ use Rattle.vw_design.proofs.ListElements.{Has, all-Has, from-filter_map}
 use Rattle.vw_design.proofs.Sizes.{small_of}
 use Rattle.vw_design.proofs.Weights.{capped_weight}
 use Rattle.vw_design.proofs.ModelNumbers.{place_of_model, root_model}
-use Rattle.vw_design.proofs.PairedLists.{AllZip-at}
+use Rattle.vw_design.proofs.PairedLists.{AllZip-at, AllZip-length}
 use Rattle.vw_instances.specs.declared.measure.Measure.TheVariants.{Instances, Cells}
 use Rattle.vw_instances.specs.declared.quantity.Quantity.{Quantity}
 use Rattle.vw_instances.specs.declared.sizes.Before.{Before}
@@ -94,17 +94,20 @@ module _ (design : Design) (tables : CountingTables) (are : AreCountingTables de
       omega (arith, all, less, number_of_root counts, counted_at design Instances counts are.instances path model stands, (small_of design small).instances)
 
   pub are_before : (before : List (List Before)) → AllZip (λ model list. AreEntries design tables model.items list) design.models before → AreBefore design before
-  are_before before along path model number stands at =
-      let found = AllZip-at (λ model list. AreEntries design tables model.items list) design.models before number model along at in (
-        found.0,
-        found.1,
-        found.2.0,
-        λ k entry is.
-            let each = found.2.1 k entry is in (
-              each.0 ∙ front_exact design are.ranked cell_one (count_in design tables.cells.items) are.cells.counted path model stands (short path model stands) (few_cells path model stands) k,
-              each.1 ∙ front_exact design are.ranked placed_one (count_in design tables.instances.items) are.instances.counted path model stands (short path model stands) (few_instances path model stands) k,
-            ),
-      )
+  are_before before along = record {
+    count = sym (AllZip-length (λ model list. AreEntries design tables model.items list) design.models before along);
+    each = λ path model number stands at.
+        let found = AllZip-at (λ model list. AreEntries design tables model.items list) design.models before number model along at in (
+          found.0,
+          found.1,
+          found.2.0,
+          λ k entry is.
+              let each = found.2.1 k entry is in (
+                each.0 ∙ front_exact design are.ranked cell_one (count_in design tables.cells.items) are.cells.counted path model stands (short path model stands) (few_cells path model stands) k,
+                each.1 ∙ front_exact design are.ranked placed_one (count_in design tables.instances.items) are.instances.counted path model stands (short path model stands) (few_instances path model stands) k,
+              ),
+        );
+  }
 
 module _ (design : Design) (totals : Totals) (are : AreTotals design totals) where
   pub nothing_big : (found : Option Quantity) → option_map counted_of found ≡ first_above totals → ((quantity : Quantity) → found ≡ Some quantity → ⊥) → too_big design ≡ None

@@ -11,14 +11,15 @@ use Rattle.vw_instances.specs.declared.sizes.Measured.{Measured}
 use Rattle.vw_instances.specs.declared.sizes.Measured.TheVariants.{Fits, TooBig}
 use Rattle.vw_instances.specs.Quantities.{counted_of}
 
--- for each model that is reached, how many cells and instances stand before each of its items, counted with all that
--- they place, at whatever path the model stands
-abbrev pub AreBefore : Design → List (List Before) → Type 0
-AreBefore design before = (path : Path) (model : Model) (number : ℕ) → model_at design path ≡ Some model → slice_get design.models number ≡ Some model
-    → (entries : List Before) × (slice_get before number ≡ Some entries) × (length entries ≡ length model.items)
-    × ((k : ℕ) (entry : Before) → slice_get entries k ≡ Some entry
-    → (entry.cells ≡ items_weight cell_one (model_weight design cell_one (levels_below design path)) (take k model.items))
-    × (entry.instances ≡ items_weight placed_one (model_weight design placed_one (levels_below design path)) (take k model.items)))
+-- one list for each model, and for each model that is reached how many cells and instances stand before each of its
+-- items, counted with all that they place, at whatever path the model stands
+pub record AreBefore (design : Design) (before : List (List Before)) : Type 0 where
+  pub count : length before ≡ length design.models
+  pub each : (path : Path) (model : Model) (number : ℕ) → model_at design path ≡ Some model → slice_get design.models number ≡ Some model
+      → (entries : List Before) × (slice_get before number ≡ Some entries) × (length entries ≡ length model.items)
+      × ((k : ℕ) (entry : Before) → slice_get entries k ≡ Some entry
+      → (entry.cells ≡ items_weight cell_one (model_weight design cell_one (levels_below design path)) (take k model.items))
+      × (entry.instances ≡ items_weight placed_one (model_weight design placed_one (levels_below design path)) (take k model.items)))
 
 -- the sizes of a design without a quantity that is too big
 pub record AreSizes (design : Design) (sizes : Sizes) : Type 0 where

@@ -47,7 +47,7 @@ module _ (design : Design) (tables : Tables) (are : AreTables design tables) (ce
 
   pub numbers_are : numbers_by tables cell ≡ Some (map (number_named (instance_firsts tables cell.instance)) (reads_of item))
   numbers_are =
-      let found = are.names entry.0.model entry.2.model entry.2.model_is in
+      let found = are.names.each entry.0.model entry.2.model entry.2.model_is in
       let own = firsts_of tables.claims (Some entry.0.model) in
       let of = λ (x : Item). map (number_named own) (reads_of x) in
       ap (option_and_then (λ (e : Placed). option_and_then (λ (names : ModelNames). slice_get names.reads cell.item) (slice_get tables.names e.model))) entry.1
@@ -69,7 +69,7 @@ module _ (design : Design) (tables : Tables) (are : AreTables design tables) whe
   root_entry = are.placed.each 0 [] refl
 
   abbrev pub root_claims : (found : ModelClaims) × (slice_get tables.claims root_entry.0.model ≡ Some found) × AreClaims design (Some root_entry.2.model) found
-  root_claims = are.claims root_entry.0.model root_entry.2.model root_entry.2.model_is
+  root_claims = are.claims.each root_entry.0.model root_entry.2.model root_entry.2.model_is
 
   pub root_number : (list : List Placed) → list ≡ tables.instances → (default : Placed) → (get_or list 0 default).model ≡ root_entry.0.model
   root_number list is default =

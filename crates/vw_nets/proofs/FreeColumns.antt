@@ -110,7 +110,7 @@ free_number firsts clock_flags x n is = free_name clock_flags (number_named firs
 -- an input of the root has a number, and is free exactly where it is no clock port
 module _ (design : Design) (tables : Tables) (are : AreTables design tables) (root : Model) (stands : Some root ≡ model_at design []) where
   claimed : (found : ModelClaims) × (slice_get tables.claims 0 ≡ Some found) × AreClaims design (Some root) found
-  claimed = are.claims 0 root (sym stands)
+  claimed = are.claims.each 0 root (sym stands)
 
   numbered : (found : Option ℕ) (firsts : List First) (claim : Claim) (meaning : NumberedClaim → Option Claim) → option_map meaning (option_and_then (claim_at firsts) found) ≡ Some (Some claim) → (n : ℕ) × (found ≡ Some n)
   numbered None firsts claim meaning is = cc

@@ -67,7 +67,7 @@ module _ (design : Design) (tables : Tables) (are : AreTables design tables) (in
 
   pub again_is : IsRepeatedClaim design (model_at design path) (again_by tables instance)
   again_is =
-      let found = are.claims entry.0.model entry.2.model entry.2.model_is in
+      let found = are.claims.each entry.0.model entry.2.model entry.2.model_is in
       let same : again_by tables instance ≡ found.0.again =
       ap (option_and_then (λ (e : Placed). option_and_then (λ (claims : ModelClaims). claims.again) (slice_get tables.claims e.model))) entry.1
       ∙ ap (option_and_then (λ (claims : ModelClaims). claims.again)) found.1 in
@@ -76,7 +76,7 @@ module _ (design : Design) (tables : Tables) (are : AreTables design tables) (in
 
   pub position_is : (place : ℕ) (item : Item) → item_at design path place ≡ Some item → position_by tables instance place ≡ Some (entry.0.cells + instance + weights design path place)
   position_is place item at =
-      let found = are.before path entry.2.model entry.0.model entry.2.stands entry.2.model_is in
+      let found = are.before.each path entry.2.model entry.0.model entry.2.stands entry.2.model_is in
       let in_model : slice_get entry.2.model.items place ≡ Some item = sym (ap (λ (m : Option Model). slice_get (items_of m) place) entry.2.stands) ∙ at in
       let within : place < length found.0 = omega (arith, found.2, slice_get_within entry.2.model.items place item in_model) in
       let before = at_within found.0 place within in

@@ -9,7 +9,9 @@ loop-model-preserved c =
     claims_more c.args.design.now c.loop-model.model c.in_ok-claims_of.field-0 c.loop-model.claims.items c.push.new.self.items
     c.in_ok-claims_of.ensures c.loop-model.invariant c.in_ok-push.ensures.items
 
-pub returns-clause-claims : goal.returns-clause-claims
-returns-clause-claims c = λ number model at.
-    c.loop-model.invariant.each number model
-    (omega (arith, c.loop-model-test.false, ap (λ (models : List Model). length models) c.models-model-end.ensures, slice_get_within c.args.design.now.models number model at)) at
+pub returns : goal.returns
+returns c =
+    let models = ap (λ (models : List Model). length models) c.models-model-end.ensures in record {
+      count = omega (arith, c.loop-model-test.false, c.loop-model.auto.model-end, c.loop-model.invariant.long, models);
+      each = λ number model at. c.loop-model.invariant.each number model (omega (arith, c.loop-model-test.false, models, slice_get_within c.args.design.now.models number model at)) at;
+    }

@@ -40,6 +40,8 @@ loop-number-preserved c =
     }
 
 pub returns : goal.returns
-returns c = λ number model at.
-    c.loop-number.invariant.names number model
-    (omega (arith, c.loop-number-test.false, ap (λ (models : List Model). length models) c.models-models.ensures, slice_get_within c.args.design.now.models number model at)) at
+returns c =
+    let models = ap (λ (models : List Model). length models) c.models-models.ensures in record {
+      count = omega (arith, c.loop-number-test.false, c.loop-number.auto.number-end, c.loop-number.invariant.length_is, models);
+      each = λ number model at. c.loop-number.invariant.names number model (omega (arith, c.loop-number-test.false, models, slice_get_within c.args.design.now.models number model at)) at;
+    }
