@@ -110,7 +110,7 @@ pub all_firsts : (item : ℕ) (more : List First) (claims : ModelClaims) → (wi
 all_firsts item [] claims = refl
 all_firsts item (further ∷ more) claims = all_firsts item more (with_claim item further.name further.claim claims)
 
-items_firsts : (design : Design) (number before : ℕ) (items : List Item) (claims : ModelClaims)
+pub items_firsts : (design : Design) (number before : ℕ) (items : List Item) (claims : ModelClaims)
     → (with_items design number before items claims).firsts
     ≡ with_firsts claims.firsts (flat_map (λ entry. item_made design entry.number entry.before entry.item) (numbered number before items))
 items_firsts design number before [] claims = refl

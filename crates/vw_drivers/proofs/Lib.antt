@@ -2,6 +2,7 @@ pub mod PlacedItems
 pub mod AllNames
 pub mod NameMaps
 pub mod ClaimLookups
+pub mod ClaimedOnce
 pub mod FirstClaims
 pub mod ModelClaimsAgain
 pub mod Targets

@@ -37,7 +37,7 @@ binds_names outputs place number (bind ∷ binds) = by (has_name outputs bind.fo
   by true rest = ap (λ (names : List Word). bind.actual ∷ names) rest
   by false rest = rest
 
-made_names : (design : Design) (number before : ℕ) (item : Item) → claimed_names (item_made design number before item) ≡ claimed_by design item
+pub made_names : (design : Design) (number before : ℕ) (item : Item) → claimed_names (item_made design number before item) ≡ claimed_by design item
 made_names design number before (Names line ins out cover) = refl
 made_names design number before (Latch line d q edge control init) = refl
 made_names design number before (Sub line model binds) = binds_names (model_outputs (model_named design.models model)) (suc before) 0 binds
@@ -140,7 +140,7 @@ module _ (design : Design) where
           (0, omega arith, (first, refl, first_behind before (first ∷ items) first ∙ is), λ j item below at. absurd (omega (arith, below)))
 
 -- the names of ports
-ports_names : (names : List Word) → claimed_names (map port_first names) ≡ names
+pub ports_names : (names : List Word) → claimed_names (map port_first names) ≡ names
 ports_names [] = refl
 ports_names (name ∷ names) = ap (λ (list : List Word). name ∷ list) (ports_names names)
 

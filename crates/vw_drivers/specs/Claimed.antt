@@ -1,5 +1,6 @@
 -- What the claims of a model by numbers say of the design.
-use Rattle.std.specs.Prelude.{◌≡◌, ◌<◌, ℕ, List, slice_get, Option, Some, None, option_map, option_and_then}
+use Rattle.std.specs.Prelude.{◌≡◌, ◌<◌, ℕ, not, List, [], ◌∷◌, length, map, filter, slice_get, Option, Some, None, option_map, option_and_then}
+use Rattle.std.specs.Str.{bytes_eq}
 use Rattle.vw_design.specs.declared.item.Bind.{Bind}
 use Rattle.vw_design.specs.declared.item.Item.{Item}
 use Rattle.vw_design.specs.declared.model.Model.{Model}
@@ -36,8 +37,15 @@ IsRepeatedClaim design model (Some again) =
     × ((number : ℕ) (item : Item) → number < again.item → slice_get (items_of model) number ≡ Some item
     → again_at design model number item ≡ None)
 
--- the first claim on each name is that of the design, and so is the first item that claims again
+-- each of some names once, where it first stands
+abbrev pub each_once : List Word → List Word
+each_once [] = []
+each_once (name ∷ names) = name ∷ filter (λ other. not (bytes_eq name other)) (each_once names)
+
+-- the names are those that ports and items claim, in the order in which they are first claimed; the first claim on each
+-- is that of the design, and so is the first item that claims again
 pub record AreClaims (design : Design) (model : Option Model) (claims : ModelClaims) : Type 0 where
+  pub names : map (λ first. first.name) claims.firsts ≡ each_once (claimed_before design model (length (items_of model)))
   pub firsts : (name : Word) → option_map (meant (items_of model)) (claim_named claims.firsts name)
       ≡ option_map (λ claim. Some claim) (first_claim design model name)
   pub again : IsRepeatedClaim design model claims.again

@@ -8,6 +8,7 @@ use Rattle.vw_drivers.specs.declared.model_claims.ModelClaims.{ModelClaims}
 use Rattle.vw_drivers.specs.Claimed.{AreClaims}
 use Rattle.vw_drivers.specs.Steps.GatheredClaims.{with_items, ports_only}
 use Rattle.vw_design.specs.ModelNumbers.{AreModelNumbers}
+use Rattle.vw_drivers.proofs.ClaimedOnce.{gathered_names}
 use Rattle.vw_drivers.proofs.FirstClaims.{gathered_firsts}
 use Rattle.vw_drivers.proofs.ModelClaimsAgain.{gathered_again}
 use Rattle.vw_drivers.proofs.Targets.{at_place}
@@ -44,4 +45,4 @@ returns c =
     c.in_ok-add_items.ensures ∙ ap₂ (λ (items : List Item) (claims : ModelClaims). with_items design 0 0 items claims) c.items.ensures c.in_ok-claims.ensures in
     subst (λ (found : Option Model). AreClaims design found c.add_items.new.self) (sym at)
     (subst (λ (claims : ModelClaims). AreClaims design (Some model) claims) (sym gathered)
-    (record { firsts = gathered_firsts design model; again = gathered_again design model }))
+    (record { names = gathered_names design model; firsts = gathered_firsts design model; again = gathered_again design model }))
