@@ -51,6 +51,5 @@ by_columns design root numbers are (Some (at_port name)) is_found source is none
   by : (number : Option ℕ) → number_named root name ≡ number → driver_by numbers.ports source ≡ Some (of_port (place_of_name (columns design) name))
   by None same = absurd (true≢false (sym (ap is_none (is ∙ ap (option_map (λ (n : ℕ). sources.Port n)) same)) ∙ none))
   by (Some number) same =
-      let port = is_found (at_port name) refl in
       ap (driver_by numbers.ports) (is ∙ ap (option_map (λ (n : ℕ). sources.Port n)) same)
-      ∙ ap (option_map of_port) (are.ports port.0 port.1 name port.2 number same)
+      ∙ ap (option_map of_port) (are.ports name number same)

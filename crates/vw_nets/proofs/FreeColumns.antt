@@ -2,7 +2,7 @@
 use Rattle.std.proofs.Common.{◌≡◌, ◌<◌, ◌≤◌, ◌+◌, ℕ, zero, suc, Bool, true, false, not, cond, List, [], ◌∷◌, ◌++◌, drop, take, length, get_or, set, replicate, Option, Some, None, is_some, slice_get, filter, flat_map, map, ◌||◌, inl, inr, option_map, option_and_then, refl, sym, ◌∙◌, ap, ap₂, true≢false, append_assoc, append-nil, arith}
 use Rattle.std.specs.Option.{option_or, unwrap_or}
 use Rattle.std.specs.Str.{bytes_eq}
-use Rattle.std.proofs.lemmas.List.{drop_more, drop_all, take_more, take_all, map-append, length-append}
+use Rattle.std.proofs.lemmas.List.{drop_more, drop_all, take_more, take_all, map-append, length-append, length-set}
 use Rattle.std.proofs.lemmas.List.Elements.{filter-append}
 use Rattle.std.proofs.lemmas.Option.{same_Some, slice_get_within, slice_get_read, get_or_from_slice_get}
 use Rattle.vw_design.specs.declared.design.Design.{Design}
@@ -36,6 +36,13 @@ in_replicate (suc count) x (suc k) within = in_replicate count x k (omega arith)
 
 pub no_columns : (firsts : List First) (ports : List (Option ℕ)) → ports ≡ replicate (length firsts) None → (name : Word) (k : ℕ) → number_named firsts name ≡ Some k → slice_get ports k ≡ Some None
 no_columns firsts ports are name k is = ap (λ (list : List (Option ℕ)). slice_get list k) are ∙ in_replicate (length firsts) None k (number_within firsts name k is)
+
+-- as many, once a column is written
+pub length-with_column : (ports : List (Option ℕ)) (number column : ℕ) → length (with_column ports number column) ≡ length ports
+length-with_column ports number column = by (has_none (slice_get ports number)) where
+  by : (b : Bool) → length (cond b (set ports number (Some column)) ports) ≡ length ports
+  by true = length-set ports number (Some column)
+  by false = refl
 
 -- the place of a name where one is added
 place_more : (names : List Word) (x name : Word) → place_of_name (names ++ x ∷ []) name ≡ option_or (place_of_name names name) (cond (bytes_eq x name) (Some (length names)) None)
@@ -155,18 +162,21 @@ module _ (design : Design) (tables : Tables) (are : AreTables design tables) (ro
       record {
         inputs =
             ap (λ (ns : List Word). map (slice_get ns) found.inputs) (sym (inputs ∙ ap inputs_of stands)) ∙ free.inputs ∙ ap (map (λ (name : Word). Some name)) (same_columns []);
-        ports = λ model at name is number named.
+        count = free.count ∙ ap (λ (fs : List First). length fs) same;
+        ports = λ name number named.
             free.ports name number (ap (λ (fs : List First). number_named fs name) same ∙ named) ∙ ap (λ (ns : List Word). Some (place_of_name ns name)) (same_columns name);
       }
 
 -- behind the last name all have their columns
 pub all_free : (firsts : List First) (clock_flags : List Bool) (names : List Word) (i : ℕ) → length names ≤ i → (found : Columns) (inputs : List ℕ) → found.inputs ≡ inputs → (ports : List (Option ℕ)) → found.ports ≡ ports
     → map (slice_get names) inputs ++ map (λ name. Some name) (filter (is_free firsts clock_flags) (drop i names)) ≡ map (λ name. Some name) (filter (is_free firsts clock_flags) names)
+    → length ports ≡ length firsts
     → ((name : Word) (k : ℕ) → number_named firsts name ≡ Some k → slice_get ports k ≡ Some (place_of_name (filter (is_free firsts clock_flags) (take i names)) name))
     → AreFree firsts clock_flags names found
-all_free firsts clock_flags names i past found inputs same_inputs ports same_ports had each = record {
+all_free firsts clock_flags names i past found inputs same_inputs ports same_ports had long each = record {
   inputs = ap (map (slice_get names)) same_inputs ∙ sym (append-nil (map (slice_get names) inputs))
       ∙ ap (λ (left : List Word). map (slice_get names) inputs ++ map (λ (name : Word). Some name) (filter (is_free firsts clock_flags) left)) (sym (drop_all i names past)) ∙ had;
+  count = ap (λ (list : List (Option ℕ)). length list) same_ports ∙ long;
   ports = λ name k named. ap (λ (list : List (Option ℕ)). slice_get list k) same_ports ∙ each name k named
       ∙ ap (λ (taken : List Word). Some (place_of_name (filter (is_free firsts clock_flags) taken) name)) (take_all i names past);
 }

@@ -1,5 +1,5 @@
 -- Names whose claims have no flag, and their columns.
-use Rattle.std.specs.Prelude.{◌≡◌, ℕ, Bool, true, false, List, map, filter, is_some, slice_get, slice_index_or, slice_set, Option, Some, None, if◌then◌else◌}
+use Rattle.std.specs.Prelude.{◌≡◌, ℕ, Bool, true, false, List, length, map, filter, is_some, slice_get, slice_index_or, slice_set, Option, Some, None, if◌then◌else◌}
 use Rattle.vw_design.specs.Paths.{Word}
 use Rattle.vw_design.specs.PathValue.{place_of_name}
 use Rattle.vw_drivers.specs.Firsts.{First, number_named}
@@ -26,5 +26,6 @@ with_column ports number column = if has_none (slice_get ports number) then slic
 -- the columns of such names
 pub record AreFree (firsts : List First) (clock_flags : List Bool) (names : List Word) (columns : Columns) : Type 0 where
   pub inputs : map (slice_get names) columns.inputs ≡ map (λ name. Some name) (filter (is_free firsts clock_flags) names)
+  pub count : length columns.ports ≡ length firsts
   pub ports : (name : Word) (number : ℕ) → number_named firsts name ≡ Some number
       → slice_get columns.ports number ≡ Some (place_of_name (filter (is_free firsts clock_flags) names) name)

@@ -1,7 +1,8 @@
 use Rattle.std.proofs.Common.{◌++◌, ◌∙◌, ℕ, List, Option, Some, None, is_some, filter, map, length, slice_get, replicate, sym, ap}
+use Rattle.std.proofs.lemmas.List.{length-replicate}
 use Rattle.vw_design.specs.Paths.{Word}
 use Rattle.vw_nets.specs.Steps.FreeNames.{is_free}
-use Rattle.vw_nets.proofs.FreeColumns.{no_columns, free_number, inputs_more, many_more, ports_more, inputs_kept, many_kept, ports_kept, all_free}
+use Rattle.vw_nets.proofs.FreeColumns.{length-with_column, no_columns, free_number, inputs_more, many_more, ports_more, inputs_kept, many_kept, ports_kept, all_free}
 use Rattle.vw_nets.proofs.columns.Columns.of_names.Goals as goal
 use Rattle.vw_nets.proofs.columns.Columns.of_names.Goals.{in-Some+in_ok-add_column, in_default}
 
@@ -10,6 +11,7 @@ loop-place-init c =
     record {
       inputs = ap (λ (list : List ℕ). map (slice_get c.args.names.now) list ++ map (λ (name : Word). Some name) (filter (is_free c.args.claims.now.firsts c.args.clock_flags.now) c.args.names.now)) c.new-inputs.ensures.items;
       many = ap (λ (list : List ℕ). length list) c.new-inputs.ensures.items;
+      count = ap (λ (list : List (Option ℕ)). length list) (c.in_ok-ports.ensures ∙ ap (λ (n : ℕ). replicate n None) c.count.ensures) ∙ length-replicate (length c.args.claims.now.firsts) None;
       ports = no_columns c.args.claims.now.firsts c.in_ok-ports.ports.items (c.in_ok-ports.ensures ∙ ap (λ (n : ℕ). replicate n None) c.count.ensures);
     }
 
@@ -32,6 +34,7 @@ loop-place-preserved c =
           record {
             inputs = inputs_more firsts clock_flags names i x c.loop-place-test.true c.index-names-place.is inputs new free pushed had.inputs;
             many = many_more firsts clock_flags names i x c.loop-place-test.true c.index-names-place.is inputs new free pushed had.many;
+            count = ap (λ (list : List (Option ℕ)). length list) (ap (λ v. v.items) w.ports-is ∙ w.in_ok-add_column.ensures.ports) ∙ length-with_column ports w.in-Some.number (length inputs) ∙ had.count;
             ports = ports_more firsts clock_flags names i x c.loop-place-test.true c.index-names-place.is inputs new free pushed had.many w.in-Some.number named ports c.match-free_number.ports.items
                 (ap (λ v. v.items) w.ports-is ∙ w.in_ok-add_column.ensures.ports) had.ports;
           }
@@ -42,6 +45,7 @@ loop-place-preserved c =
           record {
             inputs = inputs_kept firsts clock_flags names i x c.loop-place-test.true c.index-names-place.is inputs new bound kept had.inputs;
             many = many_kept firsts clock_flags names i x c.loop-place-test.true c.index-names-place.is inputs new bound kept had.many;
+            count = ap (λ v. length v.items) w.ports-is ∙ had.count;
             ports = ports_kept firsts clock_flags names i x c.loop-place-test.true c.index-names-place.is inputs new bound kept ports c.match-free_number.ports.items (ap (λ v. v.items) w.ports-is) had.ports;
           }
     ]
@@ -49,4 +53,4 @@ loop-place-preserved c =
 pub returns : goal.returns
 returns c =
     all_free c.args.claims.now.firsts c.args.clock_flags.now c.args.names.now c.loop-place.place c.loop-place-test.false _ c.loop-place.inputs.items c.of.ensures c.loop-place.ports.items c.of-2.ensures
-    c.loop-place.invariant.inputs c.loop-place.invariant.ports
+    c.loop-place.invariant.inputs c.loop-place.invariant.count c.loop-place.invariant.ports
