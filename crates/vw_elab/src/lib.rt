@@ -14,5 +14,5 @@ pub use driver::Driver;
 pub use elaborated::{Elaborated, Instance};
 pub use elaboration::elaborate;
 pub use fault::{DesignFault, line_of_names};
-pub use laws::instances_are_one;
+pub use laws::{instances_are_one, sites_are_one};
 pub use vw_instances::{CellSite as Site, Quantity};

@@ -142,7 +142,7 @@ module _ (design : Design) (once : (place : ℕ) (path : Path) → slice_get (in
         let path = as_long (instances design) one is.same_length number entry at in
         by_path number entry at path.0 path.1
 
-  site_once : (site : Site) (one other : CellSite) → IsCellSite (instances design) site one → IsCellSite (instances design) site other → one ≡ other
+  pub site_once : (site : Site) (one other : CellSite) → IsCellSite (instances design) site one → IsCellSite (instances design) site other → one ≡ other
   site_once site one other is are =
       let instance : one.instance ≡ other.instance = listed_once one.instance other.instance site.path is.instance_is are.instance_is in
       let item : one.item ≡ other.item = is.item_is ∙ sym are.item_is in
