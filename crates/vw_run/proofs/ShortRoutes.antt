@@ -58,6 +58,7 @@ short_route flat board chip_of route walked =
     let from = node_of flat chip_of route.net in record {
       route_is = record { further = walked.rest; nodes = walked.begins; walk = walked.walk };
       short = ap (λ (nodes : List ℕ). length (steps_of nodes)) walked.begins ∙ steps_long from walked.rest ∙ walked.count;
+      steps = walked;
     }
 
 -- a walk that was found from a node to another

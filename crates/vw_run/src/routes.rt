@@ -13,7 +13,7 @@ use vw_plan::{Board, Need, Route, node_of};
 use vw_route::walk;
 use vw_wires::needed;
 
-/// A shortest route for a needed pair.
+/// The shortest route by first steps for a needed pair.
 fn route_of(
     alloc: Global,
     ordered: &Ordered,
@@ -37,7 +37,8 @@ fn route_of(
     Ok(Route::make(need.net(), need.to(), nodes))
 }
 
-/// A shortest route for each needed pair of a placement, in their order.
+/// A shortest route for each needed pair of a placement, in their order. Each goes by first steps, so the placement
+/// determines it.
 pub fn routes_of(
     alloc: Global,
     ordered: &Ordered,
