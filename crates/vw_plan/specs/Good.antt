@@ -1,5 +1,5 @@
 -- What makes a plan good, beyond being sound. Source: this project; the best partition, placement or period isn't asked for.
-use Rattle.std.specs.Prelude.{◌≡◌, ◌≤◌, ◌<◌, ◌==◌, ℕ, List, length, map, count_by, sum_by, slice_set, if◌then◌else◌}
+use Rattle.std.specs.Prelude.{◌≡◌, ◌≤◌, ◌<◌, ◌==◌, ℕ, List, length, map, sum_by, slice_set, if◌then◌else◌}
 use Rattle.std.specs.List.{All}
 use Rattle.vw_net.specs.declared.flat.Flat.{Flat}
 use Rattle.vw_plan.specs.declared.board.Board.{Board}

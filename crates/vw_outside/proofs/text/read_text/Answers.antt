@@ -2,7 +2,8 @@ use Rattle.std.proofs.Common.{◌≡◌, ℕ, List, refl, ◌∙◌, ◌<◌, �
 use Rattle.vw_outside.specs.Told.{Told}
 use Rattle.vw_outside.proofs.TextsTold.{IsTextOf-from_cases, OfText-from_cases}
 use Rattle.vw_outside.specs.Reads.{SeenShelf, Fills, CountsFault}
-use Rattle.vw_outside.proofs.Fronts.{IsFront, front_further, whole_front}
+use Rattle.vw_outside.specs.Fronts.{IsFront}
+use Rattle.vw_outside.proofs.Fronts.{front_further, whole_front}
 use Rattle.vw_outside.proofs.text.read_text.Goals as goal
 
 -- what is told of a name is the same of equal shelves
