@@ -10,7 +10,7 @@ use Rattle.std.proofs.lemmas.Slice.Eq.{bytes_eq-Decides}
 use Rattle.vw_net.specs.declared.cover.Mark.{Mark}
 use Rattle.vw_net.specs.declared.cover.Row.{Row}
 use Rattle.vw_text.specs.declared.line.Line.{Line}
-use Rattle.vw_blif.specs.declared.table.Table.{Table}
+use Rattle.vw_blif.specs.declared.table.GrowingTable.{GrowingTable}
 use Rattle.vw_blif.specs.Words.{front_words, last_word}
 use Rattle.vw_design.specs.Paths.{Word}
 use Rattle.vw_blif.specs.Kinds.{further}
@@ -31,7 +31,7 @@ pub some_words : (n : ℕ) → false ≡ eqb n 0 → 0 < n
 some_words zero none = absurd (true≢false (sym none))
 some_words (suc n) some = omega arith
 
-pub begins : (line : Line) (t : Table) → t.line ≡ line.number → t.ins ≡ front_words (further line) → t.out ≡ last_word (further line) → t.on ≡ None → t.rows.items ≡ []
+pub begins : (line : Line) (t : GrowingTable) → t.line ≡ line.number → t.ins ≡ front_words (further line) → t.out ≡ last_word (further line) → t.on ≡ None → t.rows.items ≡ []
     → 0 < length (further line) → length (further line) ≤ 129 → BeginsTable line t
 begins line t at ins out on rows some few = record {
   makes = λ more. rw (at, ins, out, on, rows) refl;
@@ -90,7 +90,7 @@ module _ (line : Line) (one : Bool) (width : ℕ) (ends : one ≡ bytes_eq (last
   same_told None same = refl
   same_told (Some first) same = ap not (ap₂ bytes_eq (ap value_word (same_value first one same) ∙ word_is) refl ∙ name_same (last_word line.words))
 
-pub adds_row : (line : Line) (old new : Table) (row : Row) (one : Bool) → new.line ≡ old.line → new.ins ≡ old.ins → new.out ≡ old.out → new.on ≡ Some one
+pub adds_row : (line : Line) (old new : GrowingTable) (row : Row) (one : Bool) → new.line ≡ old.line → new.ins ≡ old.ins → new.out ≡ old.out → new.on ≡ Some one
     → new.rows.items ≡ old.rows.items ++ row ∷ [] → row.marks ≡ row_marks line.words → one ≡ bytes_eq (last_word line.words) (codes "1")
     → is_row_of (length old.ins) line.words ≡ true → is_other_value old.on one ≡ false → AddsRow old line new
 adds_row line old new row one at ins out on rows marks ends row_is same = record {

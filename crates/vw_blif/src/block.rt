@@ -9,7 +9,7 @@ use crate::fault::TextFault;
 use crate::latch::latch_of;
 use crate::open_table::{add_row, begin_table, close_table};
 use crate::ports::Ports;
-use crate::table::Table;
+use crate::table::GrowingTable;
 use bumpalo::Bump;
 use std::alloc::{AllocError, Global};
 use vw_design::{Item, Model};
@@ -26,7 +26,7 @@ pub struct Block<'a> {
     pub clocks: Ports<'a>,
     pub items: Vec<Item>,
     /// The table to which the next row belongs.
-    pub table: Option<Table>,
+    pub table: Option<GrowingTable>,
     ghost shapes: { IsTrue (list_all has_its_shape items.items) },
 }
 

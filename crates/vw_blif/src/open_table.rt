@@ -11,7 +11,7 @@ ghost use Rattle.vw_blif.specs.Steps.Tables.{BeginsTable, SaysNames, AddsRow, Sa
 use crate::copies::{copies, copy, front_and_last, further, is};
 use crate::fault::TextFault;
 use crate::row::{is_row_of, row_marks};
-use crate::table::Table;
+use crate::table::GrowingTable;
 use std::alloc::{AllocError, Global};
 use vw_design::Item;
 use vw_net::{Cover, Row, Sequence};
@@ -21,7 +21,7 @@ use vw_text::Line;
 const MOST_NETS: usize = 129;
 
 /// The table of a `.names` line, without rows.
-pub fn begin_table(alloc: Global, line: &Line) -> Result<Table, TextFault>
+pub fn begin_table(alloc: Global, line: &Line) -> Result<GrowingTable, TextFault>
     ensures table { IfOk result (BeginsTable line.now) }
     ensures fault { IfErr result (SaysNames line.now) }
 {
@@ -33,7 +33,7 @@ pub fn begin_table(alloc: Global, line: &Line) -> Result<Table, TextFault>
         return Err(TextFault::TooWide(line.number()));
     }
     let (ins, out) = front_and_last(nets);
-    Ok(Table {
+    Ok(GrowingTable {
         line: line.number(),
         ins: Sequence::of(copies(alloc, ins)?),
         out: copy(alloc, out.as_slice())?,
@@ -54,12 +54,12 @@ fn is_other_value(on: Option<bool>, value: bool) -> bool
 }
 
 /// A table with one row more.
-pub fn add_row(alloc: Global, table: Table, line: &Line) -> Result<Table, TextFault>
+pub fn add_row(alloc: Global, table: GrowingTable, line: &Line) -> Result<GrowingTable, TextFault>
     ensures row { IfOk result (AddsRow table line.now) }
     ensures fault { IfErr result (SaysRow table line.now) }
 {
     let words = line.words();
-    let Table {
+    let GrowingTable {
         line: at,
         ins,
         out,
@@ -75,7 +75,7 @@ pub fn add_row(alloc: Global, table: Table, line: &Line) -> Result<Table, TextFa
         return Err(TextFault::MixedRows(line.number()));
     }
     rows.push(Row::make(row_marks(alloc, words)?))?;
-    Ok(Table {
+    Ok(GrowingTable {
         line: at,
         ins,
         out,
@@ -85,11 +85,11 @@ pub fn add_row(alloc: Global, table: Table, line: &Line) -> Result<Table, TextFa
 }
 
 /// The item of a table that has all its rows.
-pub fn close_table(table: Table) -> Item
+pub fn close_table(table: GrowingTable) -> Item
     ensures item { spelled_item result ≡ table_made table [] }
     ensures shape { IsTrue (has_its_shape result) }
 {
-    let Table {
+    let GrowingTable {
         line,
         ins,
         out,

@@ -6,7 +6,7 @@ use vw_outside::Name;
 
 /// A table whose rows are being read.
 #[derive(Drop)]
-pub struct Table {
+pub struct GrowingTable {
     /// The number of its `.names` line.
     pub line: u64,
     pub ins: Sequence<Name>,

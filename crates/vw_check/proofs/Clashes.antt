@@ -16,7 +16,7 @@ use Rattle.vw_check.specs.declared.fault.PlanFault.{PlanFault}
 use Rattle.vw_check.specs.declared.fault.PlanFault.TheVariants.{PinClash}
 use Rattle.vw_check.specs.FirstFound.{first_at}
 use Rattle.vw_check.specs.HopFaults.{PlacedHop, first_sharing, hops_placed, pin_clash, wires_placed}
-use Rattle.vw_check.specs.Steps.Tables.{HasPins, PinKey, user_in}
+use Rattle.vw_check.specs.Steps.Tables.{HasFirstHops, PinKey, user_in}
 use Rattle.vw_check.specs.Steps.Clashes.{clash_behind, IsClashIn}
 
 abbrev pub numbers : PlacedHop → ℕ × ℕ
@@ -53,7 +53,7 @@ same_user table hop other shared =
 pub share_pin-parts : (from to pin at : ℕ) (hop other : Hop) → from ≡ hop.from → to ≡ hop.to → pin ≡ hop.pin → at ≡ hop.at → ((eqb from other.from && eqb to other.to) && (eqb pin other.pin && eqb at other.at)) ≡ share_pin hop other
 share_pin-parts from to pin at hop other from_is to_is pin_is at_is = rw (from_is, to_is, pin_is, at_is) refl
 
-pub pins_given : {S : Type 0} (placed : List PlacedHop) (old new : hash.HashMap PinKey (ℕ × ℕ) S) (wire number : ℕ) (hop : Hop) → HasPins placed old → user_in old hop ≡ None → ((other : Hop) → user_in new other ≡ cond (share_pin hop other) (Some (wire, number)) (user_in old other)) → HasPins (placed ++ placed_at wire number hop ∷ []) new
+pub pins_given : {S : Type 0} (placed : List PlacedHop) (old new : hash.HashMap PinKey (ℕ × ℕ) S) (wire number : ℕ) (hop : Hop) → HasFirstHops placed old → user_in old hop ≡ None → ((other : Hop) → user_in new other ≡ cond (share_pin hop other) (Some (wire, number)) (user_in old other)) → HasFirstHops (placed ++ placed_at wire number hop ∷ []) new
 pins_given placed old new wire number hop has free put other =
     given_by (share_pin hop other) (first_sharing placed other) (user_in old other) (user_in new other) (placed_at wire number hop) (has other) (λ shared. same_user old hop other shared ∙ free) (put other)
     ∙ ap (option_map numbers) (sym (find-append (λ earlier. share_pin earlier.hop other) placed (placed_at wire number hop ∷ [])))
@@ -63,11 +63,11 @@ pins_given placed old new wire number hop has free put other =
 -- what is left of the hops of a wire, behind those that have their pins
 pub record IsRestOfHops {S : Type 0} (placed : List PlacedHop) (wire number : ℕ) (hops : List Hop) (users : hash.HashMap PinKey (ℕ × ℕ) S) : Type 0 where
   pub before : List PlacedHop
-  pub pins : HasPins before users
+  pub pins : HasFirstHops before users
   pub left : clash_behind before (hops_placed wire number (drop number hops)) ≡ clash_behind placed (hops_placed wire 0 hops)
   pub all : before ++ hops_placed wire number (drop number hops) ≡ placed ++ hops_placed wire 0 hops
 
-pub left_first : {S : Type 0} (placed : List PlacedHop) (wire : ℕ) (hops : List Hop) (users : hash.HashMap PinKey (ℕ × ℕ) S) → HasPins placed users → IsRestOfHops placed wire 0 hops users
+pub left_first : {S : Type 0} (placed : List PlacedHop) (wire : ℕ) (hops : List Hop) (users : hash.HashMap PinKey (ℕ × ℕ) S) → HasFirstHops placed users → IsRestOfHops placed wire 0 hops users
 left_first placed wire hops users pins = record { before = placed; pins = pins; left = refl; all = refl }
 
 none_before : (before : Option PlacedHop) → None ≡ option_map numbers before → before ≡ None
@@ -79,7 +79,7 @@ module _ {S : Type 0} (placed : List PlacedHop) (wire number : ℕ) (hops : List
   here = rw (add-one, drop-cons hops number default within, ← is) refl
 
   -- a hop that shares no pin leaves the rest
-  pub left_next : (after : hash.HashMap PinKey (ℕ × ℕ) S) → user_in users hop ≡ None → (HasPins now.before users → HasPins (now.before ++ placed_at wire number hop ∷ []) after) → IsRestOfHops placed wire (number + 1) hops after
+  pub left_next : (after : hash.HashMap PinKey (ℕ × ℕ) S) → user_in users hop ≡ None → (HasFirstHops now.before users → HasFirstHops (now.before ++ placed_at wire number hop ∷ []) after) → IsRestOfHops placed wire (number + 1) hops after
   left_next after free give = record {
     before = now.before ++ placed_at wire number hop ∷ [];
     pins = give now.pins;
@@ -103,11 +103,11 @@ module _ {S : Type 0} (placed : List PlacedHop) (wire number : ℕ) (hops : List
       some_before (first_sharing now.before hop) first_wire first_number (clash_behind (now.before ++ placed_at wire number hop ∷ []) (hops_placed wire (number + 1) (drop (number + 1) hops))) (sym used ∙ now.pins hop)
       ∙ sym (ap (clash_behind now.before) here) ∙ now.left
 
-pub left_end : {S : Type 0} (placed : List PlacedHop) (wire number : ℕ) (hops : List Hop) (users : hash.HashMap PinKey (ℕ × ℕ) S) → IsRestOfHops placed wire number hops users → length hops ≤ number → (None ≡ clash_behind placed (hops_placed wire 0 hops)) × HasPins (placed ++ hops_placed wire 0 hops) users
+pub left_end : {S : Type 0} (placed : List PlacedHop) (wire number : ℕ) (hops : List Hop) (users : hash.HashMap PinKey (ℕ × ℕ) S) → IsRestOfHops placed wire number hops users → length hops ≤ number → (None ≡ clash_behind placed (hops_placed wire 0 hops)) × HasFirstHops (placed ++ hops_placed wire 0 hops) users
 left_end placed wire number hops users now past =
     let none : drop number hops ≡ [] = drop_all number hops past in
     let all : now.before ++ [] ≡ placed ++ hops_placed wire 0 hops = rw none at now.all in
-    (rw none at now.left, subst (λ (list : List PlacedHop). HasPins list users) (sym (append-nil now.before) ∙ all) now.pins)
+    (rw none at now.left, subst (λ (list : List PlacedHop). HasFirstHops list users) (sym (append-nil now.before) ∙ all) now.pins)
 
 -- ---- wire by wire
 
@@ -124,10 +124,10 @@ clash_behind-append before (x ∷ xs) ys =
 -- what is left of the wires, behind the hops that have their pins
 pub record AreLeft {S : Type 0} (number : ℕ) (wires : List Wire) (users : hash.HashMap PinKey (ℕ × ℕ) S) : Type 0 where
   pub before : List PlacedHop
-  pub pins : HasPins before users
+  pub pins : HasFirstHops before users
   pub left : clash_behind before (wires_placed number (drop number wires)) ≡ clash_behind [] (wires_placed 0 wires)
 
-pub wires_first : {S : Type 0} (wires : List Wire) (users : hash.HashMap PinKey (ℕ × ℕ) S) → HasPins [] users → AreLeft 0 wires users
+pub wires_first : {S : Type 0} (wires : List Wire) (users : hash.HashMap PinKey (ℕ × ℕ) S) → HasFirstHops [] users → AreLeft 0 wires users
 wires_first wires users pins = record { before = []; pins = pins; left = refl }
 
 module _ {S : Type 0} (number : ℕ) (wires : List Wire) (users after : hash.HashMap PinKey (ℕ × ℕ) S) (now : AreLeft number wires users) (wire : Wire) (within : number < length wires) (is : wire ≡ get_or wires number wire) (hops : List Hop) (are : hops ≡ wire.hops) (found : Option PlanFault) (clash : IsClashIn number hops users after found) where

@@ -1,7 +1,7 @@
 //! Hops that share a pin.
 ghost use Rattle.std.specs.Prelude.{◌≡◌, ◌<◌, ◌^◌, [], length, IfOk};
 ghost use Rattle.vw_check.specs.HopFaults.{pin_clash};
-ghost use Rattle.vw_check.specs.Steps.Tables.{HasPins};
+ghost use Rattle.vw_check.specs.Steps.Tables.{HasFirstHops};
 ghost use Rattle.vw_check.specs.Steps.Clashes.{GivesPin, IsClashIn};
 
 use crate::fault::PlanFault;
@@ -20,7 +20,7 @@ pub struct PinUsers {
 impl PinUsers {
     /// No pin.
     fn none(alloc: Global) -> Self
-        ensures { HasPins [] result.users }
+        ensures { HasFirstHops [] result.users }
     {
         PinUsers {
             users: HashMap::with_hasher(alloc, BuildHasherDefault::new()),

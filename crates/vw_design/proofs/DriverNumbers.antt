@@ -9,7 +9,7 @@ use Rattle.vw_design.specs.declared.design.Design.{Design}
 use Rattle.vw_design.specs.Distinct.{has_name}
 use Rattle.vw_design.specs.Paths.{Word, Path, Net, model_at, items_of, is_port}
 use Rattle.vw_design.specs.Claims.{Claim, port, driven, bound, first_claim}
-use Rattle.vw_design.specs.Drivers.{Source, at_port, at_cell, actual_of, turn_up, turn_by, follow_turn, follow, driver}
+use Rattle.vw_design.specs.Drivers.{Source, at_port, at_cell, actual_of, turn_up, turn_by, follow_turn, source_after, driver}
 use Rattle.vw_design.specs.Preorder.{Site, is_cell, sites, cells}
 use Rattle.vw_design.specs.NetReads.{nets_at, data_of, controls_of, root_outputs, net_reads, data_reads}
 use Rattle.vw_design.specs.Clocks.{inputs_of, clocks_of, control_ports, clock_ports, columns}
@@ -19,7 +19,7 @@ use Rattle.vw_design.specs.Accepted.{HasNoModelFault, IsAccepted}
 use Rattle.vw_design.specs.Flattened.{number_of_source, number_of}
 use Rattle.vw_design.proofs.ListElements.{Has, Has-left, Has-right, Has-append, Has-filter, Has-flat_map, from-flat_map, Has-map, from-map, some-place, none-find, Has-Contains}
 use Rattle.vw_design.proofs.Names.{equal_names, has_name-Has, Has-has_name, name_same}
-use Rattle.vw_design.proofs.Ways.{claim_of_model}
+use Rattle.vw_design.proofs.TurnsEnd.{claim_of_model}
 use Rattle.vw_design.proofs.PlacedInstances.{faultless_site}
 use Rattle.vw_design.proofs.FlatValues.{place_within, site_of_place}
 
@@ -29,14 +29,14 @@ IsPossibleSource design (at_port name) = (root : Model) × (model_at design [] �
 IsPossibleSource design (at_cell path number) = (item : Item) × (item_at design path number ≡ Some item) × (is_cell item ≡ true)
 
 module _ (design : Design) where
-  turned_up : (turns : ℕ) → ((path : Path) (name : Word) (source : Source) → follow design turns path name ≡ Some source → IsPossibleSource design source)
-      → (path : Path) (actual : Option Word) (source : Source) → follow_turn (follow design turns) (turn_up path actual) ≡ Some source → IsPossibleSource design source
+  turned_up : (turns : ℕ) → ((path : Path) (name : Word) (source : Source) → source_after design turns path name ≡ Some source → IsPossibleSource design source)
+      → (path : Path) (actual : Option Word) (source : Source) → follow_turn (source_after design turns) (turn_up path actual) ≡ Some source → IsPossibleSource design source
   turned_up turns further path None source found = absurd (none-some source found)
   turned_up turns further path (Some actual) source found = further path actual source found
 
-  by_claim : (turns : ℕ) → ((path : Path) (name : Word) (source : Source) → follow design turns path name ≡ Some source → IsPossibleSource design source)
+  by_claim : (turns : ℕ) → ((path : Path) (name : Word) (source : Source) → source_after design turns path name ≡ Some source → IsPossibleSource design source)
       → (path : Path) (name : Word) (claim : Option Claim) → first_claim design (model_at design path) name ≡ claim
-      → (source : Source) → follow_turn (follow design turns) (turn_by design path name claim) ≡ Some source → IsPossibleSource design source
+      → (source : Source) → follow_turn (source_after design turns) (turn_by design path name claim) ≡ Some source → IsPossibleSource design source
   by_claim turns further path name None is source found = absurd (none-some source found)
   by_claim turns further [] name (Some port) is source found =
       let at = claim_of_model design name port (model_at design []) is in
@@ -48,7 +48,7 @@ module _ (design : Design) where
       subst (IsPossibleSource design) (same_Some (at_cell path number) source found) (at.2.0, item, at.2.2)
   by_claim turns further path name (Some (bound place formal)) is source found = further (place ∷ path) formal source found
 
-  followed : (turns : ℕ) (path : Path) (name : Word) (source : Source) → follow design turns path name ≡ Some source → IsPossibleSource design source
+  followed : (turns : ℕ) (path : Path) (name : Word) (source : Source) → source_after design turns path name ≡ Some source → IsPossibleSource design source
   followed zero path name source found = absurd (none-some source found)
   followed (suc turns) path name source found = by_claim turns (followed turns) path name (first_claim design (model_at design path) name) refl source found
 

@@ -7,7 +7,7 @@ pub mod Names
 pub mod ModelNumbers
 pub mod Entries
 pub mod Claimed
-pub mod Ways
+pub mod TurnsEnd
 pub mod ListedInstances
 pub mod ShallowDesigns
 pub mod PlacedInstances

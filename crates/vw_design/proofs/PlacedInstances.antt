@@ -17,7 +17,7 @@ use Rattle.vw_design.proofs.ListElements.{Has, Has-at, from-flat_map, Contains-H
 use Rattle.vw_design.proofs.Entries.{entry_of, item_entry}
 use Rattle.vw_design.proofs.ListedInstances.{instance_listed, item_listed}
 use Rattle.vw_design.proofs.Sites.{site_is}
-use Rattle.vw_design.proofs.Ways.{IsShallow}
+use Rattle.vw_design.proofs.TurnsEnd.{IsShallow}
 use Rattle.vw_design.proofs.ShallowDesigns.{nothing_placed, faultless_shallow}
 use Rattle.vw_design.proofs.ModelNumbers.{root_model}
 

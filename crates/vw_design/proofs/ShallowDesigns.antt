@@ -20,7 +20,7 @@ use Rattle.vw_design.proofs.ListElements.{Has, Has-map, Has-at, Has-filter, any-
 use Rattle.vw_design.proofs.Names.{name_same, Has-has_name}
 use Rattle.vw_design.proofs.Entries.{placing_entry, entry_of}
 use Rattle.vw_design.proofs.ListedInstances.{placer, placing_of_placed, instance_listed}
-use Rattle.vw_design.proofs.Ways.{IsShallow, IsOneWay}
+use Rattle.vw_design.proofs.TurnsEnd.{IsShallow, IsOneWay}
 
 -- an output of a model
 abbrev of_model : Word → Word → NameOf

@@ -49,10 +49,10 @@ follow_turn next (ends found) = found
 follow_turn next (goes_on path name) = next path name
 
 -- what is found after at most so many turns
-abbrev pub follow : Design → ℕ → Path → Word → Option Source
-follow design zero path name = None
-follow design (suc turns) path name = follow_turn (follow design turns) (turn design path name)
+abbrev pub source_after : Design → ℕ → Path → Word → Option Source
+source_after design zero path name = None
+source_after design (suc turns) path name = follow_turn (source_after design turns) (turn design path name)
 
 -- the driver of a net. The way goes up and then down, so that 128 turns are enough at 64 levels
 unfoldable pub driver : Design → Path → Word → Option Source
-driver design path name = follow design 128 path name
+driver design path name = source_after design 128 path name

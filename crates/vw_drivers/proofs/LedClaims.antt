@@ -15,7 +15,7 @@ use Rattle.vw_design.specs.Limits.{weight_of}
 use Rattle.vw_design.specs.Counts.{placed_one}
 use Rattle.vw_design.proofs.ModelNumbers.{one_number}
 use Rattle.vw_design.proofs.ShallowDesigns.{faultless_shallow, faultless_one_way}
-use Rattle.vw_design.proofs.Ways.{claim_of_model as claim_of, no_port, driver-turn}
+use Rattle.vw_design.proofs.TurnsEnd.{claim_of_model as claim_of, no_port, driver-turn}
 use Rattle.vw_drivers.specs.declared.claim.Claim.{Claim}
 use Rattle.vw_drivers.specs.declared.claim.Claim.TheVariants as claims
 use Rattle.vw_drivers.specs.Claimed.{bind_at, meant}

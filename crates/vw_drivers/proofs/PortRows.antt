@@ -12,7 +12,7 @@ use Rattle.vw_design.specs.Drivers.{actual_of, actual_among, turn_up, follow_tur
 use Rattle.vw_design.specs.Paths.{Word, Path, Placing, model_at, placing_at, is_port}
 use Rattle.vw_design.specs.Preorder.{instances}
 use Rattle.vw_design.proofs.ListElements.{Has, Has-map, from-map}
-use Rattle.vw_design.proofs.Ways.{claim_of_model as claim_of}
+use Rattle.vw_design.proofs.TurnsEnd.{claim_of_model as claim_of}
 use Rattle.vw_drivers.specs.declared.claim.Claim.{Claim}
 use Rattle.vw_drivers.specs.declared.claim.Claim.TheVariants as claims
 use Rattle.vw_drivers.specs.Claimed.{bind_at, meant}

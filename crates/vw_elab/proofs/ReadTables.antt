@@ -26,7 +26,7 @@ use Rattle.vw_nets.specs.declared.columns.Columns.{Columns}
 use Rattle.vw_nets.specs.Columns.{AreColumns}
 use Rattle.vw_elab.specs.declared.elaborated.Instance.{Instance}
 use Rattle.vw_elab.specs.declared.elaborated.Reading.{Reading}
-use Rattle.vw_elab.specs.declared.parts.Parts.{Parts}
+use Rattle.vw_elab.specs.declared.parts.NumberedParts.{NumberedParts}
 use Rattle.vw_elab.specs.Steps.DesignParts.{AreDesignParts}
 use Rattle.vw_elab.specs.Numbers.{IsInstance, driver_of}
 use Rattle.vw_elab.specs.Steps.ByColumns.{driver_by, reading_of}
@@ -37,7 +37,7 @@ pub listed_at : {X : Type 0} {table shown : List X} {number : ℕ} {x : X} → s
 listed_at {shown = shown} {number = number} {x = x} same within at = ap (λ (list : List _). slice_get list number) (sym same) ∙ slice_get_read shown (length shown) number x refl within at
 
 -- what a cell reads, look-up by look-up
-pub reading_is : (parts : Parts) (cell input : ℕ) (site : CellSite) (entry : Placed) (names : ModelNames) (reads : List (Option ℕ)) (claim : Option ℕ)
+pub reading_is : (parts : NumberedParts) (cell input : ℕ) (site : CellSite) (entry : Placed) (names : ModelNames) (reads : List (Option ℕ)) (claim : Option ℕ)
     → slice_get parts.cells cell ≡ Some site → slice_get parts.tables.instances site.instance ≡ Some entry → slice_get parts.tables.names entry.model ≡ Some names
     → slice_get names.reads site.item ≡ Some reads → slice_get reads input ≡ Some claim → reading_of parts cell input ≡ Some (record { instance = site.instance; claim = claim })
 reading_is parts cell input site entry names reads claim first second third fourth last = rw (first, second, third, fourth, last) refl
@@ -65,12 +65,12 @@ module _ (design : Design) where
       by_columns design (root_firsts tables) numbers are (driver design path name) (driver_is design path name) source (is.is path name listed same) (is.none path name listed same)
 
   -- what a cell reads is in the tables
-  pub record IsReadInTables (parts : Parts) (cell input : ℕ) (site : Site) (name : Word) : Type 0 where
+  pub record IsReadInTables (parts : NumberedParts) (cell input : ℕ) (site : Site) (name : Word) : Type 0 where
     pub instance : ℕ
     pub listed : slice_get (instances design) instance ≡ Some site.path
     pub reading : reading_of parts cell input ≡ Some (record { instance = instance; claim = number_named (instance_firsts parts.tables instance) name })
 
-  pub read_is : (parts : Parts) → AreDesignParts design parts
+  pub read_is : (parts : NumberedParts) → AreDesignParts design parts
       → (cell input : ℕ) (site : Site) (name : Word) → slice_get (cells design) cell ≡ Some site → slice_get (reads_of site.item) input ≡ Some name → IsReadInTables parts cell input site name
   read_is parts are cell input site name at reads =
       let tables = parts.tables in

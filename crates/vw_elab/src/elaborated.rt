@@ -16,7 +16,7 @@ ghost use Rattle.vw_elab.specs.Numbers.{IsInstance, driver_of};
 ghost use Rattle.vw_elab.specs.Steps.DesignParts.{IsElaborated};
 
 use crate::driver::Driver;
-use crate::parts::Parts;
+use crate::parts::NumberedParts;
 use std::alloc::{AllocError, Global};
 use std::marker::Model;
 use vw_design::Design;
@@ -40,7 +40,7 @@ pub struct Instance {
 #[derive(Drop)]
 pub struct Elaborated {
     design: Design,
-    parts: Parts,
+    parts: NumberedParts,
     columns: Columns,
 }
 
@@ -86,7 +86,7 @@ pub(crate) struct Reading {
 }
 
 /// What a cell reads, where it has an input with this number.
-fn reading_of(parts: &Parts, cell: u32, input: u32) -> Option<Reading>
+fn reading_of(parts: &NumberedParts, cell: u32, input: u32) -> Option<Reading>
     ensures { result ≡ reading_of parts.now cell input }
 {
     let site = parts.cells.as_slice().get(cell as usize)?;
@@ -102,7 +102,7 @@ fn reading_of(parts: &Parts, cell: u32, input: u32) -> Option<Reading>
 
 impl Elaborated {
     /// The elaborated design of these parts.
-    pub(crate) fn of(design: Design, parts: Parts, columns: Columns) -> Self
+    pub(crate) fn of(design: Design, parts: NumberedParts, columns: Columns) -> Self
         requires { IsElaborated design parts columns }
         ensures { result ≡ design }
     {

@@ -10,24 +10,24 @@ use crate::elaborated::Elaborated;
 use crate::fault::DesignFault;
 use crate::models::{Models, models_of};
 use crate::nets::check_nets;
-use crate::parts::Parts;
+use crate::parts::NumberedParts;
 use std::alloc::Global;
 use vw_design::Design;
 use vw_nets::Columns;
 
 /// The instances, claims and drivers of a design, if its models have no fault.
-fn parts_of(alloc: Global, design: &Design) -> Result<Parts, DesignFault>
+fn parts_of(alloc: Global, design: &Design) -> Result<NumberedParts, DesignFault>
     ensures faultless { IfOk result (λ _. HasNoModelFault design.now) }
     ensures parts { IfOk result (AreDesignParts design.now) }
     ensures refused { IfErr result (IsRefusal design.now) }
 {
     let Models { targets, sizes } = models_of(alloc, design)?;
-    let parts = Parts::of(alloc, design, &targets, sizes)?;
+    let parts = NumberedParts::of(alloc, design, &targets, sizes)?;
     Ok(parts)
 }
 
 /// The columns of a design, if its nets have no fault.
-fn columns_of(alloc: Global, design: &Design, parts: &Parts) -> Result<Columns, DesignFault>
+fn columns_of(alloc: Global, design: &Design, parts: &NumberedParts) -> Result<Columns, DesignFault>
     requires faultless { HasNoModelFault design.now }
     requires parts { AreDesignParts design.now parts.now }
     ensures accepted { IfOk result (λ _. IsAccepted design.now) }
@@ -41,7 +41,10 @@ fn columns_of(alloc: Global, design: &Design, parts: &Parts) -> Result<Columns, 
 }
 
 /// The parts and the columns of a design, if it has no fault.
-fn parts_and_columns(alloc: Global, design: &Design) -> Result<(Parts, Columns), DesignFault>
+fn parts_and_columns(
+    alloc: Global,
+    design: &Design,
+) -> Result<(NumberedParts, Columns), DesignFault>
     ensures elaborated { IfOk result (λ found. IsElaborated design.now found.0 found.1) }
     ensures refused { IfErr result (IsRefusal design.now) }
 {

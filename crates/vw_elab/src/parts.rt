@@ -15,13 +15,13 @@ use vw_nets::Nets;
 
 /// The instances, the cells and the drivers of a design by numbers.
 #[derive(Drop)]
-pub struct Parts {
+pub struct NumberedParts {
     pub tables: Tables,
     pub cells: Sequence<CellSite>,
     pub drivers: Drivers,
 }
 
-impl Parts {
+impl NumberedParts {
     /// Those of a design within the limits.
     pub fn of(
         alloc: Global,
@@ -37,7 +37,7 @@ impl Parts {
         let walked = list_instances(alloc, design, targets, sizes.instances, sizes.cells)?;
         let tables = Tables::of(alloc, design, targets, walked.instances, sizes.before)?;
         let drivers = Drivers::of(alloc, design, &tables)?;
-        Ok(Parts {
+        Ok(NumberedParts {
             tables,
             cells: walked.cells,
             drivers,

@@ -22,7 +22,7 @@ use Rattle.vw_instances.specs.declared.quantity.Quantity.{Quantity}
 use Rattle.vw_instances.specs.declared.sizes.Before.{Before}
 use Rattle.vw_instances.specs.declared.sizes.Sizes.{Sizes}
 use Rattle.vw_instances.specs.declared.counting_tables.CountingTables.{CountingTables}
-use Rattle.vw_instances.specs.declared.totals.Totals.{Totals}
+use Rattle.vw_instances.specs.declared.totals.QuantityTotals.{QuantityTotals}
 use Rattle.vw_instances.specs.Steps.Counting.{most, count_in, IsRanked, AreCountingTables, AreEntries}
 use Rattle.vw_instances.specs.Steps.Quantified.{AreTotals, first_above}
 use Rattle.vw_instances.specs.Quantities.{counted_of}
@@ -109,7 +109,7 @@ module _ (design : Design) (tables : CountingTables) (are : AreCountingTables de
         );
   }
 
-module _ (design : Design) (totals : Totals) (are : AreTotals design totals) where
+module _ (design : Design) (totals : QuantityTotals) (are : AreTotals design totals) where
   pub nothing_big : (found : Option Quantity) → option_map counted_of found ≡ first_above totals → ((quantity : Quantity) → found ≡ Some quantity → ⊥) → too_big design ≡ None
   nothing_big None is none = sym (first_is design totals are) ∙ sym is
   nothing_big (Some quantity) is none = absurd (none quantity refl)

@@ -18,7 +18,7 @@ use Rattle.vw_design.proofs.Weights.{design_weighs, instances_weigh, cells_weigh
 use Rattle.vw_design.proofs.ModelNumbers.{place_of_model}
 use Rattle.vw_design.proofs.FilteredLists.{find_same}
 use Rattle.vw_instances.specs.declared.measure.Measure.TheVariants.{Instances, Bindings, Cells, Levels}
-use Rattle.vw_instances.specs.declared.totals.Totals.{Totals}
+use Rattle.vw_instances.specs.declared.totals.QuantityTotals.{QuantityTotals}
 use Rattle.vw_instances.specs.Steps.Counting.{most, count_in, AreCounts, IsRanked}
 use Rattle.vw_instances.specs.Steps.Quantified.{total_of, first_above, AreTotals}
 use Rattle.vw_instances.proofs.RootCounts.{exact_levels}
@@ -65,7 +65,7 @@ above_same limit end count low = both_ways (nat_lt limit (min end count)) (nat_l
     (λ there. lt-ltb limit count (omega (arith, ltb-true limit (min end count) there)))
     (λ back. lt-ltb limit (min end count) (omega (arith, low, ltb-true limit count back)))
 
-module _ (design : Design) (totals : Totals) (are : AreTotals design totals) where
+module _ (design : Design) (totals : QuantityTotals) (are : AreTotals design totals) where
   each_same : (counted : Counted) → nat_lt (limit_of counted) (total_of totals counted) ≡ nat_lt (limit_of counted) (count_of design counted)
   each_same inputs = ap (nat_lt 4096) are.inputs
   each_same outputs = ap (nat_lt 4096) are.outputs

@@ -13,7 +13,7 @@ use vw_design::Design;
 
 /// How much a design has of each quantity.
 #[derive(Clone, Copy, Debug, PartialEq, Eq)]
-pub struct Totals {
+pub struct QuantityTotals {
     pub inputs: u64,
     pub outputs: u64,
     pub instances: u64,
@@ -22,7 +22,7 @@ pub struct Totals {
     pub depth: u64,
 }
 
-impl Totals {
+impl QuantityTotals {
     /// How much of a quantity.
     fn of(&self, quantity: Quantity) -> u64
         ensures { result ≡ total_of self.now (counted_of quantity) }
@@ -72,12 +72,12 @@ pub fn totals_of(
     alloc: Global,
     design: &Design,
     tables: &CountingTables,
-) -> Result<Totals, AllocError>
+) -> Result<QuantityTotals, AllocError>
     requires { AreCountingTables design.now tables.now }
     ensures { IfOk result (AreTotals design.now) }
 {
     let root = &design.models()[0];
-    Ok(Totals {
+    Ok(QuantityTotals {
         inputs: input_count(alloc, root)? as u64,
         outputs: root.outputs().len() as u64,
         instances: 1 + tables.instances[0] as u64,

@@ -14,21 +14,21 @@ use vw_net::Sequence;
 
 /// The numbers that have been reached so far.
 #[derive(Drop)]
-pub struct Reached {
+pub struct ReachedSoFar {
     /// For each number, whether it is among them.
     pub marks: Vec<bool>,
     /// They, in the order in which they were reached.
     pub found: Vec<u32>,
 }
 
-impl Reached {
+impl ReachedSoFar {
     /// None of so many numbers.
     pub fn none(alloc: Global, count: usize) -> Result<Self, AllocError>
         ensures found { IfOk result (λ reached. reached.found.items ≡ []) }
         ensures marks { IfOk result (λ reached. vec_len reached.marks ≡ count) }
         ensures marked { IfOk result (λ reached. AreMarked [] reached.marks.items) }
     {
-        Ok(Reached {
+        Ok(ReachedSoFar {
             marks: vec![in alloc; false; count]?,
             found: Vec::new(alloc),
         })
@@ -74,7 +74,7 @@ pub fn reach(alloc: Global, targets: &[Sequence<Option<u32>>]) -> Result<Vec<boo
     requires { AreWithin targets.now }
     ensures { IfOk result (λ marks. AreReachMarks targets.now marks.items) }
 {
-    let mut reached = Reached::none(alloc, targets.len())?;
+    let mut reached = ReachedSoFar::none(alloc, targets.len())?;
     reached.add(0)?;
     for at in 0..targets.len() {
         if at >= reached.found.len() {

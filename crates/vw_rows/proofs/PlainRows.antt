@@ -11,7 +11,7 @@ use Rattle.vw_text.specs.Physical.{text_lines}
 use Rattle.vw_text.specs.WordLines.{is_empty, words_of}
 use Rattle.vw_text.proofs.FoundBytes.{HasNo}
 use Rattle.vw_text.proofs.FirstLine.{line_first}
-use Rattle.vw_rows.specs.Stimulus.{line_words, is_bits, bits_of, row_of_bits, row_before, rows_added, joined_rows, with_rows_of, and_then, with_lines, stimulus_rows}
+use Rattle.vw_rows.specs.Stimulus.{line_words, is_bits, bits_of, row_of_bits, row_before, rows_added, joined_rows, with_rows_of, and_then, with_rows_of_lines, stimulus_rows}
 use Rattle.vw_rows.specs.Trace.{bits_text}
 use Rattle.vw_rows.specs.Written.{rows_written}
 
@@ -74,13 +74,13 @@ line_again width number rows row wide few =
     ∙ cond-false _ _ _ (le-ltb 4294967295 (length rows + 1) few)
 
 lines_again : (width number : ℕ) (done rows : List (List Bool)) → All (λ row. length row ≡ width) rows → length done + length rows ≤ 4294967295
-    → with_lines width number done (text_lines (rows_written rows)) ≡ Ok (done ++ rows)
+    → with_rows_of_lines width number done (text_lines (rows_written rows)) ≡ Ok (done ++ rows)
 lines_again width number done [] wide few = ap Ok (sym (append-nil done))
 lines_again width number done (row ∷ rows) wide few =
     let line = bits_text row in
     let longer : length (done ++ row ∷ []) + length rows ≤ 4294967295 = omega (few, length-append done (row ∷ []), arith) in
-    ap (with_lines width number done) (ap text_lines (append_assoc line (10 ∷ []) (rows_written rows)) ∙ line_first line (rows_written rows) (written_has_no (λ b. b == 10) refl refl refl row))
-    ∙ ap (λ said. and_then said (λ all. with_lines width (number + 1) all (text_lines (rows_written rows)))) (line_again width number done row (wide 0 row (omega arith)) (omega (few, arith)))
+    ap (with_rows_of_lines width number done) (ap text_lines (append_assoc line (10 ∷ []) (rows_written rows)) ∙ line_first line (rows_written rows) (written_has_no (λ b. b == 10) refl refl refl row))
+    ∙ ap (λ said. and_then said (λ all. with_rows_of_lines width (number + 1) all (text_lines (rows_written rows)))) (line_again width number done row (wide 0 row (omega arith)) (omega (few, arith)))
     ∙ lines_again width (number + 1) (done ++ row ∷ []) rows (λ k d inside. wide (suc k) d (omega (inside, arith))) longer
     ∙ ap Ok (append_assoc done (row ∷ []) rows)
 

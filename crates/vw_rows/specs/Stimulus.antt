@@ -85,15 +85,15 @@ and_then (Ok rows) further = further rows
 and_then (Err fault) further = Err fault
 
 -- rows and those of the lines behind them, the first of which has this number
-abbrev pub with_lines : ℕ → ℕ → List (List Bool) → List (List ℕ) → Result (List (List Bool)) StimFault
-with_lines width number rows [] = Ok rows
-with_lines width number rows (line ∷ lines) =
-    and_then (with_rows_of width number rows line) (λ all. with_lines width (number + 1) all lines)
+abbrev pub with_rows_of_lines : ℕ → ℕ → List (List Bool) → List (List ℕ) → Result (List (List Bool)) StimFault
+with_rows_of_lines width number rows [] = Ok rows
+with_rows_of_lines width number rows (line ∷ lines) =
+    and_then (with_rows_of width number rows line) (λ all. with_rows_of_lines width (number + 1) all lines)
 
 -- the rows of a text; that it is too large is decided before all lines
 abbrev pub stimulus_rows : ℕ → List ℕ → Result (List (List Bool)) StimFault
 stimulus_rows width text =
-    if nat_lt 16777216 (length text) then Err TooLarge else with_lines width 1 [] (text_lines text)
+    if nat_lt 16777216 (length text) then Err TooLarge else with_rows_of_lines width 1 [] (text_lines text)
 
 -- ---- faults
 

@@ -3,7 +3,7 @@ ghost use Rattle.std.specs.List.{All};
 ghost use Rattle.vw_outside.specs.Told.{absent, OfText};
 ghost use Rattle.vw_outside.specs.Reads.{CountsFault};
 ghost use Rattle.vw_text.specs.Physical.{text_lines};
-ghost use Rattle.vw_rows.specs.Stimulus.{row_before, joined_rows, with_rows_of, with_lines, stimulus_rows, is_of_text};
+ghost use Rattle.vw_rows.specs.Stimulus.{row_before, joined_rows, with_rows_of, with_rows_of_lines, stimulus_rows, is_of_text};
 ghost use Rattle.vw_rows.specs.Steps.Reading.{IsWanted, rows_asked, FitsRun, IsWantedAfter};
 
 use crate::line::{Asked, CLOCKS_LIMIT, read_line};
@@ -67,7 +67,7 @@ fn add_line(
 /// The rows of a text.
 fn rows_of_text(alloc: Global, text: &[u8], width: u32) -> Result<RowRuns, StimFault>
     requires { length text.now ≤ 16777216 }
-    ensures rows { is_of_text result ≡ true → with_lines width 1 [] (text_lines text.now) ≡ result }
+    ensures rows { is_of_text result ≡ true → with_rows_of_lines width 1 [] (text_lines text.now) ≡ result }
     ensures width { IfOk result (All (λ row. length row ≡ width)) }
     ensures clocks { IfOk result (λ rows. length rows ≤ 4294967295) }
     ensures reads_nothing { result ≢ Err StimFault.ReadFault }

@@ -4,7 +4,7 @@ use Rattle.std.specs.List.{flat_map, filter_map}
 use Rattle.vw_design.specs.declared.item.Item.{Item}
 use Rattle.vw_text.specs.declared.line.Line.{Line}
 use Rattle.vw_blif.specs.declared.fault.TextFault.{TextFault}
-use Rattle.vw_blif.specs.declared.table.Table.{Table}
+use Rattle.vw_blif.specs.declared.table.GrowingTable.{GrowingTable}
 use Rattle.vw_blif.specs.declared.block.Block.{Block}
 use Rattle.vw_design.specs.Paths.{Word}
 use Rattle.vw_blif.specs.Kinds.{input, output, clocked}
@@ -19,7 +19,7 @@ use Rattle.vw_blif.specs.Steps.FaultAnswers.{Says}
 -- ---- tables
 
 -- what an open table tells of the next row
-abbrev pub table_said : Table → OpenTable
+abbrev pub table_said : GrowingTable → OpenTable
 table_said t = record { width = length t.ins; value = option_map value_word t.on }
 
 abbrev pub on_or : Option Bool → Bool → Bool
@@ -27,18 +27,18 @@ on_or None other = other
 on_or (Some on) other = on
 
 -- the table that it becomes with these further rows
-abbrev pub table_made : Table → List Line → SpelledItem
+abbrev pub table_made : GrowingTable → List Line → SpelledItem
 table_made t rows =
     table t.line t.ins t.out (on_or t.on (are_on_set rows)) (map (λ row. row.marks) t.rows.items ++ map (λ row. row_marks row.words) rows)
 
-abbrev pub table_items : Option Table → List Line → List SpelledItem
+abbrev pub table_items : Option GrowingTable → List Line → List SpelledItem
 table_items None rows = []
 table_items (Some t) rows = table_made t rows ∷ []
 
 -- ---- models
 
 -- the model that the parts so far, an open table and what a cut has make
-abbrev pub model_with : Word → List Word → List Word → List Word → List SpelledItem → Option Table → CutList Line → SpelledModel
+abbrev pub model_with : Word → List Word → List Word → List Word → List SpelledItem → Option GrowingTable → CutList Line → SpelledModel
 model_with name inputs outputs clocks items open_ cut = record {
   name = name;
   inputs = inputs ++ flat_map (ports_of input) cut.parts;

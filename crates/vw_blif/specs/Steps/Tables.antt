@@ -3,7 +3,7 @@ use Rattle.std.specs.Prelude.{◌≡◌, ◌-◌, Bool, true, false, not, List, 
 use Rattle.vw_text.specs.declared.line.Line.{Line}
 use Rattle.vw_blif.specs.declared.fault.TextFault.{TextFault}
 use Rattle.vw_blif.specs.declared.fault.TextFault.TheVariants.{TooLarge, NoModel, Unsupported, BadWords, BadRow, MixedRows, TooWide, BadLatchType, BadInit, DuplicateModel, DuplicatePort, BadBind, NoMemory}
-use Rattle.vw_blif.specs.declared.table.Table.{Table}
+use Rattle.vw_blif.specs.declared.table.GrowingTable.{GrowingTable}
 use Rattle.vw_blif.specs.Words.{last_word}
 use Rattle.vw_blif.specs.Kinds.{further}
 use Rattle.vw_blif.specs.Rows.{is_row_of}
@@ -13,7 +13,7 @@ use Rattle.vw_blif.specs.Faults.{differs_from}
 use Rattle.vw_blif.specs.Steps.Blocks.{table_said, table_made}
 
 -- a table begins at a line, which has words enough and not too many
-pub record BeginsTable (line : Line) (new : Table) : Type 0 where
+pub record BeginsTable (line : Line) (new : GrowingTable) : Type 0 where
   pub makes : (rows : List Line) → table_made new rows ≡ table_of line rows
   pub stays : table_said new ≡ record { width = length (further line) - 1; value = None }
   pub some : (length (further line) == 0) ≡ false
@@ -41,13 +41,13 @@ is_other_value (Some true) value = not value
 is_other_value (Some false) value = value
 
 -- a row was added to a table
-pub record AddsRow (old : Table) (line : Line) (new : Table) : Type 0 where
+pub record AddsRow (old : GrowingTable) (line : Line) (new : GrowingTable) : Type 0 where
   pub makes : (rows : List Line) → table_made new rows ≡ table_made old (line ∷ rows)
   pub stays : table_said new ≡ record { width = (table_said old).width; value = Some (or_value (table_said old).value (last_word line.words)) }
   pub fits : is_row_of (table_said old).width line.words ≡ true
   pub same : differs_from (table_said old).value (last_word line.words) ≡ false
 
-abbrev pub SaysRow : Table → Line → TextFault → Type 0
+abbrev pub SaysRow : GrowingTable → Line → TextFault → Type 0
 SaysRow old line TooLarge = ⊥
 SaysRow old line (NoModel at) = ⊥
 SaysRow old line (Unsupported at word) = ⊥

@@ -6,7 +6,7 @@ use Rattle.vw_plan.specs.declared.wire.Hop.{Hop}
 use Rattle.vw_check.specs.declared.fault.PlanFault.{PlanFault}
 use Rattle.vw_check.specs.declared.fault.PlanFault.TheVariants.{PinClash}
 use Rattle.vw_check.specs.HopFaults.{PlacedHop, first_sharing, hops_placed}
-use Rattle.vw_check.specs.Steps.Tables.{HasPins, PinKey, user_in}
+use Rattle.vw_check.specs.Steps.Tables.{HasFirstHops, PinKey, user_in}
 
 -- the first clash of some hops with each other or with those before them
 abbrev pub clash_behind : List PlacedHop → List PlacedHop → Option PlanFault
@@ -19,10 +19,10 @@ clash_behind before (later ∷ hops) =
 -- known with this one
 abbrev pub GivesPin : {S : Type 0} → ℕ → ℕ → Hop → hash.HashMap PinKey (ℕ × ℕ) S → hash.HashMap PinKey (ℕ × ℕ) S → Option (ℕ × ℕ) → Type 0
 GivesPin wire number hop before after earlier = (earlier ≡ user_in before hop)
-    × (earlier ≡ None → (placed : List PlacedHop) → HasPins placed before → HasPins (placed ++ record { wire = wire; number = number; hop = hop } ∷ []) after)
+    × (earlier ≡ None → (placed : List PlacedHop) → HasFirstHops placed before → HasFirstHops (placed ++ record { wire = wire; number = number; hop = hop } ∷ []) after)
 
 -- what is found in the hops of a wire, where a table has the pins of the hops before it; where nothing is found, it has those
 -- of the wire's hops too afterwards
 abbrev pub IsClashIn : {S : Type 0} → ℕ → List Hop → hash.HashMap PinKey (ℕ × ℕ) S → hash.HashMap PinKey (ℕ × ℕ) S → Option PlanFault → Type 0
-IsClashIn wire hops before after found = (placed : List PlacedHop) → HasPins placed before
-    → (found ≡ clash_behind placed (hops_placed wire 0 hops)) × (found ≡ None → HasPins (placed ++ hops_placed wire 0 hops) after)
+IsClashIn wire hops before after found = (placed : List PlacedHop) → HasFirstHops placed before
+    → (found ≡ clash_behind placed (hops_placed wire 0 hops)) × (found ≡ None → HasFirstHops (placed ++ hops_placed wire 0 hops) after)

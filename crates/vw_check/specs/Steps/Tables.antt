@@ -30,5 +30,5 @@ abbrev pub user_in : {S : Type 0} → hash.HashMap PinKey (ℕ × ℕ) S → Hop
 user_in table hop = hash.get_by (is_pin hop) table
 
 -- it has the wire and the number of the first of these hops that has each pin
-abbrev pub HasPins : {S : Type 0} → List PlacedHop → hash.HashMap PinKey (ℕ × ℕ) S → Type 0
-HasPins placed table = (hop : Hop) → user_in table hop ≡ option_map (λ earlier. (earlier.wire, earlier.number)) (first_sharing placed hop)
+abbrev pub HasFirstHops : {S : Type 0} → List PlacedHop → hash.HashMap PinKey (ℕ × ℕ) S → Type 0
+HasFirstHops placed table = (hop : Hop) → user_in table hop ≡ option_map (λ earlier. (earlier.wire, earlier.number)) (first_sharing placed hop)

@@ -2,7 +2,7 @@
 use Rattle.std.specs.Prelude.{ℕ, List, Option, Some, None, option_map, option_and_then, slice_get}
 use Rattle.vw_drivers.specs.declared.source.Source.{Source}
 use Rattle.vw_drivers.specs.declared.source.Source.TheVariants as sources
-use Rattle.vw_elab.specs.declared.parts.Parts.{Parts}
+use Rattle.vw_elab.specs.declared.parts.NumberedParts.{NumberedParts}
 use Rattle.vw_elab.specs.declared.elaborated.Reading.{Reading}
 use Rattle.vw_elab.specs.Numbers.{of_port}
 use Rattle.vw_elab.specs.declared.driver.Driver.{Driver}
@@ -15,7 +15,7 @@ driver_by ports (Some (sources.Cell cell)) = Some (Cell cell)
 driver_by ports (Some (sources.Port number)) = option_map of_port (slice_get ports number)
 
 -- what a cell reads, by the tables
-abbrev pub reading_of : Parts → ℕ → ℕ → Option Reading
+abbrev pub reading_of : NumberedParts → ℕ → ℕ → Option Reading
 reading_of parts cell input =
     option_and_then (λ site. option_and_then (λ entry. option_and_then (λ names. option_and_then (λ reads.
     option_map (λ claim. record { instance = site.instance; claim = claim }) (slice_get reads input))

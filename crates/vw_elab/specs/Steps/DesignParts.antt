@@ -6,16 +6,16 @@ use Rattle.vw_drivers.specs.Tables.{AreTables, root_firsts}
 use Rattle.vw_drivers.specs.Drivers.{AreDrivers}
 use Rattle.vw_nets.specs.declared.columns.Columns.{Columns}
 use Rattle.vw_nets.specs.Columns.{AreColumns}
-use Rattle.vw_elab.specs.declared.parts.Parts.{Parts}
+use Rattle.vw_elab.specs.declared.parts.NumberedParts.{NumberedParts}
 
 -- instances, cells and drivers by numbers
-pub record AreDesignParts (design : Design) (parts : Parts) : Type 0 where
+pub record AreDesignParts (design : Design) (parts : NumberedParts) : Type 0 where
   pub tables : AreTables design parts.tables
   pub cells : AreCellSites design parts.cells
   pub drivers : AreDrivers design parts.tables parts.drivers
 
 -- and the columns, of a design without a fault
-pub record IsElaborated (design : Design) (made : Parts) (numbers : Columns) : Type 0 where
+pub record IsElaborated (design : Design) (made : NumberedParts) (numbers : Columns) : Type 0 where
   pub accepted : IsAccepted design
   pub parts : AreDesignParts design made
   pub columns : AreColumns design (root_firsts made.tables) numbers

@@ -2,11 +2,11 @@
 use Rattle.std.specs.Prelude.{◌≡◌, ℕ, suc, min, [], ◌∷◌, find, nat_lt, Option}
 use Rattle.vw_design.specs.declared.design.Design.{Design}
 use Rattle.vw_design.specs.Limits.{Counted, inputs, outputs, placed, bindings, gates_and_latches, levels, limit_of, input_count, output_count, instance_count, binding_count, cell_count, greatest_depth}
-use Rattle.vw_instances.specs.declared.totals.Totals.{Totals}
+use Rattle.vw_instances.specs.declared.totals.QuantityTotals.{QuantityTotals}
 use Rattle.vw_instances.specs.Steps.Counting.{most}
 
 -- one of them
-abbrev pub total_of : Totals → Counted → ℕ
+abbrev pub total_of : QuantityTotals → Counted → ℕ
 total_of totals inputs = totals.inputs
 total_of totals outputs = totals.outputs
 total_of totals placed = totals.instances
@@ -15,11 +15,11 @@ total_of totals gates_and_latches = totals.cells
 total_of totals levels = totals.depth
 
 -- the first that is above its limit
-abbrev pub first_above : Totals → Option Counted
+abbrev pub first_above : QuantityTotals → Option Counted
 first_above totals = find (λ counted. nat_lt (limit_of counted) (total_of totals counted)) (inputs ∷ outputs ∷ placed ∷ bindings ∷ gates_and_latches ∷ levels ∷ [])
 
 -- they are those of the design; the depth has no end, since there are fewer than 2 ^ 32 models
-pub record AreTotals (design : Design) (totals : Totals) : Type 0 where
+pub record AreTotals (design : Design) (totals : QuantityTotals) : Type 0 where
   pub inputs : totals.inputs ≡ input_count design
   pub outputs : totals.outputs ≡ output_count design
   pub instances : totals.instances ≡ min (suc most) (instance_count design)

@@ -1,4 +1,4 @@
-use Rattle.vw_design.proofs.Ways.{only_driver}
+use Rattle.vw_design.proofs.TurnsEnd.{only_driver}
 use Rattle.vw_design.proofs.ShallowDesigns.{faultless_shallow, faultless_one_way}
 use Rattle.vw_design.proofs.laws.drivers.drivers_are_one.Goals as goal
 

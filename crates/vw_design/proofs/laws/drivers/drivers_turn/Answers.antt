@@ -1,4 +1,4 @@
-use Rattle.vw_design.proofs.Ways.{driver-turn}
+use Rattle.vw_design.proofs.TurnsEnd.{driver-turn}
 use Rattle.vw_design.proofs.ShallowDesigns.{faultless_shallow, faultless_one_way}
 use Rattle.vw_design.proofs.laws.drivers.drivers_turn.Goals as goal
 

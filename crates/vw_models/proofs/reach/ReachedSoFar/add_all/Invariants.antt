@@ -2,7 +2,7 @@
 use Rattle.std.proofs.Common.{◌≡◌, drop}
 use Rattle.std.specs.Vec.{vec_len}
 use Rattle.vw_models.specs.Steps.Reach.{AreMarked, with_targets}
-use Rattle.vw_models.proofs.reach.Reached.add_all.Given as goal
+use Rattle.vw_models.proofs.reach.ReachedSoFar.add_all.Given as goal
 
 abbrev pub invariant-loop-target : goal.invariant-loop-target
 invariant-loop-target l = record {

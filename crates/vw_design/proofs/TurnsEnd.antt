@@ -7,7 +7,7 @@ use Rattle.vw_design.specs.declared.design.Design.{Design}
 use Rattle.vw_design.specs.Distinct.{has_name}
 use Rattle.vw_design.specs.Paths.{Word, Path, model_placed, model_at, is_port}
 use Rattle.vw_design.specs.Claims.{Claim, port, driven, bound, claims, first_claim}
-use Rattle.vw_design.specs.Drivers.{Source, Turn, ends, goes_on, actual_of, turn_up, turn_by, turn, follow_turn, follow, driver}
+use Rattle.vw_design.specs.Drivers.{Source, Turn, ends, goes_on, actual_of, turn_up, turn_by, turn, follow_turn, source_after, driver}
 use Rattle.vw_design.proofs.ListElements.{Has-at}
 use Rattle.vw_design.proofs.Claimed.{IsClaim, claim_is}
 
@@ -49,27 +49,27 @@ module _ (design : Design) (limit : ℕ) (shallow : IsShallow design limit) (one
 
   -- from a net that no port claims, the way goes down
   module _ (next : ℕ → Path → Word → Option Source) (goes : GoesAlong design next) where
-    down : (turns : ℕ) (path : Path) (name : Word) → (first_claim design (model_at design path) name ≡ Some port → ⊥) → limit ≤ turns + length path → next turns path name ≡ follow design turns path name
+    down : (turns : ℕ) (path : Path) (name : Word) → (first_claim design (model_at design path) name ≡ Some port → ⊥) → limit ≤ turns + length path → next turns path name ≡ source_after design turns path name
     down zero path name free enough = goes.nothing path name (no_claim path name (omega arith))
     down (suc turns) path name free enough =
         goes.along turns path name ∙ by (first_claim design (model_at design path) name) refl (λ place formal free_there. down turns (place ∷ path) formal free_there (omega arith))
       where
         by : (claim : Option Claim) → first_claim design (model_at design path) name ≡ claim
-            → ((place : ℕ) (formal : Word) → (first_claim design (model_at design (place ∷ path)) formal ≡ Some port → ⊥) → next turns (place ∷ path) formal ≡ follow design turns (place ∷ path) formal)
-            → follow_turn (next turns) (turn_by design path name claim) ≡ follow_turn (follow design turns) (turn_by design path name claim)
+            → ((place : ℕ) (formal : Word) → (first_claim design (model_at design (place ∷ path)) formal ≡ Some port → ⊥) → next turns (place ∷ path) formal ≡ source_after design turns (place ∷ path) formal)
+            → follow_turn (next turns) (turn_by design path name claim) ≡ follow_turn (source_after design turns) (turn_by design path name claim)
         by None is deeper = refl
         by (Some port) is deeper = absurd (free is)
         by (Some (driven item)) is deeper = refl
         by (Some (bound place formal)) is deeper = deeper place formal (no_port design one place path name formal is)
 
     -- from any net, it goes up and then down
-    up : (path : Path) (turns : ℕ) (name : Word) → length path + limit ≤ turns → next turns path name ≡ follow design turns path name
+    up : (path : Path) (turns : ℕ) (name : Word) → length path + limit ≤ turns → next turns path name ≡ source_after design turns path name
     up path zero name enough = down zero path name (λ is. none-some port (sym (ap (λ (m : Option Model). first_claim design m name) (shallow.shallow path (omega arith))) ∙ is)) (omega arith)
     up [] (suc turns) name enough =
         goes.along turns [] name ∙ by (first_claim design (model_at design []) name) refl
       where
         by : (claim : Option Claim) → first_claim design (model_at design []) name ≡ claim
-            → follow_turn (next turns) (turn_by design [] name claim) ≡ follow_turn (follow design turns) (turn_by design [] name claim)
+            → follow_turn (next turns) (turn_by design [] name claim) ≡ follow_turn (source_after design turns) (turn_by design [] name claim)
         by None is = refl
         by (Some port) is = refl
         by (Some (driven item)) is = refl
@@ -77,12 +77,12 @@ module _ (design : Design) (limit : ℕ) (shallow : IsShallow design limit) (one
     up (at ∷ path) (suc turns) name enough =
         goes.along turns (at ∷ path) name ∙ by (first_claim design (model_at design (at ∷ path)) name) refl (λ actual. up path turns actual (omega arith))
       where
-        upward : (actual : Option Word) → ((actual : Word) → next turns path actual ≡ follow design turns path actual) → follow_turn (next turns) (turn_up path actual) ≡ follow_turn (follow design turns) (turn_up path actual)
+        upward : (actual : Option Word) → ((actual : Word) → next turns path actual ≡ source_after design turns path actual) → follow_turn (next turns) (turn_up path actual) ≡ follow_turn (source_after design turns) (turn_up path actual)
         upward None higher = refl
         upward (Some actual) higher = higher actual
 
-        by : (claim : Option Claim) → first_claim design (model_at design (at ∷ path)) name ≡ claim → ((actual : Word) → next turns path actual ≡ follow design turns path actual)
-            → follow_turn (next turns) (turn_by design (at ∷ path) name claim) ≡ follow_turn (follow design turns) (turn_by design (at ∷ path) name claim)
+        by : (claim : Option Claim) → first_claim design (model_at design (at ∷ path)) name ≡ claim → ((actual : Word) → next turns path actual ≡ source_after design turns path actual)
+            → follow_turn (next turns) (turn_by design (at ∷ path) name claim) ≡ follow_turn (source_after design turns) (turn_by design (at ∷ path) name claim)
         by None is higher = refl
         by (Some port) is higher = upward (actual_of design at path name) higher
         by (Some (driven item)) is higher = refl
@@ -90,7 +90,7 @@ module _ (design : Design) (limit : ℕ) (shallow : IsShallow design limit) (one
 
   -- what goes along the turns by itself is what is found after enough turns
   pub only_follow : (found : Path → Word → Option Source) → ((path : Path) (name : Word) → found path name ≡ follow_turn found (turn design path name))
-      → (path : Path) (turns : ℕ) (name : Word) → length path + limit ≤ turns → found path name ≡ follow design turns path name
+      → (path : Path) (turns : ℕ) (name : Word) → length path + limit ≤ turns → found path name ≡ source_after design turns path name
   only_follow found along path turns name enough =
       let goes : GoesAlong design (λ t. found) = record {
         nothing = λ p n ended. along p n ∙ ap (follow_turn found) ended;
@@ -99,22 +99,22 @@ module _ (design : Design) (limit : ℕ) (shallow : IsShallow design limit) (one
       up (λ t. found) goes path turns name enough
 
   -- one turn more finds the same
-  pub one_more : (path : Path) (turns : ℕ) (name : Word) → length path + limit ≤ turns → follow design (suc turns) path name ≡ follow design turns path name
+  pub one_more : (path : Path) (turns : ℕ) (name : Word) → length path + limit ≤ turns → source_after design (suc turns) path name ≡ source_after design turns path name
   one_more path turns name enough =
-      let goes : GoesAlong design (λ t. follow design (suc t)) = record {
-        nothing = λ p n ended. ap (follow_turn (follow design 0)) ended;
+      let goes : GoesAlong design (λ t. source_after design (suc t)) = record {
+        nothing = λ p n ended. ap (follow_turn (source_after design 0)) ended;
         along = λ t p n. refl;
       } in
-      up (λ t. follow design (suc t)) goes path turns name enough
+      up (λ t. source_after design (suc t)) goes path turns name enough
 
 -- nothing is found where no instance is
-pub no_instance : (design : Design) (turns : ℕ) (path : Path) (name : Word) → model_at design path ≡ None → follow design turns path name ≡ None
+pub no_instance : (design : Design) (turns : ℕ) (path : Path) (name : Word) → model_at design path ≡ None → source_after design turns path name ≡ None
 no_instance design zero path name none = refl
-no_instance design (suc turns) path name none = ap (λ (m : Option Model). follow_turn (follow design turns) (turn_by design path name (first_claim design m name))) none
+no_instance design (suc turns) path name none = ap (λ (m : Option Model). follow_turn (source_after design turns) (turn_by design path name (first_claim design m name))) none
 
 module _ (design : Design) (shallow : IsShallow design 64) (one : IsOneWay design) where
   -- the 127 turns that are left behind the first are enough
-  one_less : (path : Path) (name : Word) → follow design 127 path name ≡ follow design 128 path name
+  one_less : (path : Path) (name : Word) → source_after design 127 path name ≡ source_after design 128 path name
   one_less path name =
       ⊎_elim (λ short. sym (one_more design 64 shallow one path 127 name (omega arith)))
       (λ deep. no_instance design 127 path name (shallow.shallow path deep) ∙ sym (no_instance design 128 path name (shallow.shallow path deep))) (cases_lt (length path) 64)
@@ -123,7 +123,7 @@ module _ (design : Design) (shallow : IsShallow design 64) (one : IsOneWay desig
   pub driver-turn : (path : Path) (name : Word) → driver design path name ≡ follow_turn (driver design) (turn design path name)
   unfolding driver
   driver-turn path name = by (turn design path name) where
-    by : (next : Turn) → follow_turn (follow design 127) next ≡ follow_turn (follow design 128) next
+    by : (next : Turn) → follow_turn (source_after design 127) next ≡ follow_turn (source_after design 128) next
     by (ends found) = refl
     by (goes_on path name) = one_less path name
 
