@@ -24,7 +24,7 @@ AreTargets design targets =
 
 -- for each model, whether it is reached
 abbrev pub AreModelsReached : Design → List Bool → Type 0
-AreModelsReached design marks = AllZip (λ model mark. mark ≡ is_reached design model.name) design.models marks
+AreModelsReached design flags = AllZip (λ model flag. flag ≡ is_reached design model.name) design.models flags
 
 -- whether the model with a number is reached
 abbrev pub is_reached_model : Design → Option Model → Bool

@@ -32,18 +32,18 @@ fn fault_at(
     alloc: Global,
     design: &Design,
     targets: &[Sequence<Option<u32>>],
-    marks: &[bool],
+    flags: &[bool],
 ) -> Result<Vec<u8>, AllocError>
     requires targets { AreTargets design.now targets.now }
-    requires marks { AreModelsReached design.now marks.now }
+    requires flags { AreModelsReached design.now flags.now }
 {
-    if let Some(found) = unknown_formal(alloc, design, targets, marks)? {
+    if let Some(found) = unknown_formal(alloc, design, targets, flags)? {
         return formal_text(alloc, b"unknown ", &found);
     }
-    if let Some(found) = unbound_input(alloc, design, targets, marks)? {
+    if let Some(found) = unbound_input(alloc, design, targets, flags)? {
         return formal_text(alloc, b"unbound ", &found);
     }
-    match both_ways(alloc, design, targets, marks)? {
+    match both_ways(alloc, design, targets, flags)? {
         Some(found) => output_text(alloc, b"both ways ", &found),
         None => b"no fault".to_vec(alloc),
     }
@@ -53,8 +53,8 @@ fn fault_at(
 /// is an input too.
 fn first_fault(alloc: Global, design: &Design) -> Result<Vec<u8>, AllocError> {
     let targets = targets_of(alloc, design)?;
-    let marks = models_reached(alloc, design, targets.as_slice())?;
-    fault_at(alloc, design, targets.as_slice(), marks.as_slice())
+    let flags = models_reached(alloc, design, targets.as_slice())?;
+    fault_at(alloc, design, targets.as_slice(), flags.as_slice())
 }
 
 /// The first fault of the bindings of a text, or the message of the text's own fault.

@@ -31,8 +31,8 @@ fn circle(alloc: Global, names: &[Name]) -> Result<Vec<u8>, AllocError> {
 /// What is found of a design: the line of an unknown model, or an order or a circle of the models that are reached.
 fn look_at(alloc: Global, design: &Design) -> Result<Vec<u8>, AllocError> {
     let targets = targets_of(alloc, design)?;
-    let marks = models_reached(alloc, design, targets.as_slice())?;
-    if let Some(line) = unknown_model(design, targets.as_slice(), marks.as_slice()) {
+    let flags = models_reached(alloc, design, targets.as_slice())?;
+    if let Some(line) = unknown_model(design, targets.as_slice(), flags.as_slice()) {
         return unknown(alloc, line);
     }
     match order_of(alloc, design, targets.as_slice())? {

@@ -11,8 +11,8 @@ use vw_net::Sequence;
 /// What counting a design gives, if its models are known and place each other in no circle.
 fn measured(alloc: Global, design: &Design) -> Result<Option<Measured>, AllocError> {
     let targets = targets_of(alloc, design)?;
-    let marks = models_reached(alloc, design, targets.as_slice())?;
-    if unknown_model(design, targets.as_slice(), marks.as_slice()).is_some() {
+    let flags = models_reached(alloc, design, targets.as_slice())?;
+    if unknown_model(design, targets.as_slice(), flags.as_slice()).is_some() {
         return Ok(None);
     }
     match order_of(alloc, design, targets.as_slice())? {

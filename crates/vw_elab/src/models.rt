@@ -30,14 +30,14 @@ fn order_of_models(
     alloc: Global,
     design: &Design,
     targets: &[Sequence<Option<u32>>],
-    marks: &[bool],
+    flags: &[bool],
 ) -> Result<Sequence<u32>, DesignFault>
     requires targets { AreTargets design.now targets.now }
-    requires marks { AreModelsReached design.now marks.now }
+    requires flags { AreModelsReached design.now flags.now }
     ensures order { IsMadeOrRefused design.now
         (λ order. IsModelOrder design.now order × HasKnownModels design.now) result }
 {
-    if let Some(line) = unknown_model(design, targets, marks) {
+    if let Some(line) = unknown_model(design, targets, flags) {
         return Err(DesignFault::UnknownModel(line));
     }
     match order_of(alloc, design, targets)? {
@@ -54,20 +54,20 @@ fn check_bindings(
     alloc: Global,
     design: &Design,
     targets: &[Sequence<Option<u32>>],
-    marks: &[bool],
+    flags: &[bool],
 ) -> Result<(), DesignFault>
     requires targets { AreTargets design.now targets.now }
-    requires marks { AreModelsReached design.now marks.now }
+    requires flags { AreModelsReached design.now flags.now }
     requires models { HasKnownModels design.now }
     ensures { IsMadeOrRefused design.now (λ _. HasBindings design.now) result }
 {
-    if let Some(at) = unknown_formal(alloc, design, targets, marks)? {
+    if let Some(at) = unknown_formal(alloc, design, targets, flags)? {
         return Err(DesignFault::UnknownFormal(at.line, at.formal));
     }
-    if let Some(at) = unbound_input(alloc, design, targets, marks)? {
+    if let Some(at) = unbound_input(alloc, design, targets, flags)? {
         return Err(DesignFault::UnboundInput(at.line, at.formal));
     }
-    if let Some(of) = both_ways(alloc, design, targets, marks)? {
+    if let Some(of) = both_ways(alloc, design, targets, flags)? {
         return Err(DesignFault::BothWays(of.model, of.output));
     }
     Ok(())
@@ -83,9 +83,9 @@ fn checked_order(
     ensures { IsMadeOrRefused design.now
         (λ order. IsModelOrder design.now order × HasBindings design.now) result }
 {
-    let marks = models_reached(alloc, design, targets)?;
-    let order = order_of_models(alloc, design, targets, &marks)?;
-    check_bindings(alloc, design, targets, &marks)?;
+    let flags = models_reached(alloc, design, targets)?;
+    let order = order_of_models(alloc, design, targets, &flags)?;
+    check_bindings(alloc, design, targets, &flags)?;
     Ok(order)
 }
 

@@ -6,7 +6,7 @@ pub mod Reaches
 pub mod Unknowns
 pub mod Models
 pub mod NumbersByName
-pub mod ReachMarks
+pub mod ReachFlags
 pub mod FirstUnknown
 pub mod OrderedModels
 pub mod CircleNames

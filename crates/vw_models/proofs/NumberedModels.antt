@@ -1,4 +1,4 @@
--- A model at a place, with its mark and its targets.
+-- A model at a place, with its flag and its targets.
 use Rattle.std.proofs.Common.{◌≡◌, ◌<◌, ℕ, Bool, true, false, true≢false, List, [], Option, Some, None, length, get_or, slice_get, refl, sym, ◌∙◌, ap, subst}
 use Rattle.std.specs.List.{AllZip}
 use Rattle.std.proofs.lemmas.Option.{slice_get_within, slice_get_read, get_or_from_slice_get}
@@ -11,9 +11,9 @@ use Rattle.vw_design.proofs.PairedLists.{AllZip-at, AllZip-length}
 use Rattle.vw_models.specs.Steps.Reach.{Targets}
 use Rattle.vw_models.proofs.Unknowns.{AreAlong}
 
--- there are as many marks and targets as models
-pub marks_each : (design : Design) (marks : List Bool) → AreModelsReached design marks → length design.models ≡ length marks
-marks_each design marks are = AllZip-length (λ (model : Model) (mark : Bool). mark ≡ is_reached design model.name) design.models marks are
+-- there are as many flags and targets as models
+pub flags_each : (design : Design) (flags : List Bool) → AreModelsReached design flags → length design.models ≡ length flags
+flags_each design flags are = AllZip-length (λ (model : Model) (flag : Bool). flag ≡ is_reached design model.name) design.models flags are
 
 pub targets_each : (design : Design) (targets : Targets) → AreTargets design targets → length design.models ≡ length targets
 targets_each design targets are = AllZip-length (λ model numbers. AllZip (λ placing number. IsNumberOfModel design placing.model number) (placings model.items) numbers) design.models targets are
@@ -21,10 +21,10 @@ targets_each design targets are = AllZip-length (λ model numbers. AllZip (λ pl
 pub model_at_place : (models others : List Model) (i : ℕ) (model : Model) → others ≡ models → i < length others → model ≡ get_or others i model → slice_get models i ≡ Some model
 model_at_place models others i model are within at = ap (λ (l : List Model). slice_get l i) (sym are) ∙ slice_get_read others (length others) i model refl within at
 
-pub mark_at : (design : Design) (marks : List Bool) (i : ℕ) (model : Model) → AreModelsReached design marks → slice_get design.models i ≡ Some model → get_or marks i false ≡ is_reached design model.name
-mark_at design marks i model are at =
-    let mark = AllZip-at (λ (model : Model) (mark : Bool). mark ≡ is_reached design model.name) design.models marks i model are at in
-    get_or_from_slice_get marks i mark.0 false mark.1 ∙ mark.2
+pub flag_at : (design : Design) (flags : List Bool) (i : ℕ) (model : Model) → AreModelsReached design flags → slice_get design.models i ≡ Some model → get_or flags i false ≡ is_reached design model.name
+flag_at design flags i model are at =
+    let flag = AllZip-at (λ (model : Model) (flag : Bool). flag ≡ is_reached design model.name) design.models flags i model are at in
+    get_or_from_slice_get flags i flag.0 false flag.1 ∙ flag.2
 
 pub along_at : (design : Design) (targets : Targets) (i : ℕ) (model : Model) → AreTargets design targets → slice_get design.models i ≡ Some model → AreAlong design model.items (get_or targets i [])
 along_at design targets i model are at =

@@ -7,7 +7,7 @@ use Rattle.std.proofs.lemmas.Option.{none-some, same_Some}
 use Rattle.vw_net.proofs.Orders.{among_at, at_among}
 use Rattle.vw_net.proofs.Lists.{once_none}
 use Rattle.vw_net.specs.Order.{is_among}
-use Rattle.vw_models.specs.Steps.Reach.{Targets, PlacesAt, AreWithin, IsClosed, AreReached, with_number, with_targets, AreMarked, AreReachMarks}
+use Rattle.vw_models.specs.Steps.Reach.{Targets, PlacesAt, AreWithin, IsClosed, AreReached, with_number, with_targets, AreFlagged, AreReachFlags}
 use Rattle.vw_order.proofs.Among.{among_left, among_either, among_one, among_last, once_push, once_short}
 
 -- numbers grow at their end
@@ -133,14 +133,14 @@ module _ (targets : Targets) where
   pub short : (at : ℕ) (found : List ℕ) → IsReaching at found → length found ≤ length targets
   short at found far = once_short found (length targets) far.good.once far.good.within
 
-  pub all_reached : (at : ℕ) (found : List ℕ) (marks : List Bool) → IsReaching at found → length found ≤ at → AreMarked found marks → length marks ≡ length targets → AreReachMarks targets marks
-  all_reached at found marks far all marked each = record {
+  pub all_reached : (at : ℕ) (found : List ℕ) (flags : List Bool) → IsReaching at found → length found ≤ at → AreFlagged found flags → length flags ≡ length targets → AreReachFlags targets flags
+  all_reached at found flags far all flagged each = record {
     each = each;
     closed = record {
-      root = marked 0 ∙ far.root;
+      root = flagged 0 ∙ far.root;
       placed = λ number place placed there places.
-          let index = among_at found number (sym (marked number) ∙ there) in
-          marked placed ∙ far.closed index.0 place placed (omega (arith, index.1)) (subst (λ (n : ℕ). PlacesAt targets n place placed) (sym index.2) places);
+          let index = among_at found number (sym (flagged number) ∙ there) in
+          flagged placed ∙ far.closed index.0 place placed (omega (arith, index.1)) (subst (λ (n : ℕ). PlacesAt targets n place placed) (sym index.2) places);
     };
-    reached = λ test closed number there. far.good.reached test closed number (sym (marked number) ∙ there);
+    reached = λ test closed number there. far.good.reached test closed number (sym (flagged number) ∙ there);
   }

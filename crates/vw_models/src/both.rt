@@ -20,13 +20,13 @@ pub fn both_ways(
     alloc: Global,
     design: &Design,
     targets: &[Sequence<Option<u32>>],
-    marks: &[bool],
+    flags: &[bool],
 ) -> Result<Option<OutputOf>, AllocError>
     requires targets { AreTargets design.now targets.now }
-    requires marks { AreModelsReached design.now marks.now }
+    requires flags { AreModelsReached design.now flags.now }
     ensures { IfOk result (λ found. option_map named_output found ≡ both_ways design.now) }
 {
-    let placed = placed_models(alloc, design, targets, marks)?;
+    let placed = placed_models(alloc, design, targets, flags)?;
     let outputs = all_both(alloc, design)?;
     first_both(alloc, design, placed.as_slice(), outputs.as_slice())
 }

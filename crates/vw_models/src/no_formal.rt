@@ -23,13 +23,13 @@ pub fn unknown_formal(
     alloc: Global,
     design: &Design,
     targets: &[Sequence<Option<u32>>],
-    marks: &[bool],
+    flags: &[bool],
 ) -> Result<Option<FormalAt>, AllocError>
     requires targets { AreTargets design.now targets.now }
-    requires marks { AreModelsReached design.now marks.now }
+    requires flags { AreModelsReached design.now flags.now }
     ensures { IfOk result (λ found. option_map name_at found ≡ unknown_formal design.now) }
 {
-    let placed = placed_models(alloc, design, targets, marks)?;
+    let placed = placed_models(alloc, design, targets, flags)?;
     let formals = all_formals(alloc, design)?;
     first_unknown(alloc, design, placed.as_slice(), formals.as_slice())
 }

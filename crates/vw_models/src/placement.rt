@@ -26,16 +26,16 @@ pub fn placed_models<'a>(
     alloc: Global,
     design: &'a Design,
     targets: &[Sequence<Option<u32>>],
-    marks: &[bool],
+    flags: &[bool],
 ) -> Result<Vec<Placement<'a>>, AllocError>
     requires targets { AreTargets design.now targets.now }
-    requires marks { AreModelsReached design.now marks.now }
+    requires flags { AreModelsReached design.now flags.now }
     ensures { IfOk result (λ placed.
         AllZip (IsPlacement design.now) (placed_models design.now) placed.items) }
 {
     let mut placed = Vec::new(alloc);
     for (number, model) in design.models().iter().enumerate() {
-        if marks[number] {
+        if flags[number] {
             add_placed(
                 design,
                 model.items(),

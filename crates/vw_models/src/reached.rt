@@ -15,7 +15,7 @@ pub fn models_reached(
     targets: &[Sequence<Option<u32>>],
 ) -> Result<Vec<bool>, AllocError>
     requires { AreTargets design.now targets.now }
-    ensures { IfOk result (λ marks. AreModelsReached design.now marks.items) }
+    ensures { IfOk result (λ flags. AreModelsReached design.now flags.items) }
 {
     reach(alloc, targets)
 }

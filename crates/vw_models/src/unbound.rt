@@ -20,13 +20,13 @@ pub fn unbound_input(
     alloc: Global,
     design: &Design,
     targets: &[Sequence<Option<u32>>],
-    marks: &[bool],
+    flags: &[bool],
 ) -> Result<Option<FormalAt>, AllocError>
     requires targets { AreTargets design.now targets.now }
-    requires marks { AreModelsReached design.now marks.now }
+    requires flags { AreModelsReached design.now flags.now }
     ensures { IfOk result (λ found. option_map name_at found ≡ unbound_input design.now) }
 {
-    let placed = placed_models(alloc, design, targets, marks)?;
+    let placed = placed_models(alloc, design, targets, flags)?;
     first_unbound(alloc, design, placed.as_slice())
 }
 

@@ -14,14 +14,14 @@ use vw_net::Sequence;
 pub fn unknown_model(
     design: &Design,
     targets: &[Sequence<Option<u32>>],
-    marks: &[bool],
+    flags: &[bool],
 ) -> Option<u64>
     requires targets { AreTargets design.now targets.now }
-    requires marks { AreModelsReached design.now marks.now }
+    requires flags { AreModelsReached design.now flags.now }
     ensures { result ≡ unknown_model design.now }
 {
     for (number, model) in design.models().iter().enumerate() {
-        if marks[number] {
+        if flags[number] {
             let line = unknown_item(design, model.items(), targets[number].as_slice());
             if line.is_some() {
                 return line;

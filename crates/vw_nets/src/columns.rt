@@ -71,7 +71,7 @@ fn free_number(claims: &ModelClaims, clock_flags: &[bool], name: &Name) -> Optio
     ensures { result ≡ unflagged clock_flags.now (number_named claims.now.firsts name.now) }
 {
     let number = claims.first(name.as_slice())?;
-    if has_mark(clock_flags, number) {
+    if has_flag(clock_flags, number) {
         None
     } else {
         Some(number)
@@ -79,7 +79,7 @@ fn free_number(claims: &ModelClaims, clock_flags: &[bool], name: &Name) -> Optio
 }
 
 /// Whether a number has a flag.
-fn has_mark(clock_flags: &[bool], number: u32) -> bool
+fn has_flag(clock_flags: &[bool], number: u32) -> bool
     ensures { result ≡ slice_index_or clock_flags.now number false }
 {
     clock_flags.get(number as usize).copied().unwrap_or(false)

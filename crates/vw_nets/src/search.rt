@@ -10,7 +10,7 @@ ghost use Rattle.vw_drivers.specs.Firsts.{number_named};
 ghost use Rattle.vw_drivers.specs.Names.{reads_of};
 ghost use Rattle.vw_drivers.specs.Tables.{instance_firsts};
 ghost use Rattle.vw_nets.specs.Nets.{AreNets, printed_net};
-ghost use Rattle.vw_nets.specs.Steps.Wanted.{wants, FindsAmong, HasMarksOf, wanted_names, wanted_among, wanted_read, first_wanted};
+ghost use Rattle.vw_nets.specs.Steps.Wanted.{wants, FindsAmong, HasFlagsOf, wanted_names, wanted_among, wanted_read, first_wanted};
 
 use crate::items::{number_in_row, written_control};
 use crate::nets::Nets;
@@ -26,7 +26,7 @@ impl<'a> Nets<'a> {
     /// Whether the nets of an instance on whose names the first claim has this number are looked for.
     fn is_wanted(&self, instance: u32, number: Option<u32>, wanted: &Wanted) -> bool
         requires nets { AreNets self.now }
-        requires clock_flags { HasMarksOf self.now wanted.now }
+        requires clock_flags { HasFlagsOf self.now wanted.now }
         ensures { (path : Path) (name : Word)
             → slice_get (instances self.now.design.now) instance ≡ Some path
             → number ≡ number_named (instance_firsts self.now.tables.now instance) name
@@ -44,7 +44,7 @@ impl<'a> Nets<'a> {
         wanted: &Wanted,
     ) -> Option<&'a Name>
         requires nets { AreNets self.now }
-        requires clock_flags { HasMarksOf self.now wanted.now }
+        requires clock_flags { HasFlagsOf self.now wanted.now }
         ensures { (path : Path) → slice_get (instances self.now.design.now) instance ≡ Some path
             → number ≡ number_named (instance_firsts self.now.tables.now instance) name.now
             → lent result ≡ wanted_among self.now.design.now wanted.now path (name.now ∷ []) }
@@ -65,7 +65,7 @@ impl<'a> Nets<'a> {
         wanted: &Wanted,
     ) -> Option<&'a Name>
         requires nets { AreNets self.now }
-        requires clock_flags { HasMarksOf self.now wanted.now }
+        requires clock_flags { HasFlagsOf self.now wanted.now }
         ensures { FindsAmong self.now wanted.now instance names.now numbers.now
             names.now (lent result) }
     {
@@ -87,7 +87,7 @@ impl<'a> Nets<'a> {
         wanted: &Wanted,
     ) -> Option<&'a Name>
         requires nets { AreNets self.now }
-        requires clock_flags { HasMarksOf self.now wanted.now }
+        requires clock_flags { HasFlagsOf self.now wanted.now }
         ensures { FindsAmong self.now wanted.now instance (reads_of item.now) numbers.now
             (data_of item.now) (lent result) }
     {
@@ -107,7 +107,7 @@ impl<'a> Nets<'a> {
         wanted: &Wanted,
     ) -> Option<&'a Name>
         requires nets { AreNets self.now }
-        requires clock_flags { HasMarksOf self.now wanted.now }
+        requires clock_flags { HasFlagsOf self.now wanted.now }
         ensures { FindsAmong self.now wanted.now instance (reads_of item.now) numbers.now
             (controls_of item.now) (lent result) }
     {
@@ -126,7 +126,7 @@ impl<'a> Nets<'a> {
         wanted: &Wanted,
     ) -> Option<&'a Name>
         requires nets { AreNets self.now }
-        requires clock_flags { HasMarksOf self.now wanted.now }
+        requires clock_flags { HasFlagsOf self.now wanted.now }
         ensures { FindsAmong self.now wanted.now instance (reads_of item.now) numbers.now
             (wanted_names wanted.now item.now) (lent result) }
     {
@@ -143,7 +143,7 @@ impl<'a> Nets<'a> {
     /// The first name of the item of a cell that is looked for.
     fn wanted_at(&self, cell: CellSite, wanted: &Wanted) -> Option<&'a Name>
         requires nets { AreNets self.now }
-        requires clock_flags { HasMarksOf self.now wanted.now }
+        requires clock_flags { HasFlagsOf self.now wanted.now }
         ensures { (path : Path) (item : Item)
             → slice_get (instances self.now.design.now) cell.instance ≡ Some path
             → item_at self.now.design.now path cell.item ≡ Some item
@@ -162,7 +162,7 @@ impl<'a> Nets<'a> {
         wanted: &Wanted,
     ) -> Result<Option<Name>, AllocError>
         requires nets { AreNets self.now }
-        requires clock_flags { HasMarksOf self.now wanted.now }
+        requires clock_flags { HasFlagsOf self.now wanted.now }
         ensures { IfOk result (λ found. found
             ≡ printed_net (wanted_read self.now.design.now wanted.now)) }
     {
@@ -180,7 +180,7 @@ impl<'a> Nets<'a> {
     /// The first output of the root that is looked for.
     fn wanted_output(&self, wanted: &Wanted) -> Option<&'a Name>
         requires nets { AreNets self.now }
-        requires clock_flags { HasMarksOf self.now wanted.now }
+        requires clock_flags { HasFlagsOf self.now wanted.now }
         ensures { lent result ≡ wanted_among self.now.design.now wanted.now []
             (model_outputs (model_at self.now.design.now [])) }
     {
@@ -197,7 +197,7 @@ impl<'a> Nets<'a> {
         wanted: &Wanted,
     ) -> Option<&'a Name>
         requires nets { AreNets self.now }
-        requires clock_flags { HasMarksOf self.now wanted.now }
+        requires clock_flags { HasFlagsOf self.now wanted.now }
         requires claims { claims.now.firsts ≡ instance_firsts self.now.tables.now 0 }
         ensures { lent result ≡ wanted_among self.now.design.now wanted.now [] names.now }
     {
@@ -217,7 +217,7 @@ impl<'a> Nets<'a> {
         wanted: &Wanted,
     ) -> Result<Option<Name>, AllocError>
         requires nets { AreNets self.now }
-        requires clock_flags { HasMarksOf self.now wanted.now }
+        requires clock_flags { HasFlagsOf self.now wanted.now }
         ensures { IfOk result (λ found. found
             ≡ printed_net (first_wanted self.now.design.now wanted.now)) }
     {

@@ -1,6 +1,6 @@
 //! What is looked for among the nets that are read.
 ghost use Rattle.std.specs.Prelude.{◌≡◌, false, slice_index_or};
-ghost use Rattle.vw_nets.specs.Steps.Wanted.{is_cell_number, is_marked, takes};
+ghost use Rattle.vw_nets.specs.Steps.Wanted.{is_cell_number, is_flagged, takes};
 
 use vw_drivers::Source;
 
@@ -23,7 +23,7 @@ impl<'a> Wanted<'a> {
         match self {
             Wanted::Undriven => source.is_none(),
             Wanted::Gated => is_cell_number(source),
-            Wanted::ClockPort(clock_flags) => is_marked(clock_flags, source),
+            Wanted::ClockPort(clock_flags) => is_flagged(clock_flags, source),
         }
     }
 }
@@ -36,8 +36,8 @@ fn is_cell_number(source: Option<Source>) -> bool
 }
 
 /// Whether a driver is a port with a flag.
-fn is_marked(clock_flags: &[bool], source: Option<Source>) -> bool
-    ensures { result ≡ is_marked clock_flags.now source }
+fn is_flagged(clock_flags: &[bool], source: Option<Source>) -> bool
+    ensures { result ≡ is_flagged clock_flags.now source }
 {
     match source {
         Some(Source::Port(number)) => clock_flags.get(number as usize).copied().unwrap_or(false),

@@ -22,20 +22,20 @@ use Rattle.vw_order.proofs.Among.{among_left, among_right, among_either, among_o
 use Rattle.vw_order.proofs.Rounds.{IsReadChain-push, IsReadChain-front, closes}
 
 -- what a progress says
-done_mark : (done on : Bool) → cond done Done (cond on Open Fresh) ≡ Done → done ≡ true
-done_mark true on is = refl
-done_mark false true is = cc
-done_mark false false is = cc
+done_progress : (done on : Bool) → cond done Done (cond on Open Fresh) ≡ Done → done ≡ true
+done_progress true on is = refl
+done_progress false true is = cc
+done_progress false false is = cc
 
-open_mark : (done on : Bool) → cond done Done (cond on Open Fresh) ≡ Open → on ≡ true
-open_mark true on is = cc
-open_mark false true is = refl
-open_mark false false is = cc
+open_progress : (done on : Bool) → cond done Done (cond on Open Fresh) ≡ Open → on ≡ true
+open_progress true on is = cc
+open_progress false true is = refl
+open_progress false false is = cc
 
-fresh_mark : (done on : Bool) → cond done Done (cond on Open Fresh) ≢ Done → cond done Done (cond on Open Fresh) ≢ Open → (done ≡ false) × (on ≡ false)
-fresh_mark true on not_done not_open = absurd (not_done refl)
-fresh_mark false true not_done not_open = absurd (not_open refl)
-fresh_mark false false not_done not_open = (refl, refl)
+fresh_progress : (done on : Bool) → cond done Done (cond on Open Fresh) ≢ Done → cond done Done (cond on Open Fresh) ≢ Open → (done ≡ false) × (on ≡ false)
+fresh_progress true on not_done not_open = absurd (not_done refl)
+fresh_progress false true not_done not_open = absurd (not_open refl)
+fresh_progress false false not_done not_open = (refl, refl)
 
 -- one more doesn't change whether another one is there
 pub among_other : (numbers : List ℕ) (number other : ℕ) → number ≢ other → is_among (numbers ++ number ∷ []) other ≡ is_among numbers other
@@ -138,7 +138,7 @@ module _ (graph : Graph) where
       }
 
       all_done : (read : ℕ) → get_or progress read Fresh ≡ Done → is_among order read ≡ true
-      all_done read is = done_mark (is_among order read) (is_among (stack ++ number ∷ []) read) (sym (far.known read) ∙ is)
+      all_done read is = done_progress (is_among order read) (is_among (stack ++ number ∷ []) read) (sym (far.known read) ∙ is)
 
       -- what is done or open stays so where the last one is done
       pub moved : (other : ℕ) → is_among (order ++ (stack ++ number ∷ [])) other ≡ true → is_among ((order ++ number ∷ []) ++ stack) other ≡ true
@@ -207,7 +207,7 @@ module _ (graph : Graph) where
           counted = λ other among. counts other among;
         }) where
           fresh : (is_among order next.number ≡ false) × (is_among (stack ++ number ∷ []) next.number ≡ false)
-          fresh = fresh_mark (is_among order next.number) (is_among (stack ++ number ∷ []) next.number) (λ is. ahead.2 (far.known next.number ∙ is)) (λ is. closed_now (far.known next.number ∙ is))
+          fresh = fresh_progress (is_among order next.number) (is_among (stack ++ number ∷ []) next.number) (λ is. ahead.2 (far.known next.number ∙ is)) (λ is. closed_now (far.known next.number ∙ is))
 
           new : is_among (order ++ (stack ++ number ∷ [])) next.number ≡ false
           new = list_any-append (λ (n : ℕ). n == next.number) order (stack ++ number ∷ []) ∙ ap₂ (λ (a b : Bool). a || b) fresh.0 fresh.1
@@ -248,7 +248,7 @@ module _ (graph : Graph) where
         pub circled : get_or progress next.number Fresh ≡ Open → IsNumberCircle graph (round_from next.number stack ++ number ∷ [])
         circled open_now =
             closes graph stack number next.number (once_part order (stack ++ number ∷ []) far.once) far.leads (next.place, ahead.1)
-            (open_mark (is_among order next.number) (is_among (stack ++ number ∷ []) next.number) (sym (far.known next.number) ∙ open_now))
+            (open_progress (is_among order next.number) (is_among (stack ++ number ∷ []) next.number) (sym (far.known next.number) ∙ open_now))
             (λ other among. far.counted other (among_right order (stack ++ number ∷ []) other among))
 
   -- nothing is open, and all is reached

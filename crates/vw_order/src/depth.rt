@@ -15,7 +15,7 @@ ghost use Rattle.std.specs.Prelude.{
 };
 ghost use Rattle.std.specs.Vec.{vec_len};
 ghost use Rattle.vw_order.specs.Graphs.{ReadsAt};
-ghost use Rattle.vw_order.specs.Steps.SearchProgress.{is_fresh_mark, is_open_progress, is_done_progress, IsAhead};
+ghost use Rattle.vw_order.specs.Steps.SearchProgress.{is_fresh_progress, is_open_progress, is_done_progress, IsAhead};
 
 use crate::digraph::Digraph;
 use crate::progress::{Ahead, Progress};
@@ -92,7 +92,7 @@ impl DepthSearch {
     pub fn is_fresh(&self, number: u32) -> bool
         requires { number < vec_len self.now.progress }
         ensures { result
-            ≡ is_fresh_mark (slice_index_or self.now.progress.items number Progress.Fresh) }
+            ≡ is_fresh_progress (slice_index_or self.now.progress.items number Progress.Fresh) }
     {
         matches!(self.progress[number as usize], Progress::Fresh)
     }

@@ -173,8 +173,8 @@ plan = record {
   short = omega arith;
 }
 
-abbrev setting_with : (settle : ℕ) → settle ≤ 15 → PlannedBoard
-setting_with settle quick = record { ordered = ordered; board = board_with settle quick; plan = plan }
+abbrev planned_with : (settle : ℕ) → settle ≤ 15 → PlannedBoard
+planned_with settle quick = record { ordered = ordered; board = board_with settle quick; plan = plan }
 
 -- ---- it is sound
 
@@ -226,7 +226,7 @@ depths_there = refl
 
 module _ (settle : ℕ) (quick : settle ≤ 15) where
   abbrev planned : PlannedBoard
-  planned = setting_with settle quick
+  planned = planned_with settle quick
 
   few_on : (chip : ℕ) → count_by (λ other. other == chip) (1 ∷ 2 ∷ []) ≤ 1
   few_on chip = grind (arith, common_steps)
@@ -258,29 +258,29 @@ abbrev slow : 1 ≤ 15
 slow = lit≤ tt
 
 -- a wire of one hop is sent when its net is usable
-sent : (net to from at usable_at : ℕ) → usable (setting_with 0 quick) (home (setting_with 0 quick) net) net ≡ usable_at → usable_at ≤ at → IsSentWhenUsable (setting_with 0 quick) (record { net = net; to = to; hops = hop from to at })
+sent : (net to from at usable_at : ℕ) → usable (planned_with 0 quick) (home (planned_with 0 quick) net) net ≡ usable_at → usable_at ≤ at → IsSentWhenUsable (planned_with 0 quick) (record { net = net; to = to; hops = hop from to at })
 sent net to from at usable_at is late first there =
     let same : at ≡ first.at = ap (λ (found : Option Hop). option_map_or (λ (one_hop : Hop). one_hop.at) found 0) there in
     omega arith
 
-all_sent : All (IsSentWhenUsable (setting_with 0 quick)) wires
+all_sent : All (IsSentWhenUsable (planned_with 0 quick)) wires
 unfolding lead
-all_sent = four (IsSentWhenUsable (setting_with 0 quick)) _ _ _ _ (sent 0 1 0 0 0 refl (omega arith)) (sent 1 2 1 1 1 refl (omega arith)) (sent 2 0 2 0 0 refl (omega arith)) (sent 2 1 2 0 0 refl (omega arith))
+all_sent = four (IsSentWhenUsable (planned_with 0 quick)) _ _ _ _ (sent 0 1 0 0 0 refl (omega arith)) (sent 1 2 1 1 1 refl (omega arith)) (sent 2 0 2 0 0 refl (omega arith)) (sent 2 1 2 0 0 refl (omega arith))
 
 -- net 1 is usable at the latch's chip in microcycle 2
-usable_there : usable (setting_with 0 quick) 2 1 ≡ 2
+usable_there : usable (planned_with 0 quick) 2 1 ≡ 2
 unfolding lead
 usable_there = refl
 
-in_time : AreLatchesInTime (setting_with 0 quick)
+in_time : AreLatchesInTime (planned_with 0 quick)
 in_time zero d init latch = cc
 in_time (suc zero) d init latch =
     let reads = λ (found : Option Cell). slice_index (read_nets_at found) 0 in
     let same : 1 ≡ d = ap reads latch in
-    subst (λ (net : ℕ). usable (setting_with 0 quick) 2 net ≤ 2) same (omega (arith, usable_there))
+    subst (λ (net : ℕ). usable (planned_with 0 quick) 2 net ≤ 2) same (omega (arith, usable_there))
 in_time (suc (suc number)) d init latch = cc
 
-toggle_sound : IsSound (setting_with 0 quick)
+toggle_sound : IsSound (planned_with 0 quick)
 toggle_sound = record {
   one_chip_each = placed 0 quick;
   one_wire_for_each_need = one_wire;
@@ -293,11 +293,11 @@ toggle_sound = record {
 }
 
 -- where a gate takes a microcycle to settle, net 1 is usable at its chip in microcycle 2, and is sent in 1
-usable_later : usable (setting_with 1 slow) 1 1 ≡ 2
+usable_later : usable (planned_with 1 slow) 1 1 ≡ 2
 unfolding lead
 usable_later = refl
 
-toggle_unsound : ¬ (IsSound (setting_with 1 slow))
+toggle_unsound : ¬ (IsSound (planned_with 1 slow))
 toggle_unsound sound =
-    let early : usable (setting_with 1 slow) 1 1 ≤ 1 = sound.sent_when_usable 1 (record { net = 0; to = 0; hops = [] }) (omega arith) (record { from = 1; to = 2; pin = 0; at = 1 }) refl in
+    let early : usable (planned_with 1 slow) 1 1 ≤ 1 = sound.sent_when_usable 1 (record { net = 0; to = 0; hops = [] }) (omega arith) (record { from = 1; to = 2; pin = 0; at = 1 }) refl in
     omega (arith, usable_later)

@@ -34,12 +34,12 @@ with_targets numbers [] = numbers
 with_targets numbers (None ∷ rest) = with_targets numbers rest
 with_targets numbers (Some number ∷ rest) = with_targets (with_number numbers number) rest
 
--- marks that say which numbers are among some
-abbrev pub AreMarked : List ℕ → List Bool → Type 0
-AreMarked numbers marks = (number : ℕ) → slice_index_or marks number false ≡ is_among numbers number
+-- flags that say which numbers are among some
+abbrev pub AreFlagged : List ℕ → List Bool → Type 0
+AreFlagged numbers flags = (number : ℕ) → slice_index_or flags number false ≡ is_among numbers number
 
--- the marks of all that is reached, and of nothing else
-pub record AreReachMarks (targets : Targets) (marks : List Bool) : Type 0 where
-  pub each : length marks ≡ length targets
-  pub closed : IsClosed targets (λ number. slice_index_or marks number false)
-  pub reached : (test : ℕ → Bool) → IsClosed targets test → (number : ℕ) → IsTrue (slice_index_or marks number false) → IsTrue (test number)
+-- the flags of all that is reached, and of nothing else
+pub record AreReachFlags (targets : Targets) (flags : List Bool) : Type 0 where
+  pub each : length flags ≡ length targets
+  pub closed : IsClosed targets (λ number. slice_index_or flags number false)
+  pub reached : (test : ℕ → Bool) → IsClosed targets test → (number : ℕ) → IsTrue (slice_index_or flags number false) → IsTrue (test number)

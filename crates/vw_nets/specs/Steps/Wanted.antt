@@ -31,25 +31,25 @@ is_cell_number None = false
 is_cell_number (Some (Port number)) = false
 is_cell_number (Some (Cell number)) = true
 
-abbrev pub is_marked : List Bool → Option Source → Bool
-is_marked clock_flags None = false
-is_marked clock_flags (Some (Port number)) = slice_index_or clock_flags number false
-is_marked clock_flags (Some (Cell number)) = false
+abbrev pub is_flagged : List Bool → Option Source → Bool
+is_flagged clock_flags None = false
+is_flagged clock_flags (Some (Port number)) = slice_index_or clock_flags number false
+is_flagged clock_flags (Some (Cell number)) = false
 
 abbrev pub takes : Wanted → Option Source → Bool
 takes Undriven source = is_none source
 takes Gated source = is_cell_number source
-takes (ClockPort clock_flags) source = is_marked clock_flags.now source
+takes (ClockPort clock_flags) source = is_flagged clock_flags.now source
 
 -- for each claim of the root, by its number, whether its name is a clock port
 abbrev pub AreClockFlags : Design → List First → List Bool → Type 0
 AreClockFlags design root clock_flags =
     (name : Word) (number : ℕ) → number_named root name ≡ Some number → slice_get clock_flags number ≡ Some (has_name (clock_ports design) name)
 
-abbrev pub HasMarks : Design → List First → Wanted → Type 0
-HasMarks design root Undriven = Unit {0}
-HasMarks design root Gated = Unit {0}
-HasMarks design root (ClockPort clock_flags) = AreClockFlags design root clock_flags.now
+abbrev pub HasFlags : Design → List First → Wanted → Type 0
+HasFlags design root Undriven = Unit {0}
+HasFlags design root Gated = Unit {0}
+HasFlags design root (ClockPort clock_flags) = AreClockFlags design root clock_flags.now
 
 -- the names of an item among which it is looked for
 abbrev pub wanted_names : Wanted → Item → List Word
@@ -71,8 +71,8 @@ first_wanted design wanted =
     option_or (wanted_read design wanted) (option_map (net_at []) (wanted_among design wanted [] (model_outputs (model_at design []))))
 
 -- what is looked for has its clock_flags, by the tables of some nets
-abbrev pub HasMarksOf : Nets → Wanted → Type 0
-HasMarksOf nets wanted = HasMarks nets.design.now (root_firsts nets.tables.now) wanted
+abbrev pub HasFlagsOf : Nets → Wanted → Type 0
+HasFlagsOf nets wanted = HasFlags nets.design.now (root_firsts nets.tables.now) wanted
 
 -- what was found is the first of some names of an instance that is looked for, where these numbers are those of the first
 -- claims on what is read there

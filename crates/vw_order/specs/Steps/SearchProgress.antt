@@ -1,13 +1,13 @@
--- Marks of numbers, and the first one that isn't done among those that a number reads, from a place on.
+-- The progress of numbers, and the first one that isn't done among those that a number reads, from a place on.
 use Rattle.std.specs.Prelude.{◌≡◌, ◌≢◌, ◌<◌, ◌≤◌, ℕ, Bool, true, false, List, Option, Some, None, slice_get, slice_index_or}
 use Rattle.vw_order.specs.declared.progress.Progress.{Progress}
 use Rattle.vw_order.specs.declared.progress.Progress.TheVariants.{Fresh, Open, Done}
 use Rattle.vw_order.specs.declared.progress.Ahead.{Ahead}
 
-abbrev pub is_fresh_mark : Progress → Bool
-is_fresh_mark Fresh = true
-is_fresh_mark Open = false
-is_fresh_mark Done = false
+abbrev pub is_fresh_progress : Progress → Bool
+is_fresh_progress Fresh = true
+is_fresh_progress Open = false
+is_fresh_progress Done = false
 
 abbrev pub is_open_progress : Progress → Bool
 is_open_progress Fresh = false

@@ -9,8 +9,8 @@ use Rattle.vw_elab.proofs.models.checked_order.Goals as goal
 abbrev IsChecked : Design → List ℕ → Type 0
 IsChecked design order = IsModelOrder design order × HasBindings design
 
-pub returns-in_err-marks : goal.returns-in_err-marks
-returns-in_err-marks c = judged_by c.args.design.now (IsChecked c.args.design.now) c.from_residual.result NoMemory c.from_residual.ensures tt
+pub returns-in_err-flags : goal.returns-in_err-flags
+returns-in_err-flags c = judged_by c.args.design.now (IsChecked c.args.design.now) c.from_residual.result NoMemory c.from_residual.ensures tt
 
 pub returns-in_err-order : goal.returns-in_err-order
 returns-in_err-order c =

@@ -9,14 +9,14 @@ use Rattle.vw_models.proofs.Unknowns.{AreAlong}
 use Rattle.vw_models.specs.declared.placement.Placement.{Placement}
 use Rattle.vw_models.specs.Steps.PlacedModels.{PlacedModel, placed_by, placed_models, IsPlacement, AreAdded}
 use Rattle.vw_models.proofs.AddedPlacements.{IsAdding, more_added, ended}
-use Rattle.vw_models.proofs.NumberedModels.{within_models, marks_each, targets_each, model_at_place, mark_at, along_at}
+use Rattle.vw_models.proofs.NumberedModels.{within_models, flags_each, targets_each, model_at_place, flag_at, along_at}
 use Rattle.vw_models.proofs.placement.placed_models.Goals as goal
-use Rattle.vw_models.proofs.placement.placed_models.Goals.{then-marks-number+in_ok-add_placed, else-marks-number}
+use Rattle.vw_models.proofs.placement.placed_models.Goals.{then-flags-number+in_ok-add_placed, else-flags-number}
 
-pub bounds-marks-number : goal.bounds-marks-number
-bounds-marks-number c =
+pub bounds-flags-number : goal.bounds-flags-number
+bounds-flags-number c =
     let inside = within_models c.args.design.now.models c.models-model-items.result.now c.loop-number.number c.models-model-items.ensures c.loop-number-test.true in
-    omega (arith, inside, marks_each c.args.design.now c.args.marks.now c.requires.marks)
+    omega (arith, inside, flags_each c.args.design.now c.args.flags.now c.requires.flags)
 
 pub bounds-targets-number : goal.bounds-targets-number
 bounds-targets-number c =
@@ -68,17 +68,17 @@ loop-number-preserved c =
     let number = c.loop-number.number in
     let model = c.model-item.result in
     let at = model_at_place design.models others number model c.models-model-items.ensures c.loop-number-test.true c.model-item.is in
-    let mark = mark_at design c.args.marks.now number model c.requires.marks at in
-    elim c.if-marks-number.branch [
-      | then-marks-number+in_ok-add_placed w ↦
-          let same : w.add_placed.new.placed.items ≡ c.if-marks-number.placed.items = cc (w.placed-is) in
+    let flag = flag_at design c.args.flags.now number model c.requires.flags at in
+    elim c.if-flags-number.branch [
+      | then-flags-number+in_ok-add_placed w ↦
+          let same : w.add_placed.new.placed.items ≡ c.if-flags-number.placed.items = cc (w.placed-is) in
           subst (λ (l : List Placement). IsAdding design [] (behind design (drop (number + 1) design.models)) (behind design design.models) l) same
-          (go_on design others number model c.models-model-items.ensures c.loop-number-test.true c.model-item.is (sym mark ∙ w.if-marks-number.true) c.loop-number.placed.items w.add_placed.new.placed.items c.loop-number.invariant
+          (go_on design others number model c.models-model-items.ensures c.loop-number-test.true c.model-item.is (sym flag ∙ w.if-flags-number.true) c.loop-number.placed.items w.add_placed.new.placed.items c.loop-number.invariant
           w.items.result.now w.items.ensures w.in_ok-add_placed.ensures)
-      | else-marks-number w ↦
-          let same : c.loop-number.placed.items ≡ c.if-marks-number.placed.items = cc (w.placed-is) in
+      | else-flags-number w ↦
+          let same : c.loop-number.placed.items ≡ c.if-flags-number.placed.items = cc (w.placed-is) in
           subst (λ (l : List Placement). IsAdding design [] (behind design (drop (number + 1) design.models)) (behind design design.models) l) same
-          (pass_over design others number model c.models-model-items.ensures c.loop-number-test.true c.model-item.is (sym mark ∙ w.if-marks-number.false) c.loop-number.placed.items c.loop-number.invariant)
+          (pass_over design others number model c.models-model-items.ensures c.loop-number-test.true c.model-item.is (sym flag ∙ w.if-flags-number.false) c.loop-number.placed.items c.loop-number.invariant)
     ]
 
 all_of : (design : Design) → behind design design.models ≡ placed_models design

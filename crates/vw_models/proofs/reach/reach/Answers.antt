@@ -10,8 +10,8 @@ use Rattle.vw_models.proofs.reach.reach.Goals.{else-loop-at-test, then-loop-at-t
 pub loop-at-init : goal.loop-at-init
 loop-at-init c = record {
   far = subst (λ (found : List ℕ). IsReaching c.args.targets.now 0 found) (sym (c.in_ok-add.ensures.found ∙ ap (λ (l : List ℕ). with_number l 0) c.in_ok-reached.ensures.found)) (start c.args.targets.now c.requires);
-  marks = c.in_ok-add.ensures.marks ∙ c.in_ok-reached.ensures.marks;
-  marked = c.in_ok-add.ensures.marked;
+  flags = c.in_ok-add.ensures.flags ∙ c.in_ok-reached.ensures.flags;
+  flagged = c.in_ok-add.ensures.flagged;
 }
 
 -- the number at a place
@@ -36,7 +36,7 @@ add_all-requires-clause-within c = λ place placed at.
     let within : number < length c.args.targets.now = far.good.within number (ap (is_among found) is ∙ at_among found c.loop-at.at 0 here) in
     let list : c.as_slice.result.now ≡ get_or c.args.targets.now number [] = c.as_slice.ensures ∙ c.index-targets-number.is ∙ get_or_default c.args.targets.now number c.index-targets-number.result [] within in
     let below : placed < length c.args.targets.now = c.requires.within number place placed (ap (λ (l : List (Option ℕ)). slice_get l place) (sym list) ∙ at) in
-    omega (arith, below, c.loop-at.invariant.marks)
+    omega (arith, below, c.loop-at.invariant.flags)
 
 pub loop-at-preserved : goal.loop-at-preserved
 loop-at-preserved c =
@@ -49,8 +49,8 @@ loop-at-preserved c =
     c.as_slice.ensures ∙ c.index-targets-number.is ∙ get_or_default c.args.targets.now number c.index-targets-number.result [] below ∙ ap (λ (n : ℕ). get_or c.args.targets.now n []) is in
     record {
       far = subst (λ (l : List ℕ). IsReaching c.args.targets.now (c.loop-at.at + 1) l) (sym (c.in_ok-add_all.ensures.found ∙ ap (λ (l : List (Option ℕ)). with_targets found l) list)) (go_on c.args.targets.now c.requires c.loop-at.at found c.loop-at.invariant.far within);
-      marks = c.in_ok-add_all.ensures.marks ∙ c.loop-at.invariant.marks;
-      marked = c.in_ok-add_all.ensures.marked;
+      flags = c.in_ok-add_all.ensures.flags ∙ c.loop-at.invariant.flags;
+      flagged = c.in_ok-add_all.ensures.flagged;
     }
 
 pub returns : goal.returns
@@ -58,11 +58,11 @@ returns c =
     let targets = c.args.targets.now in
     let reached = c.loop-at.reached in
     let far = c.loop-at.invariant.far in
-    let each : length reached.marks.items ≡ length targets = omega (arith, c.loop-at.invariant.marks) in
+    let each : length reached.flags.items ≡ length targets = omega (arith, c.loop-at.invariant.flags) in
     let few = short targets c.loop-at.at reached.found.items far in
     elim c.loop-at-test.branch [
       | else-loop-at-test w ↦
-          all_reached targets c.loop-at.at reached.found.items reached.marks.items far (let past = w.loop-at-test.false in omega (arith, few, past)) c.loop-at.invariant.marked each
+          all_reached targets c.loop-at.at reached.found.items reached.flags.items far (let past = w.loop-at-test.false in omega (arith, few, past)) c.loop-at.invariant.flagged each
       | then-loop-at-test+then-at-len w ↦
-          all_reached targets c.loop-at.at reached.found.items reached.marks.items far (omega (arith, w.if-at-len.true, w.len.ensures)) c.loop-at.invariant.marked each
+          all_reached targets c.loop-at.at reached.found.items reached.flags.items far (omega (arith, w.if-at-len.true, w.len.ensures)) c.loop-at.invariant.flagged each
     ]

@@ -1,7 +1,7 @@
 use Rattle.std.proofs.Common.{Ok, Err}
 use Rattle.std.specs.Result.{IfOk}
 use Rattle.std.specs.declared.result.Result.{Result}
-use Rattle.vw_models.proofs.ReachMarks.{are_marks}
+use Rattle.vw_models.proofs.ReachFlags.{are_flags}
 use Rattle.vw_models.proofs.Models.{within}
 use Rattle.vw_models.proofs.reached.models_reached.Goals as goal
 
@@ -13,4 +13,4 @@ pub reach-requires : goal.reach-requires
 reach-requires c = within c.args.design.now c.args.targets.now c.requires
 
 pub returns : goal.returns
-returns c = if_ok _ _ (λ marks reach. are_marks c.args.design.now c.args.targets.now marks.items c.requires reach) c.reach.result c.reach.ensures
+returns c = if_ok _ _ (λ flags reach. are_flags c.args.design.now c.args.targets.now flags.items c.requires reach) c.reach.result c.reach.ensures

@@ -9,14 +9,14 @@ use Rattle.vw_design.specs.ModelNumbers.{AreModelsReached}
 use Rattle.vw_models.specs.Steps.Unknown.{unknown_of}
 use Rattle.vw_models.proofs.Unknowns.{AreAlong}
 use Rattle.vw_models.proofs.FirstUnknown.{passed_over, nothing_here, found_here, unknown_is, nothing_left}
-use Rattle.vw_models.proofs.NumberedModels.{marks_each, targets_each, model_at_place, mark_at, along_at, within_models}
+use Rattle.vw_models.proofs.NumberedModels.{flags_each, targets_each, model_at_place, flag_at, along_at, within_models}
 use Rattle.vw_models.proofs.unknown.unknown_model.Goals as goal
-use Rattle.vw_models.proofs.unknown.unknown_model.Goals.{then-marks-number+else-is_some, else-marks-number}
+use Rattle.vw_models.proofs.unknown.unknown_model.Goals.{then-flags-number+else-is_some, else-flags-number}
 
-pub bounds-marks-number : goal.bounds-marks-number
-bounds-marks-number c =
+pub bounds-flags-number : goal.bounds-flags-number
+bounds-flags-number c =
     let inside = within_models c.args.design.now.models c.models-model-items.result.now c.loop-number.number c.models-model-items.ensures c.loop-number-test.true in
-    omega (arith, inside, marks_each c.args.design.now c.args.marks.now c.requires.marks)
+    omega (arith, inside, flags_each c.args.design.now c.args.flags.now c.requires.flags)
 
 pub bounds-targets-number : goal.bounds-targets-number
 bounds-targets-number c =
@@ -37,52 +37,52 @@ unknown_item-line-requires c =
     (subst (λ (l : List (Option ℕ)). AreAlong design model.items l) (sym list) (along_at design targets number model c.requires.targets at))
 
 -- the facts of a turn
-module _ (design : Design) (marks : List Bool) (others : List Model) (i : ℕ) (model : Model) (are_marks : AreModelsReached design marks) (are : others ≡ design.models) (within : i < length others) (at : model ≡ get_or others i model) where
+module _ (design : Design) (flags : List Bool) (others : List Model) (i : ℕ) (model : Model) (are_flags : AreModelsReached design flags) (are : others ≡ design.models) (within : i < length others) (at : model ≡ get_or others i model) where
   listed : model ≡ get_or design.models i model
   listed = subst (λ (l : List Model). model ≡ get_or l i model) are at
 
   inside : i < length design.models
   inside = within_models design.models others i are within
 
-  reached_is : (mark : Bool) → get_or marks i false ≡ mark → is_reached design model.name ≡ mark
-  reached_is mark is = sym (mark_at design marks i model are_marks (model_at_place design.models others i model are within at)) ∙ is
+  reached_is : (flag : Bool) → get_or flags i false ≡ flag → is_reached design model.name ≡ flag
+  reached_is flag is = sym (flag_at design flags i model are_flags (model_at_place design.models others i model are within at)) ∙ is
 
-  pub found_now : (items : List Item) (line : Option ℕ) → items ≡ model.items → line ≡ first_found (unknown_of design) items → get_or marks i false ≡ true → is_some line ≡ true
+  pub found_now : (items : List Item) (line : Option ℕ) → items ≡ model.items → line ≡ first_found (unknown_of design) items → get_or flags i false ≡ true → is_some line ≡ true
       → first_found (λ m. first_found (unknown_of design) m.items) (filter (λ m. is_reached design m.name) (drop i design.models)) ≡ line
-  found_now items line are_items is mark some =
+  found_now items line are_items is flag some =
       let line_is : line ≡ first_found (unknown_of design) model.items = is ∙ ap (first_found (unknown_of design)) are_items in
-      found_here (λ m. is_reached design m.name) (λ m. first_found (unknown_of design) m.items) design.models i model inside listed (reached_is true mark) (ap (λ (o : Option ℕ). is_some o) (sym line_is) ∙ some)
+      found_here (λ m. is_reached design m.name) (λ m. first_found (unknown_of design) m.items) design.models i model inside listed (reached_is true flag) (ap (λ (o : Option ℕ). is_some o) (sym line_is) ∙ some)
       ∙ sym line_is
 
-  pub nothing_now : (items : List Item) (line : Option ℕ) → items ≡ model.items → line ≡ first_found (unknown_of design) items → get_or marks i false ≡ true → is_some line ≡ false
+  pub nothing_now : (items : List Item) (line : Option ℕ) → items ≡ model.items → line ≡ first_found (unknown_of design) items → get_or flags i false ≡ true → is_some line ≡ false
       → first_found (λ m. first_found (unknown_of design) m.items) (filter (λ m. is_reached design m.name) (drop i design.models))
       ≡ first_found (λ m. first_found (unknown_of design) m.items) (filter (λ m. is_reached design m.name) (drop (i + 1) design.models))
-  nothing_now items line are_items is mark none =
+  nothing_now items line are_items is flag none =
       let line_is : line ≡ first_found (unknown_of design) model.items = is ∙ ap (first_found (unknown_of design)) are_items in
-      nothing_here (λ m. is_reached design m.name) (λ m. first_found (unknown_of design) m.items) design.models i model inside listed (reached_is true mark) (ap (λ (o : Option ℕ). is_some o) (sym line_is) ∙ none)
+      nothing_here (λ m. is_reached design m.name) (λ m. first_found (unknown_of design) m.items) design.models i model inside listed (reached_is true flag) (ap (λ (o : Option ℕ). is_some o) (sym line_is) ∙ none)
 
-  pub not_reached : get_or marks i false ≡ false
+  pub not_reached : get_or flags i false ≡ false
       → first_found (λ m. first_found (unknown_of design) m.items) (filter (λ m. is_reached design m.name) (drop i design.models))
       ≡ first_found (λ m. first_found (unknown_of design) m.items) (filter (λ m. is_reached design m.name) (drop (i + 1) design.models))
-  not_reached mark = passed_over (λ m. is_reached design m.name) (λ m. first_found (unknown_of design) m.items) design.models i model inside listed (reached_is false mark)
+  not_reached flag = passed_over (λ m. is_reached design m.name) (λ m. first_found (unknown_of design) m.items) design.models i model inside listed (reached_is false flag)
 
 pub returns-then-is_some : goal.returns-then-is_some
 returns-then-is_some c =
     let design = c.args.design.now in
-    sym (found_now design c.args.marks.now c.models-model-items.result.now c.loop-number.number c.model-item.result c.requires.marks c.models-model-items.ensures c.loop-number-test.true c.model-item.is
-    c.items.result.now c.unknown_item-line.result c.items.ensures c.unknown_item-line.ensures c.if-marks-number.true (sym c.is_some.ensures ∙ c.if-is_some.true))
+    sym (found_now design c.args.flags.now c.models-model-items.result.now c.loop-number.number c.model-item.result c.requires.flags c.models-model-items.ensures c.loop-number-test.true c.model-item.is
+    c.items.result.now c.unknown_item-line.result c.items.ensures c.unknown_item-line.ensures c.if-flags-number.true (sym c.is_some.ensures ∙ c.if-is_some.true))
     ∙ c.loop-number.invariant ∙ unknown_is design
 
 pub loop-number-preserved : goal.loop-number-preserved
 loop-number-preserved c =
     let design = c.args.design.now in
-    elim c.if-marks-number.branch [
-      | then-marks-number+else-is_some w ↦
-          sym (nothing_now design c.args.marks.now c.models-model-items.result.now c.loop-number.number c.model-item.result c.requires.marks c.models-model-items.ensures c.loop-number-test.true c.model-item.is
-          w.items.result.now w.unknown_item-line.result w.items.ensures w.unknown_item-line.ensures w.if-marks-number.true (sym w.is_some.ensures ∙ w.if-is_some.false))
+    elim c.if-flags-number.branch [
+      | then-flags-number+else-is_some w ↦
+          sym (nothing_now design c.args.flags.now c.models-model-items.result.now c.loop-number.number c.model-item.result c.requires.flags c.models-model-items.ensures c.loop-number-test.true c.model-item.is
+          w.items.result.now w.unknown_item-line.result w.items.ensures w.unknown_item-line.ensures w.if-flags-number.true (sym w.is_some.ensures ∙ w.if-is_some.false))
           ∙ c.loop-number.invariant
-      | else-marks-number w ↦
-          sym (not_reached design c.args.marks.now c.models-model-items.result.now c.loop-number.number c.model-item.result c.requires.marks c.models-model-items.ensures c.loop-number-test.true c.model-item.is w.if-marks-number.false)
+      | else-flags-number w ↦
+          sym (not_reached design c.args.flags.now c.models-model-items.result.now c.loop-number.number c.model-item.result c.requires.flags c.models-model-items.ensures c.loop-number-test.true c.model-item.is w.if-flags-number.false)
           ∙ c.loop-number.invariant
     ]
 

@@ -1,12 +1,12 @@
 use Rattle.std.proofs.Common.{◌≡◌, ◌++◌, ℕ, List, [], ◌∷◌, true, true≢false, get_or, sym, ◌∙◌, ap, subst, refl}
 use Rattle.vw_order.specs.declared.progress.Progress.{Progress}
 use Rattle.vw_order.specs.declared.progress.Progress.TheVariants.{Fresh, Open, Done}
-use Rattle.vw_order.specs.Steps.SearchProgress.{is_fresh_mark}
+use Rattle.vw_order.specs.Steps.SearchProgress.{is_fresh_progress}
 use Rattle.vw_order.specs.Steps.Searches.{IsSearch}
 use Rattle.vw_order.proofs.DepthSearches.{rooted, same_search}
 use Rattle.vw_order.proofs.depth_first.visit.Goals as goal
 
-fresh_is : (progress : Progress) → is_fresh_mark progress ≡ true → progress ≡ Fresh
+fresh_is : (progress : Progress) → is_fresh_progress progress ≡ true → progress ≡ Fresh
 fresh_is Fresh is = refl
 fresh_is Open is = absurd (true≢false (sym is))
 fresh_is Done is = absurd (true≢false (sym is))
