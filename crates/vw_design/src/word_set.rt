@@ -1,5 +1,6 @@
 //! Sets of words.
-ghost use Rattle.std.specs.Prelude.{◌≡◌, ◌||◌, not, false, IfOk, OnOk, filter, find, length, map};
+ghost use Rattle.std.specs.Prelude.{◌≡◌, ◌≤◌, ◌||◌, not, false, IfOk, OnOk, filter, find, length, map};
+ghost use Rattle.std.specs.HashMap.{spare};
 ghost use Rattle.std.specs.Str.{bytes_eq};
 ghost use Rattle.vw_design.specs.Distinct.{has_name};
 ghost use Rattle.vw_design.specs.Paths.{Word, lent};
@@ -47,7 +48,8 @@ impl<'a> WordSet<'a> {
 
     /// Takes memory for so many words more.
     pub fn reserve(&mut self, count: usize) -> Result<(), AllocError>
-        ensures { (word : Word) → has_word self.new.words word ≡ has_word self.old.words word }
+        ensures words { (word : Word) → has_word self.new.words word ≡ has_word self.old.words word }
+        ensures room { OnOk result (count ≤ spare self.new.words) }
     {
         self.words.reserve(count)
     }
