@@ -145,10 +145,6 @@ module _ (cost : List ℕ → ℕ) where
     later_long : cost new ≡ cost old → cost new ≡ cost between
     later_long as_long = omega (arith, before.no_greater, after.no_greater)
 
-  -- an exchange that lowers the cost
-  pub cheaper : (tried : ℕ → ℕ → Type 0) (old new : List ℕ) → cost new < cost old → AreTried cost tried old new
-  cheaper tried old new less = record { no_greater = omega arith; same = λ as_long. absurd (omega arith); useless = λ as_long one other is. absurd (omega arith) }
-
   -- and one that doesn't
   pub no_cheaper : (tried : ℕ → ℕ → Type 0) (old new : List ℕ) → new ≡ old → ((one other : ℕ) → tried one other → cost old ≤ cost (swap old one other)) → AreTried cost tried old new
   no_cheaper tried old new is useless = record { no_greater = omega (arith, ap cost is); same = λ as_long. is; useless = λ as_long. useless }

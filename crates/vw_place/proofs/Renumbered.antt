@@ -41,9 +41,6 @@ module _ (chips : ℕ) (to from : ℕ → ℕ) (number : IsNumbering chips to fr
   host_test : (node : ℕ) → eqb (to node) 0 ≡ eqb node 0
   host_test node = ap (λ (host : ℕ). eqb (to node) host) (sym number.host) ∙ same_test node 0
 
-  old_host : from 0 ≡ 0
-  old_host = ap from (sym number.host) ∙ number.there 0
-
   -- so a chip's number is one of a chip
   pub chip_stays : (chip : ℕ) → (1 ≤ chip) × (chip ≤ chips) → (1 ≤ to chip) × (to chip ≤ chips)
   chip_stays chip is =

@@ -51,9 +51,6 @@ module _ (flat : Flat) (board : Board) (chip_of : List ℕ) (low : All (λ chip.
     abbrev placed : List ℕ
     placed = map (moved at) chip_of
 
-    old_of : ℕ → ℕ
-    old_of = nodes.from
-
     -- an exchange of chips is one of the places at which their numbers stand
     exchange_travels : (one other : ℕ) → IsChip board one → IsChip board other → travel flat board (map (exchanged one other) placed) ≡ travel_by table board (swap at (nodes.from one) (nodes.from other))
     exchange_travels one other one_chip other_chip =

@@ -22,7 +22,7 @@ use Rattle.vw_top.specs.Reasons.{reason_status}
 use Rattle.vw_top.specs.Designs.{IsNetlistOf, RefusesDesign}
 use Rattle.vw_top.specs.Course.{Course, Outside, outside, MayWrite, MayRefuse, MayRead, writing, refusing, missing, ComesTo}
 use Rattle.vw_top.specs.Statuses.{Statuses}
-use Rattle.vw_top.specs.Commands.{RefusesBoard, RefusesPlanText, RefusesPlan, plan_text_apart, check_course, check_board_course, check_plan_course, sound_text}
+use Rattle.vw_top.specs.Commands.{RefusesBoard, RefusesPlanText, RefusesPlan, check_course, check_board_course, check_plan_course, sound_text}
 use Rattle.vw_top.specs.CommandStatuses.{AreSpelledOn, CountsFaultAt, YieldsAt}
 use Rattle.vw_top.specs.CheckStatuses.{AreSpelled, IsNoPlanText, HasPlanFault, IsNoPlan, IsSoundPlan, HoldTexts, CheckStatuses}
 use Rattle.vw_top.proofs.CourseEnds.{refused_with, refused_or_stopped, refused_one_of, fault_at, yields_at, absent_leaves, part_of, carried_out}
@@ -33,14 +33,11 @@ use Rattle.vw_top.proofs.JudgedTexts.{judged_netlist, judged_board, status_one, 
 
 -- ---- netlists, boards and plans of one text
 
-setting_same : (d b p : List ℕ) (ordered other : Ordered) (board its_board : Board) (plan its_plan : Plan) → AreSpelled d b p ordered board plan → AreSpelled d b p other its_board its_plan
+planned_same : (d b p : List ℕ) (ordered other : Ordered) (board its_board : Board) (plan its_plan : Plan) → AreSpelled d b p ordered board plan → AreSpelled d b p other its_board its_plan
     → plan_fault (planned_board ordered board plan) ≡ plan_fault (planned_board other its_board its_plan)
-setting_same d b p ordered other board its_board plan its_plan are its =
+planned_same d b p ordered other board its_board plan its_plan are its =
     fault_same board plan ordered other (netlist_same d ordered other are.netlist its.netlist)
     ∙ ap₂ (λ (one : Board) (two : Plan). plan_fault (planned_board other one two)) (accepted_once b board its_board are.board_is its.board_is) (spelled_once p plan its_plan are.plan_is its.plan_is)
-
-no_text_left : (p : List ℕ) (plan : Plan) → SpellsPlan p plan → IsNoPlanText p → ⊥
-no_text_left p plan is none = plan_text_apart p plan none.0 is none.1
 
 text_status : (p : List ℕ) (reason : Reason) → RefusesPlanText p reason → reason_status reason ≡ 4
 text_status p reason refused = ap reason_status refused.1
@@ -134,7 +131,7 @@ module _ (design board plan : List ℕ) (told : List ℕ → Told) where
                     (has.plan, has.are.plan_is),
                     λ third third_is.
                         let its : AreSpelled d b p other another third = record { netlist = other_is; board_is = another_is; plan_is = third_is } in
-                        inl (refl, reasons.Plan fault, (fault, refl, setting_same d b p other has.ordered another has.board third has.plan its has.are ∙ has.is)),
+                        inl (refl, reasons.Plan fault, (fault, refl, planned_same d b p other has.ordered another has.board third has.plan its has.are ∙ has.is)),
                   )),
             )),
       ))
@@ -151,7 +148,7 @@ module _ (design board plan : List ℕ) (told : List ℕ → Told) where
                     (content, has.are.plan_is),
                     λ third third_is.
                         let its : AreSpelled d b p other another third = record { netlist = other_is; board_is = another_is; plan_is = third_is } in
-                        let none = setting_same d b p other has.ordered another has.board third content its has.are ∙ faultless (planned_board has.ordered has.board content) has.sound in
+                        let none = planned_same d b p other has.ordered another has.board third content its has.are ∙ faultless (planned_board has.ordered has.board content) has.sound in
                         inr ((tt, sound (planned_board other another third) none), λ done is. refl),
                   )),
             )),
