@@ -1,9 +1,11 @@
 -- A text that is written piece by piece.
-use Rattle.std.proofs.Common.{◌≡◌, ℕ, ◌+◌, List, [], ◌++◌, append-nil, length, take, drop, Option, Some, None, refl, sym, ◌∙◌, ap, subst, append_assoc, arith, length-append}
+use Rattle.std.proofs.Common.{◌≡◌, ℕ, ◌+◌, Result, Ok, Err, List, [], ◌++◌, append-nil, length, take, drop, Option, Some, None, refl, sym, ◌∙◌, ap, subst, append_assoc, arith, length-append}
 use Rattle.std.specs.Prelude.{option_map}
 use Rattle.std.proofs.lemmas.List.{take_at, take-append-drop}
 use Rattle.std.proofs.Math.Seq.{take-add}
-use Rattle.vw_outside.specs.Writes.{SeenSink, appended, faulted, WrotePart, FailedAfterPart}
+use Rattle.vw_outside.specs.declared.unwritten.Unwritten.{Unwritten}
+use Rattle.vw_outside.specs.declared.unwritten.Unwritten.TheVariants.{WriteFault, NoMemory}
+use Rattle.vw_outside.specs.Writes.{SeenSink, appended, faulted, WrotePart, FailedAfterPart, WritesOut}
 
 -- two pieces are one
 pub appended-appended : (sink : SeenSink) (first second : List ℕ) → appended (appended sink first) second ≡ appended sink (first ++ second)
@@ -80,3 +82,13 @@ last_left before text mid piece left = subst (λ (rest : List ℕ). IsLeft befor
 pub last_piece : (before : SeenSink) (text : List ℕ) (mid after : SeenSink) (piece : List ℕ) → IsLeft before text mid piece → after ≡ appended mid piece → after ≡ appended before text
 last_piece before text mid after piece left more =
     all_written before text after (written_further before text mid after piece [] (last_left before text mid piece left) more)
+
+-- where a piece wasn't written whole, the text wasn't
+pub unwritten_in_piece : (before : SeenSink) (text : List ℕ) (mid after : SeenSink) (piece rest : List ℕ) (why : Unwritten) → IsLeft before text mid (piece ++ rest) → WritesOut piece mid after (Err why) → WritesOut text before after (Err why)
+unwritten_in_piece before text mid after piece rest WriteFault left failed = failed_in_piece before text mid after piece rest left failed
+unwritten_in_piece before text mid after piece rest NoMemory left part = part_of_piece before text mid after piece rest left part
+
+-- with the last piece the text ends as the piece does
+pub ends_with_piece : (before : SeenSink) (text : List ℕ) (mid after : SeenSink) (piece : List ℕ) (written : Result (Unit {0}) Unwritten) → IsLeft before text mid piece → WritesOut piece mid after written → WritesOut text before after written
+ends_with_piece before text mid after piece (Ok done) left all = last_piece before text mid after piece left all
+ends_with_piece before text mid after piece (Err why) left failed = unwritten_in_piece before text mid after piece [] why (last_left before text mid piece left) failed

@@ -1,6 +1,8 @@
 -- What a contract sees of a sink, and what a write does.
-use Rattle.std.specs.Prelude.{◌≡◌, ◌<◌, ◌≤◌, ℕ, List, ◌++◌, length, take, Option, Some, option_map, Result, IfOk, OnErr}
+use Rattle.std.specs.Prelude.{◌≡◌, ◌<◌, ◌≤◌, ℕ, List, ◌++◌, length, take, Option, Some, option_map, Result, Ok, Err, IfOk, OnErr}
 use Rattle.vw_outside.specs.declared.sink.Failed.{Failed}
+use Rattle.vw_outside.specs.declared.unwritten.Unwritten.{Unwritten}
+use Rattle.vw_outside.specs.declared.unwritten.Unwritten.TheVariants.{WriteFault, NoMemory}
 use Rattle.vw_outside.specs.Faults.{one_more}
 
 -- the bytes so far, where a sink tells them, and how many faults it has counted
@@ -24,6 +26,12 @@ WrotePart bytes before after = (count : ℕ) × (count ≤ length bytes) × (aft
 abbrev pub FailedAfterPart : List ℕ → SeenSink → SeenSink → Type 0
 FailedAfterPart bytes before after =
     (count : ℕ) × (count ≤ length bytes) × (after ≡ faulted (appended before (take count bytes)))
+
+-- a text was appended whole; or a write failed or memory ran out, and a part of it was appended
+abbrev pub WritesOut : List ℕ → SeenSink → SeenSink → Result (Unit {0}) Unwritten → Type 0
+WritesOut text before after (Ok done) = after ≡ appended before text
+WritesOut text before after (Err WriteFault) = FailedAfterPart text before after
+WritesOut text before after (Err NoMemory) = WrotePart text before after
 
 -- what a write of a piece answers, and what it leaves of the sink
 pub record WriteEnds (piece : List ℕ) (before after : SeenSink) (answer : Result ℕ Failed) : Type 0 where

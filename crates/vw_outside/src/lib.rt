@@ -10,6 +10,7 @@ mod shelf;
 mod sink;
 mod streams;
 mod text;
+mod unwritten;
 
 pub use files::FileShelf;
 pub use held::Held;
@@ -17,6 +18,7 @@ pub use memory_shelf::MemShelf;
 pub use memory_sink::MemSink;
 pub use name::Name;
 pub use shelf::Shelf;
-pub use sink::{Failed, Sink, put_all};
+pub use sink::{Failed, Sink, put_all, put_text};
 pub use streams::{ErrSink, OutSink, StreamSink};
 pub use text::{TextRefused, read_text};
+pub use unwritten::Unwritten;

@@ -1,5 +1,8 @@
-ghost use Rattle.std.specs.Prelude.{◌≡◌, OnOk, OnErr};
-ghost use Rattle.vw_outside.specs.Writes.{SeenSink, WriteEnds, appended, FailedAfterPart};
+ghost use Rattle.std.specs.Prelude.{◌≡◌, ℕ, List, IfOk, OnOk, OnErr};
+ghost use Rattle.vw_outside.specs.Writes.{SeenSink, WriteEnds, appended, FailedAfterPart, WritesOut};
+
+use crate::unwritten::Unwritten;
+use std::alloc::AllocError;
 
 /// A read or a write failed, and the fault was counted.
 #[derive(Clone, Copy, Debug, PartialEq, Eq)]
@@ -27,5 +30,15 @@ pub fn put_all<O: Sink>(out: &mut O, bytes: &[u8]) -> Result<(), Failed>
     while done < bytes.len() {
         done += out.write(&bytes[done..])?;
     }
+    Ok(())
+}
+
+/// Appends a text, where there was memory for it. A text that wasn't made appends nothing.
+pub fn put_text<O: Sink>(text: Result<Vec<u8>, AllocError>, out: &mut O) -> Result<(), Unwritten>
+    ensures { (wanted : List ℕ) → IfOk text (λ made. made.items ≡ wanted)
+        → WritesOut wanted (O.seen out.old) (O.seen out.new) result }
+{
+    let text = text?;
+    put_all(out, &text)?;
     Ok(())
 }

@@ -14,7 +14,7 @@ use Rattle.vw_design.specs.PathHistory.{latch_start}
 use Rattle.vw_design.proofs.FlatHistories.{histories_agree}
 use Rattle.vw_rows.specs.Trace.{trace_text}
 use Rattle.vw_top.specs.Commands.{trace_of}
-use Rattle.vw_top.specs.Steps.FlatTrace.{flat_trace}
+use Rattle.vw_trace.specs.FlatTrace.{flat_trace}
 
 pub trace_same : (unknown : Bool) (design : Design) (flat : Flat) → IsFlatOf design flat → (rows : List (List Bool)) → flat_trace unknown flat rows ≡ trace_of unknown design rows
 trace_same unknown design flat is rows = λ i. trace_text (outputs i) (states i) (histories_agree design flat is unknown rows i) where

@@ -1,5 +1,3 @@
-pub mod Clocks
-pub mod TraceLines
 pub mod CourseLaws
 pub mod ReadsAndRefusals
 pub mod CourseEnds

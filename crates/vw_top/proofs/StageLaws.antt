@@ -1,15 +1,16 @@
 -- From the stages of a command to its course.
 use Rattle.std.proofs.Common.{◌≡◌, ℕ, List, Result, Ok, Err, sym, ap₂, subst, inl, inr}
 use Rattle.vw_outside.specs.Reads.{SeenShelf}
-use Rattle.vw_outside.specs.Writes.{SeenSink, appended}
+use Rattle.vw_outside.specs.declared.unwritten.Unwritten.{Unwritten}
+use Rattle.vw_outside.specs.declared.unwritten.Unwritten.TheVariants as unwritten
+use Rattle.vw_outside.specs.Writes.{SeenSink, appended, WritesOut}
 use Rattle.vw_top.specs.declared.stop.File.{File}
-use Rattle.vw_top.specs.declared.stop.Stop.{Stop}
 use Rattle.vw_top.specs.declared.stop.Stop.TheVariants.{ReadFault, WriteFault, NoMemory}
 use Rattle.vw_top.specs.declared.reason.Reason.{Reason}
 use Rattle.vw_top.specs.declared.endings.Unfinished.{Unfinished}
 use Rattle.vw_top.specs.declared.endings.Unfinished.TheVariants.{Stopped, Refused}
 use Rattle.vw_top.specs.Course.{Course, reads, judges, Outside, outside, Answer, Follows, EndsWriting}
-use Rattle.vw_top.specs.Steps.Stage.{StageEnds, WritesOut, answer_of}
+use Rattle.vw_top.specs.Steps.Stage.{StageEnds, answer_of}
 
 pub same_outside : (before after : Outside) → after.shelf ≡ before.shelf → after.out ≡ before.out → after ≡ before
 same_outside before after shelf out = ap₂ (λ (s : SeenShelf) (o : SeenSink). outside s o) shelf out
@@ -35,17 +36,11 @@ stage_goes_on file name Made Good Bad apart next before mid after answer made ou
     let rest = goes text found in
     inr (text, is, inr (rest.0, rest.1, subst (λ (at : Outside). Follows (next text rest.0 rest.1) at after answer) (same_outside before mid same out) rest.2))
 
--- the writing that stops ends the call
-pub writing_stops : (text : List ℕ) (before after : Outside) (stop : Stop) → after.shelf ≡ before.shelf → WritesOut text before.out after.out (Err stop)
-    → EndsWriting text before after (Err (Stopped stop))
-writing_stops text before after WriteFault same stopped = (same, stopped)
-writing_stops text before after NoMemory same stopped = (same, stopped)
-writing_stops text before after (ReadFault file) same stopped = absurd stopped
-
--- and so does the writing, however it ends
-pub writing_ends : (text : List ℕ) (before after : Outside) (written : Result (Unit {0}) Stop) (answer : Answer) → answer ≡ answer_of written → after.shelf ≡ before.shelf → WritesOut text before.out after.out written
+-- the writing ends the call, however it ends
+pub writing_ends : (text : List ℕ) (before after : Outside) (written : Result (Unit {0}) Unwritten) (answer : Answer) → answer ≡ answer_of written → after.shelf ≡ before.shelf → WritesOut text before.out after.out written
     → EndsWriting text before after answer
 writing_ends text before after written answer is same ends = subst (λ (a : Answer). EndsWriting text before after a) (sym is) (by written ends) where
-  by : (so : Result (Unit {0}) Stop) → WritesOut text before.out after.out so → EndsWriting text before after (answer_of so)
+  by : (so : Result (Unit {0}) Unwritten) → WritesOut text before.out after.out so → EndsWriting text before after (answer_of so)
   by (Ok done) all = same_outside (outside before.shelf (appended before.out text)) after same all
-  by (Err stop) stopped = writing_stops text before after stop same stopped
+  by (Err unwritten.WriteFault) failed = (same, failed)
+  by (Err unwritten.NoMemory) part = (same, part)

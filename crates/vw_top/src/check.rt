@@ -1,21 +1,22 @@
 //! The command `check`.
 ghost use Rattle.std.specs.Prelude.{◌≡◌, IfOk};
+ghost use Rattle.vw_outside.specs.Writes.{WritesOut};
 ghost use Rattle.vw_plan.specs.PlannedBoard.{planned_board};
 ghost use Rattle.vw_top.specs.Course.{Follows, outside};
 ghost use Rattle.vw_top.specs.Commands.{RefusesPlan, check_board_course, check_course, check_plan_course, sound_course, sound_text};
 ghost use Rattle.vw_top.specs.Steps.Plans.{EndsPlanFault, IsCheckedPlan};
-ghost use Rattle.vw_top.specs.Steps.Stage.{JudgesText, WritesOut};
+ghost use Rattle.vw_top.specs.Steps.Stage.{JudgesText};
 
 use crate::endings::Unfinished;
 use crate::files::{read_board, read_design, read_plan};
 use crate::reason::Reason;
 use crate::refusal::Refusal;
 use crate::stop::Stop;
-use crate::writing::{answer_of, put_text};
+use crate::writing::answer_of;
 use std::alloc::{AllocError, Global};
 use vw_check::{PlanFault, check as check_plan};
 use vw_net::Ordered;
-use vw_outside::{Name, Shelf, Sink};
+use vw_outside::{Name, Shelf, Sink, Unwritten, put_text};
 use vw_plan::{Board, Checked, Plan};
 
 /// What is written of a sound plan.
@@ -30,7 +31,7 @@ fn sound_line(alloc: Global, plan: &Plan) -> Result<Vec<u8>, AllocError>
 }
 
 /// Writes that a plan is sound.
-fn write_sound<O: Sink>(alloc: Global, checked: Checked, out: &mut O) -> Result<(), Stop>
+fn write_sound<O: Sink>(alloc: Global, checked: Checked, out: &mut O) -> Result<(), Unwritten>
     ensures { WritesOut (sound_text checked.plan) (O.seen out.old) (O.seen out.new) result }
 {
     let line = sound_line(alloc, checked.plan());

@@ -1,7 +1,6 @@
 //! The commands of Virtual Wires: what they read, what they write, and how they end.
 #![tactic(auto)]
 
-mod batch;
 mod check;
 mod commands;
 mod design;
@@ -10,7 +9,6 @@ mod files;
 mod plan;
 mod reason;
 mod refusal;
-mod run;
 mod sim;
 mod statuses;
 mod stop;

@@ -1,26 +1,27 @@
 //! The command `plan`.
 ghost use Rattle.std.specs.Prelude.{◌≡◌};
+ghost use Rattle.vw_outside.specs.Writes.{WritesOut};
 ghost use Rattle.vw_run.specs.Compiled.{IsCompiled};
 ghost use Rattle.vw_top.specs.Course.{Follows, outside};
 ghost use Rattle.vw_top.specs.Commands.{RefusesFit, good_course, plan_board_course, plan_course, text_of_plan};
 ghost use Rattle.vw_top.specs.Steps.Plans.{EndsCompileFault};
-ghost use Rattle.vw_top.specs.Steps.Stage.{JudgesText, WritesOut};
+ghost use Rattle.vw_top.specs.Steps.Stage.{JudgesText};
 
 use crate::endings::Unfinished;
 use crate::files::{read_board, read_design};
 use crate::reason::Reason;
 use crate::refusal::Refusal;
 use crate::stop::Stop;
-use crate::writing::{answer_of, put_text};
+use crate::writing::answer_of;
 use std::alloc::Global;
 use vw_net::Ordered;
-use vw_outside::{Name, Shelf, Sink};
+use vw_outside::{Name, Shelf, Sink, Unwritten, put_text};
 use vw_plan::{Board, Checked};
 use vw_plantext::print;
 use vw_run::{CompileFault, compile};
 
 /// Writes the text of a plan.
-fn write_plan<O: Sink>(alloc: Global, checked: Checked, out: &mut O) -> Result<(), Stop>
+fn write_plan<O: Sink>(alloc: Global, checked: Checked, out: &mut O) -> Result<(), Unwritten>
     ensures { WritesOut (text_of_plan checked.plan) (O.seen out.old) (O.seen out.new) result }
 {
     let text = print(alloc, checked.plan());

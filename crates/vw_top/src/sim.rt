@@ -9,13 +9,13 @@ use crate::endings::Unfinished;
 use crate::files::read_design;
 use crate::reason::Reason;
 use crate::refusal::Refusal;
-use crate::run::write_trace;
 use crate::stop::{File, Stop};
 use crate::writing::answer_of;
 use std::alloc::Global;
 use vw_net::Ordered;
 use vw_outside::{Name, Shelf, Sink};
 use vw_rows::{RowRuns, StimFault, read_all};
+use vw_trace::write_trace;
 
 /// Reads the rows of the stimulus, each with a bit for each input of a netlist.
 fn read_rows<S: Shelf>(

@@ -1,7 +1,6 @@
 ghost use Rattle.std.specs.Prelude.{◌≡◌};
 
-use std::alloc::AllocError;
-use vw_outside::Failed;
+use vw_outside::Unwritten;
 
 /// A file of a command, by its part in it.
 #[derive(Clone, Copy, Debug, PartialEq, Eq)]
@@ -51,22 +50,15 @@ impl Stop {
     }
 }
 
-impl From<AllocError> for Stop {
-    ghost use Rattle.vw_top.specs.declared.stop.Stop.TheVariants.{NoMemory};
+impl From<Unwritten> for Stop {
+    ghost use Rattle.vw_top.specs.Stops.{stop_of};
 
-    ghost from_gives = { λ _ stop. stop ≡ NoMemory };
+    ghost from_gives = { λ unwritten stop. stop ≡ stop_of unwritten };
 
-    fn from(_: AllocError) -> Self {
-        Stop::NoMemory
-    }
-}
-
-impl From<Failed> for Stop {
-    ghost use Rattle.vw_top.specs.declared.stop.Stop.TheVariants.{WriteFault};
-
-    ghost from_gives = { λ _ stop. stop ≡ WriteFault };
-
-    fn from(_: Failed) -> Self {
-        Stop::WriteFault
+    fn from(unwritten: Unwritten) -> Self {
+        match unwritten {
+            Unwritten::WriteFault => Stop::WriteFault,
+            Unwritten::NoMemory => Stop::NoMemory,
+        }
     }
 }

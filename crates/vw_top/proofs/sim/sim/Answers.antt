@@ -9,7 +9,7 @@ use Rattle.vw_top.specs.declared.endings.Unfinished.{Unfinished}
 use Rattle.vw_top.specs.Designs.{IsDesignOf, RefusesDesign, design_apart, IsNetlistOf}
 use Rattle.vw_top.specs.Course.{Course, writes, reads, judges, Outside, outside, Answer, Follows, EndsWriting}
 use Rattle.vw_top.specs.Commands.{sim_course, IsRowsOf, RefusesRows, rows_apart, trace_of}
-use Rattle.vw_top.specs.Steps.FlatTrace.{flat_trace}
+use Rattle.vw_trace.specs.FlatTrace.{flat_trace}
 use Rattle.vw_top.specs.Steps.Stage.{StageEnds}
 use Rattle.vw_top.proofs.FlatTraces.{trace_same}
 use Rattle.vw_top.proofs.StageLaws.{stage_ends, stage_goes_on, writing_ends}

@@ -1,0 +1,12 @@
+use Rattle.std.proofs.Common.{◌≡◌, ℕ, Bool, false, map, ap, ◌∙◌, arith}
+use Rattle.std.specs.Prelude.{slice_index_or}
+use Rattle.vw_trace.proofs.Clocks.{outputs_at-from_values}
+use Rattle.vw_trace.proofs.batch.record_clock.Goals as goal
+
+pub returns-clause-outputs : goal.returns-clause-outputs
+returns-clause-outputs c =
+    let flat = c.args.machine.now.flat in
+    let value : ℕ → Bool = λ net. slice_index_or c.step.new.values net false in
+    let nets : c.outputs.result.now ≡ flat.outputs = cc in
+    c.pick.ensures ∙ ap (map value) nets
+    ∙ outputs_at-from_values flat c.args.row.now c.args.state.now value (λ net within. c.step.ensures.values net (omega (arith, c.step.ensures.nets, c.requires.nets)))
