@@ -5,4 +5,5 @@ pub mod Reads
 pub mod Writes
 pub mod HeldTexts
 pub mod Memory
+pub mod Sure
 pub mod Steps

@@ -56,7 +56,7 @@ fn find(files: &[Held], name: &[u8]) -> Option<usize>
 }
 
 /// Copies bytes from a place on into the front of a buffer, at most `most` of them.
-fn fill(bytes: &[u8], from: u64, most: u32, into: &mut [u8]) -> usize
+pub(crate) fn fill(bytes: &[u8], from: u64, most: u32, into: &mut [u8]) -> usize
     requires { 0 < most }
     ensures within { result ≤ length into.new }
     ensures filled { Fills bytes.now from into.new result }
