@@ -10,4 +10,3 @@ pub mod NetlistLoops
 pub mod FlatTraces
 pub mod CheckLaws
 pub mod PlanLaws
-pub mod OtherWords

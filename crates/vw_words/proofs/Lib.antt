@@ -1,0 +1,4 @@
+pub mod FoundForms
+pub mod WordsOfForms
+pub mod ToldApart
+pub mod CountedValues

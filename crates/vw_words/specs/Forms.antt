@@ -1,0 +1,48 @@
+-- The forms of commands: places, and settings that stand behind them. Source: this project.
+use Rattle.std.specs.Prelude.{ℕ, Bool, false, not, ◌&&◌, ◌||◌, List, length, take, drop, codes, if◌then◌else◌, nat_le, ◌==◌, Option, Some, None, is_some, option_and_then}
+use Rattle.std.specs.Option.{option_map_or}
+use Rattle.std.specs.Str.{bytes_eq}
+use Rattle.vw_text.specs.Number.{spelled_number}
+
+-- the bytes of a word, or of what it gives a setting: `0` or `1`; a name, which has at least one byte; a number in a range
+pub data Value : Type 0 where
+  bit : Value
+  name : Value
+  number : (least most : ℕ) → Value
+
+abbrev pub is_value_of : Value → List ℕ → Bool
+is_value_of bit text = bytes_eq text (codes "0") || bytes_eq text (codes "1")
+is_value_of name text = not (length text == 0)
+is_value_of (number least most) text = option_map_or (λ n. nat_le least n && nat_le n most) (spelled_number text) false
+
+-- what a form has in one place: this very word, or any word with such bytes
+pub data Place : Type 0 where
+  keyword : List ℕ → Place
+  any : Value → Place
+
+abbrev pub suits : Place → List ℕ → Bool
+suits (keyword wanted) word = bytes_eq word wanted
+suits (any value) word = is_value_of value word
+
+-- a setting: its name, the bytes of its value, and how many words may give it
+pub record Setting : Type 0 where
+  pub name : List ℕ
+  pub value : Value
+  pub times : ℕ
+
+-- what stands behind a front of a word
+abbrev pub behind_front : List ℕ → List ℕ → Option (List ℕ)
+behind_front front word = if bytes_eq (take (length front) word) front then Some (drop (length front) word) else None
+
+-- the value that a word gives a setting, behind its name and `=`
+abbrev pub given : Setting → List ℕ → Option (List ℕ)
+given setting word =
+    option_and_then (λ text. if is_value_of setting.value text then Some text else None) (option_and_then (behind_front (codes "=")) (behind_front setting.name word))
+
+abbrev pub gives : Setting → List ℕ → Bool
+gives setting word = is_some (given setting word)
+
+-- the places of a command, and its settings
+pub record Form : Type 0 where
+  pub places : List Place
+  pub settings : List Setting

@@ -1,0 +1,5 @@
+pub mod Forms
+pub mod Matched
+pub mod Values
+pub mod Views
+pub mod WordsOfForms

@@ -1,0 +1,18 @@
+//! The words of a command line, matched against a table of forms, and the values of settings among them.
+#![tactic(auto)]
+
+mod form;
+mod forms;
+mod laws;
+mod names;
+mod place;
+mod setting;
+mod value;
+
+pub use form::Form;
+pub use forms::{first_wrong, form_of};
+pub use laws::{form_has_words, words_have_form};
+pub use names::Names;
+pub use place::Place;
+pub use setting::Setting;
+pub use value::{Value, number_or_zero};
