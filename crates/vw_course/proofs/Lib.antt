@@ -1,0 +1,9 @@
+pub mod Inductions
+pub mod CallLaws
+pub mod StandLaws
+pub mod CallTable
+pub mod EveryPlace
+pub mod StageLaws
+pub mod BarredLaws
+pub mod GoesLaws
+pub mod CarriedOut

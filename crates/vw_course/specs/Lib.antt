@@ -1,0 +1,9 @@
+pub mod Vocabulary
+pub mod Outside
+pub mod Course
+pub mod Follows
+pub mod Endings
+pub mod Places
+pub mod Statuses
+pub mod Stages
+pub mod Goes
