@@ -5,10 +5,11 @@ use Rattle.vw_design.specs.Clocks.{columns}
 use Rattle.vw_outside.specs.Fronts.{IsFront}
 use Rattle.vw_rows.specs.declared.stimulus.StimFault.{StimFault}
 use Rattle.vw_rows.specs.Stimulus.{stimulus_rows}
-use Rattle.vw_top.specs.declared.reason.Reason.{Reason}
-use Rattle.vw_top.specs.declared.reason.Reason.TheVariants.{Stimulus}
-use Rattle.vw_top.specs.Designs.{IsDesignOf, RefusesDesign}
-use Rattle.vw_top.specs.Reasons.{reason_line}
+use Rattle.vw_front.specs.Designs.{IsDesignOf}
+use Rattle.vw_top.specs.declared.vocabulary.Reason.{Reason}
+use Rattle.vw_top.specs.declared.vocabulary.Reason.TheVariants.{Stimulus}
+use Rattle.vw_top.specs.Messages.{reason_line}
+use Rattle.vw_top.specs.Kinds.{IsBadDesign}
 use Rattle.vw_top.specs.Commands.{trace_of}
 
 -- out is the trace of the design that the text spells, over the rows of the stimulus, and err is empty
@@ -23,7 +24,7 @@ pub record IsSimulated (design stimulus out err : List ℕ) : Type 0 where
 -- the design text is refused for a reason; out is empty, and err is the message of this reason
 pub record HasBadDesign (design out err : List ℕ) : Type 0 where
   pub reason : Reason
-  pub refused : RefusesDesign design reason
+  pub refused : IsBadDesign design reason
   pub no_trace : out ≡ []
   pub message : err ≡ reason_line reason
 

@@ -1,9 +1,23 @@
--- What the table of statuses says of the files of `check`.
-use Rattle.std.proofs.Common.{◌≡◌, ◌<◌, ◌⊎◌, ℕ, List, [], ◌∷◌, refl, sym, ◌∙◌, ap, ap₂, subst, inl, inr, lit<, arith}
+-- What each status of `check` says of its files.
+use Rattle.std.proofs.Common.{◌≡◌, ◌≢◌, ◌<◌, ◌⊎◌, ℕ, List, [], ◌∷◌, Some, refl, sym, ◌∙◌, ap, ap₂, subst, inl, inr, ⊎_elim, lit<, arith}
 use Rattle.vw_net.specs.declared.ordered.Ordered.{Ordered}
+use Rattle.vw_outside.specs.Told.{Told, held}
+use Rattle.vw_course.specs.Course.{Course, writing, writes}
+use Rattle.vw_course.specs.Follows.{May}
+use Rattle.vw_course.specs.Endings.{IsCallOf}
+use Rattle.vw_course.specs.Places.{Files, RefusesHere, StandsAt, IsToWork, IsToRefuse}
+use Rattle.vw_course.specs.Statuses.{MayDo, IsCarriedOut, Statuses}
+use Rattle.vw_course.proofs.CallTable.{call_table}
+use Rattle.vw_course.proofs.StandLaws.{call_works, call_refused, call_misses}
+use Rattle.vw_course.proofs.EveryPlace.{Every, ReadsOnly, IsOnce, IsUnbroken, IsNever, reads_stage, once_stage, unbroken_stage, never_stage, never_judges, no_refusal, no_break, never_status, fault_at}
+use Rattle.vw_course.proofs.StageLaws.{past, past_judged, at_bad, at_absent, work_past, refused_past, refused_behind, refused_for}
+use Rattle.vw_course.proofs.BarredLaws.{barred_here, barred_later, call_barred}
+use Rattle.vw_course.proofs.CarriedOut.{completes, text_part, done_as, write_as, memory_as}
+use Rattle.vw_front.specs.Designs.{IsNetlistOf}
 use Rattle.vw_plan.specs.declared.board.Board.{Board}
 use Rattle.vw_plan.specs.declared.plan.Plan.{Plan}
-use Rattle.vw_plan.specs.PlannedBoard.{PlannedBoard, planned_board}
+use Rattle.vw_plan.specs.PlannedBoard.{planned_board}
+use Rattle.vw_plan.specs.Sound.{IsSound}
 use Rattle.vw_board.specs.BoardText.{Spells as SpellsBoard}
 use Rattle.vw_board.proofs.OneBoard.{accepted_once}
 use Rattle.vw_plantext.specs.PlanText.{Spells as SpellsPlan}
@@ -12,259 +26,192 @@ use Rattle.vw_check.specs.declared.fault.PlanFault.{PlanFault}
 use Rattle.vw_check.specs.Faults.{plan_fault}
 use Rattle.vw_check.proofs.SoundPlans.{sound, faultless}
 use Rattle.vw_check.proofs.SameNetlist.{fault_same}
-use Rattle.vw_outside.specs.Told.{Told, absent, held, IsTextOf}
-use Rattle.vw_outside.specs.Writes.{SeenSink, appended}
-use Rattle.vw_top.specs.declared.stop.File.{File}
-use Rattle.vw_top.specs.declared.stop.File.TheVariants as files
-use Rattle.vw_top.specs.declared.reason.Reason.{Reason}
-use Rattle.vw_top.specs.declared.reason.Reason.TheVariants as reasons
-use Rattle.vw_top.specs.Reasons.{reason_status}
-use Rattle.vw_top.specs.Designs.{IsNetlistOf, RefusesDesign}
-use Rattle.vw_top.specs.Course.{Course, Outside, outside, MayWrite, MayRefuse, MayRead, writing, refusing, missing, ComesTo}
-use Rattle.vw_top.specs.Statuses.{Statuses}
-use Rattle.vw_top.specs.Commands.{RefusesBoard, RefusesPlanText, RefusesPlan, check_course, check_board_course, check_plan_course, sound_text}
-use Rattle.vw_top.specs.CommandStatuses.{AreSpelledOn, CountsFaultAt, YieldsAt}
-use Rattle.vw_top.specs.CheckStatuses.{AreSpelled, IsNoPlanText, HasPlanFault, IsNoPlan, IsSoundPlan, HoldTexts, CheckStatuses}
-use Rattle.vw_top.proofs.CourseEnds.{refused_with, refused_or_stopped, refused_one_of, fault_at, yields_at, absent_leaves, part_of, carried_out}
-use Rattle.vw_top.proofs.ReadsAndRefusals.{IsOneOf, ReadsOnly, reads_one_of, RefusesWith}
-use Rattle.vw_top.proofs.FirstFile.{its_text, no_text, at_held, at_absent, first_reads, first_refuses, first_refused, first_comes, first_absent}
-use Rattle.vw_top.proofs.SecondFile.{second_refused, second_comes, second_absent}
-use Rattle.vw_top.proofs.JudgedTexts.{judged_netlist, judged_board, status_one, board_status, netlist_same, no_refused_design, no_refused_board}
+use Rattle.vw_top.specs.declared.vocabulary.Reason.{Reason}
+use Rattle.vw_top.specs.declared.vocabulary.Reason.TheVariants as reasons
+use Rattle.vw_top.specs.Messages.{reason_status, vocabulary, Call, CallWork}
+use Rattle.vw_top.specs.Kinds.{netlist_kind, board_kind, plan_kind, soundness, IsBadDesign, IsBadBoard, IsBadPlanText, IsBadPlan}
+use Rattle.vw_top.specs.Commands.{sound_text, check_course, check_board_course, check_plan_course, sound_course}
+use Rattle.vw_top.specs.OnBoards.{IsNoBoard, AreSpelledOn}
+use Rattle.vw_top.specs.CheckStatuses.{AreSpelled, IsNoPlanText, HasPlanFault, IsUnsound, IsNoPlan, IsSoundPlan, IsSize, HoldTexts, its_design, its_board, its_files, CheckStatuses}
+use Rattle.vw_top.proofs.OnBoards.{netlist_same}
 
--- ---- netlists, boards and plans of one text
-
-planned_same : (d b p : List ℕ) (ordered other : Ordered) (board its_board : Board) (plan its_plan : Plan) → AreSpelled d b p ordered board plan → AreSpelled d b p other its_board its_plan
+-- a plan has the same fault for each netlist, board and plan of the same texts
+fault_of_texts : (d b p : List ℕ) (ordered other : Ordered) (board its_board : Board) (plan its_plan : Plan) → AreSpelled d b p ordered board plan → AreSpelled d b p other its_board its_plan
     → plan_fault (planned_board ordered board plan) ≡ plan_fault (planned_board other its_board its_plan)
-planned_same d b p ordered other board its_board plan its_plan are its =
-    fault_same board plan ordered other (netlist_same d ordered other are.netlist its.netlist)
-    ∙ ap₂ (λ (one : Board) (two : Plan). plan_fault (planned_board other one two)) (accepted_once b board its_board are.board_is its.board_is) (spelled_once p plan its_plan are.plan_is its.plan_is)
+fault_of_texts d b p ordered other board its_board plan its_plan are its =
+    fault_same board plan ordered other (netlist_same d ordered other are.on.netlist its.on.netlist)
+    ∙ ap₂ (λ (one : Board) (two : Plan). plan_fault (planned_board other one two)) (accepted_once b board its_board are.on.board_is its.on.board_is) (spelled_once p plan its_plan are.plan_is its.plan_is)
 
-text_status : (p : List ℕ) (reason : Reason) → RefusesPlanText p reason → reason_status reason ≡ 4
-text_status p reason refused = ap reason_status refused.1
-
-plan_status : (planned : PlannedBoard) (reason : Reason) → RefusesPlan planned reason → reason_status reason ≡ 4
-plan_status planned reason refused = ap reason_status refused.1
-
-module _ (design board plan : List ℕ) (told : List ℕ → Told) where
-  abbrev course : Course
+module _ (design board plan : List ℕ) (call : Call) where
+  abbrev course : Course vocabulary
   course = check_course design board plan
 
-  -- why `check` refuses
-  data WhyRefused (reason : Reason) : Type 0 where
-    bad_design : (d : List ℕ) → IsTextOf (told design) d → RefusesDesign d reason → WhyRefused reason
-    bad_board : (d b : List ℕ) (ordered : Ordered) → IsTextOf (told design) d → IsNetlistOf d ordered → IsTextOf (told board) b → RefusesBoard b reason → WhyRefused reason
-    bad_text : (d b p : List ℕ) (ordered : Ordered) (its : Board) → IsTextOf (told design) d → IsNetlistOf d ordered → IsTextOf (told board) b → SpellsBoard b its → IsTextOf (told plan) p
-        → RefusesPlanText p reason → WhyRefused reason
-    unsound : (d b p : List ℕ) (ordered : Ordered) (its : Board) (content : Plan) → IsTextOf (told design) d → IsTextOf (told board) b → IsTextOf (told plan) p → AreSpelled d b p ordered its content
-        → RefusesPlan (planned_board ordered its content) reason → WhyRefused reason
+  abbrev next : Ordered → Course vocabulary
+  next = check_board_course board plan
 
-  why : (reason : Reason) → MayRefuse course told reason → WhyRefused reason
-  why reason (d, d_is, inl refused) = bad_design d d_is refused
-  why reason (d, d_is, inr (ordered, netlist, (b, b_is, inl refused))) = bad_board d b ordered d_is netlist b_is refused
-  why reason (d, d_is, inr (ordered, netlist, (b, b_is, inr (its, its_is, (p, p_is, inl refused))))) = bad_text d b p ordered its d_is netlist b_is its_is p_is refused
-  why reason (d, d_is, inr (ordered, netlist, (b, b_is, inr (its, its_is, (p, p_is, inr (content, content_is, inl refused)))))) =
-      unsound d b p ordered its content d_is b_is p_is (record { netlist = netlist; board_is = its_is; plan_is = content_is }) refused
-  why reason (d, d_is, inr (ordered, netlist, (b, b_is, inr (its, its_is, (p, p_is, inr (content, content_is, inr (done, is, more))))))) = absurd more
+  abbrev later : Ordered → Board → Course vocabulary
+  later = check_plan_course plan
 
-  -- what `check` writes
-  record WhatWritten (text : List ℕ) : Type 0 where
-    d : List ℕ
-    b : List ℕ
-    p : List ℕ
-    content : Plan
-    d_is : IsTextOf (told design) d
-    b_is : IsTextOf (told board) b
-    p_is : IsTextOf (told plan) p
-    its_sound : IsSoundPlan d b p content
-    text_is : text ≡ sound_text content
+  abbrev writes_size : Plan → Unit {0} → Course vocabulary
+  writes_size its done = writes (sound_text its)
 
-  what : (text : List ℕ) → MayWrite course told text → WhatWritten text
-  what text (d, d_is, (ordered, netlist, (b, b_is, (its, its_is, (p, p_is, (content, content_is, (done, is, written))))))) = record {
-    d = d;
-    b = b;
-    p = p;
-    content = content;
-    d_is = d_is;
-    b_is = b_is;
-    p_is = p_is;
-    its_sound = record { ordered = ordered; board = its; are = record { netlist = netlist; board_is = its_is; plan_is = content_is }; sound = is };
-    text_is = written;
-  }
-
-  -- what `check` reads, and with which statuses it refuses
-  plan_refuses : (ordered : Ordered) (its : Board) → RefusesWith (4 ∷ []) (check_plan_course ordered its plan)
-  plan_refuses ordered its = λ p. (
-    λ reason refused. inl (text_status p reason refused),
-    λ content is. (λ reason refused. inl (plan_status (planned_board ordered its content) reason refused), λ done sound_is. tt),
-  )
-
-  board_refuses : (ordered : Ordered) → RefusesWith (3 ∷ 4 ∷ []) (check_board_course ordered board plan)
-  board_refuses ordered = first_refuses judged_board files.Board board (λ its. check_plan_course ordered its plan) (4 ∷ []) (plan_refuses ordered)
-
-  refuse : RefusesWith (1 ∷ 3 ∷ 4 ∷ []) course
-  refuse = first_refuses judged_netlist files.Design design (λ ordered. check_board_course ordered board plan) (3 ∷ 4 ∷ []) board_refuses
-
-  read : ReadsOnly (design ∷ board ∷ plan ∷ []) course
-  read =
-      first_reads judged_netlist files.Design design (λ ordered. check_board_course ordered board plan) (board ∷ plan ∷ [])
-      (λ ordered. first_reads judged_board files.Board board (λ its. check_plan_course ordered its plan) (plan ∷ []) (λ its. (inl refl, λ p content is done sound_is. tt)))
-
-  -- ---- what it comes to
-
-  comes_to_no_text : (d b p : List ℕ) (ordered : Ordered) (its : Board) → told design ≡ held d → told board ≡ held b → told plan ≡ held p → AreSpelledOn d b ordered its → IsNoPlanText p → ComesTo refusing course told
-  comes_to_no_text d b p ordered its d_is b_is p_is are none =
-      at_held (told design) d _ _ d_is (inr (
-        (ordered, are.netlist),
-        λ other other_is.
-            at_held (told board) b _ _ b_is (inr ((its, are.board_is), λ another another_is. at_held (told plan) p _ _ p_is (inl (refl, none.0, none.1)))),
-      ))
-
-  comes_to_unsound : (d b p : List ℕ) (fault : PlanFault) → told design ≡ held d → told board ≡ held b → told plan ≡ held p → HasPlanFault d b p fault → ComesTo refusing course told
-  comes_to_unsound d b p fault d_is b_is p_is has =
-      at_held (told design) d _ _ d_is (inr (
-        (has.ordered, has.are.netlist),
-        λ other other_is.
-            at_held (told board) b _ _ b_is (inr (
-              (has.board, has.are.board_is),
-              λ another another_is.
-                  at_held (told plan) p _ _ p_is (inr (
-                    (has.plan, has.are.plan_is),
-                    λ third third_is.
-                        let its : AreSpelled d b p other another third = record { netlist = other_is; board_is = another_is; plan_is = third_is } in
-                        inl (refl, reasons.Plan fault, (fault, refl, planned_same d b p other has.ordered another has.board third has.plan its has.are ∙ has.is)),
-                  )),
-            )),
-      ))
-
-  comes_to_sound : (d b p : List ℕ) (content : Plan) → told design ≡ held d → told board ≡ held b → told plan ≡ held p → IsSoundPlan d b p content → ComesTo writing course told
-  comes_to_sound d b p content d_is b_is p_is has =
-      at_held (told design) d _ _ d_is (inr (
-        (has.ordered, has.are.netlist),
-        λ other other_is.
-            at_held (told board) b _ _ b_is (inr (
-              (has.board, has.are.board_is),
-              λ another another_is.
-                  at_held (told plan) p _ _ p_is (inr (
-                    (content, has.are.plan_is),
-                    λ third third_is.
-                        let its : AreSpelled d b p other another third = record { netlist = other_is; board_is = another_is; plan_is = third_is } in
-                        let none = planned_same d b p other has.ordered another has.board third content its has.are ∙ faultless (planned_board has.ordered has.board content) has.sound in
-                        inr ((tt, sound (planned_board other another third) none), λ done is. refl),
-                  )),
-            )),
-      ))
-
-  comes_to_no_plan_file : (d b : List ℕ) (ordered : Ordered) (its : Board) → told design ≡ held d → told board ≡ held b → AreSpelledOn d b ordered its → told plan ≡ absent → ComesTo missing course told
-  comes_to_no_plan_file d b ordered its d_is b_is are is =
-      at_held (told design) d _ _ d_is (inr (
-        (ordered, are.netlist),
-        λ other other_is.
-            at_held (told board) b _ _ b_is (inr ((its, are.board_is), λ another another_is. at_absent (told plan) _ _ is refl)),
-      ))
-
-module _ (design board plan : List ℕ) (before after : Outside) (err_before err_after : SeenSink) (status : ℕ) (table : Statuses (check_course design board plan) before after err_before err_after status) where
   abbrev told : List ℕ → Told
-  told = before.shelf.told
+  told = call.before.shelf.told
 
-  its_why : (reason : Reason) → MayRefuse (check_course design board plan) told reason → WhyRefused design board plan told reason
-  its_why = why design board plan told
+  abbrev all : Files vocabulary
+  all = its_files design board plan
 
-  which : (file : File) (name : List ℕ) → MayRead (check_course design board plan) told file name → IsOneOf (design ∷ board ∷ plan ∷ []) name
-  which = reads_one_of (design ∷ board ∷ plan ∷ []) (check_course design board plan) (read design board plan told) told
+  abbrev two : Files vocabulary
+  two = its_board design board plan
 
-  read_fault : status ≡ 7 → CountsFaultAt (design ∷ board ∷ plan ∷ []) before after
-  read_fault = fault_at table (design ∷ board ∷ plan ∷ []) which
+  abbrev first : Files vocabulary
+  first = its_design design board plan
 
-  yields : (status ≡ 7) ⊎ (status ≡ 9) → YieldsAt (design ∷ board ∷ plan ∷ []) before after status
-  yields = yields_at table (design ∷ board ∷ plan ∷ []) which
+  -- ---- every place
 
-  -- ---- refusals
+  reads : Every (ReadsOnly all) course
+  reads = reads_stage all netlist_kind design next (inl refl)
+      (λ ordered. reads_stage all board_kind board (later ordered) (inr (inl refl)) (λ its. reads_stage all plan_kind plan (sound_course ordered its) (inr (inr (inl refl))) (λ content. (tt, λ done is. tt))))
 
-  no_other : 0 < status → status < 7 → IsOneOf (1 ∷ 3 ∷ 4 ∷ []) status
-  no_other = refused_one_of table (1 ∷ 3 ∷ 4 ∷ []) (refuse design board plan told)
+  once : Every IsOnce course
+  once = once_stage netlist_kind design next (λ ordered. once_stage board_kind board (later ordered) (λ its. once_stage plan_kind plan (sound_course ordered its) (λ content. (tt, λ done is. tt))))
 
-  spelled_here : (d b p text_d text_b text_p : List ℕ) (ordered : Ordered) (its : Board) (content : Plan) → told design ≡ held d → told board ≡ held b → told plan ≡ held p
-      → IsTextOf (told design) text_d → IsTextOf (told board) text_b → IsTextOf (told plan) text_p → AreSpelled text_d text_b text_p ordered its content → AreSpelled d b p ordered its content
-  spelled_here d b p text_d text_b text_p ordered its content held_d held_b held_p d_is b_is p_is are = record {
-    netlist = subst (λ (t : List ℕ). IsNetlistOf t ordered) (its_text (told design) text_d d held_d d_is) are.netlist;
-    board_is = subst (λ (t : List ℕ). SpellsBoard t its) (its_text (told board) text_b b held_b b_is) are.board_is;
-    plan_is = subst (λ (t : List ℕ). SpellsPlan t content) (its_text (told plan) text_p p held_p p_is) are.plan_is;
-  }
+  whole : (number : ℕ) → Every (IsUnbroken number) course
+  whole number = unbroken_stage number netlist_kind design next
+      (λ ordered. unbroken_stage number board_kind board (later ordered) (λ its. unbroken_stage number plan_kind plan (sound_course ordered its) (λ content. (tt, λ done is. tt))))
 
-  why_four : (d b p : List ℕ) (reason : Reason) → HoldTexts design board plan before d b p → WhyRefused design board plan told reason → reason_status reason ≡ 4 → IsNoPlan d b p
-  why_four d b p reason held_all (bad_design text text_is refused) its = absurd (let wrong : 4 ≡ 1 = sym its ∙ status_one text reason refused in omega arith)
-  why_four d b p reason held_all (bad_board text_d text ordered d_is netlist b_is refused) its = absurd (let wrong : 4 ≡ 3 = sym its ∙ board_status text reason refused in omega arith)
-  why_four d b p reason held_all (bad_text text_d text_b text ordered content d_is netlist b_is board_is p_is refused) its =
-      inl (reason, subst (λ (t : List ℕ). RefusesPlanText t reason) (its_text (told plan) text p held_all.plan_held p_is) refused)
-  why_four d b p reason held_all (unsound text_d text_b text_p ordered spelled content d_is b_is p_is are refused) its =
-      inr (
-        refused.0,
-        record {
-          ordered = ordered;
-          board = spelled;
-          plan = content;
-          are = spelled_here d b p text_d text_b text_p ordered spelled content held_all.design_held held_all.board_held held_all.plan_held d_is b_is p_is are;
-          is = refused.2;
-        },
-      )
+  never_plan : (number : ℕ) → 4 ≢ number → (ordered : Ordered) (its : Board) → Every (IsNever number) (later ordered its)
+  never_plan number no_four ordered its = never_stage number plan_kind plan (sound_course ordered its) no_four
+      (λ content. never_judges number (soundness (planned_board ordered its content)) (writes_size content) no_four (λ done. tt))
 
-  four_comes : (d b : List ℕ) (ordered : Ordered) (its : Board) (reason : Reason) → told design ≡ held d → told board ≡ held b → AreSpelledOn d b ordered its → WhyRefused design board plan told reason → reason_status reason ≡ 4
-  four_comes d b ordered its reason held_d held_b are (bad_design text text_is refused) = absurd (no_refused_design (told design) d text ordered reason held_d are.netlist text_is refused)
-  four_comes d b ordered its reason held_d held_b are (bad_board text_d text other d_is other_is b_is refused) = absurd (no_refused_board (told board) b text its reason held_b are.board_is b_is refused)
-  four_comes d b ordered its reason held_d held_b are (bad_text text_d text_b text other content d_is other_is b_is content_is p_is refused) = text_status text reason refused
-  four_comes d b ordered its reason held_d held_b are (unsound text_d text_b text_p other spelled content d_is b_is p_is other_are refused) = plan_status (planned_board other spelled content) reason refused
+  never_board : (number : ℕ) → 3 ≢ number → 4 ≢ number → (ordered : Ordered) → Every (IsNever number) (next ordered)
+  never_board number no_three no_four ordered = never_stage number board_kind board (later ordered) no_three (never_plan number no_four ordered)
 
-  -- ---- what is written is of the one plan of the texts
+  never : (number : ℕ) → 1 ≢ number → 3 ≢ number → 4 ≢ number → Every (IsNever number) course
+  never number no_one no_three no_four = never_stage number netlist_kind design next no_one (never_board number no_three no_four)
 
-  abbrev CheckWritten : List ℕ → Type 0
-  CheckWritten text = WhatWritten design board plan told text
+  not_status : IsCallOf course call → (number : ℕ) → 0 < number → number < 7 → 1 ≢ number → 3 ≢ number → 4 ≢ number → call.status ≢ number
+  not_status is number some few no_one no_three no_four = never_status course call is number (never number no_one no_three no_four) (whole number) some few
 
-  here : (d b p text : List ℕ) → HoldTexts design board plan before d b p → (w : CheckWritten text) → IsSoundPlan d b p w.content
-  here d b p text held_all w = record {
-    ordered = w.its_sound.ordered;
-    board = w.its_sound.board;
-    are = spelled_here d b p w.d w.b w.p w.its_sound.ordered w.its_sound.board w.content held_all.design_held held_all.board_held held_all.plan_held w.d_is w.b_is w.p_is w.its_sound.are;
-    sound = w.its_sound.sound;
-  }
+  -- ---- back from what was done
 
-  text_here : (d b p text : List ℕ) (its : Plan) → HoldTexts design board plan before d b p → IsSoundPlan d b p its → (w : CheckWritten text) → text ≡ sound_text its
-  text_here d b p text its held_all is w = w.text_is ∙ ap sound_text (spelled_once p w.content its (here d b p text held_all w).are.plan_is is.are.plan_is)
+  module _ (d : List ℕ) (held_d : told design ≡ held d) where
+    design_why : (reason : Reason) → reason_status reason ≡ 1 → May told (RefusesHere reason) course → IsBadDesign d reason
+    design_why reason same may =
+        ⊎_elim
+        (λ (bad : IsBadDesign d reason). bad)
+        (λ (more : (x : Ordered) × IsNetlistOf d x × May told (RefusesHere reason) (next x)).
+        absurd (no_refusal told 1 (next more.0) (never_board 1 (λ is. omega (arith, is)) (λ is. omega (arith, is)) more.0) reason same more.2))
+        (refused_past told netlist_kind design next d held_d reason may)
 
-  pub check_table : CheckStatuses design board plan before after status
-  check_table = record {
-    done = λ d b p held_all is.
-        let done = table.done is in
-        let w = what design board plan told done.text done.may in
-        (w.content, here d b p done.text held_all w, done.leaves ∙ ap (λ (t : List ℕ). outside before.shelf (appended before.out t)) w.text_is);
-    no_design = first_refused judged_netlist files.Design design (λ ordered. check_board_course ordered board plan) table (3 ∷ 4 ∷ []) (λ is. omega (arith, is)) (board_refuses design board plan told);
-    no_design_comes = first_comes judged_netlist files.Design design (λ ordered. check_board_course ordered board plan) table;
-    no_board = λ b here is. let bad = second_refused judged_netlist (λ ordered. judged_board) (λ (is : 1 ≡ 3). omega arith) (lit< tt) (lit< tt) files.Design files.Board design board (λ ordered its. check_plan_course ordered its plan) table (4 ∷ []) (λ is. omega (arith, is)) (plan_refuses design board plan told) b here is in (bad.reason, bad.bad);
-    no_board_comes = λ d b ordered held_two netlist. second_comes judged_netlist (λ ordered. judged_board) (λ (is : 1 ≡ 3). omega arith) (lit< tt) (lit< tt) files.Design files.Board design board (λ ordered its. check_plan_course ordered its plan) table d ordered held_two.design_held netlist (λ other is text reason bad. bad) b held_two.board_held;
-    no_plan = λ d b p held_all.
-        refused_with table 4 (IsNoPlan d b p) (lit< tt) (lit< tt) (λ reason may. why_four d b p reason held_all (its_why reason may));
-    no_plan_text_comes = λ d b p ordered its held_all are none.
-        refused_or_stopped table 4 (YieldsAt (design ∷ board ∷ plan ∷ []) before after status)
-        (λ reason may. four_comes d b ordered its reason held_all.design_held held_all.board_held are (its_why reason may))
-        yields (comes_to_no_text design board plan told d b p ordered its held_all.design_held held_all.board_held held_all.plan_held are none);
-    unsound_comes = λ d b p fault held_all has.
-        refused_or_stopped table 4 (YieldsAt (design ∷ board ∷ plan ∷ []) before after status)
-        (λ reason may. four_comes d b has.ordered has.board reason held_all.design_held held_all.board_held (record { netlist = has.are.netlist; board_is = has.are.board_is }) (its_why reason may))
-        yields (comes_to_unsound design board plan told d b p fault held_all.design_held held_all.board_held held_all.plan_held has);
-    read_fault = read_fault;
-    others = (
-      λ is. omega (arith, no_other (omega arith) (omega arith)),
-      λ is. omega (arith, no_other (omega arith) (omega arith)),
-      λ is. omega (arith, no_other (omega arith) (omega arith)),
-    );
-    part = λ d b p its held_all is.
-        part_of table (sound_text its) (λ text may. text_here d b p text its held_all is (what design board plan told text may))
-        (comes_to_sound design board plan told d b p its held_all.design_held held_all.board_held held_all.plan_held is);
-    absent_design = first_absent judged_netlist files.Design design (λ ordered. check_board_course ordered board plan) table;
-    absent_board = second_absent judged_netlist (λ ordered. judged_board) (λ (is : 1 ≡ 3). omega arith) (lit< tt) (lit< tt) files.Design files.Board design board (λ ordered its. check_plan_course ordered its plan) table;
-    absent_plan = λ d b ordered its held_two are gone.
-        absent_leaves table (λ text may. let w = what design board plan told text may in no_text (told plan) w.p gone w.p_is)
-        (comes_to_no_plan_file design board plan told d b ordered its held_two.design_held held_two.board_held are gone);
-    complete = λ d b p its held_all is.
-        carried_out table (design ∷ board ∷ plan ∷ []) read_fault
-        (comes_to_sound design board plan told d b p its held_all.design_held held_all.board_held held_all.plan_held is);
-  }
+  module _ (b : List ℕ) (held_b : told board ≡ held b) where
+    board_why : (reason : Reason) → reason_status reason ≡ 3 → May told (RefusesHere reason) course → IsBadBoard b reason
+    board_why reason same may =
+        let behind = refused_behind told netlist_kind design next reason (λ is. omega (arith, is, same)) may in
+        ⊎_elim
+        (λ (bad : IsBadBoard b reason). bad)
+        (λ (more : (x : Board) × SpellsBoard b x × May told (RefusesHere reason) (later behind.2 x)).
+        absurd (no_refusal told 3 (later behind.2 more.0) (never_plan 3 (λ is. omega (arith, is)) behind.2 more.0) reason same more.2))
+        (refused_past told board_kind board (later behind.2) b held_b reason behind.4)
+
+  module _ (d b p : List ℕ) (hold : HoldTexts design board plan call d b p) where
+    size_by : (did : CallWork) → MayDo course call did → IsSize d b p did
+    size_by did may =
+        let one = work_past told netlist_kind design next d hold.design_held did may in
+        let two = work_past told board_kind board (later one.0) b hold.board_held did one.2 in
+        let three = work_past told plan_kind plan (sound_course one.0 two.0) p hold.plan_held did two.2 in
+        ⊎_elim
+        (λ (none : ⊥). absurd none)
+        (λ (more : Unit {0} × IsSound (planned_board one.0 two.0 three.0) × (did ≡ writing (sound_text three.0))).
+        (three.0, record { ordered = one.0; board = two.0; are = record { on = record { netlist = one.1; board_is = two.1 }; plan_is = three.1 }; sound = more.1 }, more.2))
+        three.2
+
+    plan_why : (reason : Reason) → reason_status reason ≡ 4 → May told (RefusesHere reason) course → IsNoPlan d b p reason
+    plan_why reason same may =
+        ⊎_elim
+        (λ (bad : IsBadDesign d reason). absurd (omega (arith, same, ap reason_status bad.1)))
+        (λ (one : (x : Ordered) × IsNetlistOf d x × May told (RefusesHere reason) (next x)).
+        ⊎_elim
+        (λ (bad : IsBadBoard b reason). absurd (omega (arith, same, ap reason_status bad.1)))
+        (λ (two : (x : Board) × SpellsBoard b x × May told (RefusesHere reason) (later one.0 x)).
+        ⊎_elim
+        (λ (bad : IsBadPlanText p reason). inl bad)
+        (λ (three : (x : Plan) × SpellsPlan p x × May told (RefusesHere reason) (sound_course one.0 two.0 x)).
+        ⊎_elim
+        (λ (bad : IsBadPlan (planned_board one.0 two.0 three.0) reason).
+        inr (record { ordered = one.0; board = two.0; plan = three.0; are = record { on = record { netlist = one.1; board_is = two.1 }; plan_is = three.1 }; bad = bad }))
+        (λ (more : Unit {0} × IsSound (planned_board one.0 two.0 three.0) × ⊥). absurd more.2)
+        three.2)
+        (refused_past told plan_kind plan (sound_course one.0 two.0) p hold.plan_held reason two.2))
+        (refused_past told board_kind board (later one.0) b hold.board_held reason one.2))
+        (refused_past told netlist_kind design next d hold.design_held reason may)
+
+    -- ---- to where the course stands
+
+    to_plan : (P : Course vocabulary → Type 0) (some : (x : Ordered) × IsNetlistOf d x) (its : Board) → SpellsBoard b its
+        → ((ordered : Ordered) (this : Board) → AreSpelledOn d b ordered this → StandsAt told all P (later ordered this)) → StandsAt told all P course
+    to_plan P some its is there = past told all P netlist_kind design next d (inl refl) hold.design_held some
+        (λ ordered netlist. past told all P board_kind board (later ordered) b (inr (inl refl)) hold.board_held (its, is)
+        (λ this so. there ordered this (record { netlist = netlist; board_is = so })))
+
+    to_sound : (P : Course vocabulary → Type 0) (ordered : Ordered) (its : Board) (content : Plan) → AreSpelled d b p ordered its content
+        → ((other : Ordered) (this : Board) (that : Plan) → AreSpelled d b p other this that → StandsAt told all P (sound_course other this that)) → StandsAt told all P course
+    to_sound P ordered its content are there = to_plan P (ordered, are.on.netlist) its are.on.board_is
+        (λ other this on. past told all P plan_kind plan (sound_course other this) p (inr (inr (inl refl))) hold.plan_held (content, are.plan_is)
+        (λ that so. there other this that (record { on = on; plan_is = so })))
+
+    works : IsCallOf course call → (its : Plan) → IsSoundPlan d b p its → IsCarriedOut vocabulary (λ did. did ≡ writing (sound_text its)) all call
+    works is its of = call_works vocabulary all call (λ did. did ≡ writing (sound_text its)) course is
+        (to_sound (IsToWork told all (λ did. did ≡ writing (sound_text its))) of.ordered of.board its of.are
+        (λ other this that so. past_judged told all (IsToWork told all (λ did. did ≡ writing (sound_text its))) (soundness (planned_board other this that)) (writes_size that)
+        (tt, sound (planned_board other this that) (sym (fault_of_texts d b p of.ordered other of.board this its that of.are so) ∙ faultless (planned_board of.ordered of.board its) of.sound))
+        (λ done is_sound. (tt, ap (λ (one : Plan). writing (sound_text one)) (spelled_once p that its so.plan_is of.are.plan_is)))))
+
+    unsound : (fault : PlanFault) (has : HasPlanFault d b p fault) (other : Ordered) (this : Board) (that : Plan) → AreSpelled d b p other this that → StandsAt told all (IsToRefuse (IsUnsound d b p)) (sound_course other this that)
+    unsound fault has other this that so = inl (
+      (reasons.Plan fault, (fault, refl, sym (fault_of_texts d b p has.ordered other has.board this has.plan that has.are so) ∙ has.is)),
+      λ reason bad. record { ordered = other; board = this; plan = that; are = so; bad = bad },
+    )
+
+  -- ---- the table
+
+  pub check_table : IsCallOf course call → CheckStatuses design board plan call
+  check_table is =
+      let table : Statuses course call = call_table course call is in
+      record {
+        done = λ d b p hold status. done_as (MayDo course call) (IsSize d b p) (size_by d b p hold) call (table.done status);
+        no_design = λ d held_d. refused_for course call is 1 (IsBadDesign d) (design_why d held_d) (no_break told 1 course (whole 1)) (lit< tt) (lit< tt);
+        no_design_comes = λ d held_d none.
+            call_refused vocabulary first call (IsBadDesign d) course is
+            (at_bad told first netlist_kind design next d (IsBadDesign d) (inl refl) held_d (λ reason bad. bad) (reasons.Design none.0, (none.0, refl, none.1)));
+        no_board = λ b held_b. refused_for course call is 3 (IsBadBoard b) (board_why b held_b) (no_break told 3 course (whole 3)) (lit< tt) (lit< tt);
+        no_board_comes = λ d b held_d held_b runs none.
+            call_refused vocabulary two call (IsBadBoard b) course is
+            (past told two (IsToRefuse (IsBadBoard b)) netlist_kind design next d (inl refl) held_d runs
+            (λ ordered netlist. at_bad told two board_kind board (later ordered) b (IsBadBoard b) (inr (inl refl)) held_b (λ reason bad. bad) none));
+        no_plan = λ d b p hold. refused_for course call is 4 (IsNoPlan d b p) (plan_why d b p hold) (no_break told 4 course (whole 4)) (lit< tt) (lit< tt);
+        no_plan_text_comes = λ d b p its hold runs spelled none.
+            call_refused vocabulary all call (IsBadPlanText p) course is
+            (to_plan d b p hold (IsToRefuse (IsBadPlanText p)) runs its spelled
+            (λ ordered this on. at_bad told all plan_kind plan (sound_course ordered this) p (IsBadPlanText p) (inr (inr (inl refl))) hold.plan_held (λ reason bad. bad) none));
+        unsound_comes = λ d b p fault hold has.
+            call_refused vocabulary all call (IsUnsound d b p) course is
+            (to_sound d b p hold (IsToRefuse (IsUnsound d b p)) has.ordered has.board has.plan has.are (unsound d b p hold fault has));
+        read_fault = fault_at course call is all reads once;
+        write_fault = λ d b p hold status. write_as (MayDo course call) (IsSize d b p) (size_by d b p hold) call (table.write_fault status);
+        want_of_memory = λ d b p hold status. memory_as (MayDo course call) (IsSize d b p) (size_by d b p hold) call (table.want_of_memory status);
+        others = (
+          not_status is 2 (lit< tt) (lit< tt) (λ one. omega (arith, one)) (λ three. omega (arith, three)) (λ four. omega (arith, four)),
+          not_status is 5 (lit< tt) (lit< tt) (λ one. omega (arith, one)) (λ three. omega (arith, three)) (λ four. omega (arith, four)),
+          not_status is 6 (lit< tt) (lit< tt) (λ one. omega (arith, one)) (λ three. omega (arith, three)) (λ four. omega (arith, four)),
+        );
+        accepted = λ d b p its hold of. works d b p hold is its of;
+        part = λ d b p its hold of. text_part vocabulary (sound_text its) call all (works d b p hold is its of);
+        complete = λ d b p its hold of. completes vocabulary (λ did. did ≡ writing (sound_text its)) call all (works d b p hold is its of);
+        absent_design = λ gone. call_misses vocabulary first call course is (at_absent told first netlist_kind design next (inl refl) gone);
+        absent_board = λ gone. call_barred (1 ∷ []) course call is
+            (barred_later told (1 ∷ []) netlist_kind design next (inl refl) (λ ordered. barred_here told (1 ∷ []) board_kind board (later ordered) gone));
+        absent_plan = λ gone. call_barred (1 ∷ 3 ∷ []) course call is
+            (barred_later told (1 ∷ 3 ∷ []) netlist_kind design next (inl refl)
+            (λ ordered. barred_later told (1 ∷ 3 ∷ []) board_kind board (later ordered) (inr (inl refl)) (λ its. barred_here told (1 ∷ 3 ∷ []) plan_kind plan (sound_course ordered its) gone)));
+      }

@@ -1,12 +1,6 @@
-pub mod CourseLaws
-pub mod ReadsAndRefusals
-pub mod CourseEnds
-pub mod FirstFile
-pub mod SecondFile
-pub mod JudgedTexts
-pub mod StageLaws
 pub mod SimLaws
-pub mod NetlistLoops
-pub mod FlatTraces
-pub mod CheckLaws
+pub mod OnBoards
 pub mod PlanLaws
+pub mod CheckLaws
+pub mod FlatTraces
+pub mod UsageLaws

@@ -1,212 +1,178 @@
--- What the table of statuses says of the files of `plan`.
-use Rattle.std.proofs.Common.{◌≡◌, ◌<◌, ◌≤◌, ◌*◌, ◌⊎◌, ℕ, List, [], ◌∷◌, length, refl, sym, ◌∙◌, ap, subst, inl, inr, ⊎_elim, lit<, arith}
-use Rattle.vw_net.specs.declared.flat.Flat.{Flat}
+-- What each status of `plan` says of its files.
+use Rattle.std.proofs.Common.{◌≡◌, ◌≢◌, ◌<◌, ◌*◌, ◌⊎◌, ℕ, List, [], ◌∷◌, length, refl, sym, ◌∙◌, ap, ap₂, subst, inl, inr, ⊎_elim, lit<, arith}
 use Rattle.vw_net.specs.declared.ordered.Ordered.{Ordered}
+use Rattle.vw_outside.specs.Told.{Told, held}
+use Rattle.vw_course.specs.Course.{Course, writing, writes}
+use Rattle.vw_course.specs.Follows.{May}
+use Rattle.vw_course.specs.Endings.{IsCallOf}
+use Rattle.vw_course.specs.Places.{Files, RefusesHere, StandsAt, IsToWork, IsToRefuse}
+use Rattle.vw_course.specs.Statuses.{MayDo, IsCarriedOut, Statuses}
+use Rattle.vw_course.proofs.CallTable.{call_table}
+use Rattle.vw_course.proofs.StandLaws.{call_works, call_refused, call_misses}
+use Rattle.vw_course.proofs.EveryPlace.{Every, ReadsOnly, IsOnce, IsUnbroken, IsNever, reads_stage, once_stage, unbroken_stage, never_stage, never_made, no_refusal, no_break, never_status, fault_at}
+use Rattle.vw_course.proofs.StageLaws.{past, past_made, at_bad, at_absent, work_past, refused_past, refused_behind, refused_for}
+use Rattle.vw_course.proofs.BarredLaws.{barred_here, barred_later, call_barred}
+use Rattle.vw_course.proofs.CarriedOut.{completes, done_as, write_as, memory_as}
+use Rattle.vw_front.specs.Designs.{IsNetlistOf}
 use Rattle.vw_plan.specs.declared.board.Board.{Board}
 use Rattle.vw_plan.specs.declared.plan.Plan.{Plan}
+use Rattle.vw_plan.specs.Good.{IsGood}
+use Rattle.vw_plan.specs.PlannedBoard.{planned_board}
 use Rattle.vw_board.specs.BoardText.{Spells as SpellsBoard}
-use Rattle.vw_board.proofs.OneBoard.{accepted_once}
 use Rattle.vw_run.specs.declared.fault.CompileFault.TheVariants.{TooManyCells}
-use Rattle.vw_outside.specs.Told.{Told, held, IsTextOf}
-use Rattle.vw_outside.specs.Writes.{SeenSink, appended}
-use Rattle.vw_top.specs.declared.stop.File.{File}
-use Rattle.vw_top.specs.declared.stop.File.TheVariants as files
-use Rattle.vw_top.specs.declared.reason.Reason.{Reason}
-use Rattle.vw_top.specs.declared.reason.Reason.TheVariants.{Fit}
-use Rattle.vw_top.specs.Reasons.{reason_status}
-use Rattle.vw_top.specs.Designs.{IsNetlistOf, RefusesDesign}
-use Rattle.vw_top.specs.Course.{Course, Outside, outside, MayWrite, MayRefuse, MayRead, writing, refusing, ComesTo}
-use Rattle.vw_top.specs.Statuses.{Statuses, LeavesPart}
-use Rattle.vw_top.specs.Commands.{RefusesBoard, RefusesFit, HasRoom, plan_course, plan_board_course, good_course, text_of_plan}
-use Rattle.vw_top.specs.CommandStatuses.{AreSpelledOn, CountsFaultAt, HoldTwo, YieldsAt}
-use Rattle.vw_top.specs.PlanStatuses.{IsGoodPlan, HaveRoom, HaveNoRoom, PlanStatuses}
-use Rattle.vw_top.proofs.FirstFile.{its_text, at_held, first_reads, first_refuses, first_refused, first_comes, first_absent}
-use Rattle.vw_top.proofs.SecondFile.{second_refused, second_comes, second_absent}
-use Rattle.vw_top.proofs.JudgedTexts.{judged_netlist, judged_board, status_one, board_status, netlist_same, no_refused_design, no_refused_board}
-use Rattle.vw_top.proofs.CourseEnds.{refused_with, refused_or_stopped, refused_one_of, fault_at, yields_at, carried_out}
-use Rattle.vw_top.proofs.ReadsAndRefusals.{IsOneOf, ReadsOnly, reads_one_of, RefusesWith}
+use Rattle.vw_top.specs.declared.vocabulary.Reason.{Reason}
+use Rattle.vw_top.specs.declared.vocabulary.Reason.TheVariants as reasons
+use Rattle.vw_top.specs.Messages.{reason_status, vocabulary, Call, CallWork}
+use Rattle.vw_top.specs.Kinds.{netlist_kind, board_kind, planning, IsBadDesign, IsBadBoard, IsBadFit, HasRoom}
+use Rattle.vw_top.specs.Commands.{text_of_plan, plan_course, plan_board_course, good_course}
+use Rattle.vw_top.specs.OnBoards.{IsNoBoard, AreSpelledOn}
+use Rattle.vw_top.specs.PlanStatuses.{IsPlanText, HaveRoom, HaveNoRoom, IsNoFit, HoldTexts, its_design, its_files, PlanStatuses}
+use Rattle.vw_top.proofs.OnBoards.{no_room_same, has_room_same}
 
-fit_status : (ordered : Ordered) (board : Board) (reason : Reason) → RefusesFit ordered board reason → reason_status reason ≡ 6
-fit_status ordered board reason refused = ap reason_status refused.0
-
--- the numbers of cells and of room are those of the texts
-module _ (d b : List ℕ) (ordered other : Ordered) (board its_board : Board) (are : AreSpelledOn d b ordered board) (its : AreSpelledOn d b other its_board) where
-  cells_same : length ordered.flat.cells ≡ length other.flat.cells
-  cells_same = ap (λ (flat : Flat). length flat.cells) (netlist_same d ordered other are.netlist its.netlist)
-
-  abbrev room_of : Board → ℕ
-  room_of one = one.chips * one.cells
-
-  room_same : board.chips * board.cells ≡ its_board.chips * its_board.cells
-  room_same = ap room_of (accepted_once b board its_board are.board_is its.board_is)
-
-  no_room_same : board.chips * board.cells < length ordered.flat.cells → its_board.chips * its_board.cells < length other.flat.cells
-  no_room_same none = subst (λ (cells : ℕ). its_board.chips * its_board.cells < cells) cells_same (subst (λ (room : ℕ). room < length ordered.flat.cells) room_same none)
-
-  has_room_same : HasRoom ordered board → HasRoom other its_board
-  has_room_same room = subst (λ (cells : ℕ). cells ≤ its_board.chips * its_board.cells) cells_same (subst (λ (all : ℕ). length ordered.flat.cells ≤ all) room_same room)
-
-module _ (design board : List ℕ) (told : List ℕ → Told) where
-  abbrev course : Course
+module _ (design board : List ℕ) (call : Call) where
+  abbrev course : Course vocabulary
   course = plan_course design board
 
-  -- why `plan` refuses
-  data WhyRefused (reason : Reason) : Type 0 where
-    bad_design : (d : List ℕ) → IsTextOf (told design) d → RefusesDesign d reason → WhyRefused reason
-    bad_board : (d b : List ℕ) (ordered : Ordered) → IsTextOf (told design) d → IsNetlistOf d ordered → IsTextOf (told board) b → RefusesBoard b reason → WhyRefused reason
-    bad_fit : (d b : List ℕ) (ordered : Ordered) (its : Board) → IsTextOf (told design) d → IsTextOf (told board) b → AreSpelledOn d b ordered its → RefusesFit ordered its reason → WhyRefused reason
+  abbrev next : Ordered → Course vocabulary
+  next = plan_board_course board
 
-  why : (reason : Reason) → MayRefuse course told reason → WhyRefused reason
-  why reason (d, d_is, inl refused) = bad_design d d_is refused
-  why reason (d, d_is, inr (ordered, netlist, (b, b_is, inl refused))) = bad_board d b ordered d_is netlist b_is refused
-  why reason (d, d_is, inr (ordered, netlist, (b, b_is, inr (its, its_is, inl refused)))) = bad_fit d b ordered its d_is b_is (record { netlist = netlist; board_is = its_is }) refused
-  why reason (d, d_is, inr (ordered, netlist, (b, b_is, inr (its, its_is, inr (plan, good, more))))) = absurd more
+  abbrev writes_plan : Plan → Course vocabulary
+  writes_plan plan = writes (text_of_plan plan)
 
-  -- what `plan` writes
-  record WhatWritten (text : List ℕ) : Type 0 where
-    d : List ℕ
-    b : List ℕ
-    plan : Plan
-    d_is : IsTextOf (told design) d
-    b_is : IsTextOf (told board) b
-    its_good : IsGoodPlan d b plan
-    text_is : text ≡ text_of_plan plan
-
-  what : (text : List ℕ) → MayWrite course told text → WhatWritten text
-  what text (d, d_is, (ordered, netlist, (b, b_is, (its, its_is, (plan, good, written))))) = record {
-    d = d;
-    b = b;
-    plan = plan;
-    d_is = d_is;
-    b_is = b_is;
-    its_good = record { ordered = ordered; board = its; are = record { netlist = netlist; board_is = its_is }; good = good };
-    text_is = written;
-  }
-
-  -- what `plan` reads, and with which statuses it refuses
-  fit_refuses : (ordered : Ordered) (its : Board) → RefusesWith (6 ∷ []) (good_course ordered its)
-  fit_refuses ordered its = (λ reason refused. inl (fit_status ordered its reason refused), λ plan good. tt)
-
-  board_refuses : (ordered : Ordered) → RefusesWith (3 ∷ 6 ∷ []) (plan_board_course ordered board)
-  board_refuses ordered = first_refuses judged_board files.Board board (good_course ordered) (6 ∷ []) (fit_refuses ordered)
-
-  refuse : RefusesWith (1 ∷ 3 ∷ 6 ∷ []) course
-  refuse = first_refuses judged_netlist files.Design design (λ ordered. plan_board_course ordered board) (3 ∷ 6 ∷ []) board_refuses
-
-  read : ReadsOnly (design ∷ board ∷ []) course
-  read =
-      first_reads judged_netlist files.Design design (λ ordered. plan_board_course ordered board) (board ∷ [])
-      (λ ordered. first_reads judged_board files.Board board (good_course ordered) [] (λ its plan good. tt))
-
-  -- ---- what it comes to
-
-  comes_to_no_room : (d b : List ℕ) → told design ≡ held d → told board ≡ held b → HaveNoRoom d b → ComesTo refusing course told
-  comes_to_no_room d b d_is b_is has =
-      at_held (told design) d _ _ d_is (inr (
-        (has.ordered, has.are.netlist),
-        λ other other_is.
-            at_held (told board) b _ _ b_is (inr (
-              (has.board, has.are.board_is),
-              λ another another_is.
-                  let its : AreSpelledOn d b other another = record { netlist = other_is; board_is = another_is } in
-                  inl (refl, Fit (TooManyCells (length other.flat.cells) (another.chips * another.cells)), (refl, no_room_same d b has.ordered other has.board another has.are its has.none)),
-            )),
-      ))
-
-  comes_to_room : (d b : List ℕ) → told design ≡ held d → told board ≡ held b → HaveRoom d b → ComesTo writing course told
-  comes_to_room d b d_is b_is has =
-      at_held (told design) d _ _ d_is (inr (
-        (has.ordered, has.are.netlist),
-        λ other other_is.
-            at_held (told board) b _ _ b_is (inr (
-              (has.board, has.are.board_is),
-              λ another another_is.
-                  let its : AreSpelledOn d b other another = record { netlist = other_is; board_is = another_is } in
-                  inr (has_room_same d b has.ordered other has.board another has.are its has.room, λ plan good. refl),
-            )),
-      ))
-
-module _ (design board : List ℕ) (before after : Outside) (err_before err_after : SeenSink) (status : ℕ) (table : Statuses (plan_course design board) before after err_before err_after status) where
   abbrev told : List ℕ → Told
-  told = before.shelf.told
+  told = call.before.shelf.told
 
-  its_why : (reason : Reason) → MayRefuse (plan_course design board) told reason → WhyRefused design board told reason
-  its_why = why design board told
+  abbrev both : Files vocabulary
+  both = its_files design board
 
-  which : (file : File) (name : List ℕ) → MayRead (plan_course design board) told file name → IsOneOf (design ∷ board ∷ []) name
-  which = reads_one_of (design ∷ board ∷ []) (plan_course design board) (read design board told) told
+  abbrev first : Files vocabulary
+  first = its_design design board
 
-  read_fault : status ≡ 7 → CountsFaultAt (design ∷ board ∷ []) before after
-  read_fault = fault_at table (design ∷ board ∷ []) which
+  -- ---- every place
 
-  yields : (status ≡ 7) ⊎ (status ≡ 9) → YieldsAt (design ∷ board ∷ []) before after status
-  yields = yields_at table (design ∷ board ∷ []) which
+  reads : Every (ReadsOnly both) course
+  reads = reads_stage both netlist_kind design next (inl refl) (λ ordered. reads_stage both board_kind board (good_course ordered) (inr (inl refl)) (λ its. (tt, λ plan good. tt)))
 
-  -- ---- refusals
+  once : Every IsOnce course
+  once = once_stage netlist_kind design next (λ ordered. once_stage board_kind board (good_course ordered) (λ its. (tt, λ plan good. tt)))
 
-  no_other : 0 < status → status < 7 → IsOneOf (1 ∷ 3 ∷ 6 ∷ []) status
-  no_other = refused_one_of table (1 ∷ 3 ∷ 6 ∷ []) (refuse design board told)
+  whole : (number : ℕ) → Every (IsUnbroken number) course
+  whole number = unbroken_stage number netlist_kind design next (λ ordered. unbroken_stage number board_kind board (good_course ordered) (λ its. (tt, λ plan good. tt)))
 
-  spelled_here : (d b text_d text_b : List ℕ) (ordered : Ordered) (its : Board) → told design ≡ held d → told board ≡ held b
-      → IsTextOf (told design) text_d → IsTextOf (told board) text_b → AreSpelledOn text_d text_b ordered its → AreSpelledOn d b ordered its
-  spelled_here d b text_d text_b ordered its held_d held_b d_is b_is are = record {
-    netlist = subst (λ (t : List ℕ). IsNetlistOf t ordered) (its_text (told design) text_d d held_d d_is) are.netlist;
-    board_is = subst (λ (t : List ℕ). SpellsBoard t its) (its_text (told board) text_b b held_b b_is) are.board_is;
-  }
+  never_good : (number : ℕ) → 6 ≢ number → (ordered : Ordered) (its : Board) → Every (IsNever number) (good_course ordered its)
+  never_good number no_six ordered its = never_made number (planning ordered its) writes_plan no_six (λ plan. tt)
 
-  why_six : (d b : List ℕ) (reason : Reason) → told design ≡ held d → told board ≡ held b → WhyRefused design board told reason → reason_status reason ≡ 6 → HaveNoRoom d b
-  why_six d b reason held_d held_b (bad_design text text_is refused) its = absurd (let wrong : 6 ≡ 1 = sym its ∙ status_one text reason refused in omega arith)
-  why_six d b reason held_d held_b (bad_board text_d text ordered d_is netlist b_is refused) its = absurd (let wrong : 6 ≡ 3 = sym its ∙ board_status text reason refused in omega arith)
-  why_six d b reason held_d held_b (bad_fit text_d text_b ordered its_board d_is b_is are refused) its =
-      record { ordered = ordered; board = its_board; are = spelled_here d b text_d text_b ordered its_board held_d held_b d_is b_is are; none = refused.1 }
+  never_board : (number : ℕ) → 3 ≢ number → 6 ≢ number → (ordered : Ordered) → Every (IsNever number) (next ordered)
+  never_board number no_three no_six ordered = never_stage number board_kind board (good_course ordered) no_three (never_good number no_six ordered)
 
-  six_comes : (d b : List ℕ) (ordered : Ordered) (its : Board) (reason : Reason) → told design ≡ held d → told board ≡ held b → AreSpelledOn d b ordered its → WhyRefused design board told reason → reason_status reason ≡ 6
-  six_comes d b ordered its reason held_d held_b are (bad_design text text_is refused) = absurd (no_refused_design (told design) d text ordered reason held_d are.netlist text_is refused)
-  six_comes d b ordered its reason held_d held_b are (bad_board text_d text other d_is other_is b_is refused) = absurd (no_refused_board (told board) b text its reason held_b are.board_is b_is refused)
-  six_comes d b ordered its reason held_d held_b are (bad_fit text_d text_b other its_board d_is b_is other_are refused) = fit_status other its_board reason refused
+  never : (number : ℕ) → 1 ≢ number → 3 ≢ number → 6 ≢ number → Every (IsNever number) course
+  never number no_one no_three no_six = never_stage number netlist_kind design next no_one (never_board number no_three no_six)
 
-  -- ---- what is written is of the texts that are held
+  not_status : IsCallOf course call → (number : ℕ) → 0 < number → number < 7 → 1 ≢ number → 3 ≢ number → 6 ≢ number → call.status ≢ number
+  not_status is number some few no_one no_three no_six = never_status course call is number (never number no_one no_three no_six) (whole number) some few
 
-  here : (d b text : List ℕ) → HoldTwo design board before d b → (w : WhatWritten design board told text) → IsGoodPlan d b w.plan
-  here d b text held_two w = record {
-    ordered = w.its_good.ordered;
-    board = w.its_good.board;
-    are = spelled_here d b w.d w.b w.its_good.ordered w.its_good.board held_two.design_held held_two.board_held w.d_is w.b_is w.its_good.are;
-    good = w.its_good.good;
-  }
+  -- ---- back from what was done
 
-  pub plan_table : PlanStatuses design board before after status
-  plan_table = record {
-    done = λ d b held_two is.
-        let done = table.done is in
-        let w = what design board told done.text done.may in
-        (w.plan, here d b done.text held_two w, done.leaves ∙ ap (λ (t : List ℕ). outside before.shelf (appended before.out t)) w.text_is);
-    no_design = first_refused judged_netlist files.Design design (λ ordered. plan_board_course ordered board) table (3 ∷ 6 ∷ []) (λ is. omega (arith, is)) (board_refuses design board told);
-    no_design_comes = first_comes judged_netlist files.Design design (λ ordered. plan_board_course ordered board) table;
-    no_board = λ b here is. let bad = second_refused judged_netlist (λ ordered. judged_board) (λ (is : 1 ≡ 3). omega arith) (lit< tt) (lit< tt) files.Design files.Board design board good_course table (6 ∷ []) (λ is. omega (arith, is)) (fit_refuses design board told) b here is in (bad.reason, bad.bad);
-    no_board_comes = λ d b ordered held_two netlist. second_comes judged_netlist (λ ordered. judged_board) (λ (is : 1 ≡ 3). omega arith) (lit< tt) (lit< tt) files.Design files.Board design board good_course table d ordered held_two.design_held netlist (λ other is text reason bad. bad) b held_two.board_held;
-    no_room = λ d b held_two.
-        refused_with table 6 (HaveNoRoom d b) (lit< tt) (lit< tt) (λ reason may. why_six d b reason held_two.design_held held_two.board_held (its_why reason may));
-    no_room_comes = λ d b held_two has.
-        refused_or_stopped table 6 (YieldsAt (design ∷ board ∷ []) before after status)
-        (λ reason may. six_comes d b has.ordered has.board reason held_two.design_held held_two.board_held has.are (its_why reason may))
-        yields (comes_to_no_room design board told d b held_two.design_held held_two.board_held has);
-    read_fault = read_fault;
-    others = (
-      λ is. omega (arith, no_other (omega arith) (omega arith)),
-      λ is. omega (arith, no_other (omega arith) (omega arith)),
-      λ is. omega (arith, no_other (omega arith) (omega arith)),
-    );
-    part = λ d b held_two has.
+  module _ (d : List ℕ) (held_d : told design ≡ held d) where
+    design_why : (reason : Reason) → reason_status reason ≡ 1 → May told (RefusesHere reason) course → IsBadDesign d reason
+    design_why reason same may =
         ⊎_elim
-        (λ (same : after.out ≡ before.out). inl same)
-        (λ (some : (text : List ℕ) × MayWrite (plan_course design board) told text × LeavesPart text before.out after.out).
-        let w = what design board told some.0 some.1 in
-        inr (w.plan, here d b some.0 held_two w, subst (λ (t : List ℕ). LeavesPart t before.out after.out) w.text_is some.2))
-        (table.part (comes_to_room design board told d b held_two.design_held held_two.board_held has));
-    absent_design = first_absent judged_netlist files.Design design (λ ordered. plan_board_course ordered board) table;
-    absent_board = second_absent judged_netlist (λ ordered. judged_board) (λ (is : 1 ≡ 3). omega arith) (lit< tt) (lit< tt) files.Design files.Board design board good_course table;
-    complete = λ d b held_two has.
-        carried_out table (design ∷ board ∷ []) read_fault
-        (comes_to_room design board told d b held_two.design_held held_two.board_held has);
-  }
+        (λ (bad : IsBadDesign d reason). bad)
+        (λ (later : (x : Ordered) × IsNetlistOf d x × May told (RefusesHere reason) (next x)).
+        absurd (no_refusal told 1 (next later.0) (never_board 1 (λ is. omega (arith, is)) (λ is. omega (arith, is)) later.0) reason same later.2))
+        (refused_past told netlist_kind design next d held_d reason may)
+
+  module _ (b : List ℕ) (held_b : told board ≡ held b) where
+    board_why : (reason : Reason) → reason_status reason ≡ 3 → May told (RefusesHere reason) course → IsBadBoard b reason
+    board_why reason same may =
+        let behind = refused_behind told netlist_kind design next reason (λ is. omega (arith, is, same)) may in
+        ⊎_elim
+        (λ (bad : IsBadBoard b reason). bad)
+        (λ (later : (x : Board) × SpellsBoard b x × May told (RefusesHere reason) (good_course behind.2 x)).
+        absurd (no_refusal told 3 (good_course behind.2 later.0) (never_good 3 (λ is. omega (arith, is)) behind.2 later.0) reason same later.2))
+        (refused_past told board_kind board (good_course behind.2) b held_b reason behind.4)
+
+  module _ (d b : List ℕ) (hold : HoldTexts design board call d b) where
+    text_by : (did : CallWork) → MayDo course call did → IsPlanText d b did
+    text_by did may =
+        let one = work_past told netlist_kind design next d hold.design_held did may in
+        let two = work_past told board_kind board (good_course one.0) b hold.board_held did one.2 in
+        ⊎_elim
+        (λ (none : ⊥). absurd none)
+        (λ (later : (plan : Plan) × IsGood (planned_board one.0 two.0 plan) × (did ≡ writing (text_of_plan plan))).
+        (later.0, record { ordered = one.0; board = two.0; are = record { netlist = one.1; board_is = two.1 }; good = later.1 }, later.2))
+        two.2
+
+    fit_why : (reason : Reason) → reason_status reason ≡ 6 → May told (RefusesHere reason) course → IsNoFit d b reason
+    fit_why reason same may =
+        ⊎_elim
+        (λ (bad : IsBadDesign d reason). absurd (omega (arith, same, ap reason_status bad.1)))
+        (λ (one : (x : Ordered) × IsNetlistOf d x × May told (RefusesHere reason) (next x)).
+        ⊎_elim
+        (λ (bad : IsBadBoard b reason). absurd (omega (arith, same, ap reason_status bad.1)))
+        (λ (two : (x : Board) × SpellsBoard b x × May told (RefusesHere reason) (good_course one.0 x)).
+        ⊎_elim
+        (λ (bad : IsBadFit one.0 two.0 reason). record { ordered = one.0; board = two.0; are = record { netlist = one.1; board_is = two.1 }; bad = bad })
+        (λ (later : (plan : Plan) × IsGood (planned_board one.0 two.0 plan) × ⊥). absurd later.2)
+        two.2)
+        (refused_past told board_kind board (good_course one.0) b hold.board_held reason one.2))
+        (refused_past told netlist_kind design next d hold.design_held reason may)
+
+    -- ---- to where the course stands
+
+    to_board : (P : Course vocabulary → Type 0) (some : (x : Ordered) × IsNetlistOf d x) → ((ordered : Ordered) → IsNetlistOf d ordered → StandsAt told both P (next ordered)) → StandsAt told both P course
+    to_board P some later = past told both P netlist_kind design next d (inl refl) hold.design_held some later
+
+    to_good : (P : Course vocabulary → Type 0) (ordered : Ordered) (its : Board) → AreSpelledOn d b ordered its
+        → ((other : Ordered) (this : Board) → AreSpelledOn d b other this → StandsAt told both P (good_course other this)) → StandsAt told both P course
+    to_good P ordered its are later = to_board P (ordered, are.netlist)
+        (λ other is. past told both P board_kind board (good_course other) b (inr (inl refl)) hold.board_held (its, are.board_is)
+        (λ this so. later other this (record { netlist = is; board_is = so })))
+
+    works : IsCallOf course call → HaveRoom d b → IsCarriedOut vocabulary (IsPlanText d b) both call
+    works is have = call_works vocabulary both call (IsPlanText d b) course is
+        (to_good (IsToWork told both (IsPlanText d b)) have.ordered have.board have.are
+        (λ other this its. past_made told both (IsToWork told both (IsPlanText d b)) (planning other this) writes_plan
+        (has_room_same d b have.ordered other have.board this have.are its have.room)
+        (λ plan good. (tt, (plan, record { ordered = other; board = this; are = its; good = good }, refl)))))
+
+    no_fit : (ordered other : Ordered) (its this : Board) → AreSpelledOn d b ordered its → AreSpelledOn d b other this → its.chips * its.cells < length ordered.flat.cells
+        → StandsAt told both (IsToRefuse (IsNoFit d b)) (good_course other this)
+    no_fit ordered other its this are so none =
+        let bad : IsBadFit other this (reasons.Fit (TooManyCells (length other.flat.cells) (this.chips * this.cells))) = (refl, no_room_same d b ordered other its this are so none) in
+        inl ((reasons.Fit (TooManyCells (length other.flat.cells) (this.chips * this.cells)), bad), λ reason why. record { ordered = other; board = this; are = so; bad = why })
+
+  -- ---- the table
+
+  pub plan_table : IsCallOf course call → PlanStatuses design board call
+  plan_table is =
+      let table : Statuses course call = call_table course call is in
+      record {
+        done = λ d b hold status. done_as (MayDo course call) (IsPlanText d b) (text_by d b hold) call (table.done status);
+        no_design = λ d held_d. refused_for course call is 1 (IsBadDesign d) (design_why d held_d) (no_break told 1 course (whole 1)) (lit< tt) (lit< tt);
+        no_design_comes = λ d held_d none.
+            call_refused vocabulary first call (IsBadDesign d) course is
+            (at_bad told first netlist_kind design next d (IsBadDesign d) (inl refl) held_d (λ reason bad. bad) (reasons.Design none.0, (none.0, refl, none.1)));
+        no_board = λ b held_b. refused_for course call is 3 (IsBadBoard b) (board_why b held_b) (no_break told 3 course (whole 3)) (lit< tt) (lit< tt);
+        no_board_comes = λ d b hold runs none.
+            call_refused vocabulary both call (IsBadBoard b) course is
+            (to_board d b hold (IsToRefuse (IsBadBoard b)) runs
+            (λ ordered netlist. at_bad told both board_kind board (good_course ordered) b (IsBadBoard b) (inr (inl refl)) hold.board_held (λ reason bad. bad) none));
+        no_room = λ d b hold. refused_for course call is 6 (IsNoFit d b) (fit_why d b hold) (no_break told 6 course (whole 6)) (lit< tt) (lit< tt);
+        no_room_comes = λ d b hold have.
+            call_refused vocabulary both call (IsNoFit d b) course is
+            (to_good d b hold (IsToRefuse (IsNoFit d b)) have.ordered have.board have.are (λ other this so. no_fit d b hold have.ordered other have.board this have.are so have.none));
+        read_fault = fault_at course call is both reads once;
+        write_fault = λ d b hold status. write_as (MayDo course call) (IsPlanText d b) (text_by d b hold) call (table.write_fault status);
+        want_of_memory = λ d b hold status. memory_as (MayDo course call) (IsPlanText d b) (text_by d b hold) call (table.want_of_memory status);
+        others = (
+          not_status is 2 (lit< tt) (lit< tt) (λ one. omega (arith, one)) (λ three. omega (arith, three)) (λ six. omega (arith, six)),
+          not_status is 4 (lit< tt) (lit< tt) (λ one. omega (arith, one)) (λ three. omega (arith, three)) (λ six. omega (arith, six)),
+          not_status is 5 (lit< tt) (lit< tt) (λ one. omega (arith, one)) (λ three. omega (arith, three)) (λ six. omega (arith, six)),
+        );
+        accepted = λ d b hold have. works d b hold is have;
+        complete = λ d b hold have. completes vocabulary (IsPlanText d b) call both (works d b hold is have);
+        absent_design = λ gone. call_misses vocabulary first call course is (at_absent told first netlist_kind design next (inl refl) gone);
+        absent_board = λ gone. call_barred (1 ∷ []) course call is
+            (barred_later told (1 ∷ []) netlist_kind design next (inl refl) (λ ordered. barred_here told (1 ∷ []) board_kind board (good_course ordered) gone));
+      }

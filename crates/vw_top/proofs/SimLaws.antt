@@ -1,154 +1,157 @@
--- What the table of statuses says of the files of `sim`, and of words that spell no command.
-use Rattle.std.proofs.Common.{◌≡◌, ◌<◌, ◌⊎◌, ℕ, Bool, List, [], ◌∷◌, length, Ok, refl, sym, ◌∙◌, ap, ap₂, subst, inl, inr, ⊎_elim, lit<, arith}
-use Rattle.vw_design.specs.declared.design.Design.{Design as Spelled}
+-- What each status of `sim` says of its files.
+use Rattle.std.proofs.Common.{◌≡◌, ◌≢◌, ◌<◌, ◌⊎◌, ℕ, Bool, List, [], ◌∷◌, length, Ok, Err, refl, sym, ◌∙◌, ap, ap₂, subst, inl, inr, ⊎_elim, lit<, arith}
+use Rattle.vw_design.specs.declared.design.Design.{Design}
 use Rattle.vw_design.specs.Clocks.{columns}
-use Rattle.vw_outside.specs.Told.{Told, held, IsTextOf}
-use Rattle.vw_outside.specs.Writes.{SeenSink, appended}
+use Rattle.vw_outside.specs.Told.{Told, held}
+use Rattle.vw_course.specs.Course.{Course, writing, writes}
+use Rattle.vw_course.specs.Follows.{May}
+use Rattle.vw_course.specs.Endings.{IsCallOf}
+use Rattle.vw_course.specs.Places.{Files, WorksHere, BreaksHere, RefusesHere, StandsAt, IsToWork, IsToRefuse}
+use Rattle.vw_course.specs.Statuses.{MayDo, IsRefusedFor, IsStopped, IsCarriedOut, Statuses}
+use Rattle.vw_course.proofs.CallTable.{call_table}
+use Rattle.vw_course.proofs.StandLaws.{call_works, call_refused, call_misses}
+use Rattle.vw_course.proofs.EveryPlace.{Every, ReadsOnly, IsOnce, IsUnbroken, IsNever, reads_stage, once_stage, unbroken_stage, never_stage, no_refusal, no_break, never_status, fault_at}
+use Rattle.vw_course.proofs.StageLaws.{past, at_bad, at_absent, work_past, refused_past, refused_for}
+use Rattle.vw_course.proofs.BarredLaws.{barred_here, barred_later, call_barred}
+use Rattle.vw_course.proofs.CarriedOut.{completes, text_part, done_as, write_as, memory_as}
+use Rattle.vw_front.specs.Designs.{IsDesignOf, spells_once}
 use Rattle.vw_rows.specs.Stimulus.{stimulus_rows}
-use Rattle.vw_top.specs.declared.stop.File.{File}
-use Rattle.vw_top.specs.declared.stop.File.TheVariants as files
-use Rattle.vw_top.specs.declared.reason.Reason.{Reason}
-use Rattle.vw_top.specs.declared.reason.Reason.TheVariants.{Usage, Stimulus}
-use Rattle.vw_top.specs.Reasons.{reason_status}
-use Rattle.vw_top.specs.Designs.{IsDesignOf, spells_once}
-use Rattle.vw_top.specs.Course.{Course, writes, refuses, Outside, outside, MayWrite, MayRead, writing, ComesTo}
-use Rattle.vw_top.specs.Statuses.{Statuses, IsRefused, IsWantOfMemory}
-use Rattle.vw_top.specs.Commands.{sim_course, sim_rows_course, trace_of, IsRowsOf, RefusesRows, rows_apart}
-use Rattle.vw_top.specs.CommandStatuses.{CountsFaultAt, UsageStatuses}
-use Rattle.vw_top.specs.SimStatuses.{HoldAndSpell, SimStatuses}
-use Rattle.vw_top.proofs.ReadsAndRefusals.{IsOneOf, ReadsOnly, reads_one_of, RefusesWith}
-use Rattle.vw_top.proofs.FirstFile.{its_text, at_held, Judged, first_reads, first_refuses, first_refused, first_comes, first_absent}
-use Rattle.vw_top.proofs.SecondFile.{second_refused, second_comes, second_absent}
-use Rattle.vw_top.proofs.JudgedTexts.{judged_design}
-use Rattle.vw_top.proofs.StageLaws.{same_outside}
-use Rattle.vw_top.proofs.CourseEnds.{refused_one_of, fault_at, want_untouched, part_of, carried_out}
+use Rattle.vw_top.specs.declared.vocabulary.File.TheVariants as files
+use Rattle.vw_top.specs.declared.vocabulary.Reason.{Reason}
+use Rattle.vw_top.specs.declared.vocabulary.Reason.TheVariants as reasons
+use Rattle.vw_top.specs.Messages.{reason_status, vocabulary, Call, CallWork}
+use Rattle.vw_top.specs.Kinds.{design_kind, rows_kind, IsBadDesign, IsBadStimulus, IsRowsOf}
+use Rattle.vw_top.specs.Commands.{trace_of, sim_course, rows_course}
+use Rattle.vw_top.specs.SimStatuses.{AreSpelled, IsTrace, IsBadRows, HasRowFault, HoldTexts, its_design, its_files, SimStatuses}
 
 -- designs of one text are one, and so are their rows
-same_design : (d : List ℕ) (spelled other : Spelled) → IsDesignOf d spelled → IsDesignOf d other → other ≡ spelled
+same_design : (d : List ℕ) (spelled other : Design) → IsDesignOf d spelled → IsDesignOf d other → other ≡ spelled
 same_design d spelled other is its = spells_once d other spelled its.spelled is.spelled
 
--- a stimulus text for the columns of a design
-abbrev judged_rows : Spelled → Judged (List (List Bool)) 5
-judged_rows spelled =
-    let width = length (columns spelled) in
-    record { Good = IsRowsOf width; Bad = RefusesRows width; apart = rows_apart width; its_status = λ text reason refused. ap reason_status refused.1; some = lit< tt; few = lit< tt }
+same_rows : (d s : List ℕ) (spelled other : Design) (rows these : List (List Bool)) → AreSpelled d s spelled rows → AreSpelled d s other these → these ≡ rows
+same_rows d s spelled other rows these are its =
+    let said = sym its.rows_are ∙ ap (λ (one : Design). stimulus_rows (length (columns one)) s) (same_design d spelled other are.design its.design) ∙ are.rows_are in
+    cc
 
--- a stimulus that is bad for the design of a text is bad for each
-bad_for_each : (d : List ℕ) (spelled : Spelled) → IsDesignOf d spelled → (other : Spelled) → IsDesignOf d other → (text : List ℕ) (reason : Reason) → (judged_rows spelled).Bad text reason → (judged_rows other).Bad text reason
-bad_for_each d spelled is other its text reason bad =
-    subst (λ (one : Spelled). RefusesRows (length (columns one)) text reason) (sym (same_design d spelled other is its)) bad
-
-module _ (design stimulus : List ℕ) (unknown : Bool) (told : List ℕ → Told) where
-  abbrev course : Course
+module _ (design stimulus : List ℕ) (unknown : Bool) (call : Call) where
+  abbrev course : Course vocabulary
   course = sim_course design stimulus unknown
 
-  -- what `sim` writes
-  record WhatWritten (text : List ℕ) : Type 0 where
-    d : List ℕ
-    s : List ℕ
-    spelled : Spelled
-    rows : List (List Bool)
-    d_is : IsTextOf (told design) d
-    s_is : IsTextOf (told stimulus) s
-    its_design : IsDesignOf d spelled
-    are : stimulus_rows (length (columns spelled)) s ≡ Ok rows
-    text_is : text ≡ trace_of unknown spelled rows
+  abbrev next : Design → Course vocabulary
+  next = rows_course stimulus unknown
 
-  what : (text : List ℕ) → MayWrite course told text → WhatWritten text
-  what text (d, d_is, (spelled, its_design, (s, s_is, (rows, are, is)))) =
-      record { d = d; s = s; spelled = spelled; rows = rows; d_is = d_is; s_is = s_is; its_design = its_design; are = are; text_is = is }
+  abbrev writes_trace : Design → List (List Bool) → Course vocabulary
+  writes_trace spelled rows = writes (trace_of unknown spelled rows)
 
-  -- what `sim` reads, and with which statuses it refuses
-  rows_refuse : (spelled : Spelled) → RefusesWith (5 ∷ []) (sim_rows_course spelled stimulus unknown)
-  rows_refuse spelled = λ s. (λ reason refused. inl (ap reason_status refused.1), λ rows are. tt)
-
-  refuse : RefusesWith (1 ∷ 5 ∷ []) course
-  refuse = first_refuses judged_design files.Design design (λ spelled. sim_rows_course spelled stimulus unknown) (5 ∷ []) rows_refuse
-
-  read : ReadsOnly (design ∷ stimulus ∷ []) course
-  read = first_reads judged_design files.Design design (λ spelled. sim_rows_course spelled stimulus unknown) (stimulus ∷ []) (λ spelled. (inl refl, λ s rows are. tt))
-
-  comes_to_trace : (d s : List ℕ) (spelled : Spelled) (rows : List (List Bool)) → told design ≡ held d → told stimulus ≡ held s → IsDesignOf d spelled
-      → stimulus_rows (length (columns spelled)) s ≡ Ok rows → ComesTo writing course told
-  comes_to_trace d s spelled rows d_is s_is its_design said = at_held (told design) d _ _ d_is (inr (
-    (spelled, its_design),
-    λ other its.
-        at_held (told stimulus) s _ _ s_is (inr ((rows, ap (λ (one : Spelled). stimulus_rows (length (columns one)) s) (same_design d spelled other its_design its) ∙ said), λ these are. refl)),
-  ))
-
-module _ (design stimulus : List ℕ) (unknown : Bool) (before after : Outside) (err_before err_after : SeenSink) (status : ℕ) (table : Statuses (sim_course design stimulus unknown) before after err_before err_after status) where
   abbrev told : List ℕ → Told
-  told = before.shelf.told
+  told = call.before.shelf.told
 
-  which : (file : File) (name : List ℕ) → MayRead (sim_course design stimulus unknown) told file name → IsOneOf (design ∷ stimulus ∷ []) name
-  which = reads_one_of (design ∷ stimulus ∷ []) (sim_course design stimulus unknown) (read design stimulus unknown told) told
+  abbrev both : Files vocabulary
+  both = its_files design stimulus unknown
 
-  read_fault : status ≡ 7 → CountsFaultAt (design ∷ stimulus ∷ []) before after
-  read_fault = fault_at table (design ∷ stimulus ∷ []) which
+  -- ---- every place
 
-  -- a refusal is status 1 or 5
-  no_other : 0 < status → status < 7 → IsOneOf (1 ∷ 5 ∷ []) status
-  no_other = refused_one_of table (1 ∷ 5 ∷ []) (refuse design stimulus unknown told)
+  reads : Every (ReadsOnly both) course
+  reads = reads_stage both design_kind design next (inl refl)
+      (λ spelled. reads_stage both (rows_kind (length (columns spelled))) stimulus (writes_trace spelled) (inr (inl refl)) (λ rows. tt))
 
-  -- what `sim` writes is the trace of the design and the rows that its files have
-  text_of : (spelled : Spelled) (rows : List (List Bool)) (text : List ℕ) (accepted : HoldAndSpell design stimulus before spelled rows) → MayWrite (sim_course design stimulus unknown) told text → text ≡ trace_of unknown spelled rows
-  text_of spelled rows text accepted may =
-      let w = what design stimulus unknown told text may in
-      let its_design : IsDesignOf accepted.design_text w.spelled = subst (λ (t : List ℕ). IsDesignOf t w.spelled) (its_text (told design) w.d accepted.design_text accepted.design_held w.d_is) w.its_design in
-      let same = same_design accepted.design_text spelled w.spelled accepted.is its_design in
-      let read : stimulus_rows (length (columns w.spelled)) accepted.stimulus_text ≡ Ok w.rows =
-      subst (λ (t : List ℕ). stimulus_rows (length (columns w.spelled)) t ≡ Ok w.rows) (its_text (told stimulus) w.s accepted.stimulus_text accepted.stimulus_held w.s_is) w.are in
-      let said = sym read ∙ ap (λ (one : Spelled). stimulus_rows (length (columns one)) accepted.stimulus_text) same ∙ accepted.read in
-      let same_rows : w.rows ≡ rows = cc in
-      w.text_is ∙ ap₂ (trace_of unknown) same same_rows
+  once : Every IsOnce course
+  once = once_stage design_kind design next (λ spelled. once_stage (rows_kind (length (columns spelled))) stimulus (writes_trace spelled) (λ rows. tt))
 
-  pub sim_table : SimStatuses design stimulus unknown before after status
-  sim_table = record {
-    done = λ d s held_d held_s is.
-        let done = table.done is in
-        let w = what design stimulus unknown told done.text done.may in (
-          w.spelled,
-          w.rows,
-          subst (λ (t : List ℕ). IsDesignOf t w.spelled) (its_text (told design) w.d d held_d w.d_is) w.its_design,
-          subst (λ (t : List ℕ). stimulus_rows (length (columns w.spelled)) t ≡ Ok w.rows) (its_text (told stimulus) w.s s held_s w.s_is) w.are,
-          done.leaves ∙ ap (λ (t : List ℕ). outside before.shelf (appended before.out t)) w.text_is,
+  whole : (number : ℕ) → Every (IsUnbroken number) course
+  whole number = unbroken_stage number design_kind design next (λ spelled. unbroken_stage number (rows_kind (length (columns spelled))) stimulus (writes_trace spelled) (λ rows. tt))
+
+  never : (number : ℕ) → 1 ≢ number → 5 ≢ number → Every (IsNever number) course
+  never number no_one no_five = never_stage number design_kind design next no_one
+      (λ spelled. never_stage number (rows_kind (length (columns spelled))) stimulus (writes_trace spelled) no_five (λ rows. tt))
+
+  -- ---- back from what was done
+
+  module _ (d s : List ℕ) (hold : HoldTexts design stimulus unknown call d s) where
+    trace_by : (did : CallWork) → MayDo course call did → IsTrace unknown d s did
+    trace_by did may =
+        let first = work_past told design_kind design next d hold.design_held did may in
+        let second = work_past told (rows_kind (length (columns first.0))) stimulus (writes_trace first.0) s hold.stimulus_held did first.2 in
+        record { spelled = first.0; rows = second.0; are = record { design = first.1; rows_are = second.1 }; text = second.2 }
+
+    rows_why : (reason : Reason) → reason_status reason ≡ 5 → May told (RefusesHere reason) course → IsBadRows d s reason
+    rows_why reason same may =
+        ⊎_elim
+        (λ (bad : IsBadDesign d reason). absurd (omega (arith, same, ap reason_status bad.1)))
+        (λ (later : (x : Design) × IsDesignOf d x × May told (RefusesHere reason) (next x)).
+        ⊎_elim
+        (λ (bad : IsBadStimulus (length (columns later.0)) s reason). (later.0, later.1, bad))
+        (λ (more : (rows : List (List Bool)) × IsRowsOf (length (columns later.0)) s rows × May told (RefusesHere reason) (writes_trace later.0 rows)). absurd more.2)
+        (refused_past told (rows_kind (length (columns later.0))) stimulus (writes_trace later.0) s hold.stimulus_held reason later.2))
+        (refused_past told design_kind design next d hold.design_held reason may)
+
+  module _ (d : List ℕ) (held_d : told design ≡ held d) where
+    design_why : (reason : Reason) → reason_status reason ≡ 1 → May told (RefusesHere reason) course → IsBadDesign d reason
+    design_why reason same may =
+        ⊎_elim
+        (λ (bad : IsBadDesign d reason). bad)
+        (λ (later : (x : Design) × IsDesignOf d x × May told (RefusesHere reason) (next x)).
+        absurd (no_refusal told 1 (next later.0) (never_stage 1 (rows_kind (length (columns later.0))) stimulus (writes_trace later.0) (λ five. omega (arith, five)) (λ rows. tt)) reason same later.2))
+        (refused_past told design_kind design next d held_d reason may)
+
+  not_status : IsCallOf course call → (number : ℕ) → 0 < number → number < 7 → 1 ≢ number → 5 ≢ number → call.status ≢ number
+  not_status is number some few no_one no_five = never_status course call is number (never number no_one no_five) (whole number) some few
+
+  -- ---- to where the course stands
+
+  module _ (d s : List ℕ) (hold : HoldTexts design stimulus unknown call d s) where
+    to_rows : (P : Course vocabulary → Type 0) (spelled : Design) → IsDesignOf d spelled → ((other : Design) → IsDesignOf d other → StandsAt told both P (next other)) → StandsAt told both P course
+    to_rows P spelled is later = past told both P design_kind design next d (inl refl) hold.design_held (spelled, is) later
+
+    to_bad_rows : (spelled : Design) (reason : Reason) → IsDesignOf d spelled → IsBadStimulus (length (columns spelled)) s reason → StandsAt told both (IsToRefuse (IsBadRows d s)) course
+    to_bad_rows spelled reason is bad = to_rows (IsToRefuse (IsBadRows d s)) spelled is
+        (λ other its. at_bad told both (rows_kind (length (columns other))) stimulus (writes_trace other) s (IsBadRows d s) (inr (inl refl)) hold.stimulus_held (λ why so. (other, its, so))
+        (reason, subst (λ (one : Design). IsBadStimulus (length (columns one)) s reason) (sym (same_design d spelled other is its)) bad))
+
+    to_trace : (spelled : Design) (rows : List (List Bool)) → AreSpelled d s spelled rows → StandsAt told both (IsToWork told both (λ did. did ≡ writing (trace_of unknown spelled rows))) course
+    to_trace spelled rows are =
+        let What : CallWork → Type 0 = λ did. did ≡ writing (trace_of unknown spelled rows) in
+        to_rows (IsToWork told both What) spelled are.design
+        (λ other its. past told both (IsToWork told both What) (rows_kind (length (columns other))) stimulus (writes_trace other) s (inr (inl refl)) hold.stimulus_held
+        (rows, subst (λ (one : Design). IsRowsOf (length (columns one)) s rows) (sym (same_design d spelled other are.design its)) are.rows_are)
+        (λ these those. (
+          tt,
+          ap₂ (λ (one : Design) (so : List (List Bool)). writing (trace_of unknown one so)) (same_design d spelled other are.design its)
+              (same_rows d s spelled other rows these are (record { design = its; rows_are = those })),
+        )))
+
+    works : IsCallOf course call → (spelled : Design) (rows : List (List Bool)) → AreSpelled d s spelled rows
+        → IsCarriedOut vocabulary (λ did. did ≡ writing (trace_of unknown spelled rows)) both call
+    works is spelled rows are =
+        call_works vocabulary both call (λ did. did ≡ writing (trace_of unknown spelled rows)) course is (to_trace spelled rows are)
+
+  -- ---- the table
+
+  pub sim_table : IsCallOf course call → SimStatuses design stimulus unknown call
+  sim_table is =
+      let table : Statuses course call = call_table course call is in
+      record {
+        done = λ d s hold status. done_as (MayDo course call) (IsTrace unknown d s) (trace_by d s hold) call (table.done status);
+        no_design = λ d held_d. refused_for course call is 1 (IsBadDesign d) (design_why d held_d) (no_break told 1 course (whole 1)) (lit< tt) (lit< tt);
+        no_design_comes = λ d held_d none.
+            call_refused vocabulary (its_design design stimulus unknown) call (IsBadDesign d) course is
+            (at_bad told (its_design design stimulus unknown) design_kind design next d (IsBadDesign d) (inl refl) held_d (λ reason bad. bad) (reasons.Design none.0, (none.0, refl, none.1)));
+        no_rows = λ d s hold. refused_for course call is 5 (IsBadRows d s) (rows_why d s hold) (no_break told 5 course (whole 5)) (lit< tt) (lit< tt);
+        no_rows_comes = λ d s spelled fault hold its said.
+            call_refused vocabulary both call (IsBadRows d s) course is (to_bad_rows d s hold spelled (reasons.Stimulus fault) its (fault, refl, said));
+        read_fault = fault_at course call is both reads once;
+        write_fault = λ d s hold status. write_as (MayDo course call) (IsTrace unknown d s) (trace_by d s hold) call (table.write_fault status);
+        want_of_memory = λ d s hold status. memory_as (MayDo course call) (IsTrace unknown d s) (trace_by d s hold) call (table.want_of_memory status);
+        others = (
+          not_status is 2 (lit< tt) (lit< tt) (λ one. omega (arith, one)) (λ five. omega (arith, five)),
+          not_status is 3 (lit< tt) (lit< tt) (λ one. omega (arith, one)) (λ five. omega (arith, five)),
+          not_status is 4 (lit< tt) (lit< tt) (λ one. omega (arith, one)) (λ five. omega (arith, five)),
+          not_status is 6 (lit< tt) (lit< tt) (λ one. omega (arith, one)) (λ five. omega (arith, five)),
         );
-    no_design = first_refused judged_design files.Design design (λ spelled. sim_rows_course spelled stimulus unknown) table (5 ∷ []) (λ is. omega (arith, is)) (rows_refuse design stimulus unknown told);
-    no_design_comes = first_comes judged_design files.Design design (λ spelled. sim_rows_course spelled stimulus unknown) table;
-    no_rows = λ d s held_d held_s is.
-        let bad = second_refused judged_design judged_rows (λ (is : 1 ≡ 5). omega arith) (lit< tt) (lit< tt) files.Design files.Stimulus design stimulus (λ spelled rows. writes (trace_of unknown spelled rows)) table [] (λ none. none) (λ spelled rows. tt) s held_s is in
-        (bad.x, bad.bad.0, subst (λ (t : List ℕ). IsDesignOf t bad.x) (its_text (told design) bad.first d held_d bad.may) bad.good, bad.bad.2);
-    no_rows_comes = λ d s spelled fault held_d held_s its_design said.
-        second_comes judged_design judged_rows (λ (is : 1 ≡ 5). omega arith) (lit< tt) (lit< tt) files.Design files.Stimulus design stimulus (λ spelled rows. writes (trace_of unknown spelled rows)) table d spelled held_d its_design (bad_for_each d spelled its_design) s held_s (Stimulus fault, (fault, refl, said));
-    read_fault = read_fault;
-    others = (
-      λ is. omega (arith, no_other (omega arith) (omega arith)),
-      λ is. omega (arith, no_other (omega arith) (omega arith)),
-      λ is. omega (arith, no_other (omega arith) (omega arith)),
-      λ is. omega (arith, no_other (omega arith) (omega arith)),
-    );
-    part = λ spelled rows accepted.
-        part_of table (trace_of unknown spelled rows) (λ text. text_of spelled rows text accepted)
-        (comes_to_trace design stimulus unknown told accepted.design_text accepted.stimulus_text spelled rows accepted.design_held accepted.stimulus_held accepted.is accepted.read);
-    absent_design = first_absent judged_design files.Design design (λ spelled. sim_rows_course spelled stimulus unknown) table;
-    absent_stimulus = λ d spelled held_d its_design. second_absent judged_design judged_rows (λ (is : 1 ≡ 5). omega arith) (lit< tt) (lit< tt) files.Design files.Stimulus design stimulus (λ spelled rows. writes (trace_of unknown spelled rows)) table d spelled held_d its_design;
-    complete = λ spelled rows accepted.
-        carried_out table (design ∷ stimulus ∷ []) read_fault
-        (comes_to_trace design stimulus unknown told accepted.design_text accepted.stimulus_text spelled rows accepted.design_held accepted.stimulus_held accepted.is accepted.read);
-  }
-
--- words that spell no command
-module _ (place : ℕ) (before after : Outside) (err_before err_after : SeenSink) (status : ℕ) (table : Statuses (refuses (Usage place)) before after err_before err_after status) where
-  refusal_ends : IsRefused (refuses (Usage place)) before after err_before err_after status → UsageStatuses before after status
-  refusal_ends refusal = record { comes = inl (refusal.its_status ∙ ap reason_status refusal.may); leaves = refusal.leaves }
-
-  want_ends : IsWantOfMemory (refuses (Usage place)) before after err_before err_after → status ≡ 9 → UsageStatuses before after status
-  want_ends want is =
-      record { comes = inr is; leaves = same_outside before after want.leaves (want_untouched table want (λ text may. may)) }
-
-  pub usage_table : UsageStatuses before after status
-  usage_table =
-      ⊎_elim
-      (λ (refused : (0 < status) × (status < 7)). refusal_ends (table.refused refused.0 refused.1))
-      (λ (stops : (status ≡ 7) ⊎ (status ≡ 9)). ⊎_elim (λ (is : status ≡ 7). absurd ((table.read_fault is).may)) (λ (is : status ≡ 9). want_ends (table.want_of_memory is) is) stops)
-      (table.rejected refl)
+        accepted = λ d s spelled rows hold are. works d s hold is spelled rows are;
+        part = λ d s spelled rows hold are. text_part vocabulary (trace_of unknown spelled rows) call both (works d s hold is spelled rows are);
+        complete = λ d s spelled rows hold are. completes vocabulary (λ did. did ≡ writing (trace_of unknown spelled rows)) call both (works d s hold is spelled rows are);
+        absent_design = λ gone. call_misses vocabulary (its_design design stimulus unknown) call course is (at_absent told (its_design design stimulus unknown) design_kind design next (inl refl) gone);
+        absent_stimulus = λ gone. call_barred (1 ∷ []) course call is
+            (barred_later told (1 ∷ []) design_kind design next (inl refl) (λ spelled. barred_here told (1 ∷ []) (rows_kind (length (columns spelled))) stimulus (writes_trace spelled) gone));
+      }

@@ -1,69 +1,85 @@
--- What the table of statuses says of the files of `sim`.
+-- What each status of `sim` says of its files.
 use Rattle.std.specs.Prelude.{◌≡◌, ◌≢◌, ◌⊎◌, ℕ, Bool, List, [], ◌∷◌, length, Ok, Err}
 use Rattle.vw_design.specs.declared.design.Design.{Design}
 use Rattle.vw_design.specs.Clocks.{columns}
+use Rattle.vw_course.specs.Course.{writing}
+use Rattle.vw_course.specs.Places.{Files}
+use Rattle.vw_course.specs.Statuses.{NoWork, IsDone, IsRefusedFor, IsReadStop, IsWriteStop, IsMemoryStop, IsStopped, IsCarriedOut, Holds, IsAbsent, IsUnworked, CompletesAt, LeavesPart}
+use Rattle.vw_front.specs.Designs.{IsDesignOf, IsNoDesign}
 use Rattle.vw_rows.specs.declared.stimulus.StimFault.{StimFault}
 use Rattle.vw_rows.specs.Stimulus.{stimulus_rows}
-use Rattle.vw_top.specs.Designs.{IsDesignOf, IsNoDesign}
-use Rattle.vw_top.specs.Course.{Outside}
-use Rattle.vw_top.specs.Statuses.{LeavesPart}
+use Rattle.vw_top.specs.declared.vocabulary.File.TheVariants as files
+use Rattle.vw_top.specs.declared.vocabulary.Reason.{Reason}
+use Rattle.vw_top.specs.Messages.{vocabulary, Call, CallWork}
+use Rattle.vw_top.specs.Kinds.{IsBadDesign, IsRowsOf, IsBadStimulus}
 use Rattle.vw_top.specs.Commands.{trace_of}
-use Rattle.vw_top.specs.CommandStatuses.{Holds, IsAbsent, WritesAlone, CountsFaultAt, YieldsAt, EndsAbsent, CompletesAt}
-
--- a stimulus text has these rows for the columns of a design
-abbrev pub HasRows : List ℕ → Design → List (List Bool) → Type 0
-HasRows s spelled rows = stimulus_rows (length (columns spelled)) s ≡ Ok rows
 
 -- a stimulus text has this fault for the columns of a design
 abbrev pub HasRowFault : List ℕ → Design → StimFault → Type 0
 HasRowFault s spelled fault = stimulus_rows (length (columns spelled)) s ≡ Err fault
 
--- the texts are held, and stand for this design and these rows
-pub record HoldAndSpell (design stimulus : List ℕ) (before : Outside)
-    (spelled : Design) (rows : List (List Bool)) : Type 0 where
-  pub design_text : List ℕ
-  pub stimulus_text : List ℕ
-  pub design_held : Holds before design design_text
-  pub stimulus_held : Holds before stimulus stimulus_text
-  pub is : IsDesignOf design_text spelled
-  pub read : HasRows stimulus_text spelled rows
+-- a design text stands for this design, and a stimulus text for these rows
+pub record AreSpelled (d s : List ℕ) (spelled : Design) (rows : List (List Bool)) : Type 0 where
+  pub design : IsDesignOf d spelled
+  pub rows_are : IsRowsOf (length (columns spelled)) s rows
+
+-- the trace of the design of one text over the rows of the other was written
+pub record IsTrace (unknown : Bool) (d s : List ℕ) (did : CallWork) : Type 0 where
+  pub spelled : Design
+  pub rows : List (List Bool)
+  pub are : AreSpelled d s spelled rows
+  pub text : did ≡ writing (trace_of unknown spelled rows)
+
+-- a stimulus text has no rows for the columns of the design of the other text
+abbrev pub IsBadRows : List ℕ → List ℕ → Reason → Type 0
+IsBadRows d s reason = (spelled : Design) × IsDesignOf d spelled × IsBadStimulus (length (columns spelled)) s reason
 
 module _ (design stimulus : List ℕ) (unknown : Bool) where
   -- the files of `sim`
-  abbrev pub its_files : List (List ℕ)
-  its_files = design ∷ stimulus ∷ []
+  abbrev pub its_design : Files vocabulary
+  its_design = (files.Design, design) ∷ []
 
-  pub record SimStatuses (before after : Outside) (status : ℕ) : Type 0 where
-    -- 0: the trace of the spelled design over the rows of the stimulus, and nothing else changed
-    pub done : (d s : List ℕ) → Holds before design d → Holds before stimulus s → status ≡ 0
-        → (spelled : Design) × (rows : List (List Bool)) × IsDesignOf d spelled
-        × HasRows s spelled rows × WritesAlone (trace_of unknown spelled rows) before after
+  abbrev pub its_files : Files vocabulary
+  its_files = (files.Design, design) ∷ (files.Stimulus, stimulus) ∷ []
+
+  -- both texts are held
+  pub record HoldTexts (call : Call) (d s : List ℕ) : Type 0 where
+    pub design_held : Holds call design d
+    pub stimulus_held : Holds call stimulus s
+
+  pub record SimStatuses (call : Call) : Type 0 where
+    -- 0: the trace of the design over the rows of the stimulus, and nothing else changed
+    pub done : (d s : List ℕ) → HoldTexts call d s → call.status ≡ 0 → IsDone (IsTrace unknown d s) call
     -- 1: exactly where the design text has a fault, or its design has one, or a loop
-    pub no_design : (d : List ℕ) → Holds before design d → status ≡ 1 → IsNoDesign d
-    pub no_design_comes : (d : List ℕ) → Holds before design d → IsNoDesign d
-        → (status ≡ 1) ⊎ YieldsAt (design ∷ []) before after status
+    pub no_design : (d : List ℕ) → Holds call design d → call.status ≡ 1
+        → IsRefusedFor vocabulary (IsBadDesign d) call
+    pub no_design_comes : (d : List ℕ) → Holds call design d → IsNoDesign d
+        → IsRefusedFor vocabulary (IsBadDesign d) call ⊎ IsStopped vocabulary its_design call
     -- 5: exactly where the stimulus text has a fault
-    pub no_rows : (d s : List ℕ) → Holds before design d → Holds before stimulus s → status ≡ 5
-        → (spelled : Design) × (fault : StimFault) × IsDesignOf d spelled
-        × HasRowFault s spelled fault
-    pub no_rows_comes : (d s : List ℕ) (spelled : Design) (fault : StimFault)
-        → Holds before design d → Holds before stimulus s
+    pub no_rows : (d s : List ℕ) → HoldTexts call d s → call.status ≡ 5
+        → IsRefusedFor vocabulary (IsBadRows d s) call
+    pub no_rows_comes : (d s : List ℕ) (spelled : Design) (fault : StimFault) → HoldTexts call d s
         → IsDesignOf d spelled → HasRowFault s spelled fault
-        → (status ≡ 5) ⊎ YieldsAt its_files before after status
-    -- 7: a fault was counted at one of the two files, over every shelf
-    pub read_fault : status ≡ 7 → CountsFaultAt its_files before after
+        → IsRefusedFor vocabulary (IsBadRows d s) call ⊎ IsStopped vocabulary its_files call
+    -- 7: a fault was counted at one of the two files, over every shelf, and out is as it was
+    pub read_fault : call.status ≡ 7 → IsReadStop vocabulary NoWork its_files call
+    -- 8: a fault was counted at out, which has a part of the trace
+    pub write_fault : (d s : List ℕ) → HoldTexts call d s → call.status ≡ 8 → IsWriteStop (IsTrace unknown d s) call
+    -- 9: out has a part of the trace at most
+    pub want_of_memory : (d s : List ℕ) → HoldTexts call d s → call.status ≡ 9
+        → IsMemoryStop (IsTrace unknown d s) call
     -- these aren't statuses of `sim`
-    pub others : (status ≢ 2) × (status ≢ 3) × (status ≢ 4) × (status ≢ 6)
-    -- whatever the status, out has a part of what status 0 would have written
-    pub part : (spelled : Design) (rows : List (List Bool))
-        → HoldAndSpell design stimulus before spelled rows
-        → LeavesPart (trace_of unknown spelled rows) before.out after.out
-    -- a file that is told to be absent
-    pub absent_design : IsAbsent before design → EndsAbsent before after status
-    pub absent_stimulus : (d : List ℕ) (spelled : Design)
-        → Holds before design d → IsDesignOf d spelled → IsAbsent before stimulus
-        → EndsAbsent before after status
-    -- where no count rose, accepted texts are run, unless memory runs out
-    pub complete : (spelled : Design) (rows : List (List Bool))
-        → HoldAndSpell design stimulus before spelled rows
-        → CompletesAt its_files before after status
+    pub others : (call.status ≢ 2) × (call.status ≢ 3) × (call.status ≢ 4) × (call.status ≢ 6)
+    -- accepted texts are run, unless the outside stops the call; out has a part of the trace, whatever the status
+    pub accepted : (d s : List ℕ) (spelled : Design) (rows : List (List Bool)) → HoldTexts call d s
+        → AreSpelled d s spelled rows
+        → IsCarriedOut vocabulary (λ did. did ≡ writing (trace_of unknown spelled rows)) its_files call
+    pub part : (d s : List ℕ) (spelled : Design) (rows : List (List Bool)) → HoldTexts call d s
+        → AreSpelled d s spelled rows
+        → LeavesPart (trace_of unknown spelled rows) call.before.out call.after.out
+    -- and where no count rose, they are run, unless memory runs out
+    pub complete : (d s : List ℕ) (spelled : Design) (rows : List (List Bool)) → HoldTexts call d s
+        → AreSpelled d s spelled rows → CompletesAt vocabulary its_files call
+    -- a file that is told to be absent is a read fault, unless memory runs out, or the design is refused before
+    pub absent_design : IsAbsent call design → IsStopped vocabulary its_design call
+    pub absent_stimulus : IsAbsent call stimulus → IsUnworked (1 ∷ []) call

@@ -1,20 +1,19 @@
 //! The command `check`.
 ghost use Rattle.std.specs.Prelude.{◌≡◌, IfOk};
+ghost use Rattle.vw_course.specs.Goes.{Goes};
+ghost use Rattle.vw_course.specs.Stages.{EndsJudging};
 ghost use Rattle.vw_outside.specs.Writes.{WritesOut};
 ghost use Rattle.vw_plan.specs.PlannedBoard.{planned_board};
-ghost use Rattle.vw_top.specs.Course.{Follows, outside};
-ghost use Rattle.vw_top.specs.Commands.{RefusesPlan, check_board_course, check_course, check_plan_course, sound_course, sound_text};
-ghost use Rattle.vw_top.specs.Steps.Plans.{EndsPlanFault, IsCheckedPlan};
-ghost use Rattle.vw_top.specs.Steps.Stage.{JudgesText};
+ghost use Rattle.vw_top.specs.Commands.{check_board_course, check_course, check_plan_course, sound_course, sound_text};
+ghost use Rattle.vw_top.specs.Kinds.{IsBadPlan};
+ghost use Rattle.vw_top.specs.Messages.{vocabulary};
+ghost use Rattle.vw_top.specs.Steps.Stages.{EndsFault, IsCheckedPlan};
 
-use crate::endings::Unfinished;
 use crate::files::{read_board, read_design, read_plan};
-use crate::reason::Reason;
-use crate::refusal::Refusal;
-use crate::stop::Stop;
-use crate::writing::answer_of;
+use crate::vocabulary::{Reason, Unfinished};
 use std::alloc::{AllocError, Global};
 use vw_check::{PlanFault, check as check_plan};
+use vw_course::{Outside, answer_of};
 use vw_net::Ordered;
 use vw_outside::{Name, Shelf, Sink, Unwritten, put_text};
 use vw_plan::{Board, Checked, Plan};
@@ -41,12 +40,12 @@ fn write_sound<O: Sink>(alloc: Global, checked: Checked, out: &mut O) -> Result<
 
 /// The end of a command whose plan has a fault.
 fn unsound(fault: PlanFault) -> Unfinished
-    ensures { EndsPlanFault fault result }
+    ensures { EndsFault fault result }
 {
     if fault == PlanFault::NoMemory {
-        return Unfinished::Stopped(Stop::NoMemory);
+        return Unfinished::NoMemory;
     }
-    Unfinished::Refused(Refusal::new(Reason::Plan(fault)))
+    Unfinished::Refused(Reason::Plan(fault))
 }
 
 /// The plan, if it is sound.
@@ -56,8 +55,8 @@ fn sound_plan(
     board: Board,
     plan: Plan,
 ) -> Result<Checked, Unfinished>
-    ensures { JudgesText (IsCheckedPlan (planned_board ordered board plan))
-        (RefusesPlan (planned_board ordered board plan)) result }
+    ensures { EndsJudging (IsCheckedPlan (planned_board ordered board plan))
+        (IsBadPlan (planned_board ordered board plan)) result }
 {
     match check_plan(alloc, ordered, board, plan) {
         Ok(checked) => Ok(checked),
@@ -75,15 +74,14 @@ fn check_soundness<S: Shelf, O: Sink>(
     ordered: Ordered,
     board: Board,
     plan: Plan,
-    shelf: &mut S,
-    out: &mut O,
+    outside: &mut Outside<'_, '_, S, O>,
 ) -> Result<(), Unfinished>
-    ensures { Follows (sound_course ordered board plan)
-        (outside (S.seen shelf.old) (O.seen out.old)) (outside (S.seen shelf.new) (O.seen
-        out.new)) result }
+    ensures { Goes S.seen O.seen vocabulary (sound_course ordered board plan) outside.old
+        outside.new
+        result }
 {
     let checked = sound_plan(alloc, ordered, board, plan)?;
-    answer_of(write_sound(alloc, checked, out))
+    answer_of(write_sound(alloc, checked, outside.out))
 }
 
 /// Reads the plan, and checks it.
@@ -92,15 +90,14 @@ fn check_on_board<S: Shelf, O: Sink>(
     ordered: Ordered,
     board: Board,
     plan: &Name,
-    shelf: &mut S,
-    out: &mut O,
+    outside: &mut Outside<'_, '_, S, O>,
 ) -> Result<(), Unfinished>
-    ensures { Follows (check_plan_course ordered board plan.now)
-        (outside (S.seen shelf.old) (O.seen out.old)) (outside (S.seen shelf.new) (O.seen
-        out.new)) result }
+    ensures { Goes S.seen O.seen vocabulary (check_plan_course plan.now ordered board) outside.old
+        outside.new
+        result }
 {
-    let plan = read_plan(alloc, shelf, plan)?;
-    check_soundness(alloc, ordered, board, plan, shelf, out)
+    let plan = read_plan(alloc, outside.shelf, plan)?;
+    check_soundness(alloc, ordered, board, plan, outside)
 }
 
 /// Reads the board and then the plan, and checks it.
@@ -109,15 +106,13 @@ fn check_netlist<S: Shelf, O: Sink>(
     ordered: Ordered,
     board: &Name,
     plan: &Name,
-    shelf: &mut S,
-    out: &mut O,
+    outside: &mut Outside<'_, '_, S, O>,
 ) -> Result<(), Unfinished>
-    ensures { Follows (check_board_course ordered board.now plan.now)
-        (outside (S.seen shelf.old) (O.seen out.old)) (outside (S.seen shelf.new) (O.seen
-        out.new)) result }
+    ensures { Goes S.seen O.seen vocabulary (check_board_course board.now plan.now ordered)
+        outside.old outside.new result }
 {
-    let board = read_board(alloc, shelf, board)?;
-    check_on_board(alloc, ordered, board, plan, shelf, out)
+    let board = read_board(alloc, outside.shelf, board)?;
+    check_on_board(alloc, ordered, board, plan, outside)
 }
 
 /// Checks a plan of a design on a board, and writes its size where it is sound.
@@ -126,13 +121,12 @@ pub fn check<S: Shelf, O: Sink>(
     design: &Name,
     board: &Name,
     plan: &Name,
-    shelf: &mut S,
-    out: &mut O,
+    outside: &mut Outside<'_, '_, S, O>,
 ) -> Result<(), Unfinished>
-    ensures { Follows (check_course design.now board.now plan.now)
-        (outside (S.seen shelf.old) (O.seen out.old)) (outside (S.seen shelf.new) (O.seen
-        out.new)) result }
+    ensures { Goes S.seen O.seen vocabulary (check_course design.now board.now plan.now) outside.old
+        outside.new
+        result }
 {
-    let ordered = read_design(alloc, shelf, design)?;
-    check_netlist(alloc, ordered, board, plan, shelf, out)
+    let ordered = read_design(alloc, outside.shelf, design)?;
+    check_netlist(alloc, ordered, board, plan, outside)
 }

@@ -1,64 +1,57 @@
-ghost use Rattle.vw_top.specs.Words.{spelled_by};
+//! The public call, and how it ends.
+ghost use Rattle.vw_course.specs.Goes.{Goes, IsCalled, IsFollowed};
 ghost use Rattle.vw_top.specs.Commands.{course_of};
-ghost use Rattle.vw_top.specs.Course.{Follows, outside};
-ghost use Rattle.vw_top.specs.Endings.{IsCallOf};
-ghost use Rattle.vw_top.specs.Steps.Unfinished.{EndsUnfinished};
+ghost use Rattle.vw_top.specs.Messages.{vocabulary};
+ghost use Rattle.vw_top.specs.Words.{spelled_by};
 
 use crate::check::check;
-use crate::endings::Unfinished;
 use crate::plan::plan;
-use crate::reason::Reason;
-use crate::refusal::Refusal;
 use crate::sim::sim;
-use crate::stop::Stop;
+use crate::vocabulary::{Reason, Unfinished};
 use crate::words::{Command, command_of};
 use std::alloc::Global;
-use vw_outside::{Name, Shelf, Sink, put_all};
+use vw_course::{Outside, report};
+use vw_outside::{Name, Shelf, Sink};
 
 /// Carries out the command that words spell, up to its message.
 fn carry_out<S: Shelf, O: Sink>(
     alloc: Global,
     words: &[Name],
-    shelf: &mut S,
-    out: &mut O,
+    outside: &mut Outside<'_, '_, S, O>,
 ) -> Result<(), Unfinished>
-    ensures { Follows (course_of (spelled_by words.now))
-        (outside (S.seen shelf.old) (O.seen out.old)) (outside (S.seen shelf.new) (O.seen
-        out.new)) result }
+    ensures { Goes S.seen O.seen vocabulary (course_of (spelled_by words.now)) outside.old
+        outside.new
+        result }
 {
     match command_of(words) {
         Command::Sim {
             design,
             stimulus,
             unknown,
-        } => sim(alloc, design, stimulus, unknown, shelf, out),
+        } => sim(alloc, design, stimulus, unknown, outside),
         Command::Check {
             design,
             board,
             plan,
-        } => check(alloc, design, board, plan, shelf, out),
-        Command::Plan { design, board } => plan(alloc, design, board, shelf, out),
-        Command::Nothing(place) => Err(Unfinished::Refused(Refusal::new(Reason::Usage(place)))),
+        } => check(alloc, design, board, plan, outside),
+        Command::Plan { design, board } => plan(alloc, design, board, outside),
+        Command::Nothing(place) => Err(Unfinished::Refused(Reason::Usage(place))),
     }
 }
 
-/// Writes the message line of a call that wasn't carried out, and gives the exit status. Where there is no memory
-/// for the line of a refusal, the call ends with want of memory.
-fn report<E: Sink>(alloc: Global, unfinished: &Unfinished, err: &mut E) -> u8
-    ensures { EndsUnfinished unfinished.now (E.seen err.old) (E.seen err.new) result }
+/// Carries out the command that words spell over this shelf and this sink, up to its message.
+fn follow<S: Shelf, O: Sink>(
+    alloc: Global,
+    words: &[Name],
+    shelf: &mut S,
+    out: &mut O,
+) -> Result<(), Unfinished>
+    ensures { IsFollowed vocabulary (course_of (spelled_by words.now)) (S.seen shelf.old)
+        (O.seen out.old) (S.seen shelf.new) (O.seen
+        out.new) result }
 {
-    let stop = match unfinished {
-        Unfinished::Stopped(stop) => *stop,
-        Unfinished::Refused(refusal) => match refusal.reason().line(alloc) {
-            Ok(line) => {
-                let _ = put_all(err, &line);
-                return refusal.reason().status();
-            }
-            Err(_) => Stop::NoMemory,
-        },
-    };
-    let _ = put_all(err, stop.line());
-    stop.status()
+    let mut outside = Outside { shelf, out };
+    carry_out(alloc, words, &mut outside)
 }
 
 /// Carries out the command that the words after the program's name spell, and gives the exit status. After each
@@ -72,11 +65,12 @@ pub fn virtual_wires<S: Shelf, O: Sink, E: Sink>(
     err: &mut E,
 ) -> u8
     // It follows the course of the command, and ends with the status and the message of its answer.
-    ensures { IsCallOf (course_of (spelled_by words.now))
-        (outside (S.seen shelf.old) (O.seen out.old)) (outside (S.seen shelf.new) (O.seen
-        out.new)) (E.seen err.old) (E.seen err.new) result }
+    ensures { IsCalled vocabulary (course_of (spelled_by words.now))
+        (S.seen shelf.old) (O.seen out.old) (E.seen err.old)
+        (S.seen shelf.new) (O.seen out.new) (E.seen err.new)
+        result }
 {
-    match carry_out(alloc, words, shelf, out) {
+    match follow(alloc, words, shelf, out) {
         Ok(()) => 0,
         Err(unfinished) => report(alloc, &unfinished, err),
     }

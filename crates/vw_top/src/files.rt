@@ -1,22 +1,22 @@
 //! The files of commands, each read and judged at its own stage.
+ghost use Rattle.std.specs.Prelude.{◌≡◌, length, IfOk};
+ghost use Rattle.std.specs.List.{All};
 ghost use Rattle.vw_board.specs.BoardText.{Spells as SpellsBoard};
+ghost use Rattle.vw_course.specs.Stages.{EndsJudging, EndsStage};
+ghost use Rattle.vw_front.specs.Designs.{IsNetlistOf};
 ghost use Rattle.vw_plantext.specs.PlanText.{Spells as SpellsPlan};
-ghost use Rattle.vw_top.specs.Designs.{IsNetlistOf, RefusesDesign};
-ghost use Rattle.vw_top.specs.Commands.{RefusesBoard, RefusesPlanText};
-ghost use Rattle.vw_top.specs.Steps.Stage.{JudgesText, StageEnds};
+ghost use Rattle.vw_top.specs.Kinds.{IsBadDesign, IsBadBoard, IsBadPlanText, IsRowsOf, IsBadStimulus};
 
-use crate::design::netlist_of_text;
-use crate::endings::Unfinished;
-use crate::reason::Reason;
-use crate::refusal::Refusal;
-use crate::stop::{File, Stop};
+use crate::vocabulary::{File, Reason, Unfinished};
 use std::alloc::Global;
 use vw_blif::TextFault;
 use vw_board::BoardFault;
+use vw_front::{NetlistFault, netlist_of_text};
 use vw_net::Ordered;
 use vw_outside::{Name, Shelf, TextRefused, read_text};
 use vw_plan::{Board, Plan};
 use vw_plantext::PlanTextFault;
+use vw_rows::{RowRuns, StimFault, read_all};
 
 /// The most bytes that a design text has.
 const DESIGN_LIMIT: u64 = 16_777_216;
@@ -27,79 +27,108 @@ const BOARD_LIMIT: u64 = 1_048_576;
 /// The most bytes that a plan text has.
 const PLAN_LIMIT: u64 = 67_108_864;
 
+/// The netlist of the design that a text spells, with an order of its gates.
+fn design_of_text(alloc: Global, text: &[u8]) -> Result<Ordered, Unfinished>
+    ensures { EndsJudging (IsNetlistOf text.now) (IsBadDesign text.now) result }
+{
+    match netlist_of_text(alloc, text) {
+        Ok(ordered) => Ok(ordered),
+        Err(NetlistFault::NoMemory) => Err(Unfinished::NoMemory),
+        Err(fault) => Err(Unfinished::Refused(Reason::Design(fault))),
+    }
+}
+
 /// Reads the design.
 pub fn read_design<S: Shelf>(
     alloc: Global,
     shelf: &mut S,
     name: &Name,
 ) -> Result<Ordered, Unfinished>
-    ensures { StageEnds File.Design name.now
-        IsNetlistOf RefusesDesign
+    ensures { EndsStage File.Design name.now
+        IsNetlistOf IsBadDesign
         (S.seen shelf.old) (S.seen shelf.new) result }
 {
     match read_text(alloc, shelf, name, DESIGN_LIMIT) {
-        Ok(text) => netlist_of_text(alloc, &text),
+        Ok(text) => design_of_text(alloc, &text),
         Err(TextRefused::TooLarge) => {
-            let fault = TextFault::TooLarge;
-            Err(Unfinished::Refused(Refusal::new(Reason::DesignText(fault))))
+            let fault = NetlistFault::Text(TextFault::TooLarge);
+            Err(Unfinished::Refused(Reason::Design(fault)))
         }
-        Err(TextRefused::ReadFault) => Err(Unfinished::Stopped(Stop::ReadFault(File::Design))),
-        Err(TextRefused::NoMemory) => Err(Unfinished::Stopped(Stop::NoMemory)),
+        Err(TextRefused::ReadFault) => Err(Unfinished::ReadFault(File::Design)),
+        Err(TextRefused::NoMemory) => Err(Unfinished::NoMemory),
     }
 }
 
 /// The board that a text spells.
 fn board_of_text(alloc: Global, text: &[u8]) -> Result<Board, Unfinished>
-    ensures { JudgesText (SpellsBoard text.now) (RefusesBoard text.now) result }
+    ensures { EndsJudging (SpellsBoard text.now) (IsBadBoard text.now) result }
 {
     match vw_board::read(alloc, text) {
         Ok(board) => Ok(board),
-        Err(BoardFault::NoMemory) => Err(Unfinished::Stopped(Stop::NoMemory)),
-        Err(fault) => Err(Unfinished::Refused(Refusal::new(Reason::Board(fault)))),
+        Err(BoardFault::NoMemory) => Err(Unfinished::NoMemory),
+        Err(fault) => Err(Unfinished::Refused(Reason::Board(fault))),
     }
 }
 
 /// Reads the board.
 pub fn read_board<S: Shelf>(alloc: Global, shelf: &mut S, name: &Name) -> Result<Board, Unfinished>
-    ensures { StageEnds File.Board name.now
-        SpellsBoard RefusesBoard
+    ensures { EndsStage File.Board name.now
+        SpellsBoard IsBadBoard
         (S.seen shelf.old) (S.seen shelf.new) result }
 {
     match read_text(alloc, shelf, name, BOARD_LIMIT) {
         Ok(text) => board_of_text(alloc, &text),
         Err(TextRefused::TooLarge) => {
-            let fault = BoardFault::TooLarge;
-            Err(Unfinished::Refused(Refusal::new(Reason::Board(fault))))
+            Err(Unfinished::Refused(Reason::Board(BoardFault::TooLarge)))
         }
-        Err(TextRefused::ReadFault) => Err(Unfinished::Stopped(Stop::ReadFault(File::Board))),
-        Err(TextRefused::NoMemory) => Err(Unfinished::Stopped(Stop::NoMemory)),
+        Err(TextRefused::ReadFault) => Err(Unfinished::ReadFault(File::Board)),
+        Err(TextRefused::NoMemory) => Err(Unfinished::NoMemory),
     }
 }
 
 /// The plan that a text spells.
 fn plan_of_text(alloc: Global, text: &[u8]) -> Result<Plan, Unfinished>
-    ensures { JudgesText (SpellsPlan text.now) (RefusesPlanText text.now) result }
+    ensures { EndsJudging (SpellsPlan text.now) (IsBadPlanText text.now) result }
 {
     match vw_plantext::read(alloc, text) {
         Ok(plan) => Ok(plan),
-        Err(PlanTextFault::NoMemory) => Err(Unfinished::Stopped(Stop::NoMemory)),
-        Err(fault) => Err(Unfinished::Refused(Refusal::new(Reason::PlanText(fault)))),
+        Err(PlanTextFault::NoMemory) => Err(Unfinished::NoMemory),
+        Err(fault) => Err(Unfinished::Refused(Reason::PlanText(fault))),
     }
 }
 
 /// Reads the plan. Whether it is sound isn't looked at.
 pub fn read_plan<S: Shelf>(alloc: Global, shelf: &mut S, name: &Name) -> Result<Plan, Unfinished>
-    ensures { StageEnds File.Plan name.now
-        SpellsPlan RefusesPlanText
+    ensures { EndsStage File.Plan name.now
+        SpellsPlan IsBadPlanText
         (S.seen shelf.old) (S.seen shelf.new) result }
 {
     match read_text(alloc, shelf, name, PLAN_LIMIT) {
         Ok(text) => plan_of_text(alloc, &text),
         Err(TextRefused::TooLarge) => {
-            let fault = PlanTextFault::TooLarge;
-            Err(Unfinished::Refused(Refusal::new(Reason::PlanText(fault))))
+            Err(Unfinished::Refused(Reason::PlanText(PlanTextFault::TooLarge)))
         }
-        Err(TextRefused::ReadFault) => Err(Unfinished::Stopped(Stop::ReadFault(File::Plan))),
-        Err(TextRefused::NoMemory) => Err(Unfinished::Stopped(Stop::NoMemory)),
+        Err(TextRefused::ReadFault) => Err(Unfinished::ReadFault(File::Plan)),
+        Err(TextRefused::NoMemory) => Err(Unfinished::NoMemory),
+    }
+}
+
+/// Reads the rows of the stimulus, each with a bit for each input of a netlist.
+pub fn read_rows<S: Shelf>(
+    alloc: Global,
+    shelf: &mut S,
+    name: &Name,
+    ordered: &Ordered,
+) -> Result<RowRuns, Unfinished>
+    ensures judges { let width = ordered.now.flat.inputs in
+        EndsStage File.Stimulus name.now (IsRowsOf width) (IsBadStimulus width)
+        (S.seen shelf.old) (S.seen shelf.new) result }
+    ensures width { IfOk result (All (λ row. length row ≡ ordered.now.flat.inputs)) }
+{
+    match read_all(alloc, shelf, name, ordered.flat().inputs()) {
+        Ok(rows) => Ok(rows),
+        Err(StimFault::ReadFault) => Err(Unfinished::ReadFault(File::Stimulus)),
+        Err(StimFault::NoMemory) => Err(Unfinished::NoMemory),
+        Err(fault) => Err(Unfinished::Refused(Reason::Stimulus(fault))),
     }
 }

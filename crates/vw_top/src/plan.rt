@@ -1,19 +1,17 @@
 //! The command `plan`.
 ghost use Rattle.std.specs.Prelude.{◌≡◌};
+ghost use Rattle.vw_course.specs.Goes.{Goes};
+ghost use Rattle.vw_course.specs.Stages.{EndsJudging};
 ghost use Rattle.vw_outside.specs.Writes.{WritesOut};
 ghost use Rattle.vw_run.specs.Compiled.{IsCompiled};
-ghost use Rattle.vw_top.specs.Course.{Follows, outside};
-ghost use Rattle.vw_top.specs.Commands.{RefusesFit, good_course, plan_board_course, plan_course, text_of_plan};
-ghost use Rattle.vw_top.specs.Steps.Plans.{EndsCompileFault};
-ghost use Rattle.vw_top.specs.Steps.Stage.{JudgesText};
+ghost use Rattle.vw_top.specs.Commands.{good_course, plan_board_course, plan_course, text_of_plan};
+ghost use Rattle.vw_top.specs.Kinds.{IsBadFit};
+ghost use Rattle.vw_top.specs.Messages.{vocabulary};
 
-use crate::endings::Unfinished;
 use crate::files::{read_board, read_design};
-use crate::reason::Reason;
-use crate::refusal::Refusal;
-use crate::stop::Stop;
-use crate::writing::answer_of;
+use crate::vocabulary::{Reason, Unfinished};
 use std::alloc::Global;
+use vw_course::{Outside, answer_of};
 use vw_net::Ordered;
 use vw_outside::{Name, Shelf, Sink, Unwritten, put_text};
 use vw_plan::{Board, Checked};
@@ -29,25 +27,16 @@ fn write_plan<O: Sink>(alloc: Global, checked: Checked, out: &mut O) -> Result<(
     put_text(text, out)
 }
 
-/// The end of a command for which there is no plan.
-fn no_plan(fault: CompileFault) -> Unfinished
-    ensures { EndsCompileFault fault result }
-{
-    match fault {
-        CompileFault::TooManyCells { .. } => {
-            Unfinished::Refused(Refusal::new(Reason::Fit(fault)))
-        }
-        CompileFault::NoMemory => Unfinished::Stopped(Stop::NoMemory),
-    }
-}
-
 /// A good plan, if the cells have room.
 fn good_plan(alloc: Global, ordered: Ordered, board: Board) -> Result<Checked, Unfinished>
-    ensures { JudgesText (IsCompiled ordered board) (RefusesFit ordered board) result }
+    ensures { EndsJudging (IsCompiled ordered board) (IsBadFit ordered board) result }
 {
     match compile(alloc, ordered, board) {
         Ok(checked) => Ok(checked),
-        Err(refused) => Err(no_plan(refused.fault)),
+        Err(refused) => match refused.fault {
+            CompileFault::NoMemory => Err(Unfinished::NoMemory),
+            fault => Err(Unfinished::Refused(Reason::Fit(fault))),
+        },
     }
 }
 
@@ -56,15 +45,13 @@ fn plan_on_board<S: Shelf, O: Sink>(
     alloc: Global,
     ordered: Ordered,
     board: Board,
-    shelf: &mut S,
-    out: &mut O,
+    outside: &mut Outside<'_, '_, S, O>,
 ) -> Result<(), Unfinished>
-    ensures { Follows (good_course ordered board)
-        (outside (S.seen shelf.old) (O.seen out.old)) (outside (S.seen shelf.new) (O.seen
-        out.new)) result }
+    ensures { Goes S.seen O.seen vocabulary (good_course ordered board) outside.old outside.new
+        result }
 {
     let checked = good_plan(alloc, ordered, board)?;
-    answer_of(write_plan(alloc, checked, out))
+    answer_of(write_plan(alloc, checked, outside.out))
 }
 
 /// Reads the board, makes a plan on it, and writes it.
@@ -72,15 +59,14 @@ fn plan_netlist<S: Shelf, O: Sink>(
     alloc: Global,
     ordered: Ordered,
     board: &Name,
-    shelf: &mut S,
-    out: &mut O,
+    outside: &mut Outside<'_, '_, S, O>,
 ) -> Result<(), Unfinished>
-    ensures { Follows (plan_board_course ordered board.now)
-        (outside (S.seen shelf.old) (O.seen out.old)) (outside (S.seen shelf.new) (O.seen
-        out.new)) result }
+    ensures { Goes S.seen O.seen vocabulary (plan_board_course board.now ordered) outside.old
+        outside.new
+        result }
 {
-    let board = read_board(alloc, shelf, board)?;
-    plan_on_board(alloc, ordered, board, shelf, out)
+    let board = read_board(alloc, outside.shelf, board)?;
+    plan_on_board(alloc, ordered, board, outside)
 }
 
 /// Makes a good plan of a design on a board, and writes its text.
@@ -88,13 +74,12 @@ pub fn plan<S: Shelf, O: Sink>(
     alloc: Global,
     design: &Name,
     board: &Name,
-    shelf: &mut S,
-    out: &mut O,
+    outside: &mut Outside<'_, '_, S, O>,
 ) -> Result<(), Unfinished>
-    ensures { Follows (plan_course design.now board.now)
-        (outside (S.seen shelf.old) (O.seen out.old)) (outside (S.seen shelf.new) (O.seen
-        out.new)) result }
+    ensures { Goes S.seen O.seen vocabulary (plan_course design.now board.now) outside.old
+        outside.new
+        result }
 {
-    let ordered = read_design(alloc, shelf, design)?;
-    plan_netlist(alloc, ordered, board, shelf, out)
+    let ordered = read_design(alloc, outside.shelf, design)?;
+    plan_netlist(alloc, ordered, board, outside)
 }

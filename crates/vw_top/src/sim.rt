@@ -1,40 +1,36 @@
 //! The command `sim`.
-ghost use Rattle.std.specs.Prelude.{◌≡◌, length, map, IfOk};
-ghost use Rattle.std.specs.List.{All};
-ghost use Rattle.vw_top.specs.Course.{Follows, outside};
-ghost use Rattle.vw_top.specs.Commands.{sim_course, IsRowsOf, RefusesRows};
-ghost use Rattle.vw_top.specs.Steps.Stage.{StageEnds};
+ghost use Rattle.std.specs.Prelude.{◌≡◌};
+ghost use Rattle.vw_course.specs.Goes.{Goes};
+ghost use Rattle.vw_design.specs.declared.design.Design.{Design};
+ghost use Rattle.vw_design.specs.Flattened.{IsFlatOf};
+ghost use Rattle.vw_top.specs.Commands.{rows_course, sim_course};
+ghost use Rattle.vw_top.specs.Messages.{vocabulary};
 
-use crate::endings::Unfinished;
-use crate::files::read_design;
-use crate::reason::Reason;
-use crate::refusal::Refusal;
-use crate::stop::{File, Stop};
-use crate::writing::answer_of;
+use crate::files::{read_design, read_rows};
+use crate::vocabulary::Unfinished;
 use std::alloc::Global;
+use vw_course::{Outside, answer_of};
 use vw_net::Ordered;
 use vw_outside::{Name, Shelf, Sink};
-use vw_rows::{RowRuns, StimFault, read_all};
 use vw_trace::write_trace;
 
-/// Reads the rows of the stimulus, each with a bit for each input of a netlist.
-fn read_rows<S: Shelf>(
+/// Reads the stimulus, runs a netlist over it, and writes the trace.
+fn sim_netlist<S: Shelf, O: Sink>(
     alloc: Global,
-    shelf: &mut S,
-    name: &Name,
-    ordered: &Ordered,
-) -> Result<RowRuns, Unfinished>
-    ensures judges { let width = ordered.now.flat.inputs in
-        StageEnds File.Stimulus name.now (IsRowsOf width) (RefusesRows width)
-        (S.seen shelf.old) (S.seen shelf.new) result }
-    ensures width { IfOk result (All (λ row. length row ≡ ordered.now.flat.inputs)) }
+    ordered: Ordered,
+    stimulus: &Name,
+    unknown: bool,
+    outside: &mut Outside<'_, '_, S, O>,
+) -> Result<(), Unfinished>
+    ensures { (design : Design) → IsFlatOf design ordered.flat
+        → Goes S.seen O.seen vocabulary (rows_course stimulus.now unknown design) outside.old
+        outside.new
+        result }
 {
-    match read_all(alloc, shelf, name, ordered.flat().inputs()) {
-        Ok(rows) => Ok(rows),
-        Err(StimFault::ReadFault) => Err(Unfinished::Stopped(Stop::ReadFault(File::Stimulus))),
-        Err(StimFault::NoMemory) => Err(Unfinished::Stopped(Stop::NoMemory)),
-        Err(fault) => Err(Unfinished::Refused(Refusal::new(Reason::Stimulus(fault)))),
-    }
+    let rows = read_rows(alloc, outside.shelf, stimulus, &ordered)?;
+    let written = write_trace(alloc, &ordered, unknown, &rows, outside.out);
+    drop(ordered);
+    answer_of(written)
 }
 
 /// Runs a design over a stimulus, free latches starting at `unknown`, and writes its trace.
@@ -43,16 +39,11 @@ pub fn sim<S: Shelf, O: Sink>(
     design: &Name,
     stimulus: &Name,
     unknown: bool,
-    shelf: &mut S,
-    out: &mut O,
+    outside: &mut Outside<'_, '_, S, O>,
 ) -> Result<(), Unfinished>
-    ensures { Follows (sim_course design.now stimulus.now unknown)
-        (outside (S.seen shelf.old) (O.seen out.old)) (outside (S.seen shelf.new) (O.seen
-        out.new)) result }
+    ensures { Goes S.seen O.seen vocabulary (sim_course design.now stimulus.now unknown)
+        outside.old outside.new result }
 {
-    let ordered = read_design(alloc, shelf, design)?;
-    let rows = read_rows(alloc, shelf, stimulus, &ordered)?;
-    let written = write_trace(alloc, &ordered, unknown, &rows, out);
-    drop(ordered);
-    answer_of(written)
+    let ordered = read_design(alloc, outside.shelf, design)?;
+    sim_netlist(alloc, ordered, stimulus, unknown, outside)
 }

@@ -4,8 +4,9 @@
 use std::alloc::{AllocError, Global};
 use std::env::{Env, FillError};
 use std::process::ExitCode;
-use vw_outside::{ErrSink, FileShelf, Name, OutSink, put_all};
-use vw_top::{Stop, virtual_wires};
+use vw_course::report;
+use vw_outside::{ErrSink, FileShelf, Name, OutSink};
+use vw_top::{Unfinished, virtual_wires};
 
 /// The bytes that are first taken for a word.
 const WORD_ROOM: usize = 256;
@@ -55,10 +56,7 @@ fn exit_status(rt: &HostRuntime, words: &[Name]) -> u8 {
 fn main(rt: HostRuntime) -> ExitCode {
     let status = match words(rt.alloc(), &rt) {
         Ok(words) => exit_status(&rt, &words),
-        Err(_) => {
-            let _ = put_all(&mut ErrSink::new(&rt), Stop::NoMemory.line());
-            Stop::NoMemory.status()
-        }
+        Err(_) => report(rt.alloc(), &Unfinished::NoMemory, &mut ErrSink::new(&rt)),
     };
     ExitCode::from(status)
 }

@@ -2,7 +2,7 @@
 use super::*;
 
 /// A plan of the toggle on the triangle: its gate on chip 1, its latch on chip 2.
-const TOGGLE_PLAN: &str =
+pub(super) const TOGGLE_PLAN: &str =
     "plan 1 2 4 2\nchips 1 2\nwire 0 1 1\nhop 0 1 0 0\nwire 1 2 1\nhop 1 2 0 1\nwire 2 0 1\nhop 2 0 0 0\nwire 2 1 1\nhop 2 1 0 0\nend\n";
 
 /// An `and` of two inputs, on a board of one chip.

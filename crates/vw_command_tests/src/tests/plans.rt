@@ -1,4 +1,5 @@
 //! The command `plan`: good plans, which `check` accepts, and designs that have no room.
+use super::checks::TOGGLE_PLAN;
 use super::large::{Piece, push_form, spelled};
 use super::*;
 
@@ -90,6 +91,20 @@ fn plans_are_sound_and_short(rt: HostRuntime) -> Result<(), Fail> {
         ),
     ];
     plans_are_sound(&rt, rt.alloc(), TABLE)
+}
+
+/// The same plan with the two chips exchanged.
+const MIRRORED_PLAN: &str =
+    "plan 1 2 4 2\nchips 2 1\nwire 0 2 1\nhop 0 2 0 0\nwire 1 1 1\nhop 2 1 0 1\nwire 2 0 1\nhop 1 0 0 0\nwire 2 2 1\nhop 1 2 0 0\nend\n";
+
+#[test]
+fn the_toggle_has_the_plan_made_by_hand_or_its_mirror(rt: HostRuntime) -> Result<(), Fail> {
+    let ran = planned(rt.alloc(), TOGGLE, TRIANGLE)?;
+    let text = ran.out.bytes();
+    let is_one = text == TOGGLE_PLAN.as_bytes() || text == MIRRORED_PLAN.as_bytes();
+    assert_eq!(rt; is_one, true);
+    assert_eq!(rt; ran.status, 0);
+    Ok(())
 }
 
 #[test]

@@ -1,24 +1,21 @@
-use Rattle.std.proofs.Common.{◌≡◌, ◌≤◌, ℕ, Bool, false, List, [], ◌∷◌, ◌++◌, length, length-take, take, Some, Err, refl, sym, ◌∙◌, ap, ap₂, subst, inl, inr, arith, rules}
+use Rattle.std.proofs.Common.{◌≡◌, ◌≤◌, ℕ, Bool, false, List, [], ◌∷◌, ◌++◌, length, length-take, take, Option, Some, None, refl, sym, ◌∙◌, ap, ap₂, subst, inl, inr, arith, rules}
 use Rattle.std.specs.Prelude.{codes, option_map}
-use Rattle.vw_design.specs.Clocks.{columns}
-use Rattle.vw_rows.specs.Stimulus.{stimulus_rows}
 use Rattle.vw_outside.specs.declared.held.Held.{Held}
-use Rattle.vw_outside.specs.Told.{Told, held, IsTextOf}
+use Rattle.vw_outside.specs.Told.{held}
 use Rattle.vw_outside.specs.Fronts.{IsFront}
 use Rattle.vw_outside.specs.HeldTexts.{told_in}
 use Rattle.vw_outside.specs.Memory.{seen_shelf, seen_sink}
 use Rattle.vw_outside.specs.Writes.{SeenSink, appended, faulted, seen_bytes}
-use Rattle.vw_top.specs.declared.reason.Reason.{Reason}
-use Rattle.vw_top.specs.Reasons.{reason_status, reason_line}
-use Rattle.vw_top.specs.Designs.{IsDesignOf, RefusesDesign}
+use Rattle.vw_course.specs.Outside.{SeenOutside, Work, with_all}
+use Rattle.vw_course.specs.Endings.{IsReported, IsCallOf}
+use Rattle.vw_course.specs.Statuses.{LeavesPart, Statuses}
+use Rattle.vw_course.specs.Goes.{seen_outside}
 use Rattle.vw_top.specs.Words.{Spelled, spelled_by}
 use Rattle.vw_top.specs.Words as words
-use Rattle.vw_top.specs.Course.{Outside, outside, MayRefuse}
+use Rattle.vw_top.specs.Messages.{reason_line, Call, CallWork}
 use Rattle.vw_top.specs.Commands.{sim_course, course_of, trace_of}
-use Rattle.vw_top.specs.Endings.{IsCallOf, IsReported}
-use Rattle.vw_top.specs.Statuses.{IsRefused, LeavesPart, Statuses}
-use Rattle.vw_top.specs.SimStatuses.{SimStatuses}
-use Rattle.vw_example.specs.SimulateStatuses.{HasBadDesign, HasBadRows, SimulateStatuses}
+use Rattle.vw_top.specs.SimStatuses.{HoldTexts, SimStatuses}
+use Rattle.vw_example.specs.SimulateStatuses.{IsSimulated, HasBadDesign, HasBadRows, SimulateStatuses}
 use Rattle.vw_example.proofs.simulate.Goals as goal
 
 -- what two files of these names hold
@@ -52,13 +49,6 @@ front_of_text before after text out none some (inl (count, within, same)) =
 front_of_text before after text out none some (inr (count, within, same)) =
     first_bytes text out count within (told_text before after (take count text) out none some (ap (λ (sink : SeenSink). sink.told) same))
 
--- what the words spell
-abbrev its_sim : Spelled
-its_sim = words.sim (codes "design") (codes "stimulus") false
-
-spells_sim : spelled_by (codes "sim" ∷ codes "design" ∷ codes "stimulus" ∷ []) ≡ its_sim
-spells_sim = refl
-
 -- what was reported to a sink without bytes, where no write to it failed
 whole_line : (before after : SeenSink) (line err : List ℕ) → before ≡ seen_bytes [] 0 → after ≡ seen_bytes err 0 → IsReported line before after → err ≡ line
 whole_line before after line err none some (inl same) =
@@ -66,117 +56,78 @@ whole_line before after line err none some (inl same) =
 whole_line before after line err none some (inr (count, most, same)) =
     let wrong : 0 ≡ 1 = ap (λ (sink : SeenSink). sink.faults) (sym some ∙ same ∙ ap (λ (sink : SeenSink). faulted (appended sink (take count line))) none) in absurd (omega (arith, wrong))
 
--- a design text is refused with status 1
-design_status : (design : List ℕ) (reason : Reason) → RefusesDesign design reason → reason_status reason ≡ 1
-design_status design reason (inl refused) = ap reason_status refused.1
-design_status design reason (inr (spelled, is, inl refused)) = ap reason_status refused.1
-design_status design reason (inr (spelled, is, inr (accepted, refused))) = ap reason_status refused.1
+-- what the words spell
+abbrev its_sim : Spelled
+its_sim = words.sim (codes "design") (codes "stimulus") false
 
-module _ (design stimulus out err : List ℕ) (before after : Outside) (err_before err_after : SeenSink) (status : ℕ)
-    (design_held : before.shelf.told (codes "design") ≡ held design) (stimulus_held : before.shelf.told (codes "stimulus") ≡ held stimulus)
-    (none : before.out.told ≡ Some []) (some : after.out.told ≡ Some out) (unsaid : err_before ≡ seen_bytes [] 0) (said : err_after ≡ seen_bytes err 0) where
-  no_trace : after ≡ before → out ≡ []
-  no_trace same = let told : Some out ≡ Some [] = sym some ∙ ap (λ (o : Outside). o.out.told) same ∙ none in cc
+spells_sim : spelled_by (codes "sim" ∷ codes "design" ∷ codes "stimulus" ∷ []) ≡ its_sim
+spells_sim = refl
 
-  -- with status 1 it is the design that is refused
-  refused_design : (reason : Reason) → MayRefuse (course_of its_sim) before.shelf.told reason → reason_status reason ≡ 1 → RefusesDesign design reason
-  refused_design reason (text, may, inl bad) one = subst (λ (t : List ℕ). RefusesDesign t reason) (subst (λ (t : Told). IsTextOf t text) design_held may) bad
-  refused_design reason (text, may, inr (spelled, its, (other, may_other, inl (fault, is, read)))) one =
-      let wrong : 1 ≡ 5 = sym one ∙ ap reason_status is in absurd (omega (arith, wrong))
-  refused_design reason (text, may, inr (spelled, its, (other, may_other, inr (rows, are, wrong)))) one = absurd wrong
+module _ (design stimulus out err : List ℕ) (call : Call) (hold : HoldTexts (codes "design") (codes "stimulus") false call design stimulus)
+    (none : call.before.out.told ≡ Some []) (some : call.after.out.told ≡ Some out) (unsaid : call.err_before ≡ seen_bytes [] 0) (said : call.err_after ≡ seen_bytes err 0)
+    (table : SimStatuses (codes "design") (codes "stimulus") false call) where
+  no_trace : call.after ≡ call.before → out ≡ []
+  no_trace same =
+      let told : Some out ≡ Some [] = sym some ∙ ap (λ (o : SeenOutside (Unit {0})). o.out.told) same ∙ none in cc
 
-  -- with status 5 it is the stimulus
-  refused_rows : (reason : Reason) → MayRefuse (course_of its_sim) before.shelf.told reason → reason_status reason ≡ 5 → out ≡ [] → err ≡ reason_line reason → HasBadRows design stimulus out err
-  refused_rows reason (text, may, inl bad) five none_out line =
-      let wrong : 5 ≡ 1 = sym five ∙ design_status text reason bad in absurd (omega (arith, wrong))
-  refused_rows reason (text, may, inr (spelled, its, (other, may_other, inl (fault, is, read)))) five none_out line = record {
-    spelled = spelled;
-    fault = fault;
-    is = subst (λ (t : List ℕ). IsDesignOf t spelled) (subst (λ (t : Told). IsTextOf t text) design_held may) its;
-    read = subst (λ (t : List ℕ). stimulus_rows (length (columns spelled)) t ≡ Err fault) (subst (λ (t : Told). IsTextOf t other) stimulus_held may_other) read;
-    no_trace = none_out;
-    message = line ∙ ap reason_line is;
+  line_is : (line : List ℕ) → IsReported line call.err_before call.err_after → err ≡ line
+  line_is line reported = whole_line call.err_before call.err_after line err unsaid said reported
+
+  done : call.status ≡ 0 → IsSimulated design stimulus out err
+  done is =
+      let done = table.done design stimulus hold is in
+      let trace = done.is in
+      let told : Some err ≡ Some [] = ap (λ (sink : SeenSink). sink.told) (sym said ∙ done.silent ∙ unsaid) in
+      record {
+        spelled = trace.spelled;
+        rows = trace.rows;
+        is = trace.are.design;
+        read = trace.are.rows_are;
+        trace = whole_text call.before.out call.after.out done.did.text out none some (ap (λ (o : SeenOutside (Unit {0})). o.out) done.leaves) ∙ ap (λ (did : CallWork). did.text) trace.text;
+        no_message = cc;
+      }
+
+  bad_design : call.status ≡ 1 → HasBadDesign design out err
+  bad_design is =
+      let refused = table.no_design design hold.design_held is in
+      record { reason = refused.reason; refused = refused.why; no_trace = no_trace refused.leaves; message = line_is (reason_line refused.reason) refused.message }
+
+  bad_rows : call.status ≡ 5 → HasBadRows design stimulus out err
+  bad_rows is =
+      let refused = table.no_rows design stimulus hold is in
+      let bad = refused.why.2 in
+      record {
+        spelled = refused.why.0;
+        fault = bad.0;
+        is = refused.why.1;
+        read = bad.2;
+        no_trace = no_trace refused.leaves;
+        message = line_is (reason_line refused.reason) refused.message ∙ ap reason_line bad.1;
+      }
+
+  outcome : Statuses (course_of its_sim) call → SimulateStatuses design stimulus out err call.status
+  outcome all = record {
+    done = done;
+    no_design = bad_design;
+    no_rows = bad_rows;
+    others = table.others;
+    known = all.known;
+    part = λ spelled rows is read.
+        front_of_text call.before.out call.after.out (trace_of false spelled rows) out none some (table.part design stimulus spelled rows hold (record { design = is; rows_are = read }));
   }
-  refused_rows reason (text, may, inr (spelled, its, (other, may_other, inr (rows, are, wrong)))) five none_out line = absurd wrong
-
-  module _ (table : Statuses (course_of its_sim) before after err_before err_after status) where
-    no_message : status ≡ 0 → err ≡ []
-    no_message is = let told : Some err ≡ Some [] = ap (λ (sink : SeenSink). sink.told) (sym said ∙ (table.done is).silent ∙ unsaid) in cc
-
-    -- the message of a refusal
-    line_of_refusal : (refused : IsRefused (course_of its_sim) before after err_before err_after status) → err ≡ reason_line refused.reason
-    line_of_refusal refused = whole_line err_before err_after (reason_line refused.reason) err unsaid said refused.message
-
-    bad_design : status ≡ 1 → HasBadDesign design out err
-    bad_design is =
-        let refused = table.refused (omega (arith, is)) (omega (arith, is)) in
-        record {
-          reason = refused.reason;
-          refused = refused_design refused.reason refused.may (sym refused.its_status ∙ is);
-          no_trace = no_trace refused.leaves;
-          message = line_of_refusal refused;
-        }
-
-    bad_rows : status ≡ 5 → HasBadRows design stimulus out err
-    bad_rows is =
-        let refused = table.refused (omega (arith, is)) (omega (arith, is)) in
-        refused_rows refused.reason refused.may (sym refused.its_status ∙ is) (no_trace refused.leaves) (line_of_refusal refused)
-
-  -- what err has after each status, and what was refused
-  record IsHeard : Type 0 where
-    no_message : status ≡ 0 → err ≡ []
-    no_design : status ≡ 1 → HasBadDesign design out err
-    no_rows : status ≡ 5 → HasBadRows design stimulus out err
-
-  heard : Statuses (course_of its_sim) before after err_before err_after status → IsHeard
-  heard table = record { no_message = no_message table; no_design = bad_design table; no_rows = bad_rows table }
-
--- what the two laws say, of every call and of those of `sim`
-abbrev CallLaw : Type 0
-CallLaw = (spelled : Spelled) (before after : Outside) (err_before err_after : SeenSink) (status : ℕ) → IsCallOf (course_of spelled) before after err_before err_after status → Statuses (course_of spelled) before after err_before err_after status
-
-abbrev SimLaw : Type 0
-SimLaw = (design stimulus : List ℕ) (unknown : Bool) (before after : Outside) (err_before err_after : SeenSink) (status : ℕ) → Statuses (sim_course design stimulus unknown) before after err_before err_after status
-    → SimStatuses design stimulus unknown before after status
-
-outcome : CallLaw → SimLaw → (its_words : List (List ℕ)) (before after : Outside) (err_before err_after : SeenSink) (status : ℕ) (design stimulus out err : List ℕ) → its_words ≡ codes "sim" ∷ codes "design" ∷ codes "stimulus" ∷ []
-    → IsCallOf (course_of (spelled_by its_words)) before after err_before err_after status → before.shelf.told (codes "design") ≡ held design → before.shelf.told (codes "stimulus") ≡ held stimulus
-    → before.out.told ≡ Some [] → after.out.told ≡ Some out → err_before ≡ seen_bytes [] 0 → err_after ≡ seen_bytes err 0 → SimulateStatuses design stimulus out err status
-outcome statuses_of_call statuses_of_sim its_words before after err_before err_after status design stimulus out err are its_call design_held stimulus_held none some unsaid said =
-    let call : IsCallOf (course_of its_sim) before after err_before err_after status = subst (λ (spelled : Spelled). IsCallOf (course_of spelled) before after err_before err_after status) (ap spelled_by are ∙ spells_sim) its_call in
-    let its = statuses_of_call its_sim before after err_before err_after status call in
-    let table = statuses_of_sim (codes "design") (codes "stimulus") false before after err_before err_after status its in
-    let heard = heard design stimulus out err before after err_before err_after status design_held stimulus_held none some unsaid said its in
-    record {
-      done = λ is.
-          let done = table.done design stimulus design_held stimulus_held is in
-          record {
-            spelled = done.0;
-            rows = done.1;
-            is = done.2;
-            read = done.3;
-            trace = whole_text before.out after.out (trace_of false done.0 done.1) out none some (ap (λ (o : Outside). o.out) done.4);
-            no_message = heard.no_message is;
-          };
-      no_design = heard.no_design;
-      no_rows = heard.no_rows;
-      others = table.others;
-      known = its.known;
-      part = λ spelled rows is read. front_of_text before.out after.out (trace_of false spelled rows) out none some (table.part spelled rows (record {
-        design_text = design;
-        stimulus_text = stimulus;
-        design_held = design_held;
-        stimulus_held = stimulus_held;
-        is = is;
-        read = read;
-      }));
-    }
 
 pub returns : goal.returns
 returns c =
-    let before : Outside = outside (seen_shelf c.new-shelf.result) (seen_sink c.new-out.result) in
-    let after : Outside = outside (seen_shelf c.virtual_wires-status.new.shelf) (seen_sink c.virtual_wires-status.new.out) in
+    let no_links : Option (ℕ → List (Unit {0})) = None in
+    let call : Call = record {
+      before = seen_outside (seen_shelf c.new-shelf.result) (seen_sink c.new-out.result) no_links;
+      after = seen_outside (seen_shelf c.virtual_wires-status.new.shelf) (seen_sink c.virtual_wires-status.new.out) no_links;
+      err_before = seen_sink c.new-err.result;
+      err_after = seen_sink c.virtual_wires-status.new.err;
+      status = c.virtual_wires-status.result;
+    } in
     let words_are : c.deref.result.now ≡ codes "sim" ∷ codes "design" ∷ codes "stimulus" ∷ [] = cc (c.in_ok-owned_name-3.ensures, c.in_ok-owned_name-4.ensures, c.in_ok-owned_name-5.ensures, c.in_ok-words.ensures.items) in
+    let its_call : IsCallOf (course_of its_sim) call = subst (λ (spelled : Spelled). IsCallOf (course_of spelled) call) (ap spelled_by words_are ∙ spells_sim) (c.virtual_wires-status.ensures no_links) in
     let files_are : c.new-shelf.result.files.items ≡ c.make.result ∷ c.make-2.result ∷ [] = c.new-shelf.ensures.files ∙ c.in_ok-files.ensures.items in
     let both = hold_both c.new-shelf.result.files.items c.make.result c.make-2.result c.args.design.items c.args.stimulus.items files_are (c.make.ensures.name ∙ c.in_ok-owned_name.ensures) (c.make-2.ensures.name ∙ c.in_ok-owned_name-2.ensures) c.make.ensures.bytes c.make-2.ensures.bytes in
     let copied : c.in_ok-to_vec.field-0.items ≡ c.bytes.result.now = search rules in
@@ -184,6 +135,6 @@ returns c =
     let copied_err : c.in_ok-to_vec-2.field-0.items ≡ c.bytes-2.result.now = search rules in
     let err : c.virtual_wires-status.new.err.written.items ≡ c.in_ok-to_vec-2.field-0.items = sym (copied_err ∙ c.bytes-2.ensures) in
     let no_fault : c.virtual_wires-status.new.err.faults ≡ 0 = omega (arith, c.if-err-gt0.false) in
-    outcome c.call_statuses.ensures c.sim_statuses.ensures c.deref.result.now before after (seen_sink c.new-err.result) (seen_sink c.virtual_wires-status.new.err) c.virtual_wires-status.result c.args.design.items c.args.stimulus.items
-    c.in_ok-to_vec.field-0.items c.in_ok-to_vec-2.field-0.items words_are c.virtual_wires-status.ensures both.design_held both.stimulus_held (ap Some c.new-out.ensures.written) (ap Some out)
-    (ap₂ seen_bytes c.new-err.ensures.written c.new-err.ensures.faults) (ap₂ seen_bytes err no_fault)
+    outcome c.args.design.items c.args.stimulus.items c.in_ok-to_vec.field-0.items c.in_ok-to_vec-2.field-0.items call (record { design_held = both.design_held; stimulus_held = both.stimulus_held })
+    (ap Some c.new-out.ensures.written) (ap Some out) (ap₂ seen_bytes c.new-err.ensures.written c.new-err.ensures.faults) (ap₂ seen_bytes err no_fault)
+    (c.sim_statuses.ensures (codes "design") (codes "stimulus") false call its_call) (c.call_statuses.ensures its_sim call its_call)

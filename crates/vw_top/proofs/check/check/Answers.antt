@@ -1,16 +1,11 @@
 use Rattle.std.proofs.Common.{refl}
-use Rattle.vw_top.specs.declared.stop.File.TheVariants as files
-use Rattle.vw_top.specs.Designs.{IsNetlistOf, RefusesDesign, netlist_apart}
-use Rattle.vw_top.specs.Course.{Outside, outside}
+use Rattle.vw_course.proofs.GoesLaws.{goes_on}
+use Rattle.vw_top.specs.Messages.{vocabulary}
+use Rattle.vw_top.specs.Kinds.{netlist_kind}
 use Rattle.vw_top.specs.Commands.{check_board_course}
-use Rattle.vw_top.proofs.StageLaws.{stage_goes_on}
 use Rattle.vw_top.proofs.check.check.Goals as goal
 
 pub returns : goal.returns
 returns g c =
-    let out = g.O.Sink.seen c.args.out.now in
-    let before : Outside = outside (g.S.Shelf.seen c.args.shelf.now) out in
-    let mid : Outside = outside (g.S.Shelf.seen c.read_design.new.shelf) out in
-    let after : Outside = outside (g.S.Shelf.seen c.check_netlist.new.shelf) (g.O.Sink.seen c.check_netlist.new.out) in
-    stage_goes_on files.Design c.args.design.now IsNetlistOf IsNetlistOf RefusesDesign netlist_apart (λ text ordered is. check_board_course ordered c.args.board.now c.args.plan.now) before mid after c.check_netlist.result
-    c.in_ok-ordered.ordered refl c.in_ok-ordered.ensures (λ text is. (c.in_ok-ordered.ordered, is, c.check_netlist.ensures))
+    goes_on g.S.Shelf.seen g.O.Sink.seen vocabulary netlist_kind c.args.design.now (check_board_course c.args.board.now c.args.plan.now) c.in_ok-ordered.ordered
+    (record { shelf = refl; out = refl }) refl c.in_ok-ordered.ensures c.check_netlist.ensures

@@ -1,14 +1,16 @@
-use Rattle.std.proofs.Common.{refl, subst, inr}
-use Rattle.vw_plan.specs.declared.plan.Plan.{Plan}
-use Rattle.vw_top.specs.Course.{Outside, outside, EndsWriting}
+use Rattle.std.proofs.Common.{refl, sym, ap}
+use Rattle.vw_course.specs.Course.{Course, writes}
+use Rattle.vw_course.proofs.GoesLaws.{goes_judged, goes_writing}
+use Rattle.vw_plan.specs.PlannedBoard.{planned_board}
+use Rattle.vw_top.specs.Messages.{vocabulary}
+use Rattle.vw_top.specs.Kinds.{soundness}
 use Rattle.vw_top.specs.Commands.{sound_text}
-use Rattle.vw_top.proofs.StageLaws.{writing_ends}
 use Rattle.vw_top.proofs.check.check_soundness.Goals as goal
 
 pub returns : goal.returns
 returns g c =
-    let shelf = g.S.Shelf.seen c.args.shelf.now in
-    let before : Outside = outside shelf (g.O.Sink.seen c.args.out.now) in
-    let after : Outside = outside shelf (g.O.Sink.seen c.write_sound.new.out) in
-    let ends = writing_ends (sound_text c.in_ok-checked.checked.plan) before after c.write_sound.result c.answer_of.result c.answer_of.ensures refl c.write_sound.ensures in
-    inr (tt, c.in_ok-checked.ensures.sound, subst (λ (plan : Plan). EndsWriting (sound_text plan) before after c.answer_of.result) c.in_ok-checked.ensures.plan ends)
+    let text = sound_text c.args.plan in
+    let next : Unit {0} → Course vocabulary = λ done. writes text in
+    goes_judged g.S.Shelf.seen g.O.Sink.seen vocabulary (soundness (planned_board c.args.ordered c.args.board c.args.plan)) next tt c.in_ok-checked.ensures.sound
+    (goes_writing g.S.Shelf.seen g.O.Sink.seen vocabulary text c.args.outside.now _ (record { shelf = refl; out = refl }) refl c.write_sound.result c.answer_of.result c.answer_of.ensures
+    (rw (sym (ap sound_text c.in_ok-checked.ensures.plan)) c.write_sound.ensures))

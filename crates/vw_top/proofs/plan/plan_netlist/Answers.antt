@@ -1,16 +1,11 @@
 use Rattle.std.proofs.Common.{refl}
-use Rattle.vw_board.specs.BoardText.{Spells as SpellsBoard}
-use Rattle.vw_top.specs.declared.stop.File.TheVariants as files
-use Rattle.vw_top.specs.Course.{Outside, outside}
-use Rattle.vw_top.specs.Commands.{RefusesBoard, board_apart, good_course}
-use Rattle.vw_top.proofs.StageLaws.{stage_goes_on}
+use Rattle.vw_course.proofs.GoesLaws.{goes_on}
+use Rattle.vw_top.specs.Messages.{vocabulary}
+use Rattle.vw_top.specs.Kinds.{board_kind}
+use Rattle.vw_top.specs.Commands.{good_course}
 use Rattle.vw_top.proofs.plan.plan_netlist.Goals as goal
 
 pub returns : goal.returns
 returns g c =
-    let out = g.O.Sink.seen c.args.out.now in
-    let before : Outside = outside (g.S.Shelf.seen c.args.shelf.now) out in
-    let mid : Outside = outside (g.S.Shelf.seen c.read_board.new.shelf) out in
-    let after : Outside = outside (g.S.Shelf.seen c.plan_on_board.new.shelf) (g.O.Sink.seen c.plan_on_board.new.out) in
-    stage_goes_on files.Board c.args.board.now SpellsBoard SpellsBoard RefusesBoard board_apart (λ text board is. good_course c.args.ordered board) before mid after c.plan_on_board.result
-    c.in_ok-board.board refl c.in_ok-board.ensures (λ text is. (c.in_ok-board.board, is, c.plan_on_board.ensures))
+    goes_on g.S.Shelf.seen g.O.Sink.seen vocabulary board_kind c.args.board.now (good_course c.args.ordered) c.in_ok-board.board
+    (record { shelf = refl; out = refl }) refl c.in_ok-board.ensures c.plan_on_board.ensures

@@ -1,14 +1,14 @@
-use Rattle.std.proofs.Common.{refl, inr}
-use Rattle.vw_top.specs.Course.{Outside, outside}
+use Rattle.std.proofs.Common.{refl}
+use Rattle.vw_course.proofs.GoesLaws.{goes_made, goes_writing}
+use Rattle.vw_plan.specs.declared.plan.Plan.{Plan}
+use Rattle.vw_course.specs.Course.{writes}
+use Rattle.vw_top.specs.Messages.{vocabulary}
+use Rattle.vw_top.specs.Kinds.{planning}
 use Rattle.vw_top.specs.Commands.{text_of_plan}
-use Rattle.vw_top.proofs.StageLaws.{writing_ends}
 use Rattle.vw_top.proofs.plan.plan_on_board.Goals as goal
 
 pub returns : goal.returns
 returns g c =
-    let shelf = g.S.Shelf.seen c.args.shelf.now in
-    let before : Outside = outside shelf (g.O.Sink.seen c.args.out.now) in
-    let after : Outside = outside shelf (g.O.Sink.seen c.write_plan.new.out) in
     let plan = c.in_ok-checked.checked.plan in
-    let ends = writing_ends (text_of_plan plan) before after c.write_plan.result c.answer_of.result c.answer_of.ensures refl c.write_plan.ensures in
-    inr (plan, c.in_ok-checked.ensures.good, ends)
+    goes_made g.S.Shelf.seen g.O.Sink.seen vocabulary (planning c.args.ordered c.args.board) (λ (one : Plan). writes (text_of_plan one)) plan c.in_ok-checked.ensures.good
+    (goes_writing g.S.Shelf.seen g.O.Sink.seen vocabulary (text_of_plan plan) c.args.outside.now _ (record { shelf = refl; out = refl }) refl c.write_plan.result c.answer_of.result c.answer_of.ensures c.write_plan.ensures)

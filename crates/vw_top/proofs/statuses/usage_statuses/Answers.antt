@@ -1,4 +1,4 @@
-use Rattle.vw_top.proofs.SimLaws.{usage_table}
+use Rattle.vw_top.proofs.UsageLaws.{usage_table}
 use Rattle.vw_top.proofs.statuses.usage_statuses.Goals as goal
 
 pub returns : goal.returns

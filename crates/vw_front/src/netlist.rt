@@ -1,0 +1,115 @@
+//! The netlist of the design that a text spells.
+ghost use Rattle.std.specs.Prelude.{◌≡◌, ◌<◌, Some, option_map, slice_get, IfOk};
+ghost use Rattle.std.specs.List.{All, AllZip};
+ghost use Rattle.vw_design.specs.Accepted.{IsAccepted};
+ghost use Rattle.vw_design.specs.Flattened.{IsFlatOf};
+ghost use Rattle.vw_design.specs.Limits.{cell_count};
+ghost use Rattle.vw_design.specs.Preorder.{cells};
+ghost use Rattle.vw_flat.specs.Printed.{printed_site};
+ghost use Rattle.vw_order.specs.Faults.{IsOrderFault};
+ghost use Rattle.vw_front.specs.Designs.{SpellsDesign, IsNetlistOf, RefusesText, RefusesElaboration, RefusesDesign, RefusesLoop, Judges};
+ghost use Rattle.vw_front.specs.Steps.OrderedDesigns.{IsOrderedOf};
+
+use crate::fault::NetlistFault;
+use std::alloc::{AllocError, Global};
+use vw_blif::{TextFault, read};
+use vw_design::{Design, ordered_is_loop_free};
+use vw_elab::{DesignFault, Elaborated, elaborate};
+use vw_flat::{flatten, path_of};
+use vw_net::{Flat, Ordered, Sequence};
+use vw_order::{OrderFault, OrderRefused, order};
+use vw_outside::Name;
+
+/// The design that a text spells.
+fn design_of_text(alloc: Global, text: &[u8]) -> Result<Design, NetlistFault>
+    ensures { Judges (SpellsDesign text.now) (RefusesText text.now) result }
+{
+    match read(alloc, text) {
+        Ok(design) => Ok(design),
+        Err(TextFault::NoMemory) => Err(NetlistFault::NoMemory),
+        Err(fault) => Err(NetlistFault::Text(fault)),
+    }
+}
+
+/// A design, elaborated.
+fn elaborated_of(alloc: Global, design: Design) -> Result<Elaborated, NetlistFault>
+    ensures { Judges (λ elaborated. (elaborated ≡ design) × IsAccepted design)
+        (RefusesElaboration design) result }
+{
+    match elaborate(alloc, design) {
+        Ok(elaborated) => Ok(elaborated),
+        Err(DesignFault::NoMemory) => Err(NetlistFault::NoMemory),
+        Err(fault) => Err(NetlistFault::Design(fault)),
+    }
+}
+
+/// The elaborated design of a text.
+fn elaborated_of_text(alloc: Global, text: &[u8]) -> Result<Elaborated, NetlistFault>
+    ensures { Judges (λ elaborated. SpellsDesign text.now elaborated × IsAccepted elaborated)
+        (RefusesDesign text.now) result }
+{
+    let design = design_of_text(alloc, text)?;
+    elaborated_of(alloc, design)
+}
+
+/// The nets that cells drive, as they are printed.
+fn nets_of(alloc: Global, elaborated: &Elaborated, numbers: &[u32]) -> Result<Vec<Name>, AllocError>
+    requires { All (λ number. number < cell_count elaborated.now) numbers.now }
+    ensures { IfOk result (λ names.
+        AllZip (λ number name. option_map printed_site (slice_get (cells elaborated.now) number)
+        ≡ Some name) numbers.now names.items) }
+{
+    let mut names = Vec::with_capacity(alloc, numbers.len())?;
+    for number in numbers {
+        names.push(path_of(alloc, elaborated, *number)?)?;
+    }
+    Ok(names)
+}
+
+/// The fault of a netlist that has no order.
+fn loop_fault(
+    alloc: Global,
+    elaborated: &Elaborated,
+    flat: &Flat,
+    fault: OrderFault,
+) -> Result<Ordered, NetlistFault>
+    requires flat { IsFlatOf elaborated.now flat.now }
+    requires fault { IsOrderFault flat.now fault }
+    ensures { Judges (λ ordered. ⊥) (RefusesLoop elaborated.now) result }
+{
+    let OrderFault::Loop(numbers) = fault else {
+        return Err(NetlistFault::NoMemory);
+    };
+    match nets_of(alloc, elaborated, numbers.as_slice()) {
+        Ok(names) => Err(NetlistFault::Loop(Sequence::of(names))),
+        Err(_) => Err(NetlistFault::NoMemory),
+    }
+}
+
+/// The netlist of a design, with an order of its gates.
+fn ordered_of(alloc: Global, elaborated: &Elaborated) -> Result<Ordered, NetlistFault>
+    ensures { Judges (IsOrderedOf elaborated.now) (RefusesLoop elaborated.now) result }
+{
+    elaborated.is_accepted();
+    ordered_is_loop_free();
+    let Ok(flat) = flatten(alloc, elaborated) else {
+        return Err(NetlistFault::NoMemory);
+    };
+    match order(alloc, flat) {
+        Ok(ordered) => Ok(ordered),
+        Err(refused) => {
+            let OrderRefused { fault, flat } = refused;
+            loop_fault(alloc, elaborated, &flat, fault)
+        }
+    }
+}
+
+/// The netlist of the design that a text spells, with an order of its gates.
+pub fn netlist_of_text(alloc: Global, text: &[u8]) -> Result<Ordered, NetlistFault>
+    ensures { Judges (IsNetlistOf text.now) (RefusesDesign text.now) result }
+{
+    let elaborated = elaborated_of_text(alloc, text)?;
+    let ordered = ordered_of(alloc, &elaborated);
+    drop(elaborated);
+    ordered
+}

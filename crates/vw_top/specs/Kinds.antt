@@ -1,0 +1,175 @@
+-- What is good and bad of the files of commands, and of what is made of them.
+use Rattle.std.specs.Prelude.{◌≡◌, ◌<◌, ◌≤◌, ◌*◌, ℕ, Bool, List, length, Some, IsTrue, Result, Ok, Err}
+use Rattle.std.proofs.Common.{sym, ap, subst, ◌∙◌}
+use Rattle.std.proofs.Math.Nat.{not-le_of_lt}
+use Rattle.std.proofs.lemmas.Option.{none-some}
+use Rattle.vw_net.specs.declared.ordered.Ordered.{Ordered}
+use Rattle.vw_design.specs.declared.design.Design.{Design}
+use Rattle.vw_course.specs.Course.{Judged, Kind, Making}
+use Rattle.vw_front.specs.declared.fault.NetlistFault.{NetlistFault}
+use Rattle.vw_front.specs.Designs.{IsDesignOf, IsNetlistOf, RefusesDesign, design_apart, netlist_apart}
+use Rattle.vw_plan.specs.declared.board.Board.{Board}
+use Rattle.vw_plan.specs.declared.plan.Plan.{Plan}
+use Rattle.vw_plan.specs.Good.{IsGood}
+use Rattle.vw_plan.specs.PlannedBoard.{PlannedBoard, planned_board}
+use Rattle.vw_plan.specs.Sound.{IsSound}
+use Rattle.vw_board.specs.declared.fault.BoardFault.{BoardFault}
+use Rattle.vw_board.specs.BoardText.{Spells as SpellsBoard, Refuses as RefusesBoardText, is_text_fault as is_board_fault}
+use Rattle.vw_board.proofs.OneBoard.{accepted_unrefused as board_unrefused}
+use Rattle.vw_plantext.specs.declared.fault.PlanTextFault.{PlanTextFault}
+use Rattle.vw_plantext.specs.PlanText.{Spells as SpellsPlan, Refuses as RefusesPlanLines, is_text_fault as is_plan_text_fault}
+use Rattle.vw_plantext.proofs.OnePlan.{spelled_unrefused as plan_unrefused}
+use Rattle.vw_check.specs.declared.fault.PlanFault.{PlanFault}
+use Rattle.vw_check.specs.Faults.{plan_fault}
+use Rattle.vw_check.proofs.SoundPlans.{faultless}
+use Rattle.vw_rows.specs.declared.stimulus.StimFault.{StimFault}
+use Rattle.vw_rows.specs.Stimulus.{stimulus_rows}
+use Rattle.vw_run.specs.declared.fault.CompileFault.TheVariants.{TooManyCells}
+use Rattle.vw_run.proofs.Fits.{sound_plans_fit}
+use Rattle.vw_top.specs.declared.vocabulary.File.TheVariants as files
+use Rattle.vw_top.specs.declared.vocabulary.Reason.{Reason}
+use Rattle.vw_top.specs.declared.vocabulary.Reason.TheVariants as reasons
+use Rattle.vw_top.specs.Messages.{reason_status, vocabulary}
+
+-- ---- the design
+
+-- why a text has no design that runs
+abbrev pub IsBadDesign : List ℕ → Reason → Type 0
+IsBadDesign text reason = (fault : NetlistFault) × (reason ≡ reasons.Design fault) × RefusesDesign text fault
+
+-- the design that a text spells
+abbrev pub design_kind : Kind vocabulary Design
+design_kind = record {
+  file = files.Design;
+  number = 1;
+  judged = λ text. record {
+    Good = IsDesignOf text;
+    Bad = IsBadDesign text;
+    apart = λ design reason is bad. design_apart text design bad.0 is bad.2;
+    its_status = λ reason bad. ap reason_status bad.1;
+  };
+}
+
+-- its netlist, with an order of its gates
+abbrev pub netlist_kind : Kind vocabulary Ordered
+netlist_kind = record {
+  file = files.Design;
+  number = 1;
+  judged = λ text. record {
+    Good = IsNetlistOf text;
+    Bad = IsBadDesign text;
+    apart = λ ordered reason is bad. netlist_apart text ordered bad.0 is bad.2;
+    its_status = λ reason bad. ap reason_status bad.1;
+  };
+}
+
+-- ---- the stimulus
+
+-- an answer is not an error
+abbrev pub HasValue : {A E : Type 0} → Result A E → Type 0
+HasValue (Ok x) = Unit {0}
+HasValue (Err e) = ⊥
+
+-- the rows of a stimulus text for so many columns
+abbrev pub IsRowsOf : ℕ → List ℕ → List (List Bool) → Type 0
+IsRowsOf width text rows = stimulus_rows width text ≡ Ok rows
+
+-- why a stimulus text has none
+abbrev pub IsBadStimulus : ℕ → List ℕ → Reason → Type 0
+IsBadStimulus width text reason =
+    (fault : StimFault) × (reason ≡ reasons.Stimulus fault) × (stimulus_rows width text ≡ Err fault)
+
+abbrev pub rows_apart : (width : ℕ) (text : List ℕ) (rows : List (List Bool)) (reason : Reason)
+    → IsRowsOf width text rows → IsBadStimulus width text reason → ⊥
+rows_apart width text rows reason are bad =
+    subst (λ (said : Result (List (List Bool)) StimFault). HasValue said) bad.2
+    (subst (λ (said : Result (List (List Bool)) StimFault). HasValue said) (sym are) tt)
+
+abbrev pub rows_kind : ℕ → Kind vocabulary (List (List Bool))
+rows_kind width = record {
+  file = files.Stimulus;
+  number = 5;
+  judged = λ text. record {
+    Good = IsRowsOf width text;
+    Bad = IsBadStimulus width text;
+    apart = rows_apart width text;
+    its_status = λ reason bad. ap reason_status bad.1;
+  };
+}
+
+-- ---- the board
+
+-- why a text spells no board
+abbrev pub IsBadBoard : List ℕ → Reason → Type 0
+IsBadBoard text reason =
+    (fault : BoardFault) × (reason ≡ reasons.Board fault) × IsTrue (is_board_fault fault) × RefusesBoardText text fault
+
+abbrev pub board_kind : Kind vocabulary Board
+board_kind = record {
+  file = files.Board;
+  number = 3;
+  judged = λ text. record {
+    Good = SpellsBoard text;
+    Bad = IsBadBoard text;
+    apart = λ board reason is bad. board_unrefused text board bad.0 is bad.2 bad.3;
+    its_status = λ reason bad. ap reason_status bad.1;
+  };
+}
+
+-- ---- the plan
+
+-- why a text spells no plan
+abbrev pub IsBadPlanText : List ℕ → Reason → Type 0
+IsBadPlanText text reason =
+    (fault : PlanTextFault) × (reason ≡ reasons.PlanText fault) × IsTrue (is_plan_text_fault fault)
+    × RefusesPlanLines text fault
+
+abbrev pub plan_kind : Kind vocabulary Plan
+plan_kind = record {
+  file = files.Plan;
+  number = 4;
+  judged = λ text. record {
+    Good = SpellsPlan text;
+    Bad = IsBadPlanText text;
+    apart = λ plan reason is bad. plan_unrefused text plan bad.0 is bad.2 bad.3;
+    its_status = λ reason bad. ap reason_status bad.1;
+  };
+}
+
+-- why a plan isn't sound
+abbrev pub IsBadPlan : PlannedBoard → Reason → Type 0
+IsBadPlan planned reason = (fault : PlanFault) × (reason ≡ reasons.Plan fault) × (plan_fault planned ≡ Some fault)
+
+-- a plan is sound, or has a fault
+abbrev pub soundness : PlannedBoard → Judged vocabulary (Unit {0}) 4
+soundness planned = record {
+  Good = λ done. IsSound planned;
+  Bad = IsBadPlan planned;
+  apart = λ done reason is bad. none-some bad.0 (sym (faultless planned is) ∙ bad.2);
+  its_status = λ reason bad. ap reason_status bad.1;
+}
+
+-- ---- a plan that is made
+
+-- why there is none: all chips have room for fewer cells
+abbrev pub IsBadFit : Ordered → Board → Reason → Type 0
+IsBadFit ordered board reason =
+    (reason ≡ reasons.Fit (TooManyCells (length ordered.flat.cells) (board.chips * board.cells)))
+    × (board.chips * board.cells < length ordered.flat.cells)
+
+-- all chips have room for the cells
+abbrev pub HasRoom : Ordered → Board → Type 0
+HasRoom ordered board = length ordered.flat.cells ≤ board.chips * board.cells
+
+-- a good plan is made wherever the cells have room
+abbrev pub planning : Ordered → Board → Making vocabulary Plan 6
+planning ordered board = record {
+  judged = record {
+    Good = λ plan. IsGood (planned_board ordered board plan);
+    Bad = IsBadFit ordered board;
+    apart = λ plan reason good bad. not-le_of_lt bad.1 (sound_plans_fit (planned_board ordered board plan) good.sound);
+    its_status = λ reason bad. ap reason_status bad.0;
+  };
+  Comes = HasRoom ordered board;
+  sure = λ reason room bad. not-le_of_lt bad.1 room;
+}
