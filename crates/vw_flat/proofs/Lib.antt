@@ -1,3 +1,4 @@
 pub mod Items
 pub mod Readings
 pub mod LongerLists
+pub mod FlatNetlists

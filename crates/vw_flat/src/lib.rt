@@ -2,9 +2,11 @@
 #![tactic(auto)]
 
 mod cell;
+mod laws;
 mod netlist;
 mod number;
 mod printing;
 
+pub use laws::accepted_designs_have_netlists;
 pub use netlist::flatten;
 pub use printing::path_of;
