@@ -1,1 +1,2 @@
 pub mod NetlistLoops
+pub mod RunningDesigns

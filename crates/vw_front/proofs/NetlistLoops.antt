@@ -127,11 +127,13 @@ module _ (design : Design) (flat : Flat) (is : IsFlatOf design flat) where
       let same : printed_site g ≡ n = same_Some (printed_site g) n (sym (ap (option_map printed_site) at.0) ∙ name.0) in
       ap₂ (λ (w : Word) (ws : List Word). w ∷ ws) (sym same) (named numbers gates names at.1 name.1)
 
-  -- the loop by the nets that its gates drive
-  pub loop_named : (numbers : List ℕ) → orders.IsListedLoop flat numbers → (names : List Word)
-      → AllZip (λ number name. option_map printed_site (slice_get (cells design) number) ≡ Some name) numbers names → IsLoopOf design names
-  loop_named numbers loop names are =
-      let found = gates_at numbers (circle_gates numbers (turned numbers) loop.circle.each) in
+  -- the gates of a loop
+  abbrev gates_of : (numbers : List ℕ) → orders.IsListedLoop flat numbers → (gates : List Site) × AllZip IsAt numbers gates
+  gates_of numbers loop = gates_at numbers (circle_gates numbers (turned numbers) loop.circle.each)
+
+  by_its_gates : (numbers : List ℕ) (loop : orders.IsListedLoop flat numbers) (names : List Word) → names ≡ map printed_site (gates_of numbers loop).0 → IsLoopOf design names
+  by_its_gates numbers loop names are =
+      let found = gates_of numbers loop in
       let gates = found.0 in
       let Reads = λ (one other : Site). gate_reads design (gate_at one) (gate_at other) ≡ true in
       let each : AllZip Reads gates (turned gates) =
@@ -149,5 +151,15 @@ module _ (design : Design) (flat : Flat) (is : IsFlatOf design flat) where
         };
         once = loop.once;
         least = loop.least;
-        named = named numbers gates names found.1 are;
+        named = are;
       }
+
+  -- the loop by the nets that its gates drive, which are there
+  pub loop_of : (numbers : List ℕ) → orders.IsListedLoop flat numbers → (names : List Word) × IsLoopOf design names
+  loop_of numbers loop = (map printed_site (gates_of numbers loop).0, by_its_gates numbers loop (map printed_site (gates_of numbers loop).0) refl)
+
+  -- and by such names that were found
+  pub loop_named : (numbers : List ℕ) → orders.IsListedLoop flat numbers → (names : List Word)
+      → AllZip (λ number name. option_map printed_site (slice_get (cells design) number) ≡ Some name) numbers names → IsLoopOf design names
+  loop_named numbers loop names are =
+      let found = gates_of numbers loop in by_its_gates numbers loop names (named numbers found.0 names found.1 are)

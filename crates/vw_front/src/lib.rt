@@ -2,7 +2,9 @@
 #![tactic(auto)]
 
 mod fault;
+mod laws;
 mod netlist;
 
 pub use fault::NetlistFault;
+pub use laws::{circles_have_listed_loops, running_designs_have_netlists};
 pub use netlist::netlist_of_text;

@@ -1,0 +1,20 @@
+//! Laws of designs that run, and of loops, as contracts of functions that do nothing.
+ghost use Rattle.std.specs.Prelude.{ℕ, List};
+ghost use Rattle.vw_net.specs.declared.ordered.Ordered.{Ordered};
+ghost use Rattle.vw_design.specs.declared.design.Design.{Design};
+ghost use Rattle.vw_design.specs.Paths.{Word};
+ghost use Rattle.vw_design.specs.Accepted.{IsAccepted};
+ghost use Rattle.vw_design.specs.Loops.{Gate, IsLoop};
+ghost use Rattle.vw_front.specs.Designs.{Runs, IsNetlistOf, IsLoopOf};
+
+/// A text with a design that runs has a netlist of that design, with an order of its gates.
+pub fn running_designs_have_netlists()
+    ensures { (text : List ℕ) → Runs text → (ordered : Ordered) × IsNetlistOf text ordered }
+{}
+
+/// Where any gates of an accepted design read each other in a circle, the design has a loop as it is listed: none of its
+/// gates stands twice, and the one with the least number stands first.
+pub fn circles_have_listed_loops()
+    ensures { (design : Design) → IsAccepted design → (gates : List Gate) → IsLoop design gates
+        → (names : List Word) × IsLoopOf design names }
+{}
