@@ -41,10 +41,6 @@ pub record IsNetlistOf (text : List ℕ) (ordered : Ordered) : Type 0 where
   pub is : IsDesignOf text design
   pub flat : IsFlatOf design ordered.flat
 
--- there is such a netlist
-abbrev pub HasNetlist : List ℕ → Type 0
-HasNetlist text = (ordered : Ordered) × IsNetlistOf text ordered
-
 -- gates of a design that read each other in a circle, each the next one and the last one the first, with their numbers
 -- among the cells: none stands twice, and the least number stands first. They are named by the nets that they drive
 pub record IsLoopOf (design : Design) (names : List Word) : Type 0 where

@@ -14,6 +14,7 @@ use Rattle.vw_course.proofs.StageLaws.{past, past_judged, at_bad, at_absent, wor
 use Rattle.vw_course.proofs.BarredLaws.{barred_here, barred_later, call_barred}
 use Rattle.vw_course.proofs.CarriedOut.{completes, text_part, done_as, write_as, memory_as}
 use Rattle.vw_front.specs.Designs.{IsNetlistOf}
+use Rattle.vw_front.proofs.RunningDesigns.{netlist_of}
 use Rattle.vw_plan.specs.declared.board.Board.{Board}
 use Rattle.vw_plan.specs.declared.plan.Plan.{Plan}
 use Rattle.vw_plan.specs.PlannedBoard.{planned_board}
@@ -187,12 +188,12 @@ module _ (design board plan : List ℕ) (call : Call) where
         no_board = λ b held_b. refused_for course call is 3 (IsBadBoard b) (board_why b held_b) (no_break told 3 course (whole 3)) (lit< tt) (lit< tt);
         no_board_comes = λ d b held_d held_b runs none.
             call_refused vocabulary two call (IsBadBoard b) course is
-            (past told two (IsToRefuse (IsBadBoard b)) netlist_kind design next d (inl refl) held_d runs
+            (past told two (IsToRefuse (IsBadBoard b)) netlist_kind design next d (inl refl) held_d (netlist_of d runs)
             (λ ordered netlist. at_bad told two board_kind board (later ordered) b (IsBadBoard b) (inr (inl refl)) held_b (λ reason bad. bad) none));
         no_plan = λ d b p hold. refused_for course call is 4 (IsNoPlan d b p) (plan_why d b p hold) (no_break told 4 course (whole 4)) (lit< tt) (lit< tt);
         no_plan_text_comes = λ d b p its hold runs spelled none.
             call_refused vocabulary all call (IsBadPlanText p) course is
-            (to_plan d b p hold (IsToRefuse (IsBadPlanText p)) runs its spelled
+            (to_plan d b p hold (IsToRefuse (IsBadPlanText p)) (netlist_of d runs) its spelled
             (λ ordered this on. at_bad told all plan_kind plan (sound_course ordered this) p (IsBadPlanText p) (inr (inr (inl refl))) hold.plan_held (λ reason bad. bad) none));
         unsound_comes = λ d b p fault hold has.
             call_refused vocabulary all call (IsUnsound d b p) course is

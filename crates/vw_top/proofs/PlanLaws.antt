@@ -14,6 +14,7 @@ use Rattle.vw_course.proofs.StageLaws.{past, past_made, at_bad, at_absent, work_
 use Rattle.vw_course.proofs.BarredLaws.{barred_here, barred_later, call_barred}
 use Rattle.vw_course.proofs.CarriedOut.{completes, done_as, write_as, memory_as}
 use Rattle.vw_front.specs.Designs.{IsNetlistOf}
+use Rattle.vw_front.proofs.RunningDesigns.{netlist_of}
 use Rattle.vw_plan.specs.declared.board.Board.{Board}
 use Rattle.vw_plan.specs.declared.plan.Plan.{Plan}
 use Rattle.vw_plan.specs.Good.{IsGood}
@@ -156,7 +157,7 @@ module _ (design board : List ℕ) (call : Call) where
         no_board = λ b held_b. refused_for course call is 3 (IsBadBoard b) (board_why b held_b) (no_break told 3 course (whole 3)) (lit< tt) (lit< tt);
         no_board_comes = λ d b hold runs none.
             call_refused vocabulary both call (IsBadBoard b) course is
-            (to_board d b hold (IsToRefuse (IsBadBoard b)) runs
+            (to_board d b hold (IsToRefuse (IsBadBoard b)) (netlist_of d runs)
             (λ ordered netlist. at_bad told both board_kind board (good_course ordered) b (IsBadBoard b) (inr (inl refl)) hold.board_held (λ reason bad. bad) none));
         no_room = λ d b hold. refused_for course call is 6 (IsNoFit d b) (fit_why d b hold) (no_break told 6 course (whole 6)) (lit< tt) (lit< tt);
         no_room_comes = λ d b hold have.

@@ -4,7 +4,7 @@ use Rattle.vw_net.specs.declared.ordered.Ordered.{Ordered}
 use Rattle.vw_course.specs.Course.{writing}
 use Rattle.vw_course.specs.Places.{Files}
 use Rattle.vw_course.specs.Statuses.{NoWork, IsDone, IsRefusedFor, IsReadStop, IsWriteStop, IsMemoryStop, IsStopped, IsCarriedOut, Holds, IsAbsent, IsUnworked, CompletesAt, LeavesPart}
-use Rattle.vw_front.specs.Designs.{HasNetlist, IsNoDesign}
+use Rattle.vw_front.specs.Designs.{Runs, IsNoDesign}
 use Rattle.vw_plan.specs.declared.board.Board.{Board}
 use Rattle.vw_plan.specs.declared.plan.Plan.{Plan}
 use Rattle.vw_plan.specs.PlannedBoard.{planned_board}
@@ -88,12 +88,12 @@ module _ (design board plan : List ℕ) where
     -- 3: exactly where the board text has a fault
     pub no_board : (b : List ℕ) → Holds call board b → call.status ≡ 3
         → IsRefusedFor vocabulary (IsBadBoard b) call
-    pub no_board_comes : (d b : List ℕ) → Holds call design d → Holds call board b → HasNetlist d → IsNoBoard b
+    pub no_board_comes : (d b : List ℕ) → Holds call design d → Holds call board b → Runs d → IsNoBoard b
         → IsRefusedFor vocabulary (IsBadBoard b) call ⊎ IsStopped vocabulary its_board call
     -- 4: exactly where the plan text has a fault, or its plan isn't sound
     pub no_plan : (d b p : List ℕ) → HoldTexts call d b p → call.status ≡ 4
         → IsRefusedFor vocabulary (IsNoPlan d b p) call
-    pub no_plan_text_comes : (d b p : List ℕ) (its : Board) → HoldTexts call d b p → HasNetlist d → SpellsBoard b its
+    pub no_plan_text_comes : (d b p : List ℕ) (its : Board) → HoldTexts call d b p → Runs d → SpellsBoard b its
         → IsNoPlanText p
         → IsRefusedFor vocabulary (IsBadPlanText p) call ⊎ IsStopped vocabulary its_files call
     pub unsound_comes : (d b p : List ℕ) (fault : PlanFault) → HoldTexts call d b p → HasPlanFault d b p fault

@@ -4,7 +4,7 @@ use Rattle.vw_net.specs.declared.ordered.Ordered.{Ordered}
 use Rattle.vw_course.specs.Course.{writing}
 use Rattle.vw_course.specs.Places.{Files}
 use Rattle.vw_course.specs.Statuses.{NoWork, IsDone, IsRefusedFor, IsReadStop, IsWriteStop, IsMemoryStop, IsStopped, IsCarriedOut, Holds, IsAbsent, IsUnworked, CompletesAt}
-use Rattle.vw_front.specs.Designs.{HasNetlist, IsNoDesign}
+use Rattle.vw_front.specs.Designs.{Runs, IsNoDesign}
 use Rattle.vw_plan.specs.declared.board.Board.{Board}
 use Rattle.vw_plan.specs.declared.plan.Plan.{Plan}
 use Rattle.vw_plan.specs.Good.{IsGood}
@@ -72,7 +72,7 @@ module _ (design board : List ℕ) where
     -- 3: exactly where the board text has a fault
     pub no_board : (b : List ℕ) → Holds call board b → call.status ≡ 3
         → IsRefusedFor vocabulary (IsBadBoard b) call
-    pub no_board_comes : (d b : List ℕ) → HoldTexts call d b → HasNetlist d → IsNoBoard b
+    pub no_board_comes : (d b : List ℕ) → HoldTexts call d b → Runs d → IsNoBoard b
         → IsRefusedFor vocabulary (IsBadBoard b) call ⊎ IsStopped vocabulary its_files call
     -- 6: exactly where all chips have room for fewer cells
     pub no_room : (d b : List ℕ) → HoldTexts call d b → call.status ≡ 6
