@@ -5,15 +5,9 @@ use Rattle.std.proofs.lemmas.List.{append_assoc, append-nil, length-append, leng
 use Rattle.std.proofs.lemmas.List.Elements.{All-set, All-append, All-replicate}
 use Rattle.vw_rows.specs.declared.run.Run.{Run}
 use Rattle.vw_rows.specs.Steps.Runs.{rows_of_runs}
-use Rattle.vw_rows.specs.Stimulus.{last_row, row_before}
-
-pub last_row-append : (row : List Bool) (xs ys : List (List Bool)) → last_row row (xs ++ ys) ≡ last_row (last_row row xs) ys
-last_row-append row [] ys = refl
-last_row-append row (x ∷ xs) ys = last_row-append x xs ys
-
-last_row-same : (n : ℕ) (row : List Bool) → last_row row (replicate n row) ≡ row
-last_row-same zero row = refl
-last_row-same (suc n) row = last_row-same n row
+use Rattle.vw_rows.specs.Stimulus.{last_row}
+use Rattle.vw_rows.specs.Steps.Gathered.{row_before}
+use Rattle.vw_rows.proofs.LastRows.{last_row-append, last_row-same}
 
 last_row-replicate : (n : ℕ) (row other : List Bool) → 0 < n → last_row other (replicate n row) ≡ row
 last_row-replicate zero row other some = absurd (omega arith)

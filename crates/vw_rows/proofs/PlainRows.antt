@@ -1,5 +1,5 @@
 -- Rows that are written one a line are read back.
-use Rattle.std.proofs.Common.{◌≡◌, ℕ, suc, ◌+◌, ◌≤◌, Bool, true, false, ◌==◌, ◌||◌, ◌&&◌, not, List, [], ◌∷◌, ◌++◌, map, length, take, Some, Ok, refl, sym, ◌∙◌, ap, ap₂, arith, if◌then◌else◌}
+use Rattle.std.proofs.Common.{◌≡◌, ℕ, suc, ◌+◌, ◌≤◌, Bool, true, false, ◌==◌, ◌||◌, ◌&&◌, not, List, [], ◌∷◌, ◌++◌, map, length, replicate, take, Some, Ok, refl, sym, ◌∙◌, ap, ap₂, arith, if◌then◌else◌}
 use Rattle.std.specs.List.{All, list_all, filter}
 use Rattle.std.proofs.lemmas.Bool.{cond-true, cond-false, le-ltb, ne_eqb, eq-eqb}
 use Rattle.std.proofs.lemmas.List.{append_assoc, append-nil, take_all, length-append}
@@ -11,7 +11,7 @@ use Rattle.vw_text.specs.Physical.{text_lines}
 use Rattle.vw_text.specs.WordLines.{is_empty, words_of}
 use Rattle.vw_text.proofs.FoundBytes.{HasNo}
 use Rattle.vw_text.proofs.FirstLine.{line_first}
-use Rattle.vw_rows.specs.Stimulus.{line_words, is_bits, bits_of, row_of_bits, row_before, rows_added, joined_rows, with_rows_of, and_then, with_rows_of_lines, stimulus_rows}
+use Rattle.vw_rows.specs.Stimulus.{line_words, is_bits, bits_of, row_of_bits, rows_added, last_row, within_run, and_then, behind, rows_of_lines, stimulus_rows}
 use Rattle.vw_rows.specs.Trace.{bits_text}
 use Rattle.vw_rows.specs.Written.{rows_written}
 
@@ -67,29 +67,24 @@ row_again width number before row wide =
     ∙ ap (row_of_bits width number) (bits_again row)
     ∙ cond-true (length row == width) _ _ (eq-eqb (length row) width wide)
 
-line_again : (width number : ℕ) (rows : List (List Bool)) (row : List Bool) → length row ≡ width → length rows + 1 ≤ 4294967295
-    → with_rows_of width number rows (bits_text row) ≡ Ok (rows ++ row ∷ [])
-line_again width number rows row wide few =
-    ap (joined_rows rows) (row_again width number (row_before width rows) row wide)
-    ∙ cond-false _ _ _ (le-ltb 4294967295 (length rows + 1) few)
-
-lines_again : (width number : ℕ) (done rows : List (List Bool)) → All (λ row. length row ≡ width) rows → length done + length rows ≤ 4294967295
-    → with_rows_of_lines width number done (text_lines (rows_written rows)) ≡ Ok (done ++ rows)
-lines_again width number done [] wide few = ap Ok (sym (append-nil done))
-lines_again width number done (row ∷ rows) wide few =
+lines_again : (width number count : ℕ) (before : List Bool) (rows : List (List Bool)) → All (λ row. length row ≡ width) rows → count + length rows ≤ 4294967295
+    → rows_of_lines width number count before (text_lines (rows_written rows)) ≡ Ok rows
+lines_again width number count before [] wide few = refl
+lines_again width number count before (row ∷ rows) wide few =
     let line = bits_text row in
-    let longer : length (done ++ row ∷ []) + length rows ≤ 4294967295 = omega (few, length-append done (row ∷ []), arith) in
-    ap (with_rows_of_lines width number done) (ap text_lines (append_assoc line (10 ∷ []) (rows_written rows)) ∙ line_first line (rows_written rows) (written_has_no (λ b. b == 10) refl refl refl row))
-    ∙ ap (λ said. and_then said (λ all. with_rows_of_lines width (number + 1) all (text_lines (rows_written rows)))) (line_again width number done row (wide 0 row (omega arith)) (omega (few, arith)))
-    ∙ lines_again width (number + 1) (done ++ row ∷ []) rows (λ k d inside. wide (suc k) d (omega (inside, arith))) longer
-    ∙ ap Ok (append_assoc done (row ∷ []) rows)
+    let rest = text_lines (rows_written rows) in
+    let further = λ (added : List (List Bool)). behind added (rows_of_lines width (number + 1) (count + length added) (last_row before added) rest) in
+    ap (rows_of_lines width number count before) (ap text_lines (append_assoc line (10 ∷ []) (rows_written rows)) ∙ line_first line (rows_written rows) (written_has_no (λ b. b == 10) refl refl refl row))
+    ∙ ap (λ said. and_then (within_run count said) further) (row_again width number before row (wide 0 row (omega arith)))
+    ∙ ap (λ said. and_then said further) (cond-false _ _ _ (le-ltb 4294967295 (count + 1) (omega (few, arith))))
+    ∙ ap (behind (row ∷ [])) (lines_again width (number + 1) (count + 1) row rows (λ k d inside. wide (suc k) d (omega (inside, arith))) (omega (few, arith)))
 
 -- there are no more rows than bytes
 rows_within : (rows : List (List Bool)) → length rows ≤ length (rows_written rows)
 rows_within [] = omega arith
 rows_within (row ∷ rows) = omega (rows_within rows, length-append (bits_text row ++ 10 ∷ []) (rows_written rows), length-append (bits_text row) (10 ∷ []), arith)
 
-pub rows_again : (width : ℕ) (rows : List (List Bool)) → All (λ row. length row ≡ width) rows → length (rows_written rows) ≤ 16777216 → stimulus_rows width (rows_written rows) ≡ Ok rows
+pub rows_again : (width : ℕ) (rows : List (List Bool)) → All (λ row. length row ≡ width) rows → length (rows_written rows) ≤ 1073741824 → stimulus_rows width (rows_written rows) ≡ Ok rows
 rows_again width rows wide short =
-    cond-false _ _ _ (le-ltb 16777216 (length (rows_written rows)) short)
-    ∙ lines_again width 1 [] rows wide (omega (short, rows_within rows, arith))
+    cond-false _ _ _ (le-ltb 1073741824 (length (rows_written rows)) short)
+    ∙ lines_again width 1 0 (replicate width false) rows wide (omega (short, rows_within rows, arith))

@@ -5,7 +5,7 @@ use Rattle.vw_rows.specs.declared.stimulus.StimFault.{StimFault}
 use Rattle.vw_rows.specs.declared.stimulus.StimFault.TheVariants.{TooLarge, BadLine, WrongWidth, TooManyClocks, ReadFault, NoMemory}
 
 abbrev pub fault_text : StimFault → List ℕ
-fault_text TooLarge = codes "stimulus 1: text longer than 16777216 bytes" ++ 10 ∷ []
+fault_text TooLarge = codes "stimulus 1: text longer than 1073741824 bytes" ++ 10 ∷ []
 fault_text (BadLine line) = codes "stimulus 2: line " ++ decimal line ++ codes ": bad line" ++ 10 ∷ []
 fault_text (WrongWidth line found wanted) = codes "stimulus 3: line " ++ decimal line ++ codes ": found " ++ decimal found ++ codes " bits, wanted " ++ decimal wanted ++ 10 ∷ []
 fault_text (TooManyClocks count) = codes "stimulus 4: " ++ decimal count ++ codes " clocks" ++ 10 ∷ []

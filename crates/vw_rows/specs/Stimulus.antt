@@ -61,39 +61,36 @@ abbrev pub last_row : List Bool → List (List Bool) → List Bool
 last_row row [] = row
 last_row row (next ∷ rows) = last_row next rows
 
--- before all lines there is a row of zeros
-abbrev pub row_before : ℕ → List (List Bool) → List Bool
-row_before width rows = last_row (replicate width false) rows
-
 -- ---- texts
 
--- rows and those that are added to them, unless they are too many for a run
-abbrev pub joined_rows : List (List Bool) → Result (List (List Bool)) StimFault → Result (List (List Bool)) StimFault
-joined_rows rows (Err fault) = Err fault
-joined_rows rows (Ok added) =
-    if nat_lt 4294967295 (length rows + length added) then Err (TooManyClocks (length rows + length added))
-    else Ok (rows ++ added)
-
--- rows and those of a line behind them
-abbrev pub with_rows_of : ℕ → ℕ → List (List Bool) → List ℕ → Result (List (List Bool)) StimFault
-with_rows_of width number rows line =
-    joined_rows rows (rows_added width number (row_before width rows) (line_words line))
+-- rows that are added behind so many others, unless they are too many for a run
+abbrev pub within_run : ℕ → Result (List (List Bool)) StimFault → Result (List (List Bool)) StimFault
+within_run count (Err fault) = Err fault
+within_run count (Ok added) =
+    if nat_lt 4294967295 (count + length added) then Err (TooManyClocks (count + length added)) else Ok added
 
 -- what comes of rows, unless there is a fault
 abbrev pub and_then : Result (List (List Bool)) StimFault → (List (List Bool) → Result (List (List Bool)) StimFault) → Result (List (List Bool)) StimFault
 and_then (Ok rows) further = further rows
 and_then (Err fault) further = Err fault
 
--- rows and those of the lines behind them, the first of which has this number
-abbrev pub with_rows_of_lines : ℕ → ℕ → List (List Bool) → List (List ℕ) → Result (List (List Bool)) StimFault
-with_rows_of_lines width number rows [] = Ok rows
-with_rows_of_lines width number rows (line ∷ lines) =
-    and_then (with_rows_of width number rows line) (λ all. with_rows_of_lines width (number + 1) all lines)
+-- rows and those behind them, unless there is a fault
+abbrev pub behind : List (List Bool) → Result (List (List Bool)) StimFault → Result (List (List Bool)) StimFault
+behind rows (Ok more) = Ok (rows ++ more)
+behind rows (Err fault) = Err fault
 
--- the rows of a text; that it is too large is decided before all lines
+-- the rows of lines: the first line has this number, before it there are so many rows, and this is the last of them
+abbrev pub rows_of_lines : ℕ → ℕ → ℕ → List Bool → List (List ℕ) → Result (List (List Bool)) StimFault
+rows_of_lines width number count before [] = Ok []
+rows_of_lines width number count before (line ∷ lines) =
+    and_then (within_run count (rows_added width number before (line_words line)))
+    (λ added. behind added (rows_of_lines width (number + 1) (count + length added) (last_row before added) lines))
+
+-- the rows of a text, before which there is a row of zeros; that it is too large is decided before all lines
 abbrev pub stimulus_rows : ℕ → List ℕ → Result (List (List Bool)) StimFault
 stimulus_rows width text =
-    if nat_lt 16777216 (length text) then Err TooLarge else with_rows_of_lines width 1 [] (text_lines text)
+    if nat_lt 1073741824 (length text) then Err TooLarge
+    else rows_of_lines width 1 0 (replicate width false) (text_lines text)
 
 -- ---- faults
 

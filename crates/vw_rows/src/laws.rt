@@ -7,6 +7,6 @@ ghost use Rattle.vw_rows.specs.Written.{rows_written};
 /// Rows that are written one a line are read back, where their text isn't too long.
 pub fn plain_rows_read()
     ensures { (width : ℕ) (rows : List (List Bool)) → All (λ row. length row ≡ width) rows
-        → length (rows_written rows) ≤ 16777216
+        → length (rows_written rows) ≤ 1073741824
         → stimulus_rows width (rows_written rows) ≡ Ok rows }
 {}

@@ -3,7 +3,8 @@ ghost use Rattle.std.specs.List.{All};
 ghost use Rattle.vw_outside.specs.Told.{absent, OfText};
 ghost use Rattle.vw_outside.specs.Reads.{CountsFault};
 ghost use Rattle.vw_text.specs.Physical.{text_lines};
-ghost use Rattle.vw_rows.specs.Stimulus.{row_before, joined_rows, with_rows_of, with_rows_of_lines, stimulus_rows, is_of_text};
+ghost use Rattle.vw_rows.specs.Stimulus.{stimulus_rows, is_of_text};
+ghost use Rattle.vw_rows.specs.Steps.Gathered.{row_before, joined_rows, with_rows_of, with_rows_of_lines};
 ghost use Rattle.vw_rows.specs.Steps.Reading.{IsWanted, rows_asked, FitsRun, IsWantedAfter};
 
 use crate::line::{Asked, CLOCKS_LIMIT, read_line};
@@ -14,7 +15,7 @@ use vw_outside::{Name, Shelf, TextRefused, read_text};
 use vw_text::first_line;
 
 /// The most bytes that a stimulus text has.
-const TEXT_LIMIT: u64 = 16_777_216;
+const TEXT_LIMIT: u64 = 1_073_741_824;
 
 /// Adds what a line asks for, unless these are too many clocks.
 fn add_asked(alloc: Global, rows: &mut RowRuns, asked: Asked, width: u32) -> Result<(), StimFault>
@@ -66,7 +67,7 @@ fn add_line(
 
 /// The rows of a text.
 fn rows_of_text(alloc: Global, text: &[u8], width: u32) -> Result<RowRuns, StimFault>
-    requires { length text.now ≤ 16777216 }
+    requires { length text.now ≤ 1073741824 }
     ensures rows { is_of_text result ≡ true → with_rows_of_lines width 1 [] (text_lines text.now) ≡ result }
     ensures width { IfOk result (All (λ row. length row ≡ width)) }
     ensures clocks { IfOk result (λ rows. length rows ≤ 4294967295) }

@@ -1,6 +1,6 @@
 //! Rows of which many may be equal that follow each other.
 ghost use Rattle.std.specs.Prelude.{◌≡◌, ◌<◌, ◌+◌, ◌^◌, ◌++◌, ◌∷◌, [], length, replicate, OnOk};
-ghost use Rattle.vw_rows.specs.Stimulus.{row_before};
+ghost use Rattle.vw_rows.specs.Steps.Gathered.{row_before};
 
 use crate::row_reader::RowReader;
 use crate::run::Run;

@@ -9,8 +9,8 @@ use vw_text::numbered_line;
 /// Why a stimulus was not read. Lines are numbered from 1.
 #[derive(Clone, Copy, Debug, PartialEq, Eq, Error)]
 pub enum StimFault {
-    /// The text has more than 16,777,216 bytes.
-    #[error("text longer than 16777216 bytes")]
+    /// The text has more than 1,073,741,824 bytes.
+    #[error("text longer than 1073741824 bytes")]
     TooLarge,
     /// The line has none of the forms that a line can have.
     #[error("line {0}: bad line")]
@@ -64,7 +64,7 @@ impl StimFault {
         ensures { IfOk result (λ line. line.items ≡ fault_text self.now) }
     {
         match *self {
-            StimFault::TooLarge => b"stimulus 1: text longer than 16777216 bytes\n".to_vec(alloc),
+            StimFault::TooLarge => b"stimulus 1: text longer than 1073741824 bytes\n".to_vec(alloc),
             StimFault::BadLine(number) => {
                 numbered_line(alloc, "stimulus 2: line ", number, ": bad line")
             }

@@ -1,7 +1,7 @@
 -- A line at fault adds no row.
 use Rattle.std.proofs.Common.{ap}
 use Rattle.std.proofs.lemmas.Result.{err_from_is_err_and}
-use Rattle.vw_rows.specs.Stimulus.{row_before, joined_rows}
+use Rattle.vw_rows.specs.Steps.Gathered.{row_before, joined_rows}
 use Rattle.vw_rows.proofs.reader.add_line.Goals as goal
 
 pub returns-in_err-asked-clause-rows : goal.returns-in_err-asked-clause-rows

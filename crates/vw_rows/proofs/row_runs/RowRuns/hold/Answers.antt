@@ -1,6 +1,6 @@
 -- The last run is held longer.
 use Rattle.std.proofs.Common.{◌++◌, Bool, false, List, [], replicate, ◌∙◌, ap, arith}
-use Rattle.vw_rows.specs.Stimulus.{row_before}
+use Rattle.vw_rows.specs.Steps.Gathered.{row_before}
 use Rattle.vw_rows.proofs.HeldRows.{rows_held, clocks_held, some_held}
 use Rattle.vw_rows.proofs.row_runs.RowRuns.hold.Goals as goal
 

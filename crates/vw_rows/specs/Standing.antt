@@ -1,0 +1,38 @@
+-- A checked stimulus, and how far it was given.
+use Rattle.std.specs.Prelude.{◌≡◌, ◌≤◌, ℕ, ◌+◌, Bool, false, List, ◌++◌, length, replicate, drop, Result, Ok, Err}
+use Rattle.vw_text.specs.Physical.{text_lines}
+use Rattle.vw_rows.specs.declared.stimulus.StimFault.{StimFault}
+use Rattle.vw_rows.specs.declared.streamed.Stimulus.{Stimulus}
+use Rattle.vw_rows.specs.Stimulus.{behind, rows_of_lines, stimulus_rows}
+
+-- a stimulus stands in a text: these are the rows of the text, and from those that were given on they are the copies that are still owed and the rows of the lines from its place on
+pub record StandsIn (stimulus : Stimulus) (text : List ℕ) : Type 0 where
+  pub rows : List (List Bool)
+  pub accepted : stimulus_rows stimulus.width text ≡ Ok rows
+  pub clocks : length rows ≡ stimulus.clocks
+  -- the place is that of the first byte of a line, or the end of the text; these are the lines before it
+  pub lines : List (List ℕ)
+  pub place : text_lines text ≡ lines ++ text_lines (drop stimulus.at text)
+  pub inside : stimulus.at ≤ length text
+  pub number : stimulus.line ≡ length lines + 1
+  pub left : behind (replicate stimulus.owed stimulus.before) (rows_of_lines stimulus.width stimulus.line (stimulus.done + stimulus.owed) stimulus.before (text_lines (drop stimulus.at text)))
+      ≡ Ok (drop stimulus.done rows)
+  pub first : stimulus.done ≡ 0 → stimulus.before ≡ replicate stimulus.width false
+
+-- a text was checked for so many columns: a stimulus stands in it, or it has this fault
+abbrev pub Checks : ℕ → List ℕ → Result Stimulus StimFault → Type 0
+Checks width text (Ok stimulus) = StandsIn stimulus text
+Checks width text (Err fault) = stimulus_rows width text ≡ Err fault
+
+-- a stimulus of this name and of so many columns, of which nothing was given
+pub record IsAtStart (name : List ℕ) (width : ℕ) (stimulus : Stimulus) : Type 0 where
+  pub its_name : stimulus.name ≡ name
+  pub its_width : stimulus.width ≡ width
+  pub done : stimulus.done ≡ 0
+
+-- so many rows more were given
+pub record GaveMore (count : ℕ) (old new : Stimulus) : Type 0 where
+  pub name : new.name ≡ old.name
+  pub width : new.width ≡ old.width
+  pub clocks : new.clocks ≡ old.clocks
+  pub done : new.done ≡ old.done + count

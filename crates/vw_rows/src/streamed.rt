@@ -1,0 +1,100 @@
+//! A stimulus that is read once to check it, and once more in batches of rows.
+ghost use Rattle.std.specs.Prelude.{◌≡◌, ◌≤◌, ◌+◌, length};
+
+use crate::counting::count_rows;
+use crate::pieces::is_too_large;
+use crate::stimulus::StimFault;
+use std::alloc::Global;
+use vw_net::Bits;
+use vw_outside::{Name, Shelf};
+
+/// A stimulus that was checked, and how far it was given. It is made by `check` alone. The text itself isn't kept.
+#[derive(Drop)]
+pub struct Stimulus {
+    /// The name of the text.
+    pub name: Name,
+    /// How many columns there are, and so how many bits each row has.
+    pub width: u32,
+    /// How many rows the text has.
+    pub clocks: u64,
+    /// How many of them were given.
+    pub done: u64,
+    /// The place, counted from 0, of the line that is read next.
+    pub at: u64,
+    /// The number of that line, from 1.
+    pub line: u64,
+    /// The row before that line.
+    pub before: Bits,
+    /// How many copies of that row are given before that line is read.
+    pub owed: u64,
+    ghost some_left: { done ≤ clocks },
+    ghost few: { clocks ≤ 4294967295 },
+    ghost wide: { length before ≡ width },
+    ghost inside: { at ≤ 1073741824 },
+    ghost numbered: { line ≤ at + 1 },
+    ghost few_owed: { done + owed ≤ 4294967295 },
+}
+
+impl Stimulus {
+    ghost use Rattle.std.specs.Prelude.{◌≢◌, ℕ, List, true, IfOk, IsErrOf, Err};
+    ghost use Rattle.vw_outside.specs.Told.{absent, OfText};
+    ghost use Rattle.vw_outside.specs.Reads.{CountsFault};
+    ghost use Rattle.vw_rows.specs.Stimulus.{is_of_text};
+    ghost use Rattle.vw_rows.specs.Standing.{Checks, IsAtStart};
+
+    /// How many rows the text has.
+    pub fn clocks(&self) -> u64
+        ensures { result ≡ self.now.clocks }
+    {
+        self.clocks
+    }
+
+    /// How many rows were given.
+    pub fn done(&self) -> u64
+        ensures { result ≡ self.now.done }
+    {
+        self.done
+    }
+
+    /// Reads the text of a name once, in pieces, and checks that it has rows of `width` bits.
+    ///
+    /// A line is a word of `0` and `1`, with one character for each bit; or `-`, a row without bits; or `hold N`, which
+    /// gives the row before it so many times, or a row of zeros where there is none before it. A `#` begins a comment,
+    /// and a line without words says nothing. Of several lines at fault the first counts; that there is a byte past the
+    /// limit is read for before all lines.
+    ///
+    /// It takes memory for the name and for one row, and keeps neither the text nor its rows.
+    pub fn check<S: Shelf>(
+        alloc: Global,
+        shelf: &mut S,
+        name: &Name,
+        width: u32,
+    ) -> Result<Stimulus, StimFault>
+        // The stimulus stands in the text, and a fault that lies in the text is the text's.
+        ensures checks { is_of_text result ≡ true
+            → OfText ((S.seen shelf.old).told name.now) (λ text. Checks width text result) }
+        ensures starts { IfOk result (IsAtStart name.now width) }
+        ensures absent { (S.seen shelf.old).told name.now ≡ absent → result ≡ Err StimFault.ReadFault }
+
+        // What the reads leave of the shelf.
+        ensures fault { IsErrOf result StimFault.ReadFault
+            → CountsFault name.now (S.seen shelf.old) (S.seen shelf.new) }
+        ensures kept { result ≢ Err StimFault.ReadFault → S.seen shelf.new ≡ S.seen shelf.old }
+    {
+        if is_too_large(shelf, name)? {
+            return Err(StimFault::TooLarge);
+        }
+        let clocks = count_rows(alloc, shelf, name, width)?;
+        let zeros = vec![in alloc; false; width as usize]?;
+        Ok(Stimulus {
+            name: name.copy(alloc)?,
+            width,
+            clocks,
+            done: 0,
+            at: 0,
+            line: 1,
+            before: Bits::of(zeros),
+            owed: 0,
+        })
+    }
+}
