@@ -1,13 +1,13 @@
 -- Texts that were checked.
-use Rattle.std.proofs.Common.{◌≡◌, ◌<◌, ◌≤◌, ◌+◌, ℕ, Bool, false, List, [], ◌∷◌, ◌++◌, length, replicate, drop, Result, Ok, Err, refl, sym, ◌∙◌, ap, subst, arith}
+use Rattle.std.proofs.Common.{◌≡◌, ◌<◌, ◌≤◌, ℕ, Bool, false, List, [], length, replicate, Result, Ok, Err, refl, ◌∙◌, arith}
 use Rattle.std.proofs.lemmas.Bool.{cond-true, cond-false, lt-ltb, le-ltb}
 use Rattle.std.proofs.lemmas.List.{length-replicate}
-use Rattle.vw_outside.specs.Told.{Told, absent, held, IsTextOf, OfText}
+use Rattle.vw_outside.specs.Told.{Told, absent, held, OfText}
 use Rattle.vw_outside.proofs.TextsTold.{OfText-from_cases}
 use Rattle.vw_rows.specs.declared.stimulus.StimFault.{StimFault}
 use Rattle.vw_rows.specs.declared.stimulus.StimFault.TheVariants.{TooLarge}
 use Rattle.vw_rows.specs.declared.streamed.Stimulus.{Stimulus}
-use Rattle.vw_rows.specs.Stimulus.{behind, rows_of_lines, stimulus_rows}
+use Rattle.vw_rows.specs.Stimulus.{behind, stimulus_rows}
 use Rattle.vw_rows.specs.Steps.Counting.{rows_in, HasRows, HasFault}
 use Rattle.vw_rows.specs.Standing.{StandsIn}
 

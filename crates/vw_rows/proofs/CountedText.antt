@@ -1,7 +1,7 @@
 -- A text that is read piece by piece, and its rows counted.
-use Rattle.std.proofs.Common.{◌≡◌, ◌<◌, ◌≤◌, ◌+◌, ◌-◌, ◌^◌, ℕ, Bool, false, true, List, [], ◌∷◌, ◌++◌, length, replicate, take, drop, Result, Ok, Err, refl, sym, ◌∙◌, ap, subst, arith}
+use Rattle.std.proofs.Common.{◌≡◌, ◌<◌, ◌≤◌, ◌+◌, ◌^◌, ℕ, Bool, false, List, [], ◌++◌, length, replicate, take, drop, Result, Ok, Err, refl, sym, ◌∙◌, ap, subst, arith}
 use Rattle.std.proofs.lemmas.List.{append_assoc, append-nil, length-append, length-take-le, take-append-drop}
-use Rattle.vw_outside.specs.Told.{Told, absent, held, IsTextOf, OfText}
+use Rattle.vw_outside.specs.Told.{Told, absent, held, OfText}
 use Rattle.vw_outside.specs.Fronts.{IsFront}
 use Rattle.vw_outside.specs.Reads.{SeenShelf, Fills}
 use Rattle.vw_outside.proofs.Fronts.{front_further, whole_front}
@@ -24,7 +24,7 @@ pub record IsCounted (told : Told) (width at : ℕ) (scan : Scan) : Type 0 where
   pub front : (bytes : List ℕ) → told ≡ held bytes → IsFront read bytes
   pub present : told ≡ absent → at ≡ 0
   pub wide : scan.width ≡ width
-  pub so_far : IsReadSoFar (replicate width false) 0 (rows_in width) read scan rows
+  pub so_far : IsReadSoFar (replicate width false) 0 1 (rows_in width) read scan rows
 
 behind_none : (said : Result (List (List Bool)) StimFault) → behind [] said ≡ said
 behind_none (Ok rows) = refl
@@ -43,6 +43,9 @@ counted_at_start told width scan fresh wide number clocks = record {
     is = fresh;
     short = omega arith;
     clocks = omega (clocks, arith);
+    lines = [];
+    place = λ rest. refl;
+    number = number;
     left = λ rest.
         sym (behind_none (rows_of_lines scan.width scan.number scan.clocks (replicate width false) (text_lines rest))
         ∙ rw (wide, number, clocks) refl);
@@ -54,7 +57,7 @@ pub counted_further : (told : Told) (width at count : ℕ) (scan new : Scan) (bu
     → ((bytes : List ℕ) → told ≡ held bytes → Fills bytes at buffer count) → (told ≡ absent → ⊥) → IsReadFurther piece scan new → new.width ≡ scan.width → IsCounted told width at scan → IsCounted told width (at + count) new
 counted_further told width at count scan new buffer piece is within limit fills there reads wide counted =
     let long : length piece ≡ count = ap (λ (bs : List ℕ). length bs) is ∙ length-take-le count buffer within in
-    let r = reads (replicate width false) 0 (rows_in width) counted.read counted.rows counted.so_far (omega (long, counted.size, limit, arith)) in
+    let r = reads (replicate width false) 0 1 (rows_in width) counted.read counted.rows counted.so_far (omega (long, counted.size, limit, arith)) in
     record {
       read = counted.read ++ piece;
       rows = r.0;
@@ -128,7 +131,7 @@ piece_at_fault told width at count scan fault buffer piece is within limit short
 
     has : (rest : List ℕ) → length (counted.read ++ (piece ++ rest)) ≤ 1073741824 → HasFault width (counted.read ++ (piece ++ rest)) fault
     has rest small = record {
-      is = at_fault (replicate width false) 0 (rows_in width) counted.read counted.rows counted.so_far (omega (long, counted.size, limit, arith)) rest;
+      is = at_fault (replicate width false) 0 1 (rows_in width) counted.read counted.rows counted.so_far (omega (long, counted.size, limit, arith)) rest;
       short = small;
     }
 

@@ -1,7 +1,7 @@
 -- Rows that are gathered in one list are those of the lines.
 use Rattle.std.proofs.Common.{◌≡◌, ℕ, ◌+◌, ◌≤◌, Bool, true, false, List, [], ◌∷◌, ◌++◌, length, replicate, Result, Ok, Err, refl, sym, ◌∙◌, ap, ap₂, nat_lt}
 use Rattle.std.proofs.lemmas.Bool.{cond-true, cond-false, le-ltb}
-use Rattle.std.proofs.lemmas.List.{append_assoc, append-nil, length-append}
+use Rattle.std.proofs.lemmas.List.{append-nil, length-append}
 use Rattle.vw_rows.specs.declared.stimulus.StimFault.{StimFault}
 use Rattle.vw_rows.specs.Stimulus.{line_words, rows_added, last_row, within_run, and_then, behind, rows_of_lines, stimulus_rows}
 use Rattle.vw_text.specs.Physical.{text_lines}

@@ -10,3 +10,6 @@ pub mod ScannedLines
 pub mod CountedRows
 pub mod CountedText
 pub mod CheckedTexts
+pub mod GatheredBatches
+pub mod GatheredTexts
+pub mod NextBatches

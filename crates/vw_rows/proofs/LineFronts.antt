@@ -1,6 +1,6 @@
 -- A line that goes on by some bytes.
-use Rattle.std.proofs.Common.{◌≡◌, ◌≢◌, ◌<◌, ◌≤◌, ◌+◌, ◌-◌, ◌^◌, ◌==◌, ◌||◌, ◌&&◌, not, ℕ, zero, suc, min, Bool, true, false, List, [], ◌∷◌, ◌++◌, map, length, take, drop, slice_index, Some, None, Ok, Err, refl, sym, ◌∙◌, ap, subst, arith, true≢false, nat_le, MatchBool}
-use Rattle.std.specs.List.{All, list_all, onto_first, prefix_len}
+use Rattle.std.proofs.Common.{◌≡◌, ◌≢◌, ◌<◌, ◌≤◌, ◌+◌, ◌==◌, ◌||◌, not, ℕ, zero, suc, Bool, true, false, List, [], ◌∷◌, ◌++◌, map, length, take, drop, slice_index, Some, None, refl, sym, ◌∙◌, ap, subst, arith, true≢false, nat_le, MatchBool}
+use Rattle.std.specs.List.{list_all, onto_first, prefix_len}
 use Rattle.std.proofs.lemmas.Bool.{eqb-true, cond-true, le-leb, ne_eqb, and_parts, and_from, not_from_false}
 use Rattle.std.proofs.lemmas.List.{append_assoc, append-nil, length-append, length-map, map-append, take-append-drop, drop-drop, drop_more, length-drop, length-take-le}
 use Rattle.std.proofs.Math.Seq.{take-add}
@@ -15,7 +15,7 @@ use Rattle.vw_rows.specs.declared.stimulus.StimFault.TheVariants.{BadLine}
 use Rattle.vw_rows.specs.declared.line_so_far.LineSoFar.{LineSoFar}
 use Rattle.vw_rows.specs.declared.said.Said.{Said}
 use Rattle.vw_rows.specs.declared.said.Said.TheVariants.{Nothing, Bits, Dash, Row, Letters, Hold, Number, Times}
-use Rattle.vw_rows.specs.Stimulus.{line_words, is_bits}
+use Rattle.vw_rows.specs.Stimulus.{line_words}
 use Rattle.vw_rows.specs.Steps.Saying.{AreBad, IsSolid, IsSaid, row_with, counted, GoesOn, EndsWord, TakesByte}
 use Rattle.vw_rows.specs.Steps.Lines.{EndsBehind, bits_said, bits_kept, IsUnended, IsEndOf, IsLine, GoesOnBy, GoesOnByFront, BeginsBad, IsBadBehind, EndsBy, TakesAll}
 use Rattle.vw_rows.proofs.SaidWords.{part_ended, bit}

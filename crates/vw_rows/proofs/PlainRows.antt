@@ -1,8 +1,8 @@
 -- Rows that are written one a line are read back.
-use Rattle.std.proofs.Common.{◌≡◌, ℕ, suc, ◌+◌, ◌≤◌, Bool, true, false, ◌==◌, ◌||◌, ◌&&◌, not, List, [], ◌∷◌, ◌++◌, map, length, replicate, take, Some, Ok, refl, sym, ◌∙◌, ap, ap₂, arith, if◌then◌else◌}
+use Rattle.std.proofs.Common.{◌≡◌, ℕ, suc, ◌+◌, ◌≤◌, Bool, true, false, ◌==◌, ◌||◌, ◌&&◌, not, List, [], ◌∷◌, ◌++◌, map, length, replicate, take, Some, Ok, refl, ◌∙◌, ap, ap₂, arith, if◌then◌else◌}
 use Rattle.std.specs.List.{All, list_all, filter}
 use Rattle.std.proofs.lemmas.Bool.{cond-true, cond-false, le-ltb, ne_eqb, eq-eqb}
-use Rattle.std.proofs.lemmas.List.{append_assoc, append-nil, take_all, length-append}
+use Rattle.std.proofs.lemmas.List.{append_assoc, take_all, length-append}
 use Rattle.std.proofs.lemmas.List.Elements.{All-cons, All-nil}
 use Rattle.std.proofs.lemmas.List.Splits.{slice_split_none}
 use Rattle.std.proofs.lemmas.List.Sums.{position_or_len_is}

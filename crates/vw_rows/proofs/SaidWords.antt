@@ -1,7 +1,7 @@
 -- What a byte does to the words of a line.
-use Rattle.std.proofs.Common.{◌≡◌, ◌≢◌, ◌<◌, ◌≤◌, ◌^◌, ◌+◌, ◌-◌, ◌*◌, ◌==◌, ◌||◌, ◌&&◌, not, cond, ℕ, zero, suc, min, Bool, true, false, List, [], ◌∷◌, ◌++◌, map, length, take, Option, Some, None, Ok, Err, refl, sym, ◌∙◌, ap, subst, arith, true≢false, nat_lt, nat_le}
+use Rattle.std.proofs.Common.{◌≡◌, ◌≢◌, ◌<◌, ◌≤◌, ◌^◌, ◌+◌, ◌-◌, ◌*◌, ◌==◌, ◌||◌, ◌&&◌, not, cond, ℕ, zero, suc, Bool, true, false, List, [], ◌∷◌, ◌++◌, map, length, take, Some, None, refl, sym, ◌∙◌, ap, subst, arith, true≢false, nat_lt, nat_le}
 use Rattle.std.specs.Prelude.{codes}
-use Rattle.std.specs.List.{All, filter, list_all, slice_split}
+use Rattle.std.specs.List.{filter, list_all, slice_split}
 use Rattle.std.specs.Option.{option_and_then}
 use Rattle.std.specs.Str.{bytes_eq}
 use Rattle.std.proofs.lemmas.Bool.{cond-true, cond-false, not_from_false, ne_eqb, eqb-true, eqb-false, eq-eqb, and_parts, and_from, lt-ltb, lt-leb, le-leb, leb-true}
@@ -9,11 +9,10 @@ use Rattle.std.proofs.lemmas.List.{append_assoc, append-nil, length-append}
 use Rattle.std.proofs.lemmas.List.Folds.{list_all-append}
 use Rattle.std.proofs.lemmas.List.Elements.{All-append, All-cons, All-nil, filter-append}
 use Rattle.std.proofs.lemmas.List.Splits.{slice_split_at, slice_split_none}
-use Rattle.std.proofs.lemmas.Slice.Eq.{bytes_eq-Decides}
 use Rattle.vw_text.specs.Bare.{is_blank}
-use Rattle.vw_text.specs.Number.{is_digit, is_number, value_from, spelled_number}
+use Rattle.vw_text.specs.Number.{is_digit, is_number, value_from}
 use Rattle.vw_text.specs.WordLines.{is_empty, words_of}
-use Rattle.vw_rows.specs.Stimulus.{is_bits, bits_of, clocks_within, held_times, row_of_bits, repeated, rows_added}
+use Rattle.vw_rows.specs.Stimulus.{is_bits, clocks_within, held_times, row_of_bits, repeated, rows_added}
 use Rattle.vw_rows.specs.Steps.Saying.{AreBad, IsSolid, SpellsRow}
 
 -- ---- the words of a line, byte by byte

@@ -1,15 +1,14 @@
 -- What a line adds, and what comes of the lines behind it.
-use Rattle.std.proofs.Common.{◌≡◌, ◌<◌, ◌≤◌, ◌+◌, ◌^◌, ◌==◌, min, ℕ, zero, suc, Bool, true, false, List, [], ◌∷◌, ◌++◌, length, replicate, take, ◌-◌, Result, Some, None, Ok, Err, refl, sym, ◌∙◌, ap, subst, arith, nat_lt}
+use Rattle.std.proofs.Common.{◌≡◌, ◌<◌, ◌≤◌, ◌+◌, ◌^◌, min, ℕ, zero, suc, Bool, List, [], ◌∷◌, ◌++◌, length, take, ◌-◌, Result, Some, None, Ok, Err, refl, sym, ◌∙◌, ap, arith}
 use Rattle.std.specs.Prelude.{codes}
 use Rattle.std.proofs.lemmas.Bool.{cond-true, cond-false, lt-ltb, le-ltb}
-use Rattle.std.proofs.lemmas.List.{append_assoc, append-nil, length-append, length-replicate}
+use Rattle.std.proofs.lemmas.List.{append-nil, length-replicate}
 use Rattle.vw_text.specs.Physical.{text_lines}
 use Rattle.vw_text.specs.WordLines.{words_of}
 use Rattle.vw_text.proofs.FirstLine.{line_first, line_alone}
 use Rattle.vw_rows.specs.declared.stimulus.StimFault.{StimFault}
 use Rattle.vw_rows.specs.declared.stimulus.StimFault.TheVariants.{BadLine, TooManyClocks}
 use Rattle.vw_rows.specs.declared.line_so_far.LineSoFar.{LineSoFar}
-use Rattle.vw_rows.specs.declared.said.Said.{Said}
 use Rattle.vw_rows.specs.declared.said.Said.TheVariants.{Letters}
 use Rattle.vw_rows.specs.declared.scan.Adds.{Adds}
 use Rattle.vw_rows.specs.declared.scan.Adds.TheVariants.{Nothing, Row, Copies}

@@ -6,3 +6,5 @@ pub mod Lines
 pub mod Gathered
 pub mod Scans
 pub mod Counting
+pub mod Batches
+pub mod NextRows

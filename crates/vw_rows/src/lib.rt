@@ -1,6 +1,7 @@
 //! The rows of a stimulus text, and the text of a trace.
 #![tactic(auto)]
 
+mod batch;
 mod counting;
 mod laws;
 mod line;

@@ -1,11 +1,13 @@
 //! A stimulus that is read once to check it, and once more in batches of rows.
 ghost use Rattle.std.specs.Prelude.{◌≡◌, ◌≤◌, ◌+◌, length};
 
+use crate::batch::{Batch, copy_of_last};
 use crate::counting::count_rows;
 use crate::pieces::is_too_large;
+use crate::scan::Scan;
 use crate::stimulus::StimFault;
 use std::alloc::Global;
-use vw_net::Bits;
+use vw_net::{Bits, Rows};
 use vw_outside::{Name, Shelf};
 
 /// A stimulus that was checked, and how far it was given. It is made by `check` alone. The text itself isn't kept.
@@ -36,11 +38,13 @@ pub struct Stimulus {
 }
 
 impl Stimulus {
-    ghost use Rattle.std.specs.Prelude.{◌≢◌, ℕ, List, true, IfOk, IsErrOf, Err};
-    ghost use Rattle.vw_outside.specs.Told.{absent, OfText};
+    ghost use Rattle.std.specs.Prelude.{◌≢◌, ◌-◌, ℕ, Bool, List, true, false, min, take, drop, IfOk, IfErr, OnErr, IsErrOf, Ok, Err};
+    ghost use Rattle.std.specs.List.{All};
+    ghost use Rattle.vw_outside.specs.Told.{absent, held, OfText};
     ghost use Rattle.vw_outside.specs.Reads.{CountsFault};
-    ghost use Rattle.vw_rows.specs.Stimulus.{is_of_text};
-    ghost use Rattle.vw_rows.specs.Standing.{Checks, IsAtStart};
+    ghost use Rattle.vw_rows.specs.Stimulus.{stimulus_rows, is_of_text, is_text_fault};
+    ghost use Rattle.vw_rows.specs.Standing.{Checks, IsAtStart, StandsIn, GaveMore};
+    ghost use Rattle.vw_rows.specs.Steps.NextRows.{GathersNext};
 
     /// How many rows the text has.
     pub fn clocks(&self) -> u64
@@ -96,5 +100,83 @@ impl Stimulus {
             before: Bits::of(zeros),
             owed: 0,
         })
+    }
+
+    /// The next rows, so many of them.
+    fn gather<S: Shelf>(
+        &self,
+        alloc: Global,
+        shelf: &mut S,
+        wanted: usize,
+    ) -> Result<Batch, StimFault>
+        requires few { self.now.done + wanted ≤ self.now.clocks }
+        requires stands { (text : List ℕ) → (S.seen shelf.old).told self.now.name ≡ held text
+            → StandsIn self.now text }
+        ensures gathers { GathersNext ((S.seen shelf.old).told self.now.name) wanted self.now result }
+        ensures fault { IsErrOf result StimFault.ReadFault
+            → CountsFault self.now.name (S.seen shelf.old) (S.seen shelf.new) }
+        ensures kept { result ≢ Err StimFault.ReadFault → S.seen shelf.new ≡ S.seen shelf.old }
+    {
+        let clocks = self.done + self.owed;
+        let mut batch = Batch {
+            scan: Scan::new(alloc, self.width, self.width, self.line, clocks),
+            at: self.at,
+            read: self.at,
+            rows: Vec::new(alloc),
+            wanted,
+            owed: self.owed,
+        };
+        batch.give_copies(alloc, &self.before)?;
+        batch.gather(alloc, shelf, &self.name, &self.before)?;
+        Ok(batch)
+    }
+
+    /// The next rows, `most` of them, or all that are left where these are fewer; each has as many bits as there are
+    /// columns. It reads the text on from where it stands, for about as many bytes as these rows take.
+    ///
+    /// It takes memory for these rows and for one more. After a fault nothing was given. Where the text isn't the one
+    /// that was checked, it may be found at fault; where it ends too early, that is a bad line.
+    pub fn next_batch<S: Shelf>(
+        &mut self,
+        alloc: Global,
+        shelf: &mut S,
+        most: u32,
+    ) -> Result<Rows, StimFault>
+        requires some { 1 ≤ most }
+        requires stands { (text : List ℕ) → (S.seen shelf.old).told self.old.name ≡ held text
+            → StandsIn self.old text }
+
+        // The rows are the next ones of the text, and the stimulus stands behind them. A text that is told isn't at fault.
+        ensures rows { (text : List ℕ) (all : List (List Bool))
+            → (S.seen shelf.old).told self.old.name ≡ held text
+            → stimulus_rows self.old.width text ≡ Ok all
+            → IfOk result (λ rows. rows ≡ take most (drop self.old.done all)) }
+        ensures stands { (text : List ℕ) → (S.seen shelf.old).told self.old.name ≡ held text
+            → StandsIn self.new text }
+        ensures sure { (text : List ℕ) → (S.seen shelf.old).told self.old.name ≡ held text
+            → IfErr result (λ fault. is_text_fault fault ≡ false) }
+
+        // Over every shelf.
+        ensures gave { IfOk result (λ rows. GaveMore (length rows) self.old self.new) }
+        ensures count { IfOk result (λ rows. length rows
+            ≡ min most (self.old.clocks - self.old.done)) }
+        ensures width { IfOk result (All (λ row. length row ≡ self.old.width)) }
+        ensures unmoved { OnErr result (self.new ≡ self.old) }
+
+        // What the reads leave of the shelf.
+        ensures fault { IsErrOf result StimFault.ReadFault
+            → CountsFault self.old.name (S.seen shelf.old) (S.seen shelf.new) }
+        ensures kept { result ≢ Err StimFault.ReadFault → S.seen shelf.new ≡ S.seen shelf.old }
+    {
+        let wanted = u64::from(most).min(self.clocks - self.done) as usize;
+        let batch = self.gather(alloc, shelf, wanted)?;
+        let before = copy_of_last(alloc, &self.before, &batch.rows)?;
+        let rows = Rows::of(batch.rows);
+        self.done += wanted as u64;
+        self.at = batch.at;
+        self.line = batch.scan.number;
+        self.before = before;
+        self.owed = batch.owed;
+        Ok(rows)
     }
 }

@@ -8,14 +8,14 @@ use Rattle.vw_rows.specs.Steps.Scans.{IsReadSoFar}
 
 -- some bytes more were read, and there may be more rows
 abbrev pub IsReadFurther : List ℕ → Scan → Scan → Type 0
-IsReadFurther bytes old new = (first : List Bool) (base : ℕ) (total : List ℕ → Result (List (List Bool)) StimFault) (read : List ℕ) (rows : List (List Bool))
-    → IsReadSoFar first base total read old rows → length read + length bytes < 2 ^ 63
-    → (more : List (List Bool)) × IsReadSoFar first base total (read ++ bytes) new more
+IsReadFurther bytes old new = (first : List Bool) (base start : ℕ) (total : List ℕ → Result (List (List Bool)) StimFault) (read : List ℕ) (rows : List (List Bool))
+    → IsReadSoFar first base start total read old rows → length read + length bytes < 2 ^ 63
+    → (more : List (List Bool)) × IsReadSoFar first base start total (read ++ bytes) new more
 
 -- with some bytes there is a fault, whatever follows
 abbrev pub IsAtFaultWith : List ℕ → Scan → StimFault → Type 0
-IsAtFaultWith bytes old fault = (first : List Bool) (base : ℕ) (total : List ℕ → Result (List (List Bool)) StimFault) (read : List ℕ) (rows : List (List Bool))
-    → IsReadSoFar first base total read old rows → length read + length bytes < 2 ^ 63
+IsAtFaultWith bytes old fault = (first : List Bool) (base start : ℕ) (total : List ℕ → Result (List (List Bool)) StimFault) (read : List ℕ) (rows : List (List Bool))
+    → IsReadSoFar first base start total read old rows → length read + length bytes < 2 ^ 63
     → (rest : List ℕ) → total (read ++ (bytes ++ rest)) ≡ Err fault
 
 abbrev pub CountsLine : List ℕ → Scan → Scan → Result ℕ StimFault → Type 0

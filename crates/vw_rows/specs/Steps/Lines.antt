@@ -1,5 +1,5 @@
 -- A line that is read piece by piece.
-use Rattle.std.specs.Prelude.{◌≡◌, ◌<◌, ◌≤◌, ℕ, ◌+◌, ◌==◌, ◌||◌, Bool, true, false, List, [], ◌∷◌, ◌++◌, length, take, drop, slice_index, map, nat_le, if◌then◌else◌, Option, Some, None, Result, Ok, Err, MatchBool}
+use Rattle.std.specs.Prelude.{◌≡◌, ◌<◌, ◌≤◌, ℕ, ◌+◌, ◌==◌, ◌||◌, Bool, true, false, List, ◌∷◌, ◌++◌, length, take, drop, slice_index, map, nat_le, if◌then◌else◌, Option, Some, None, Result, Ok, Err, MatchBool}
 use Rattle.std.specs.List.{All}
 use Rattle.vw_text.specs.Bare.{without_comment}
 use Rattle.vw_text.specs.Physical.{text_lines}

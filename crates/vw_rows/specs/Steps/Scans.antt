@@ -1,11 +1,11 @@
 -- The lines of a stimulus text, as it is read piece by piece.
-use Rattle.std.specs.Prelude.{◌≡◌, ◌<◌, ◌≤◌, ℕ, ◌+◌, ◌^◌, Bool, true, List, [], ◌∷◌, ◌++◌, length, replicate, Result, Ok, Err}
+use Rattle.std.specs.Prelude.{◌≡◌, ◌<◌, ◌≤◌, ℕ, ◌+◌, ◌^◌, Bool, List, [], ◌∷◌, ◌++◌, length, replicate, Result, Ok, Err}
 use Rattle.vw_text.specs.Physical.{text_lines}
 use Rattle.vw_rows.specs.declared.stimulus.StimFault.{StimFault}
 use Rattle.vw_rows.specs.declared.scan.Adds.{Adds}
 use Rattle.vw_rows.specs.declared.scan.Adds.TheVariants.{Nothing, Row, Copies}
 use Rattle.vw_rows.specs.declared.scan.Scan.{Scan}
-use Rattle.vw_rows.specs.Stimulus.{line_words, rows_added, last_row, within_run, behind, rows_of_lines, is_text_fault}
+use Rattle.vw_rows.specs.Stimulus.{line_words, rows_added, last_row, within_run, behind, rows_of_lines}
 use Rattle.vw_rows.specs.Steps.Lines.{IsLine}
 
 -- how many rows a line adds
@@ -53,10 +53,13 @@ EndsLine old new (Ok adds) = ((line : List ℕ) → IsLine line old.line → Add
 EndsLine old new (Err fault) = (line : List ℕ) → IsLine line old.line → length line < 2 ^ 63
     → (before : List Bool) → within_run old.clocks (rows_added old.width old.number before (line_words line)) ≡ Err fault
 
--- some bytes were read, and before the line that is being read there are these rows; behind the row before all and so many others, this is what comes of all bytes
-pub record IsReadSoFar (first : List Bool) (base : ℕ) (total : List ℕ → Result (List (List Bool)) StimFault) (read : List ℕ) (scan : Scan) (rows : List (List Bool)) : Type 0 where
+-- some bytes were read, and before the line that is being read there are these rows; behind the row before all and so many others, this is what comes of all bytes, of which the first line has this number
+pub record IsReadSoFar (first : List Bool) (base start : ℕ) (total : List ℕ → Result (List (List Bool)) StimFault) (read : List ℕ) (scan : Scan) (rows : List (List Bool)) : Type 0 where
   pub line : List ℕ
   pub is : IsLine line scan.line
   pub short : length line ≤ length read
   pub clocks : scan.clocks ≡ base + length rows
+  pub lines : List (List ℕ)
+  pub place : (rest : List ℕ) → text_lines (read ++ rest) ≡ lines ++ text_lines (line ++ rest)
+  pub number : scan.number ≡ start + length lines
   pub left : (rest : List ℕ) → total (read ++ rest) ≡ behind rows (rows_of_lines scan.width scan.number scan.clocks (last_row first rows) (text_lines (line ++ rest)))

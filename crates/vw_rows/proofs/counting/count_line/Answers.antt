@@ -1,5 +1,5 @@
 -- A line goes on, or ends and is counted, or is at fault.
-use Rattle.std.proofs.Common.{◌≡◌, ◌+◌, ℕ, Bool, List, true, false, take, length, sym, ◌∙◌, ap, subst, arith, MatchBool}
+use Rattle.std.proofs.Common.{◌+◌, ℕ, Bool, List, sym, ◌∙◌, ap, subst, arith, MatchBool}
 use Rattle.std.proofs.lemmas.Result.{err_from_is_err_and}
 use Rattle.std.proofs.lemmas.List.{take_all}
 use Rattle.vw_rows.specs.declared.scan.Scan.{Scan}

@@ -1,6 +1,5 @@
 -- what was read so far of the piece, and what is left of it
-use Rattle.std.proofs.Common.{◌≡◌, ◌≤◌, ◌+◌, ◌++◌, ℕ, List, length}
-use Rattle.vw_rows.specs.Steps.Counting.{IsReadFurther}
+use Rattle.std.proofs.Common.{◌≡◌, ◌≤◌, ◌+◌, length}
 use Rattle.vw_rows.proofs.CountedRows.{IsReadPart}
 use Rattle.vw_rows.proofs.counting.count_piece.Given as goal
 

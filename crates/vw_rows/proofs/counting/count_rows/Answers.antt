@@ -1,9 +1,9 @@
 -- A piece more, a fault in a piece or in the last line, and the end of the text.
-use Rattle.std.proofs.Common.{◌≡◌, ◌<◌, ◌≤◌, ◌+◌, ℕ, List, take, length, refl, ◌∙◌, ap, arith}
+use Rattle.std.proofs.Common.{◌≡◌, ◌<◌, ◌≤◌, ℕ, List, take, length, refl, ◌∙◌, ap, arith}
 use Rattle.std.proofs.lemmas.Result.{err_from_is_err_and}
 use Rattle.std.proofs.lemmas.List.{length-take}
-use Rattle.vw_outside.specs.Told.{Told, absent, held}
-use Rattle.vw_outside.specs.Reads.{SeenShelf, Fills}
+use Rattle.vw_outside.specs.Told.{absent, held}
+use Rattle.vw_outside.specs.Reads.{Fills}
 use Rattle.vw_rows.specs.declared.scan.Scan.{Scan}
 use Rattle.vw_rows.proofs.CountedText.{told_same, counted_at_start, counted_further, rows_counted, last_at_fault, piece_at_fault}
 use Rattle.vw_rows.proofs.counting.count_rows.Goals as goal

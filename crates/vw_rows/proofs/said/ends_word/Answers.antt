@@ -3,7 +3,6 @@ use Rattle.std.proofs.Common.{◌≡◌, ◌++◌, ℕ, Bool, List, length, refl
 use Rattle.std.specs.Prelude.{codes}
 use Rattle.vw_text.specs.WordLines.{words_of}
 use Rattle.vw_rows.specs.declared.said.Said.{Said}
-use Rattle.vw_rows.specs.declared.said.Said.TheVariants.{Bits, Dash, Letters, Number}
 use Rattle.vw_rows.specs.Steps.Saying.{IsSaid, SpellsRow, counted}
 use Rattle.vw_rows.proofs.SaidWords.{is_row, some_bits, some_digits, is_times, word_done, word_done_behind, letters_end}
 use Rattle.vw_rows.proofs.said.ends_word.Goals as goal

@@ -1,6 +1,6 @@
 -- A number that ends, or is too large, or goes on.
-use Rattle.std.proofs.Common.{◌≡◌, ◌+◌, ◌*◌, ◌-◌, ◌<◌, ◌≤◌, true, false, sym, ◌∙◌, ap, arith}
-use Rattle.vw_text.specs.Number.{is_digit, value_from}
+use Rattle.std.proofs.Common.{◌≡◌, ◌+◌, ◌*◌, ◌-◌, ◌<◌, sym, ◌∙◌, ap, arith}
+use Rattle.vw_text.specs.Number.{value_from}
 use Rattle.vw_rows.proofs.SaidWords.{bad_second, stops_at_zero, stops_at_other, stops_when_large, number_longer, value_longer, some_digit, not_digit}
 use Rattle.vw_rows.proofs.said.number_with.Goals as goal
 

@@ -1,5 +1,5 @@
 -- A comment that goes on, and one that begins.
-use Rattle.std.proofs.Common.{◌≡◌, ◌<◌, ◌==◌, ◌||◌, ℕ, false, length, slice_index, sym, ◌∙◌, ap, arith}
+use Rattle.std.proofs.Common.{◌≡◌, ◌<◌, ◌==◌, ◌||◌, length, slice_index, sym, ◌∙◌, ap, arith}
 use Rattle.std.proofs.lemmas.Bool.{eqb-true, ne_eqb}
 use Rattle.vw_rows.proofs.LineFronts.{comment_taken, comment_begun}
 use Rattle.vw_rows.proofs.line_so_far.LineSoFar.take.Goals as goal

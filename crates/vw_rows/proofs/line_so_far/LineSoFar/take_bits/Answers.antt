@@ -1,5 +1,5 @@
 -- Bits are taken at once.
-use Rattle.std.proofs.Common.{◌≡◌, ◌<◌, ◌≤◌, ◌+◌, ◌-◌, ◌∙◌, take, drop, length, ap, sym, subst, refl, arith}
+use Rattle.std.proofs.Common.{◌≡◌, ◌<◌, take, length, sym, arith}
 use Rattle.std.proofs.lemmas.List.{length-take-le}
 use Rattle.vw_rows.proofs.LineFronts.{run_taken}
 use Rattle.vw_rows.proofs.line_so_far.LineSoFar.take_bits.Goals as goal

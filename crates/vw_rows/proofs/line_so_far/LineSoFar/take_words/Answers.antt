@@ -1,5 +1,5 @@
 -- Bits at once, and then byte by byte.
-use Rattle.std.proofs.Common.{◌≡◌, ◌+◌, ◌<◌, ◌==◌, ◌||◌, ◌++◌, [], ℕ, List, true, length, take, drop, slice_index, sym, ◌∙◌, ap, subst, arith}
+use Rattle.std.proofs.Common.{◌≡◌, ◌<◌, ◌==◌, ◌||◌, ◌++◌, [], ℕ, List, true, length, take, slice_index, sym, ◌∙◌, ap, subst, arith}
 use Rattle.std.proofs.lemmas.Result.{err_from_is_err_and}
 use Rattle.std.proofs.lemmas.List.{take-append-drop, append-nil, get_or-drop, length-drop}
 use Rattle.vw_rows.specs.Steps.Lines.{GoesOnByFront}

@@ -1,6 +1,5 @@
 -- With the line there are too many rows, or it is counted.
-use Rattle.std.proofs.Common.{◌≡◌, ◌+◌, ◌-◌, ◌^◌, ◌≤◌, ℕ, min, ap, ◌∙◌, arith}
-use Rattle.vw_rows.specs.declared.scan.Scan.{Scan}
+use Rattle.std.proofs.Common.{◌≡◌, ◌+◌, ◌-◌, ◌^◌, ◌≤◌, ℕ, min, ap, arith}
 use Rattle.vw_rows.specs.Steps.Scans.{count_of}
 use Rattle.vw_rows.proofs.ScannedLines.{too_many_clocks, counted_line}
 use Rattle.vw_rows.proofs.scan.Scan.end.Goals as goal

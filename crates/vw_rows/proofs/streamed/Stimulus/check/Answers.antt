@@ -1,7 +1,7 @@
 -- A text that is too large, one with a fault, and one with rows.
-use Rattle.std.proofs.Common.{◌≡◌, ◌<◌, ◌≤◌, ℕ, List, Bool, length, subst, MatchBool}
-use Rattle.vw_outside.specs.Told.{absent, held}
-use Rattle.vw_rows.proofs.CheckedTexts.{text_too_large, fault_checked, rows_checked}
+use Rattle.std.proofs.Common.{◌≡◌, ◌<◌, ◌≤◌, Bool, length, subst, MatchBool}
+use Rattle.vw_outside.specs.Told.{absent}
+use Rattle.vw_rows.proofs.CheckedTexts.{text_too_large}
 use Rattle.vw_rows.proofs.streamed.Stimulus.check.Goals as goal
 
 pub returns-then-branch-clause-checks : goal.returns-then-branch-clause-checks
