@@ -8,13 +8,13 @@ use Rattle.vw_plan.specs.declared.board.Board.{Board}
 use Rattle.vw_plan.specs.Walks.{IsWalk, IsJoined}
 use Rattle.vw_board.specs.declared.fault.BoardFault.{BoardFault}
 use Rattle.vw_board.specs.declared.fault.BoardFault.TheVariants.{TooLarge, BadLine, BadNumber, SelfLink, DuplicateLink, PinsExceeded, Unreachable, NoMemory}
-use Rattle.vw_board.specs.Headers.{headers_fault, chips_of, cells_of, settle_of, pins_of}
+use Rattle.vw_board.specs.Headers.{headers_fault, version_of, chips_of, cells_of, settle_of, pins_of}
 use Rattle.vw_board.specs.LinkLines.{first_link_fault, links_of}
 use Rattle.vw_board.specs.Pins.{AreEnoughPins, IsFirstOver}
 
 -- the fault of the first line at fault
 abbrev pub line_fault : List Line → Option BoardFault
-line_fault lines = option_or (headers_fault lines) (first_link_fault (chips_of lines) [] (drop 5 lines))
+line_fault lines = option_or (headers_fault lines) (first_link_fault (version_of lines) (chips_of lines) [] (drop 5 lines))
 
 -- a pair of nodes comes before another: by the first, then by the second
 abbrev pub ComesBefore : ℕ → ℕ → ℕ → ℕ → Type 0

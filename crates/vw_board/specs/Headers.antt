@@ -13,7 +13,7 @@ pub record Header : Type 0 where
   pub greatest : ℕ
 
 abbrev pub board_header : Header
-board_header = record { word = codes "board"; least = 1; greatest = 1 }
+board_header = record { word = codes "board"; least = 1; greatest = 2 }
 
 abbrev pub chips_header : Header
 chips_header = record { word = codes "chips"; least = 1; greatest = 32 }
@@ -57,6 +57,9 @@ headers_fault lines =
 -- the number of the line at a place
 abbrev pub header_number : ℕ → List Line → ℕ
 header_number place lines = option_map_or (number_at 1) (slice_get lines place) 0
+
+abbrev pub version_of : List Line → ℕ
+version_of lines = header_number 0 lines
 
 abbrev pub chips_of : List Line → ℕ
 chips_of lines = header_number 1 lines

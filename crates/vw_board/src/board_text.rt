@@ -46,11 +46,12 @@ fn board_of(alloc: Global, lines: &[Line]) -> Result<Board, BoardFault>
     ensures refuses { IfErr result (RefusesLines lines.now) }
 {
     let head = read_head(lines)?;
-    let links = read_links(alloc, head.chips, &lines[5..])?;
+    let links = read_links(alloc, head.version, head.chips, &lines[5..])?;
     make_board(alloc, head, links)
 }
 
-/// The board that a text spells, or the fault of the text. Texts of up to 1,048,576 bytes are read. Of lines at fault
+/// The board that a text spells, or the fault of the text. Texts of up to 1,048,576 bytes are read. In a text that begins
+/// with `board 1` each link has a delay of 1, and in one that begins with `board 2` its delay stands on its line. Of lines at fault
 /// the first counts, and on a line the fault that stands first in `BoardFault`; pins are counted and walks are looked for
 /// only where no line is at fault.
 pub fn read(alloc: Global, bytes: &[u8]) -> Result<Board, BoardFault>

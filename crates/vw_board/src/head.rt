@@ -12,6 +12,8 @@ use vw_text::{Line, number};
 /// The numbers of the first five lines.
 #[derive(Clone, Copy)]
 pub struct BoardHead {
+    /// 1 or 2. Only in a text of version 2 the delays of links are written.
+    pub version: u32,
     pub chips: u32,
     pub cells: u32,
     pub settle: u32,
@@ -88,12 +90,13 @@ pub fn read_head(lines: &[Line]) -> Result<BoardHead, BoardFault>
     ensures fault { IfErr result (λ fault. headers_fault lines.now ≡ Some fault) }
     ensures of_line { IfErr result (λ fault. IsTrue (is_line_fault fault)) }
 {
-    header(lines, 0, b"board", 1, 1)?;
+    let version = header(lines, 0, b"board", 1, 2)?;
     let chips = header(lines, 1, b"chips", 1, 32)?;
     let cells = header(lines, 2, b"cells", 1, 65_536)?;
     let settle = header(lines, 3, b"settle", 0, 15)?;
     let pins = header(lines, 4, b"pins", 1, 4_096)?;
     Ok(BoardHead {
+        version,
         chips,
         cells,
         settle,

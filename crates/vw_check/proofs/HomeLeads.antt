@@ -1,5 +1,5 @@
 -- Leads of nets at their own nodes, as gates are gone over in their order.
-use Rattle.std.proofs.Common.{◌≡◌, ◌<◌, ◌≤◌, ◌+◌, ◌-◌, ◌^◌, ◌||◌, ℕ, Bool, true, false, List, [], length, take, replicate, get_or, set, slice_get, slice_index, slice_index_or, nat_lt, if◌then◌else◌, eqb, ap, ap₂, refl, sym, ◌∙◌, ⊎_elim, eq-eqb, le-ltb, eqb-true, true≢false, subst, Option, Some, None, All, arith}
+use Rattle.std.proofs.Common.{◌≡◌, ◌<◌, ◌≤◌, ◌+◌, ◌-◌, ◌^◌, ◌||◌, ◌&&◌, ℕ, Bool, true, false, List, [], length, take, replicate, get_or, set, slice_get, slice_index, slice_index_or, nat_lt, if◌then◌else◌, eqb, ap, ap₂, refl, sym, ◌∙◌, ⊎_elim, eq-eqb, le-ltb, eqb-true, true≢false, subst, Option, Some, None, All, arith}
 use Rattle.std.proofs.Math.Bool.{or-false}
 use Rattle.std.proofs.lemmas.Bool.{cases_Bool, cases_eq, cases_lt, or_cases}
 use Rattle.std.proofs.lemmas.Grind.{get_or-set_at}
@@ -8,14 +8,15 @@ use Rattle.std.proofs.lemmas.List.Elements.{All-replicate, All-set, All-weaker}
 use Rattle.std.proofs.lemmas.List.Sums.{AllPass-from_list_all}
 use Rattle.vw_net.specs.declared.cell.Cell.{Cell}
 use Rattle.vw_net.specs.declared.cell.Cell.TheVariants.{Gate, Latch}
-use Rattle.vw_net.specs.Order.{is_latch, is_ready, read_nets_at}
+use Rattle.vw_net.specs.Order.{is_gate, is_latch, is_ready, read_nets_at}
 use Rattle.vw_net.proofs.ReadyNets.{order_within, ready_before, all_ready}
 use Rattle.vw_plan.proofs.AlongOrder.{All-gate_reads}
 use Rattle.vw_plan.proofs.LeadLevels.{LeadsFollowDrivers}
 use Rattle.vw_plan.proofs.GreatestReads.{greatest_read-agree}
-use Rattle.vw_plan.specs.Lead.{brought_at, lead}
+use Rattle.vw_plan.specs.Lead.{brought_at, lead, usable}
 use Rattle.vw_plan.specs.Nets.{driving_cell, greatest_read}
 use Rattle.vw_plan.specs.PlannedBoard.{PlannedBoard, home}
+use Rattle.vw_leads.specs.Leads as by_table
 use Rattle.vw_check.specs.Steps.LeadTables.{AreLeads, lead_by}
 
 -- a latch has lead 0
@@ -111,13 +112,13 @@ module _ (planned : PlannedBoard) where
     -- what the list keeps: its length, that leads are low, and that what is ready is right
     pub record AreHomeLeads (done leads : List ℕ) : Type 0 where
       pub long : length leads ≡ inputs + length cells
-      pub low : All (λ number. number ≤ 2 ^ 62 + 1) leads
+      pub low : All (λ number. number < 2 ^ 63) leads
       pub right : AreLeadsRight done leads
 
-    pub more_kept : (place : ℕ) (leads : List ℕ) (net value : ℕ) → place < length order → net ≡ here place → value ≡ home_lead_at place leads → value ≤ 2 ^ 62 + 1 → AreHomeLeads (take place order) leads → AreHomeLeads (take (place + 1) order) (set leads net value)
+    pub more_kept : (place : ℕ) (leads : List ℕ) (net value : ℕ) → place < length order → net ≡ here place → value ≡ home_lead_at place leads → value < 2 ^ 63 → AreHomeLeads (take place order) leads → AreHomeLeads (take (place + 1) order) (set leads net value)
     more_kept place leads net value within same_net same_value low_value kept = record {
       long = length-set leads net value ∙ kept.long;
-      low = All-set (λ number. number ≤ 2 ^ 62 + 1) leads net value low_value kept.low;
+      low = All-set (λ number. number < 2 ^ 63) leads net value low_value kept.low;
       right = λ at ready. ap₂ (λ (to written : ℕ). slice_index_or (set leads to written) at 0) same_net same_value ∙ more_right place leads within (omega (arith, kept.long)) kept.right at ready;
     }
 
@@ -133,6 +134,14 @@ module _ (planned : PlannedBoard) where
     pub start_kept : (leads : List ℕ) (count : ℕ) → leads ≡ replicate count 0 → count ≡ inputs + length cells → AreHomeLeads [] leads
     start_kept leads count zeros all = record {
       long = ap length zeros ∙ length-replicate count 0 ∙ all;
-      low = subst (All (λ number. number ≤ 2 ^ 62 + 1)) (sym zeros) (All-replicate (λ number. number ≤ 2 ^ 62 + 1) count 0 (omega arith));
+      low = subst (All (λ number. number < 2 ^ 63)) (sym zeros) (All-replicate (λ number. number < 2 ^ 63) count 0 (omega arith));
       right = λ net ready. ap (λ (list : List ℕ). slice_index_or list net 0) zeros ∙ zero_at count net ∙ sym (start_lead net ready);
     }
+
+    -- so what is known of moments is right
+    pub moments_right : (leads items chips : List ℕ) (settle : ℕ) (arrived : ℕ → ℕ → ℕ) → AreLeads planned leads → items ≡ leads → chips ≡ planned.plan.chip_of → settle ≡ planned.board.settle → arrived ≡ (λ net node. brought_at planned node net)
+        → (node net : ℕ) → net < planned.ordered.flat.inputs + length planned.ordered.flat.cells → by_table.usable_by planned.ordered.flat chips settle arrived items node net ≡ usable planned node net
+    moments_right leads items chips settle arrived are items_are chips_are settle_is arrived_is node net within =
+        ap₂ (λ (list : List ℕ) (time : ℕ). by_table.usable_by planned.ordered.flat list time arrived items node net) chips_are settle_is
+        ∙ ap₂ (λ (brought : ℕ → ℕ → ℕ) (list : List ℕ). by_table.usable_by planned.ordered.flat planned.plan.chip_of planned.board.settle brought list node net) arrived_is items_are
+        ∙ ap (λ (lead : ℕ). lead + (if is_gate (driving_cell planned.ordered.flat net) && eqb (home planned net) node then planned.board.settle else 0)) (right_lead leads node net (are.leads_at net (omega (arith, within, are.nets))))

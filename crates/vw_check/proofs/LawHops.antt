@@ -84,30 +84,30 @@ goes_from_leads links from to (hop ∷ next ∷ hops) leads all =
 
 -- ---- rising microcycles: hop by hop, and as a whole
 
-later_later : (first : Hop) (hops : List Hop) (number : ℕ) (hop : Hop) → is_later (first ∷ hops) (suc number) hop ≡ true → is_later hops number hop ≡ true
-later_later first hops zero hop is = refl
-later_later first hops (suc number) hop is = is
+later_later : (links : List Link) (first : Hop) (hops : List Hop) (number : ℕ) (hop : Hop) → is_later links (first ∷ hops) (suc number) hop ≡ true → is_later links hops number hop ≡ true
+later_later links first hops zero hop is = refl
+later_later links first hops (suc number) hop is = is
 
-later_step : (first : Hop) (hops : List Hop) (number : ℕ) (hop : Hop) → 1 ≤ number → is_later hops number hop ≡ true → is_later (first ∷ hops) (suc number) hop ≡ true
-later_step first hops zero hop some is = absurd (omega arith)
-later_step first hops (suc number) hop some is = is
+later_step : (links : List Link) (first : Hop) (hops : List Hop) (number : ℕ) (hop : Hop) → 1 ≤ number → is_later links hops number hop ≡ true → is_later links (first ∷ hops) (suc number) hop ≡ true
+later_step links first hops zero hop some is = absurd (omega arith)
+later_step links first hops (suc number) hop some is = is
 
-pub rises_from_later : (hops : List Hop) → EachAt (λ number hop. is_later hops number hop ≡ true) 0 hops → rises hops ≡ true
-rises_from_later [] each = refl
-rises_from_later (hop ∷ []) each = refl
-rises_from_later (hop ∷ next ∷ hops) each =
-    and_from (nat_lt (arrival hop) next.at) (rises (next ∷ hops)) each.1.0
-    (rises_from_later (next ∷ hops)
-    (each_shift (λ number one. is_later (hop ∷ next ∷ hops) number one ≡ true) (λ number one. is_later (next ∷ hops) number one ≡ true) 0 (next ∷ hops)
-    (λ number one below is. later_later hop (next ∷ hops) number one is) each.1))
+pub rises_from_later : (links : List Link) (hops : List Hop) → EachAt (λ number hop. is_later links hops number hop ≡ true) 0 hops → rises links hops ≡ true
+rises_from_later links [] each = refl
+rises_from_later links (hop ∷ []) each = refl
+rises_from_later links (hop ∷ next ∷ hops) each =
+    and_from (nat_lt (arrival links hop) next.at) (rises links (next ∷ hops)) each.1.0
+    (rises_from_later links (next ∷ hops)
+    (each_shift (λ number one. is_later links (hop ∷ next ∷ hops) number one ≡ true) (λ number one. is_later links (next ∷ hops) number one ≡ true) 0 (next ∷ hops)
+    (λ number one below is. later_later links hop (next ∷ hops) number one is) each.1))
 
-pub later_from_rises : (hops : List Hop) → rises hops ≡ true → EachAt (λ number hop. is_later hops number hop ≡ true) 0 hops
-later_from_rises [] is = tt
-later_from_rises (hop ∷ []) is = (refl, tt)
-later_from_rises (hop ∷ next ∷ hops) is =
-    let parts = and_parts (nat_lt (arrival hop) next.at) (rises (next ∷ hops)) is in
-    let rest = later_from_rises (next ∷ hops) parts.1 in
-    (refl, (parts.0, each_unshift (λ number one. is_later (hop ∷ next ∷ hops) number one ≡ true) (λ number one. is_later (next ∷ hops) number one ≡ true) 1 hops (λ number one above below later. later_step hop (next ∷ hops) number one above later) rest.1))
+pub later_from_rises : (links : List Link) (hops : List Hop) → rises links hops ≡ true → EachAt (λ number hop. is_later links hops number hop ≡ true) 0 hops
+later_from_rises links [] is = tt
+later_from_rises links (hop ∷ []) is = (refl, tt)
+later_from_rises links (hop ∷ next ∷ hops) is =
+    let parts = and_parts (nat_lt (arrival links hop) next.at) (rises links (next ∷ hops)) is in
+    let rest = later_from_rises links (next ∷ hops) parts.1 in
+    (refl, (parts.0, each_unshift (λ number one. is_later links (hop ∷ next ∷ hops) number one ≡ true) (λ number one. is_later links (next ∷ hops) number one ≡ true) 1 hops (λ number one above below later. later_step links hop (next ∷ hops) number one above later) rest.1))
 
 -- ---- a test of each hop of each wire
 

@@ -98,24 +98,24 @@ module _ (planned : PlannedBoard) where
 
   -- ---- microcycles
 
-  pub rising : out_of_order plan ≡ None → past_period plan ≡ None → All (IsRising planned) plan.wires
+  pub rising : out_of_order board plan ≡ None → past_period board plan ≡ None → All (IsRising planned) plan.wires
   rising order period i default below =
       let wire = get_or plan.wires i default in record {
-        later = rises_from_later wire.hops (each_passes plan (λ one place hop. is_later one.hops place hop) OutOfOrder order i default below);
-        within = All-weaker (λ hop. nat_lt (arrival hop) plan.period ≡ true) (λ hop. arrival hop < plan.period) (λ hop got. ltb-true (arrival hop) plan.period got) wire.hops
-            (each_all (λ hop. nat_lt (arrival hop) plan.period ≡ true) 0 wire.hops (each_passes plan (λ one place hop. nat_lt (arrival hop) plan.period) PastPeriod period i default below));
+        later = rises_from_later board.links wire.hops (each_passes plan (λ one place hop. is_later board.links one.hops place hop) OutOfOrder order i default below);
+        within = All-weaker (λ hop. nat_lt (arrival board.links hop) plan.period ≡ true) (λ hop. arrival board.links hop < plan.period) (λ hop got. ltb-true (arrival board.links hop) plan.period got) wire.hops
+            (each_all (λ hop. nat_lt (arrival board.links hop) plan.period ≡ true) 0 wire.hops (each_passes plan (λ one place hop. nat_lt (arrival board.links hop) plan.period) PastPeriod period i default below));
       }
 
-  pub no_out_of_order : All (IsRising planned) plan.wires → out_of_order plan ≡ None
+  pub no_out_of_order : All (IsRising planned) plan.wires → out_of_order board plan ≡ None
   no_out_of_order all =
-      passes_none plan (λ one place hop. is_later one.hops place hop) OutOfOrder
-      (All-weaker (IsRising planned) (Passes plan (λ one place hop. is_later one.hops place hop) OutOfOrder) (λ wire its. later_from_rises wire.hops its.later) plan.wires all)
+      passes_none plan (λ one place hop. is_later board.links one.hops place hop) OutOfOrder
+      (All-weaker (IsRising planned) (Passes plan (λ one place hop. is_later board.links one.hops place hop) OutOfOrder) (λ wire its. later_from_rises board.links wire.hops its.later) plan.wires all)
 
-  pub no_past_period : All (IsRising planned) plan.wires → past_period plan ≡ None
+  pub no_past_period : All (IsRising planned) plan.wires → past_period board plan ≡ None
   no_past_period all =
-      passes_none plan (λ one place hop. nat_lt (arrival hop) plan.period) PastPeriod
-      (All-weaker (IsRising planned) (Passes plan (λ one place hop. nat_lt (arrival hop) plan.period) PastPeriod)
-      (λ wire its. all_each (λ hop. nat_lt (arrival hop) plan.period ≡ true) 0 wire.hops (All-weaker (λ hop. arrival hop < plan.period) (λ hop. nat_lt (arrival hop) plan.period ≡ true) (λ hop got. lt-ltb (arrival hop) plan.period got) wire.hops its.within)) plan.wires all)
+      passes_none plan (λ one place hop. nat_lt (arrival board.links hop) plan.period) PastPeriod
+      (All-weaker (IsRising planned) (Passes plan (λ one place hop. nat_lt (arrival board.links hop) plan.period) PastPeriod)
+      (λ wire its. all_each (λ hop. nat_lt (arrival board.links hop) plan.period ≡ true) 0 wire.hops (All-weaker (λ hop. arrival board.links hop < plan.period) (λ hop. nat_lt (arrival board.links hop) plan.period ≡ true) (λ hop got. lt-ltb (arrival board.links hop) plan.period got) wire.hops its.within)) plan.wires all)
 
   -- ---- what the faults break
 
@@ -135,10 +135,10 @@ module _ (planned : PlannedBoard) where
   bad_pin_breaks fault is =
       search_is plan (λ wire place hop. has_pin board.links hop) BadPin (Breaks planned) (λ number place sound. none-some fault (sym (no_bad_pin sound) ∙ is)) fault is
 
-  pub out_of_order_breaks : (fault : PlanFault) → out_of_order plan ≡ Some fault → Breaks planned fault
+  pub out_of_order_breaks : (fault : PlanFault) → out_of_order board plan ≡ Some fault → Breaks planned fault
   out_of_order_breaks fault is =
-      search_is plan (λ one place hop. is_later one.hops place hop) OutOfOrder (Breaks planned) (λ number place sound. none-some fault (sym (no_out_of_order sound) ∙ is)) fault is
+      search_is plan (λ one place hop. is_later board.links one.hops place hop) OutOfOrder (Breaks planned) (λ number place sound. none-some fault (sym (no_out_of_order sound) ∙ is)) fault is
 
-  pub past_period_breaks : (fault : PlanFault) → past_period plan ≡ Some fault → Breaks planned fault
+  pub past_period_breaks : (fault : PlanFault) → past_period board plan ≡ Some fault → Breaks planned fault
   past_period_breaks fault is =
-      search_is plan (λ one place hop. nat_lt (arrival hop) plan.period) PastPeriod (Breaks planned) (λ number place sound. none-some fault (sym (no_past_period sound) ∙ is)) fault is
+      search_is plan (λ one place hop. nat_lt (arrival board.links hop) plan.period) PastPeriod (Breaks planned) (λ number place sound. none-some fault (sym (no_past_period sound) ∙ is)) fault is

@@ -6,14 +6,10 @@ pub mod LawClashes
 pub mod LawMoments
 pub mod LawWires
 pub mod SoundPlans
-pub mod FirstPairs
-pub mod FirstPlaces
 pub mod LinkWidths
-pub mod LastHops
 pub mod Clashes
 pub mod WiresBrought
 pub mod ChipRange
-pub mod PushedElements
 pub mod HomeLeads
 pub mod ListSearches
 pub mod WireTables

@@ -1,8 +1,6 @@
 -- Links by their widths: where there is none, there are 0 pins.
-use Rattle.std.proofs.Common.{◌≡◌, ◌≤◌, ◌&&◌, ℕ, suc, Bool, true, false, not, List, [], ◌∷◌, get_or, slice_get, nat_lt, eqb, Option, Some, None, ap, ap₂, refl, sym, ◌∙◌, ⊎_elim, All, ne_eqb, eqb-true, arith}
+use Rattle.std.proofs.Common.{◌≡◌, ◌≤◌, ◌&&◌, ℕ, suc, true, false, not, List, [], ◌∷◌, get_or, nat_lt, eqb, refl, sym, ◌∙◌, ⊎_elim, All, ne_eqb, eqb-true, arith}
 use Rattle.std.specs.List.{AllPairs}
-use Rattle.std.specs.Option.{option_map_or}
-use Rattle.std.specs.HashMap.{HashMap}
 use Rattle.std.proofs.Math.Bool.{or-false}
 use Rattle.std.proofs.lemmas.Bool.{cases_Bool, and_left, and_parts, false_from_ne_true, le-ltb}
 use Rattle.std.proofs.lemmas.List.Elements.{All-head, All-tail}
@@ -13,29 +11,6 @@ use Rattle.vw_plan.specs.Links.{HaveSameEnds}
 use Rattle.vw_plan.specs.Sound.{has_pin}
 use Rattle.vw_plan.specs.Walks.{has_link}
 use Rattle.vw_check.specs.Steps.Rules.{width_between}
-use Rattle.vw_check.specs.Pairs.{HasPairs, is_number_pair, pair_in}
-use Rattle.vw_check.specs.Steps.Tables.{link_pairs}
-use Rattle.vw_net.proofs.Orders.{eqb_comm}
-use Rattle.vw_check.proofs.FirstPlaces.{LeadsTo, leads}
-
-module _ (from to : ℕ) where
-  abbrev pub joins : Link → Bool
-  joins link = eqb link.from from && eqb link.to to
-
-  pub joins_by_pair : (link : Link) → joins link ≡ is_number_pair from to (link.from, link.to)
-  joins_by_pair link = ap₂ (λ (first second : Bool). first && second) (eqb_comm link.from from) (eqb_comm link.to to)
-
--- what a table of the links finds
-pub link_leads : {S : Type 0} (links : List Link) (table : HashMap (ℕ × ℕ) ℕ S) → HasPairs (link_pairs links) table → (from to : ℕ) → LeadsTo (joins from to) links (pair_in table from to)
-link_leads links table has from to = leads (λ (link : Link). (link.from, link.to)) (joins from to) from to (joins_by_pair from to) links table has
-
-module _ (links : List Link) (from to : ℕ) where
-  -- the width of the link at the place that a table has
-  pub width_at : (place : ℕ) (link : Link) → slice_get links place ≡ Some link → LeadsTo (joins from to) links (Some place) → link.width ≡ width_between links from to
-  width_at place link is leads = ap (λ (found : Option Link). option_map_or (λ (one : Link). one.width) found 0) (sym is ∙ leads.1)
-
-  pub width_none : LeadsTo (joins from to) links None → 0 ≡ width_between links from to
-  width_none leads = ap (λ (found : Option Link). option_map_or (λ (one : Link). one.width) found 0) (sym leads)
 
 -- there is a link where there are pins
 pub has_link-width : (links : List Link) → All (λ link. (1 ≤ link.width) × (link.width ≤ 64)) links → (from to : ℕ) → has_link links from to ≡ not (eqb (width_between links from to) 0)

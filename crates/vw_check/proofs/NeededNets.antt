@@ -1,20 +1,15 @@
--- Which nets are needed at all, and what a plan without some faults has.
-use Rattle.std.proofs.Common.{◌≡◌, ◌<◌, ◌≤◌, ◌+◌, ◌&&◌, ◌||◌, ℕ, zero, suc, Bool, true, false, not, List, [], ◌∷◌, length, take, get_or, eqb, Option, None, refl, sym, subst, ⊎_elim, true≢false, eqb-true, All, arith}
+-- What a plan without some faults has.
+use Rattle.std.proofs.Common.{◌≡◌, ◌<◌, ◌≤◌, ◌+◌, ◌&&◌, ℕ, zero, suc, Bool, true, false, not, List, [], ◌∷◌, length, take, get_or, eqb, Option, None, refl, subst, true≢false, eqb-true, All, arith}
 use Rattle.std.specs.Prelude.{nat_le}
-use Rattle.std.specs.List.{list_any, zip}
 use Rattle.std.specs.Option.{option_or}
-use Rattle.std.proofs.lemmas.Bool.{and_parts, or_cases, not-true}
-use Rattle.std.proofs.lemmas.List.Elements.{All-head, All-tail}
-use Rattle.vw_net.proofs.Orders.{among_below}
+use Rattle.std.proofs.lemmas.Bool.{and_parts, not-true}
 use Rattle.vw_net.proofs.FirstOptions.{or_none}
-use Rattle.vw_net.specs.declared.cell.Cell.{Cell}
 use Rattle.vw_net.specs.declared.flat.Flat.{Flat}
-use Rattle.vw_net.specs.Cells.{IsWellFormed, read_nets}
-use Rattle.vw_net.specs.Order.{is_among}
 use Rattle.vw_plan.specs.declared.board.Board.{Board}
 use Rattle.vw_plan.specs.declared.plan.Plan.{Plan}
 use Rattle.vw_plan.specs.declared.wire.Wire.{Wire}
-use Rattle.vw_plan.specs.Nets.{is_needed, is_read_at, node_of}
+use Rattle.vw_plan.specs.Nets.{is_needed}
+use Rattle.vw_plan.proofs.NeededNets.{needed_net}
 use Rattle.vw_check.specs.declared.fault.PlanFault.{PlanFault}
 use Rattle.vw_check.specs.declared.fault.PlanFault.TheVariants.{BadChip, ExtraWire, WrongCells}
 use Rattle.vw_check.specs.FirstFound.{first_at, found_unless}
@@ -36,26 +31,6 @@ none_at found from (x ∷ xs) none (suc place) default within =
 passed : (test : Bool) (fault : PlanFault) → found_unless test fault ≡ None → test ≡ true
 passed true fault none = refl
 passed false fault none = cc
-
--- ---- nets that are needed
-
-read_net : (chips : List ℕ) (cells : List Cell) (net node past : ℕ) → All (IsWellFormed past) cells → list_any (λ (placed : ℕ × Cell). eqb placed.0 node && is_among (read_nets placed.1) net) (zip chips cells) ≡ true → net < past
-read_net [] cells net node past fit reads = absurd (true≢false (sym reads))
-read_net (chip ∷ chips) [] net node past fit reads = absurd (true≢false (sym reads))
-read_net (chip ∷ chips) (cell ∷ cells) net node past fit reads =
-    let rest = list_any (λ (placed : ℕ × Cell). eqb placed.0 node && is_among (read_nets placed.1) net) (zip chips cells) in
-    let if_here = λ (here : (eqb chip node && is_among (read_nets cell) net) ≡ true). among_below (read_nets cell) net past (All-head (IsWellFormed past) cell cells fit).1 (and_parts (eqb chip node) (is_among (read_nets cell) net) here).1 in
-    let if_later = λ (later : rest ≡ true). read_net chips cells net node past (All-tail (IsWellFormed past) cell cells fit) later in
-    ⊎_elim if_here if_later (or_cases (eqb chip node && is_among (read_nets cell) net) rest reads)
-
--- a net that is needed is one of the nets
-pub needed_net : (flat : Flat) (chip_of : List ℕ) (net node : ℕ) → is_needed flat chip_of net node ≡ true → net < flat.inputs + length flat.cells
-needed_net flat chip_of net node needed =
-    let past = flat.inputs + length flat.cells in
-    let host = eqb node 0 && is_among flat.outputs net in
-    let if_read = λ (reads : is_read_at flat chip_of net node ≡ true). read_net chip_of flat.cells net node past flat.cells_fit reads in
-    let if_host = λ (at_host : host ≡ true). among_below flat.outputs net past flat.outputs_fit (and_parts (eqb node 0) (is_among flat.outputs net) at_host).1 in
-    ⊎_elim if_read if_host (or_cases (is_read_at flat chip_of net node) host (and_parts (not (eqb (node_of flat chip_of net) node)) (is_read_at flat chip_of net node || host) needed).1)
 
 -- ---- what a plan has
 

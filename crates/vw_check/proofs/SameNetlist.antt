@@ -72,7 +72,7 @@ module _ (board : Board) (plan : Plan) (one other : Ordered) (same : one.flat �
   fault_same =
       let cells = ap (λ (flat : Flat). cell_fault flat board plan) same in
       let wires = ap (λ (flat : Flat). wire_fault flat plan) same in
-      let hops = ap (λ (route : Option PlanFault). first_some (route ∷ bad_pin board plan ∷ out_of_order plan ∷ past_period plan ∷ pin_clash plan ∷ [])) route_same in
+      let hops = ap (λ (route : Option PlanFault). first_some (route ∷ bad_pin board plan ∷ out_of_order board plan ∷ past_period board plan ∷ pin_clash plan ∷ [])) route_same in
       let moments = ap₂ (λ (early : Option PlanFault) (late : Option PlanFault). first_some (early ∷ late ∷ []))
       (ap (λ (found : ℕ → _ → Option PlanFault). first_at found 0 plan.wires) early_same)
       (ap₂ (λ (found : ℕ → Cell → Option PlanFault) (flat : Flat). first_at found 0 flat.cells) late_same same) in

@@ -55,7 +55,7 @@ module _ (planned : PlannedBoard) where
   wires = missing_wire planned.ordered.flat planned.plan ∷ extra_wire planned.ordered.flat planned.plan ∷ []
 
   abbrev hops : List (Option PlanFault)
-  hops = broken_route planned ∷ bad_pin planned.board planned.plan ∷ out_of_order planned.plan ∷ past_period planned.plan ∷ pin_clash planned.plan ∷ []
+  hops = broken_route planned ∷ bad_pin planned.board planned.plan ∷ out_of_order planned.board planned.plan ∷ past_period planned.board planned.plan ∷ pin_clash planned.plan ∷ []
 
   abbrev moments : List (Option PlanFault)
   moments = too_early planned ∷ late_latch planned ∷ []

@@ -24,8 +24,8 @@ abbrev pub hop_fault : PlannedBoard → Option PlanFault
 hop_fault planned = first_some (
     broken_route planned
     ∷ bad_pin planned.board planned.plan
-    ∷ out_of_order planned.plan
-    ∷ past_period planned.plan
+    ∷ out_of_order planned.board planned.plan
+    ∷ past_period planned.board planned.plan
     ∷ pin_clash planned.plan
     ∷ [])
 

@@ -51,17 +51,17 @@ bad_pin board plan = first_hop (λ number wire place hop. found_unless (has_pin 
 -- ---- microcycles
 
 -- whether a hop is later than the arrival of the one before it
-abbrev pub is_later : List Hop → ℕ → Hop → Bool
-is_later hops zero hop = true
-is_later hops (suc number) hop = option_map_or (λ before. nat_lt (arrival before) hop.at) (slice_get hops number) true
+abbrev pub is_later : List Link → List Hop → ℕ → Hop → Bool
+is_later links hops zero hop = true
+is_later links hops (suc number) hop = option_map_or (λ before. nat_lt (arrival links before) hop.at) (slice_get hops number) true
 
--- the first hop that isn't later than the one before it
-abbrev pub out_of_order : Plan → Option PlanFault
-out_of_order plan = first_hop (λ number wire place hop. found_unless (is_later wire.hops place hop) (OutOfOrder number place)) plan
+-- the first hop that isn't later than the arrival of the one before it
+abbrev pub out_of_order : Board → Plan → Option PlanFault
+out_of_order board plan = first_hop (λ number wire place hop. found_unless (is_later board.links wire.hops place hop) (OutOfOrder number place)) plan
 
 -- the first hop that doesn't arrive before the period ends
-abbrev pub past_period : Plan → Option PlanFault
-past_period plan = first_hop (λ number wire place hop. found_unless (nat_lt (arrival hop) plan.period) (PastPeriod number place)) plan
+abbrev pub past_period : Board → Plan → Option PlanFault
+past_period board plan = first_hop (λ number wire place hop. found_unless (nat_lt (arrival board.links hop) plan.period) (PastPeriod number place)) plan
 
 -- ---- clashes
 

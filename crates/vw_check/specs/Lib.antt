@@ -1,6 +1,5 @@
 pub mod Steps
 pub mod FirstFound
-pub mod Pairs
 pub mod CellFaults
 pub mod WireFaults
 pub mod HopFaults

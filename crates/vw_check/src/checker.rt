@@ -1,23 +1,21 @@
 //! The first fault of a plan.
-ghost use Rattle.std.specs.Prelude.{◌≡◌, ◌<◌, ◌+◌, length, IfOk, IfErr};
-ghost use Rattle.std.specs.List.{All};
+ghost use Rattle.std.specs.Prelude.{◌≡◌, IfOk, IfErr};
 ghost use Rattle.vw_plan.specs.PlannedBoard.{planned_board};
 ghost use Rattle.vw_check.specs.Faults.{cell_fault, hop_fault, moment_fault, plan_fault};
 ghost use Rattle.vw_check.specs.Answers.{IsAcceptedPlan, IsRefusedPlan};
-ghost use Rattle.vw_check.specs.Pairs.{HasPairs};
-ghost use Rattle.vw_check.specs.Steps.Tables.{wire_pairs};
+ghost use Rattle.vw_check.specs.Steps.LeadTables.{planned_in};
 
 use crate::cells::{bad_chip, overfull, wrong_cells, zero_period};
 use crate::clash::pin_clash;
 use crate::fault::PlanFault;
 use crate::hops::{Rule, broken_route, first_breaking};
 use crate::laws::{faultless_plans_are_sound, faults_break_points};
-use crate::links::link_table;
-use crate::moments::{home_leads, late_latch, too_early};
-use crate::pairs::PairTable;
+use crate::moments::{arrivals_of, home_leads, late_latch, too_early};
 use crate::refused::CheckRefused;
+use crate::wired::Wired;
 use crate::wires::{wire_fault, wire_table};
 use std::alloc::{AllocError, Global};
+use vw_leads::{LinkTable, Moments};
 use vw_net::{Flat, Ordered};
 use vw_plan::{Board, Checked, Plan};
 
@@ -32,47 +30,35 @@ fn cell_fault(flat: &Flat, board: &Board, plan: &Plan) -> Option<PlanFault>
 }
 
 /// The first fault of the hops.
-fn hop_fault(
-    alloc: Global,
-    ordered: &Ordered,
-    board: &Board,
-    plan: &Plan,
-) -> Result<Option<PlanFault>, AllocError>
-    requires each { length plan.now.chip_of ≡ length ordered.now.flat.cells }
-    requires nets { All (λ wire. wire.net
-        < ordered.now.flat.inputs + length ordered.now.flat.cells) plan.now.wires }
-    ensures { IfOk result (λ found. found
-        ≡ hop_fault (planned_board ordered.now board.now plan.now)) }
+fn hop_fault(alloc: Global, wired: &Wired) -> Result<Option<PlanFault>, AllocError>
+    ensures { IfOk result (λ found. found ≡ hop_fault (planned_in wired.now)) }
 {
-    let links = link_table(alloc, board)?;
-    let found = broken_route(ordered, board, plan, &links)
-        .or(first_breaking(Rule::Pin, ordered, board, plan, &links))
-        .or(first_breaking(Rule::Order, ordered, board, plan, &links))
-        .or(first_breaking(Rule::Period, ordered, board, plan, &links));
+    let found = broken_route(wired)
+        .or(first_breaking(Rule::Pin, wired))
+        .or(first_breaking(Rule::Order, wired))
+        .or(first_breaking(Rule::Period, wired));
     if found.is_some() {
         return Ok(found);
     }
-    pin_clash(alloc, plan)
+    pin_clash(alloc, wired.plan)
 }
 
 /// The first fault of the moments at which nets are usable.
-fn moment_fault(
-    alloc: Global,
-    ordered: &Ordered,
-    board: &Board,
-    plan: &Plan,
-    wires: &PairTable,
-) -> Result<Option<PlanFault>, AllocError>
-    requires each { length plan.now.chip_of ≡ length ordered.now.flat.cells }
-    requires nets { All (λ wire. wire.net
-        < ordered.now.flat.inputs + length ordered.now.flat.cells) plan.now.wires }
-    requires wires { HasPairs (wire_pairs plan.now.wires) wires.now.places }
-    ensures { IfOk result (λ found. found
-        ≡ moment_fault (planned_board ordered.now board.now plan.now)) }
+fn moment_fault(alloc: Global, wired: &Wired) -> Result<Option<PlanFault>, AllocError>
+    ensures { IfOk result (λ found. found ≡ moment_fault (planned_in wired.now)) }
 {
-    let leads = home_leads(alloc, ordered, board, plan, wires)?;
-    let early = too_early(ordered, board, plan, wires, &leads);
-    Ok(early.or(late_latch(ordered, board, plan, wires, &leads)))
+    let arrivals = arrivals_of(alloc, wired)?;
+    let leads = home_leads(alloc, wired, arrivals.as_slice())?;
+    let known = Moments {
+        ordered: wired.ordered,
+        chip_of: wired.plan.chip_of(),
+        settle: wired.board.settle(),
+        places: wired.wires,
+        arrivals: arrivals.as_slice(),
+        leads: leads.as_slice(),
+    };
+    let early = too_early(wired, &known);
+    Ok(early.or(late_latch(wired, &known)))
 }
 
 /// The first fault of a plan.
@@ -94,11 +80,19 @@ fn plan_fault(
     if wires.is_some() {
         return Ok(wires);
     }
-    let hops = hop_fault(alloc, ordered, board, plan)?;
+    let links = LinkTable::of(alloc, board)?;
+    let wired = Wired {
+        ordered,
+        board,
+        plan,
+        wires: &table,
+        links: &links,
+    };
+    let hops = hop_fault(alloc, &wired)?;
     if hops.is_some() {
         return Ok(hops);
     }
-    moment_fault(alloc, ordered, board, plan, &table)
+    moment_fault(alloc, &wired)
 }
 
 /// Checks a plan: it is sound, or this is its first fault. The faults are tried in the order of their variants, each over the

@@ -26,9 +26,9 @@ pub enum PlanFault {
     BrokenRoute(u32, u32),
     /// The wire, and the hop whose pin its link doesn't have.
     BadPin(u32, u32),
-    /// The wire, and the hop that isn't later than the one before it.
+    /// The wire, and the hop that isn't later than the arrival of the one before it.
     OutOfOrder(u32, u32),
-    /// The wire, and the hop whose microcycle isn't below the period.
+    /// The wire, and the hop that doesn't arrive before the period ends.
     PastPeriod(u32, u32),
     /// The wire and the hop that come first, and the wire and the hop that use the same pin of the same link in the same
     /// microcycle.

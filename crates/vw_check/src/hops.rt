@@ -1,17 +1,15 @@
 //! Faults of the hops of wires, each by itself.
-ghost use Rattle.std.specs.Prelude.{◌≡◌, ◌<◌, ◌+◌, ◌^◌, length};
+ghost use Rattle.std.specs.Prelude.{◌≡◌, ◌≤◌, ◌<◌, ◌+◌, ◌^◌, length};
 ghost use Rattle.std.specs.List.{All};
-ghost use Rattle.vw_plan.specs.PlannedBoard.{planned_board};
 ghost use Rattle.vw_check.specs.HopFaults.{begins_at, broken_wire, broken_route, fits_route, is_later};
-ghost use Rattle.vw_check.specs.Pairs.{HasPairs};
-ghost use Rattle.vw_check.specs.Steps.Tables.{link_pairs};
+ghost use Rattle.vw_check.specs.Steps.LeadTables.{planned_in};
 ghost use Rattle.vw_check.specs.Steps.Rules.{first_breaking, first_in_wire, keeps, rule_fault};
 
 use crate::fault::PlanFault;
 use crate::links::width_between;
-use crate::pairs::PairTable;
-use vw_net::Ordered;
-use vw_plan::{Board, Hop, Plan, Wire, node_of};
+use crate::wired::Wired;
+use vw_leads::LinkTable;
+use vw_plan::{Hop, Wire, node_of};
 
 /// What is asked of each hop.
 #[derive(Clone, Copy)]
@@ -21,9 +19,9 @@ pub enum Rule {
     Route,
     /// Its link has its pin.
     Pin,
-    /// It is later than the hop before it.
+    /// It is later than the arrival of the hop before it.
     Order,
-    /// Its microcycle is below the period.
+    /// It arrives before the period ends.
     Period,
 }
 
@@ -51,78 +49,63 @@ fn begins_at(from: u32, hops: &[Hop], number: usize) -> u32
 }
 
 /// Whether a hop goes on with the route of its wire.
-fn fits_route(
-    board: &Board,
-    links: &PairTable,
-    from: u32,
-    wire: &Wire,
-    number: usize,
-    hop: &Hop,
-) -> bool
-    requires links { HasPairs (link_pairs board.now.links) links.now.places }
-    requires number { number < length wire.now.hops }
-    ensures { result ≡ fits_route board.now.links from wire.now number hop.now }
+fn fits_route(wired: &Wired, from: u32, wire: &Wire, number: usize, hop: &Hop) -> bool
+    requires { number < length wire.now.hops }
+    ensures { result ≡ fits_route wired.now.board.now.links from wire.now number hop.now }
 {
     let hops = wire.hops();
     if hop.from() != begins_at(from, hops, number) {
         return false;
     }
-    if width_between(board, links, hop.from(), hop.to()) == 0 {
+    if width_between(wired.links, hop.from(), hop.to()) == 0 {
         return false;
     }
     number + 1 < hops.len() || hop.to() == wire.to()
 }
 
-/// Whether a hop is later than the one before it.
-fn is_later(hops: &[Hop], number: usize, hop: &Hop) -> bool
-    requires { number < length hops.now }
-    ensures { result ≡ is_later hops.now number hop.now }
+/// Whether a hop is later than the arrival of the one before it.
+fn is_later(links: &LinkTable, hops: &[Hop], number: usize, hop: &Hop) -> bool
+    requires number { number < length hops.now }
+    requires early { All (λ hop. hop.at ≤ 2 ^ 62) hops.now }
+    ensures { result ≡ is_later links.now hops.now number hop.now }
 {
     if number == 0 {
         return true;
     }
-    hops[number - 1].at() < hop.at()
+    links.arrival(&hops[number - 1]) < hop.at()
 }
 
-/// Whether a hop keeps a rule, for a period; its wire begins at a node.
-fn keeps(
-    rule: Rule,
-    board: &Board,
-    period: u64,
-    links: &PairTable,
-    from: u32,
-    wire: &Wire,
-    number: usize,
-    hop: &Hop,
-) -> bool
-    requires links { HasPairs (link_pairs board.now.links) links.now.places }
+/// Whether a hop keeps a rule; its wire begins at a node.
+fn keeps(rule: Rule, wired: &Wired, from: u32, wire: &Wire, number: usize, hop: &Hop) -> bool
     requires number { number < length wire.now.hops }
-    ensures { result ≡ keeps rule board.now period from wire.now number hop.now }
+    requires early { All (λ hop. hop.at ≤ 2 ^ 62) wire.now.hops }
+    requires own { hop.now.at ≤ 2 ^ 62 }
+    ensures { result
+        ≡ keeps rule wired.now.board.now wired.now.plan.now.period from wire.now number hop.now }
 {
     match rule {
-        Rule::Route => fits_route(board, links, from, wire, number, hop),
-        Rule::Pin => hop.pin() < width_between(board, links, hop.from(), hop.to()),
-        Rule::Order => is_later(wire.hops(), number, hop),
-        Rule::Period => hop.at() < period,
+        Rule::Route => fits_route(wired, from, wire, number, hop),
+        Rule::Pin => hop.pin() < width_between(wired.links, hop.from(), hop.to()),
+        Rule::Order => is_later(wired.links, wire.hops(), number, hop),
+        Rule::Period => wired.links.arrival(hop) < wired.plan.period(),
     }
 }
 
 /// The first hop of a wire that breaks a rule.
 fn first_in_wire(
     rule: Rule,
-    board: &Board,
-    period: u64,
-    links: &PairTable,
+    wired: &Wired,
     from: u32,
     number: u32,
     wire: &Wire,
 ) -> Option<PlanFault>
-    requires links { HasPairs (link_pairs board.now.links) links.now.places }
     requires few { length wire.now.hops < 2 ^ 32 }
-    ensures { result ≡ first_in_wire rule board.now period from number wire.now }
+    requires early { All (λ hop. hop.at ≤ 2 ^ 62) wire.now.hops }
+    ensures { result
+        ≡ first_in_wire rule wired.now.board.now wired.now.plan.now.period from number wire.now }
 {
     for (place, hop) in wire.hops().iter().enumerate() {
-        if !keeps(rule, board, period, links, from, wire, place, hop) {
+        if !keeps(rule, wired, from, wire, place, hop) {
             return Some(rule_fault(rule, number, place as u32));
         }
     }
@@ -130,22 +113,12 @@ fn first_in_wire(
 }
 
 /// The first hop of all that breaks a rule.
-pub fn first_breaking(
-    rule: Rule,
-    ordered: &Ordered,
-    board: &Board,
-    plan: &Plan,
-    links: &PairTable,
-) -> Option<PlanFault>
-    requires each { length plan.now.chip_of ≡ length ordered.now.flat.cells }
-    requires nets { All (λ wire. wire.net
-        < ordered.now.flat.inputs + length ordered.now.flat.cells) plan.now.wires }
-    requires links { HasPairs (link_pairs board.now.links) links.now.places }
-    ensures { result ≡ first_breaking rule (planned_board ordered.now board.now plan.now) }
+pub fn first_breaking(rule: Rule, wired: &Wired) -> Option<PlanFault>
+    ensures { result ≡ first_breaking rule (planned_in wired.now) }
 {
-    for (number, wire) in plan.wires().iter().enumerate() {
-        let from = node_of(ordered.flat(), plan.chip_of(), wire.net());
-        let found = first_in_wire(rule, board, plan.period(), links, from, number as u32, wire);
+    for (number, wire) in wired.plan.wires().iter().enumerate() {
+        let from = node_of(wired.ordered.flat(), wired.plan.chip_of(), wire.net());
+        let found = first_in_wire(rule, wired, from, number as u32, wire);
         if found.is_some() {
             return found;
         }
@@ -154,42 +127,26 @@ pub fn first_breaking(
 }
 
 /// The first hop of a wire that breaks its route; hop 0 where there is none.
-fn broken_wire(
-    ordered: &Ordered,
-    board: &Board,
-    plan: &Plan,
-    links: &PairTable,
-    number: u32,
-    wire: &Wire,
-) -> Option<PlanFault>
-    requires each { length plan.now.chip_of ≡ length ordered.now.flat.cells }
-    requires net { wire.now.net < ordered.now.flat.inputs + length ordered.now.flat.cells }
+fn broken_wire(wired: &Wired, number: u32, wire: &Wire) -> Option<PlanFault>
+    requires net { wire.now.net < wired.now.ordered.now.flat.inputs
+        + length wired.now.ordered.now.flat.cells }
     requires few { length wire.now.hops < 2 ^ 32 }
-    requires links { HasPairs (link_pairs board.now.links) links.now.places }
-    ensures { result ≡ broken_wire (planned_board ordered.now board.now plan.now) number wire.now }
+    requires early { All (λ hop. hop.at ≤ 2 ^ 62) wire.now.hops }
+    ensures { result ≡ broken_wire (planned_in wired.now) number wire.now }
 {
     if wire.hops().is_empty() {
         return Some(PlanFault::BrokenRoute(number, 0));
     }
-    let from = node_of(ordered.flat(), plan.chip_of(), wire.net());
-    first_in_wire(Rule::Route, board, plan.period(), links, from, number, wire)
+    let from = node_of(wired.ordered.flat(), wired.plan.chip_of(), wire.net());
+    first_in_wire(Rule::Route, wired, from, number, wire)
 }
 
 /// The first hop that breaks the route of its wire.
-pub fn broken_route(
-    ordered: &Ordered,
-    board: &Board,
-    plan: &Plan,
-    links: &PairTable,
-) -> Option<PlanFault>
-    requires each { length plan.now.chip_of ≡ length ordered.now.flat.cells }
-    requires nets { All (λ wire. wire.net
-        < ordered.now.flat.inputs + length ordered.now.flat.cells) plan.now.wires }
-    requires links { HasPairs (link_pairs board.now.links) links.now.places }
-    ensures { result ≡ broken_route (planned_board ordered.now board.now plan.now) }
+pub fn broken_route(wired: &Wired) -> Option<PlanFault>
+    ensures { result ≡ broken_route (planned_in wired.now) }
 {
-    for (number, wire) in plan.wires().iter().enumerate() {
-        let found = broken_wire(ordered, board, plan, links, number as u32, wire);
+    for (number, wire) in wired.plan.wires().iter().enumerate() {
+        let found = broken_wire(wired, number as u32, wire);
         if found.is_some() {
             return found;
         }

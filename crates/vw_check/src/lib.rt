@@ -9,8 +9,8 @@ mod hops;
 mod laws;
 mod links;
 mod moments;
-mod pairs;
 mod refused;
+mod wired;
 mod wires;
 
 pub use checker::check;
@@ -19,5 +19,4 @@ pub use laws::{
     faultless_plans_are_sound, faults_break_points, orders_change_no_fault,
     sound_plans_are_faultless,
 };
-pub use pairs::PairTable;
 pub use refused::CheckRefused;

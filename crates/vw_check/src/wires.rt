@@ -1,14 +1,14 @@
 //! Wires that are missing, and wires that aren't needed.
 ghost use Rattle.std.specs.Prelude.{◌≡◌, ◌≤◌, length, IfOk};
 ghost use Rattle.std.specs.List.{All};
-ghost use Rattle.vw_check.specs.Pairs.{HasPairs};
+ghost use Rattle.vw_leads.specs.Pairs.{HasPairs};
 ghost use Rattle.vw_check.specs.Steps.Tables.{need_pairs, wire_pairs};
 ghost use Rattle.vw_check.specs.Steps.Wires.{first_missing, first_extra, is_extra};
 ghost use Rattle.vw_check.specs.Faults.{wire_fault};
 
 use crate::fault::PlanFault;
-use crate::pairs::PairTable;
 use std::alloc::{AllocError, Global};
+use vw_leads::PairTable;
 use vw_net::Ordered;
 use vw_plan::{Need, Plan, Wire, needed_pairs_are_needed};
 use vw_wires::needed;

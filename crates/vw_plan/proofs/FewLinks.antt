@@ -20,7 +20,7 @@ module _ (chips : ℕ) (few : chips ≤ 32) (links : List Link)
   numbers_differ = IsDistinct-from_apart eqb (map ends_number links) apart where
     apart : (i j default : ℕ) → i < j → j < length (map ends_number links) → eqb (get_or (map ends_number links) i default) (get_or (map ends_number links) j default) ≡ false
     apart i j default before within =
-        let none : Link = record { from = 0; to = 0; width = 0 } in
+        let none : Link = record { from = 0; to = 0; width = 0; delay = 0 } in
         let size : length (map ends_number links) ≡ length links = length-map links ends_number in
         let early : i < length links = omega arith in
         let late : j < length links = omega arith in

@@ -6,6 +6,7 @@ pub mod GreatestReads
 pub mod LeadLevels
 pub mod Depths
 pub mod NeededPairs
+pub mod NeededNets
 pub mod Walking
 pub mod Shortest
 pub mod TestedPairs

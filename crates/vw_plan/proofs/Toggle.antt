@@ -26,7 +26,7 @@ use Rattle.vw_plan.specs.Links.{HaveSameEnds}
 use Rattle.vw_plan.specs.PlannedBoard.{PlannedBoard, home}
 use Rattle.vw_plan.specs.Needs.{depth, needed_pairs}
 use Rattle.vw_plan.specs.Nets.{is_needed}
-use Rattle.vw_plan.specs.Lead.{lead, usable, brings}
+use Rattle.vw_plan.specs.Lead.{arrival, lead, usable, brings}
 use Rattle.vw_plan.specs.Sound.{IsPlaced, IsRouted, IsRising, IsSound, IsSentWhenUsable, AreLatchesInTime, has_pin, share_pin, hops_of}
 use Rattle.vw_plan.proofs.TestedPairs.{AllPairs-from_all_pairs}
 
@@ -90,8 +90,8 @@ ordered = record { flat = toggle; order = 0 ∷ []; is_order = record { each = e
 
 abbrev links : List Link
 links =
-    record { from = 0; to = 1; width = 1 } ∷ record { from = 0; to = 2; width = 1 } ∷ record { from = 1; to = 0; width = 1 }
-    ∷ record { from = 1; to = 2; width = 1 } ∷ record { from = 2; to = 0; width = 1 } ∷ record { from = 2; to = 1; width = 1 } ∷ []
+    record { from = 0; to = 1; width = 1; delay = 1 } ∷ record { from = 0; to = 2; width = 1; delay = 1 } ∷ record { from = 1; to = 0; width = 1; delay = 1 }
+    ∷ record { from = 1; to = 2; width = 1; delay = 1 } ∷ record { from = 2; to = 0; width = 1; delay = 1 } ∷ record { from = 2; to = 1; width = 1; delay = 1 } ∷ []
 
 -- what a test says of each link is a fact of each
 has_ends : (link : Link) → (nat_le link.from 2 && nat_le link.to 2) ≡ true → (link.from ≤ 2) × (link.to ≤ 2)
@@ -102,6 +102,9 @@ is_apart link is same = both_ways (link.from == link.to) (not-true (link.from ==
 
 is_wide : (link : Link) → (nat_le 1 link.width && nat_le link.width 64) ≡ true → (1 ≤ link.width) × (link.width ≤ 64)
 is_wide link is = let parts = and_parts (nat_le 1 link.width) (nat_le link.width 64) is in (leb-true 1 link.width parts.0, leb-true link.width 64 parts.1)
+
+is_timely : (link : Link) → (nat_le 1 link.delay && nat_le link.delay 16) ≡ true → (1 ≤ link.delay) × (link.delay ≤ 16)
+is_timely link is = let parts = and_parts (nat_le 1 link.delay) (nat_le link.delay 16) is in (leb-true 1 link.delay parts.0, leb-true link.delay 16 parts.1)
 
 -- one link is enough, or none from a node to itself
 walk_between : (from to : ℕ) → from ≤ 2 → to ≤ 2 → IsJoined links from to
@@ -140,6 +143,7 @@ board_with settle quick = record {
       apart = All-weaker (λ link. not (link.from == link.to) ≡ true) (λ link. link.from ≢ link.to) is_apart links (AllPass-from_list_all (λ link. not (link.from == link.to)) links refl);
       once = λ i j default before within. once (get_or links i default) (get_or links j default) (AllPairs-from_all_pairs (λ link other. not (same_ends link other)) links refl i j default before within);
       wide = All-weaker (λ link. (nat_le 1 link.width && nat_le link.width 64) ≡ true) (λ link. (1 ≤ link.width) × (link.width ≤ 64)) is_wide links (AllPass-from_list_all (λ link. nat_le 1 link.width && nat_le link.width 64) links refl);
+      timely = All-weaker (λ link. (nat_le 1 link.delay && nat_le link.delay 16) ≡ true) (λ link. (1 ≤ link.delay) × (link.delay ≤ 16)) is_timely links (AllPass-from_list_all (λ link. nat_le 1 link.delay && nat_le link.delay 16) links refl);
     };
     joined = walk_between;
   };
@@ -147,8 +151,11 @@ board_with settle quick = record {
 
 -- ---- the plan
 
+abbrev one_hop : ℕ → ℕ → ℕ → Hop
+one_hop from to at = record { from = from; to = to; pin = 0; at = at }
+
 abbrev hop : ℕ → ℕ → ℕ → List Hop
-hop from to at = record { from = from; to = to; pin = 0; at = at } ∷ []
+hop from to at = one_hop from to at ∷ []
 
 abbrev wires : List Wire
 wires =
@@ -243,10 +250,10 @@ module _ (settle : ℕ) (quick : settle ≤ 15) where
 
   rising : All (IsRising planned) wires
   rising = four (IsRising planned) _ _ _ _
-      (record { later = refl; within = one (λ sent. sent.at < 2) _ (omega arith) })
-      (record { later = refl; within = one (λ sent. sent.at < 2) _ (omega arith) })
-      (record { later = refl; within = one (λ sent. sent.at < 2) _ (omega arith) })
-      (record { later = refl; within = one (λ sent. sent.at < 2) _ (omega arith) })
+      (record { later = refl; within = one (λ sent. arrival links sent < 2) (one_hop 0 1 0) (omega arith) })
+      (record { later = refl; within = one (λ sent. arrival links sent < 2) (one_hop 1 2 1) (omega arith) })
+      (record { later = refl; within = one (λ sent. arrival links sent < 2) (one_hop 2 0 0) (omega arith) })
+      (record { later = refl; within = one (λ sent. arrival links sent < 2) (one_hop 2 1 0) (omega arith) })
 
   alone : AllPairs (λ sent other. IsTrue (not (share_pin sent other))) (hops_of plan)
   alone = AllPairs-from_all_pairs (λ sent other. not (share_pin sent other)) (hops_of plan) refl
@@ -260,7 +267,7 @@ slow = lit≤ tt
 -- a wire of one hop is sent when its net is usable
 sent : (net to from at usable_at : ℕ) → usable (planned_with 0 quick) (home (planned_with 0 quick) net) net ≡ usable_at → usable_at ≤ at → IsSentWhenUsable (planned_with 0 quick) (record { net = net; to = to; hops = hop from to at })
 sent net to from at usable_at is late first there =
-    let same : at ≡ first.at = ap (λ (found : Option Hop). option_map_or (λ (one_hop : Hop). one_hop.at) found 0) there in
+    let same : at ≡ first.at = ap (λ (found : Option Hop). option_map_or (λ (only : Hop). only.at) found 0) there in
     omega arith
 
 all_sent : All (IsSentWhenUsable (planned_with 0 quick)) wires

@@ -1,14 +1,10 @@
 -- Hops that are sent as early as they can be, and periods that are no longer than they have to be. Source: this project.
-use Rattle.std.specs.Prelude.{◌≡◌, ◌≤◌, ◌<◌, ◌+◌, ℕ, Bool, List, [], ◌∷◌, map, max, slice_get, IsTrue, nat_lt, if◌then◌else◌}
+use Rattle.std.specs.Prelude.{◌≡◌, ◌≤◌, ◌<◌, ◌+◌, ℕ, Bool, List, [], ◌∷◌, IsTrue}
 use Rattle.std.specs.List.{All, list_any}
-use Rattle.std.specs.Option.{ForSome}
 use Rattle.vw_plan.specs.declared.board.Board.{Board}
 use Rattle.vw_plan.specs.declared.plan.Plan.{Plan}
 use Rattle.vw_plan.specs.declared.wire.Hop.{Hop}
-use Rattle.vw_plan.specs.declared.wire.Wire.{Wire}
-use Rattle.vw_plan.specs.Lead.{after_last, arrival, usable}
-use Rattle.vw_net.specs.Lists.{greatest}
-use Rattle.vw_plan.specs.Needs.{depth}
+use Rattle.vw_plan.specs.Lead.{arrival, usable}
 use Rattle.vw_plan.specs.PlannedBoard.{PlannedBoard, planned_board, home}
 use Rattle.vw_plan.specs.Sound.{IsSound, has_pin, hops_of, share_pin}
 
@@ -29,26 +25,11 @@ IsEarliest board plan ready hop = (at : ℕ) → ready ≤ at → at < hop.at �
 -- so are the hops of a wire, of which the first is ready at a moment, and each later one when the one before it has arrived
 abbrev pub AreEarliest : Board → Plan → ℕ → List Hop → Type 0
 AreEarliest board plan ready [] = Unit {0}
-AreEarliest board plan ready (hop ∷ hops) = IsEarliest board plan ready hop × AreEarliest board plan (arrival hop + 1) hops
+AreEarliest board plan ready (hop ∷ hops) = IsEarliest board plan ready hop × AreEarliest board plan (arrival board.links hop + 1) hops
 
--- ---- phases: the wires of one depth start only behind those of lesser depth
-
--- how deep the net of a wire is
-abbrev pub wire_depth : PlannedBoard → Wire → ℕ
-wire_depth planned wire = depth planned.ordered.flat planned.plan.chip_of wire.net
-
--- one past the arrival of the last hop of all wires of lesser depth; 0 where there is none
-abbrev pub phase_start : PlannedBoard → ℕ → ℕ
-phase_start planned limit = greatest (map (λ wire. if nat_lt (wire_depth planned wire) limit then after_last wire.hops else 0) planned.plan.wires)
-
--- when the first hop of a wire is ready: its net is usable, and its phase has begun
-abbrev pub ready_in_phase : PlannedBoard → Wire → ℕ
-ready_in_phase planned wire = max (usable planned (home planned wire.net) wire.net) (phase_start planned (wire_depth planned wire))
-
--- no wire begins before its phase, and each hop is earliest
-pub record IsPhased (planned : PlannedBoard) : Type 0 where
-  pub begun : All (λ wire. ForSome (slice_get wire.hops 0) (λ hop. phase_start planned (wire_depth planned wire) ≤ hop.at)) planned.plan.wires
-  pub earliest : All (λ wire. AreEarliest planned.board planned.plan (ready_in_phase planned wire) wire.hops) planned.plan.wires
+-- each hop of a plan is earliest; the first hop of a wire is ready when its net is usable at its own node
+abbrev pub HasEarliestHops : PlannedBoard → Type 0
+HasEarliestHops planned = All (λ wire. AreEarliest planned.board planned.plan (usable planned (home planned wire.net) wire.net) wire.hops) planned.plan.wires
 
 -- ---- periods
 

@@ -5,7 +5,7 @@ use Rattle.vw_net.specs.declared.flat.Flat.{Flat}
 use Rattle.vw_plan.specs.declared.board.Board.{Board}
 use Rattle.vw_plan.specs.Chips.{IsChip, cells_on}
 use Rattle.vw_plan.specs.Distance.{distance}
-use Rattle.vw_plan.specs.Earliest.{IsPhased, HasLeastPeriod}
+use Rattle.vw_plan.specs.Earliest.{HasEarliestHops, HasLeastPeriod}
 use Rattle.vw_plan.specs.Needs.{needed_pairs}
 use Rattle.vw_plan.specs.Nets.{node_of}
 use Rattle.vw_plan.specs.PlannedBoard.{PlannedBoard, home}
@@ -35,7 +35,7 @@ NoExchangeHelps flat board chip_of =
     (one other : ℕ) → IsChip board one → IsChip board other
     → travel flat board chip_of ≤ travel flat board (map (exchanged one other) chip_of)
 
--- ---- good plans, of phases
+-- ---- good plans
 
 -- the wires stand by net and then by node
 abbrev pub AreInOrder : PlannedBoard → Type 0
@@ -52,5 +52,5 @@ pub record IsGood (planned : PlannedBoard) : Type 0 where
   pub no_move_helps : NoMoveHelps planned.ordered.flat planned.board planned.plan.chip_of
   pub no_exchange_helps : NoExchangeHelps planned.ordered.flat planned.board planned.plan.chip_of
   pub short : AreShort planned
-  pub phased : IsPhased planned
+  pub earliest : HasEarliestHops planned
   pub least_period : HasLeastPeriod planned

@@ -1,23 +1,32 @@
 -- When a net has its value at a node. Source: the rules of a virtual wire (a wire may be sent only after the values that
 -- it depends on have arrived), as this project states them.
-use Rattle.std.specs.Prelude.{◌==◌, ◌+◌, ℕ, zero, suc, Bool, ◌&&◌, List, [], ◌∷◌, length, if◌then◌else◌}
+use Rattle.std.specs.Prelude.{◌==◌, ◌+◌, ◌-◌, ℕ, zero, suc, Bool, ◌&&◌, List, [], ◌∷◌, length, if◌then◌else◌}
 use Rattle.std.specs.List.{find}
 use Rattle.std.specs.Option.{option_map_or}
 use Rattle.vw_net.specs.Order.{is_gate}
+use Rattle.vw_plan.specs.declared.link.Link.{Link}
 use Rattle.vw_plan.specs.declared.wire.Hop.{Hop}
 use Rattle.vw_plan.specs.declared.wire.Wire.{Wire}
 use Rattle.vw_plan.specs.Nets.{driving_cell, greatest_read}
 use Rattle.vw_plan.specs.PlannedBoard.{PlannedBoard, home}
 
--- the microcycle in which the bit of a hop arrives: the one in which it is sent
-abbrev pub arrival : Hop → ℕ
-arrival hop = hop.at
+-- whether a link leads where a hop goes
+abbrev pub carries : Hop → Link → Bool
+carries hop link = link.from == hop.from && link.to == hop.to
+
+-- how many microcycles after it is sent the bit of a hop arrives; 0 where no link leads where the hop goes
+abbrev pub lag : List Link → Hop → ℕ
+lag links hop = option_map_or (λ link. link.delay - 1) (find (carries hop) links) 0
+
+-- the microcycle in which the bit of a hop arrives, over these links
+abbrev pub arrival : List Link → Hop → ℕ
+arrival links hop = hop.at + lag links hop
 
 -- one past the arrival of the last of some hops; 0 where there is none
-abbrev pub after_last : List Hop → ℕ
-after_last [] = 0
-after_last (hop ∷ []) = arrival hop + 1
-after_last (hop ∷ next ∷ hops) = after_last (next ∷ hops)
+abbrev pub after_last : List Link → List Hop → ℕ
+after_last links [] = 0
+after_last links (hop ∷ []) = arrival links hop + 1
+after_last links (hop ∷ next ∷ hops) = after_last links (next ∷ hops)
 
 -- whether a wire brings a net to a node
 abbrev pub brings : ℕ → ℕ → Wire → Bool
@@ -25,7 +34,7 @@ brings net node wire = wire.net == net && wire.to == node
 
 -- one past the arrival of a net at a node, by the first wire that brings it there; 0 where there is none
 abbrev pub brought_at : PlannedBoard → ℕ → ℕ → ℕ
-brought_at planned node net = option_map_or (λ wire. after_last wire.hops) (find (brings net node) planned.plan.wires) 0
+brought_at planned node net = option_map_or (λ wire. after_last planned.board.links wire.hops) (find (brings net node) planned.plan.wires) 0
 
 -- the lead of a net at a node, where at most this many drivers are followed in a row
 abbrev pub level_lead : ℕ → PlannedBoard → ℕ → ℕ → ℕ

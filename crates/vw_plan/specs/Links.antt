@@ -18,6 +18,8 @@ pub record AreSeparate (chips : ℕ) (links : List Link) : Type 0 where
   pub once : AllPairs (λ link other. ¬ (HaveSameEnds link other)) links
   -- a link has 1 to 64 pins
   pub wide : All (λ link. (1 ≤ link.width) × (link.width ≤ 64)) links
+  -- a bit takes 1 to 16 microcycles over a link
+  pub timely : All (λ link. (1 ≤ link.delay) × (link.delay ≤ 16)) links
 
 -- and each node has a walk to each other
 pub record AreLinks (chips : ℕ) (links : List Link) : Type 0 where

@@ -11,7 +11,7 @@ use Rattle.vw_plan.specs.declared.plan.Plan.{Plan}
 use Rattle.vw_plan.specs.Chips.{IsChip, cells_on}
 use Rattle.vw_plan.specs.Nets.{is_needed}
 use Rattle.vw_plan.specs.PlannedBoard.{PlannedBoard, home}
-use Rattle.vw_plan.specs.Lead.{arrival, brings, usable}
+use Rattle.vw_plan.specs.Lead.{arrival, brings, carries, usable}
 
 -- ---- one chip each
 
@@ -33,7 +33,7 @@ HasWires planned = (net node : ℕ)
 
 -- whether a hop goes over a link of the board, and on one of its pins
 abbrev pub has_pin : List Link → Hop → Bool
-has_pin links hop = list_any (λ link. (link.from == hop.from && link.to == hop.to) && nat_lt hop.pin link.width) links
+has_pin links hop = list_any (λ link. carries hop link && nat_lt hop.pin link.width) links
 
 -- whether hops lead from a node to another: each begins where the one before it ended
 abbrev pub leads_to : ℕ → List Hop → ℕ → Bool
@@ -49,15 +49,15 @@ pub record IsRouted (planned : PlannedBoard) (wire : Wire) : Type 0 where
 -- ---- rising microcycles
 
 -- whether each hop is later than the arrival of the one before it
-abbrev pub rises : List Hop → Bool
-rises [] = true
-rises (hop ∷ []) = true
-rises (hop ∷ next ∷ hops) = nat_lt (arrival hop) next.at && rises (next ∷ hops)
+abbrev pub rises : List Link → List Hop → Bool
+rises links [] = true
+rises links (hop ∷ []) = true
+rises links (hop ∷ next ∷ hops) = nat_lt (arrival links hop) next.at && rises links (next ∷ hops)
 
 -- the hops of a wire follow each other, and each arrives before the period ends
 pub record IsRising (planned : PlannedBoard) (wire : Wire) : Type 0 where
-  pub later : IsTrue (rises wire.hops)
-  pub within : All (λ hop. arrival hop < planned.plan.period) wire.hops
+  pub later : IsTrue (rises planned.board.links wire.hops)
+  pub within : All (λ hop. arrival planned.board.links hop < planned.plan.period) wire.hops
 
 -- ---- one hop a pin
 

@@ -1,7 +1,7 @@
 ghost use Rattle.std.specs.Prelude.{◌≡◌};
 
-/// A link of a board. It leads one way, from a node to another, and has a number of pins. Each pin carries one bit in
-/// each microcycle.
+/// A link of a board. It leads one way, from a node to another, and has a number of pins. Each pin takes one bit in
+/// each microcycle, also while earlier bits are still under way.
 #[derive(Clone, Copy, Debug, PartialEq, Eq)]
 pub struct Link {
     /// The node that it leaves: 0 for the host, else a chip.
@@ -10,16 +10,24 @@ pub struct Link {
     pub to: u32,
     /// The number of its pins.
     pub width: u32,
+    /// How many microcycles a bit takes over it. With a delay of 1 it arrives in the microcycle in which it is sent.
+    pub delay: u32,
 }
 
 impl Link {
-    /// The link between these nodes, with this many pins.
-    pub fn make(from: u32, to: u32, width: u32) -> Self
+    /// The link between these nodes, with this many pins, over which a bit takes this many microcycles.
+    pub fn make(from: u32, to: u32, width: u32, delay: u32) -> Self
         ensures from { result.from ≡ from }
         ensures to { result.to ≡ to }
         ensures width { result.width ≡ width }
+        ensures delay { result.delay ≡ delay }
     {
-        Link { from, to, width }
+        Link {
+            from,
+            to,
+            width,
+            delay,
+        }
     }
 
     /// The node that it leaves.
@@ -41,5 +49,12 @@ impl Link {
         ensures { result ≡ self.now.width }
     {
         self.width
+    }
+
+    /// How many microcycles a bit takes over it.
+    pub fn delay(&self) -> u32
+        ensures { result ≡ self.now.delay }
+    {
+        self.delay
     }
 }

@@ -8,11 +8,11 @@ use std::test::Fail;
 use vw_board::{BoardFault, Distances, read};
 use vw_plan::Board;
 
-/// The chips, cells and settling time of a board, and of each link its ends and its width.
+/// The chips, cells and settling time of a board, and of each link its ends, its width and its delay.
 fn numbers_of(alloc: Global, board: &Board) -> Result<Vec<u32>, AllocError> {
     let mut numbers = [board.chips(), board.cells(), board.settle()].to_vec(alloc)?;
     for link in board.links() {
-        numbers.extend_from_slice(&[link.from(), link.to(), link.width()])?;
+        numbers.extend_from_slice(&[link.from(), link.to(), link.width(), link.delay()])?;
     }
     Ok(numbers)
 }
@@ -71,7 +71,7 @@ fn are_messages(
 
 /// The numbers of the triangle.
 const TRIANGLE_NUMBERS: &[u32] = &[
-    2, 1, 0, 0, 1, 1, 0, 2, 1, 1, 0, 1, 1, 2, 1, 2, 0, 1, 2, 1, 1,
+    2, 1, 0, 0, 1, 1, 1, 0, 2, 1, 1, 1, 0, 1, 1, 1, 2, 1, 1, 2, 0, 1, 1, 2, 1, 1, 1,
 ];
 
 /// Texts without a fault.
@@ -80,15 +80,24 @@ const READ: &[(&[u8], &[u32])] = &[
     // comments, blanks and a continued line; the host has no limit of pins
     (
         b"# two chips\nboard 1\n\nchips \\\n 2\r\ncells 65536\nsettle 15\npins 2\nlink 0 1 1\nlink 1 0 1\nlink 2 0 1\nlink 0 2 1",
-        &[2, 65536, 15, 0, 1, 1, 1, 0, 1, 2, 0, 1, 0, 2, 1],
+        &[2, 65536, 15, 0, 1, 1, 1, 1, 0, 1, 1, 2, 0, 1, 1, 0, 2, 1, 1],
     ),
     (
         b"board 1\nchips 1\ncells 1\nsettle 0\npins 128\nlink 1 0 64\nlink 0 1 64\n",
-        &[1, 1, 0, 1, 0, 64, 0, 1, 64],
+        &[1, 1, 0, 1, 0, 64, 1, 0, 1, 64, 1],
     ),
     (
         b"board 1\nchips 1\ncells 1\nsettle 0\npins 4096\nlink 1 0 1\nlink 0 1 1\n",
-        &[1, 1, 0, 1, 0, 1, 0, 1, 1],
+        &[1, 1, 0, 1, 0, 1, 1, 0, 1, 1, 1],
+    ),
+    // with delays, which are no pins
+    (
+        b"board 2\nchips 1\ncells 1\nsettle 0\npins 3\nlink 1 0 1 16\nlink 0 1 2 1\n",
+        &[1, 1, 0, 1, 0, 1, 16, 0, 1, 2, 1],
+    ),
+    (
+        b"board 2\nchips 1\ncells 1\nsettle 0\npins 128\nlink 1 0 64 7\nlink 0 1 64 8\n",
+        &[1, 1, 0, 1, 0, 64, 7, 0, 1, 64, 8],
     ),
 ];
 
@@ -109,7 +118,10 @@ const LINES: &[(&[u8], &[u8])] = &[
     (b"chips 2\n", b"board 2: line 1: bad line\n"),
     (b"board 1 1\n", b"board 2: line 1: bad line\n"),
     (b"board\n", b"board 2: line 1: bad line\n"),
-    (b"board 2\n", b"board 3: line 1: bad number\n"),
+    (b"board 2\n", b"board 2: line 2: bad line\n"),
+    (b"board 0\n", b"board 3: line 1: bad number\n"),
+    (b"board 3\n", b"board 3: line 1: bad number\n"),
+    (b"board 2 1\n", b"board 2: line 1: bad line\n"),
     (b"board 01\n", b"board 3: line 1: bad number\n"),
     (b"board 1\nchips 0\n", b"board 3: line 2: bad number\n"),
     (b"board 1\nchips 33\n", b"board 3: line 2: bad number\n"),
@@ -186,6 +198,44 @@ const LINKS: &[(&[u8], &[u8])] = &[
 fn each_fault_of_links_is_named(rt: HostRuntime) -> Result<(), Fail> {
     let front = b"board 1\nchips 2\ncells 4\nsettle 0\npins 4\n";
     Ok(are_messages(&rt, rt.alloc(), front, LINKS)?)
+}
+
+/// Lines of links at fault, with delays.
+const DELAYS: &[(&[u8], &[u8])] = &[
+    (b"link 0 1\n", b"board 2: line 6: bad line\n"),
+    (b"link 0 1 1\n", b"board 2: line 6: bad line\n"),
+    (b"link 0 1 1 1 1\n", b"board 2: line 6: bad line\n"),
+    (b"link 0 1 1 0\n", b"board 3: line 6: bad number\n"),
+    (b"link 0 1 1 17\n", b"board 3: line 6: bad number\n"),
+    (b"link 0 1 1 01\n", b"board 3: line 6: bad number\n"),
+    (b"link 0 1 65 1\n", b"board 3: line 6: bad number\n"),
+    (
+        b"link 0 1 1 3\nlink 1 0 1 x\n",
+        b"board 3: line 7: bad number\n",
+    ),
+    // on one line the fault that stands first counts
+    (b"link 0 0 1\n", b"board 2: line 6: bad line\n"),
+    (b"link 0 0 1 17\n", b"board 3: line 6: bad number\n"),
+    (b"link 0 0 1 16\n", b"board 4: self link 0\n"),
+    // a second link may have another delay
+    (
+        b"link 0 1 1 3\nlink 0 1 1 4\n",
+        b"board 5: duplicate link 0 1\n",
+    ),
+    (
+        b"link 1 0 1 1\nlink 0 1 1 16\nlink 1 2 2 16\nlink 2 1 1 2\n",
+        b"board 6: chip 1 uses 5 pins of 4\n",
+    ),
+    (
+        b"link 0 1 1 1\nlink 1 0 1 1\nlink 1 2 1 1\n",
+        b"board 7: no walk from 2 to 0\n",
+    ),
+];
+
+#[test]
+fn delays_have_the_faults_of_their_lines(rt: HostRuntime) -> Result<(), Fail> {
+    let front = b"board 2\nchips 2\ncells 4\nsettle 0\npins 4\n";
+    Ok(are_messages(&rt, rt.alloc(), front, DELAYS)?)
 }
 
 /// The triangle's text, with empty lines behind it up to so many bytes.

@@ -169,6 +169,41 @@ fn gates_take_their_time_to_settle(rt: HostRuntime) -> Result<(), Fail> {
     are_messages(&rt, rt.alloc(), ROOMY, SETTLING)
 }
 
+/// The triangle with room for two cells on each chip, whose links take up to 4 microcycles.
+const DELAYED: &[u8] =
+    b"board 2\nchips 2\ncells 2\nsettle 0\npins 4\nlink 0 1 1 1\nlink 0 2 1 2\nlink 1 0 1 1\nlink 1 2 1 3\nlink 2 0 1 1\nlink 2 1 1 4\n";
+
+/// Plans for the board with delays.
+const ARRIVALS: &[(&[u8], &[u8])] = &[
+    // sent at 0, the latch arrives at 3; sent at 4, the gate arrives at 6 and is usable at 7
+    (
+        b"plan 1 2 4 7\nchips 1 2\nwire 0 1 1\nhop 0 1 0 0\nwire 1 2 1\nhop 1 2 0 4\nwire 2 0 1\nhop 2 0 0 0\nwire 2 1 1\nhop 2 1 0 0\nend\n",
+        b"",
+    ),
+    (
+        b"plan 1 2 4 6\nchips 1 2\nwire 0 1 1\nhop 0 1 0 0\nwire 1 2 1\nhop 1 2 0 4\nwire 2 0 1\nhop 2 0 0 0\nwire 2 1 1\nhop 2 1 0 0\nend\n",
+        b"plan 12: wire 1 hop 0 is past the period\n",
+    ),
+    (
+        b"plan 1 2 4 7\nchips 1 2\nwire 0 1 1\nhop 0 1 0 0\nwire 1 2 1\nhop 1 2 0 3\nwire 2 0 1\nhop 2 0 0 0\nwire 2 1 1\nhop 2 1 0 0\nend\n",
+        b"plan 14: wire 1 sent at 3, usable at 4\n",
+    ),
+    // the input comes over chip 2: sent at 0 it arrives at 1, sent on at 2 it arrives at 5
+    (
+        b"plan 1 2 4 9\nchips 1 2\nwire 0 1 2\nhop 0 2 0 0\nhop 2 1 0 2\nwire 1 2 1\nhop 1 2 0 6\nwire 2 0 1\nhop 2 0 0 0\nwire 2 1 1\nhop 2 1 0 0\nend\n",
+        b"",
+    ),
+    (
+        b"plan 1 2 4 9\nchips 1 2\nwire 0 1 2\nhop 0 2 0 0\nhop 2 1 0 1\nwire 1 2 1\nhop 1 2 0 6\nwire 2 0 1\nhop 2 0 0 0\nwire 2 1 1\nhop 2 1 0 0\nend\n",
+        b"plan 11: wire 0 hop 1 is out of order\n",
+    ),
+];
+
+#[test]
+fn what_arrives_late_is_late(rt: HostRuntime) -> Result<(), Fail> {
+    are_messages(&rt, rt.alloc(), DELAYED, ARRIVALS)
+}
+
 /// A plan of 65536 cells, which take turns on two chips.
 fn long_plan(alloc: Global) -> Result<Vec<u8>, AllocError> {
     let mut plan = b"plan 1 65536 2 1\nchips".to_vec(alloc)?;

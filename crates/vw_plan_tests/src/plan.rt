@@ -7,8 +7,12 @@ use vw_plan::{Hop, Link, Need, Plan, Route, Wire};
 
 #[test]
 fn links_hops_and_needs_have_their_parts(rt: HostRuntime) {
-    let link = Link::make(1, 2, 64);
-    are_numbers(&rt, &[link.from(), link.to(), link.width()], &[1, 2, 64]);
+    let link = Link::make(1, 2, 64, 16);
+    are_numbers(
+        &rt,
+        &[link.from(), link.to(), link.width(), link.delay()],
+        &[1, 2, 64, 16],
+    );
     let hop = Hop::make(3, 4, 5, 6);
     are_numbers(&rt, &[hop.from(), hop.to(), hop.pin()], &[3, 4, 5]);
     are_wide_numbers(&rt, &[hop.at()], &[6]);

@@ -12,7 +12,7 @@ use std::process::Abort;
 use std::test::Fail;
 use vw_board::Distances;
 use vw_net::{Ordered, Sequence};
-use vw_phase::schedule;
+use vw_pipe::schedule;
 use vw_plan::{Board, Plan, Route};
 use vw_run::routes_of;
 
@@ -99,6 +99,13 @@ const SLOW: &[u8] =
 const WIDE: &[u8] =
     b"board 1\nchips 2\ncells 8\nsettle 0\npins 8\nlink 0 1 2\nlink 0 2 2\nlink 1 0 2\nlink 1 2 2\nlink 2 0 2\nlink 2 1 2\n";
 
+/// A chip behind the host, with one pin each way.
+const ONE_CHIP: &[u8] = b"board 1\nchips 1\ncells 2\nsettle 0\npins 2\nlink 0 1 1\nlink 1 0 1\n";
+
+/// A ring of four chips, over whose links a bit takes 1, 2, 3 and 16 microcycles, and the host beside chip 1.
+const RING: &[u8] =
+    b"board 2\nchips 4\ncells 8\nsettle 0\npins 8\nlink 1 2 1 1\nlink 2 3 1 2\nlink 3 4 1 3\nlink 4 1 1 16\nlink 0 1 1 1\nlink 1 0 1 1\n";
+
 /// Three chips in a row behind the host.
 const ROW: &[u8] =
     b"board 1\nchips 3\ncells 8\nsettle 0\npins 4\nlink 0 1 1\nlink 1 0 1\nlink 1 2 1\nlink 2 1 1\nlink 2 3 1\nlink 3 2 1\n";
@@ -157,7 +164,7 @@ const TOGGLES: &[Case] = &[
 ];
 
 #[test]
-fn a_toggle_takes_two_phases(rt: HostRuntime) -> Result<(), Fail> {
+fn a_gate_is_sent_when_all_that_it_reads_is_there(rt: HostRuntime) -> Result<(), Fail> {
     are_scheduled(&rt, rt.alloc(), TOGGLES)
 }
 
@@ -183,7 +190,7 @@ const TURNS: &[Case] = &[
         chips: &[1],
         numbers: &[0, 1, 0, 1, 0, 0, 1, 1, 0, 1, 1, 0, 1],
     },
-    // the second wire waits at its first hop, and its second one follows
+    // the wire with the longer way takes the first slot, and the other one waits
     Case {
         netlist: Netlist {
             inputs: 2,
@@ -192,9 +199,9 @@ const TURNS: &[Case] = &[
         },
         board: ROW,
         chips: &[1, 2],
-        numbers: &[0, 1, 0, 1, 0, 0, 1, 2, 0, 1, 0, 1, 1, 2, 1, 2, 0, 2, 3],
+        numbers: &[0, 1, 0, 1, 0, 1, 1, 2, 0, 1, 0, 0, 1, 2, 1, 2, 0, 1, 2],
     },
-    // the last wire goes over the last link of the first before it
+    // two wires over the last link, the shorter one before the longer one
     Case {
         netlist: Netlist {
             inputs: 1,
@@ -211,7 +218,7 @@ const TURNS: &[Case] = &[
 ];
 
 #[test]
-fn wires_of_one_depth_take_turns(rt: HostRuntime) -> Result<(), Fail> {
+fn wires_that_share_a_link_take_turns(rt: HostRuntime) -> Result<(), Fail> {
     are_scheduled(&rt, rt.alloc(), TURNS)
 }
 
@@ -228,7 +235,7 @@ const CHAIN: Netlist = Netlist {
 };
 
 const DEEPER: &[Case] = &[
-    // the gate on chip 2 has what it reads after 1 microcycle, and the first phase ends after 3
+    // the gate on chip 2 has what it reads after 1 microcycle, and is sent before the input has come to chip 3
     Case {
         netlist: Netlist {
             inputs: 1,
@@ -244,16 +251,29 @@ const DEEPER: &[Case] = &[
         chips: &[3, 1, 2, 3],
         numbers: &[
             0, 3, 0, 1, 0, 0, 0, 3, 1, 2, 0, 1, 0, 3, 2, 3, 0, 2, 2, 2, 1, 2, 0, 0, 3, 3, 2, 3, 0,
-            3, 4,
+            1, 3,
         ],
     },
-    // four phases of one wire each
+    // four wires, of which each rests on the one before it
     Case {
         netlist: CHAIN,
         board: ROOMY,
         chips: &[1, 1, 2, 1],
         numbers: &[
             0, 1, 0, 1, 0, 0, 2, 2, 1, 2, 0, 1, 3, 1, 2, 1, 0, 2, 4, 0, 1, 0, 0, 3, 4,
+        ],
+    },
+    // two outputs, of which the first is sent while the second input is still on its way
+    Case {
+        netlist: Netlist {
+            inputs: 2,
+            parts: &[Part::Gate(&[0]), Part::Gate(&[1])],
+            outputs: &[2, 3],
+        },
+        board: ONE_CHIP,
+        chips: &[1, 1],
+        numbers: &[
+            0, 1, 0, 1, 0, 0, 1, 1, 0, 1, 0, 1, 2, 0, 1, 0, 0, 1, 3, 0, 1, 0, 0, 2, 3,
         ],
     },
     // each of the three gates that are sent settles first
@@ -268,7 +288,7 @@ const DEEPER: &[Case] = &[
 ];
 
 #[test]
-fn deeper_wires_wait_for_the_phase_before_them(rt: HostRuntime) -> Result<(), Fail> {
+fn wires_wait_for_what_they_rest_on_alone(rt: HostRuntime) -> Result<(), Fail> {
     are_scheduled(&rt, rt.alloc(), DEEPER)
 }
 
@@ -311,4 +331,62 @@ const WITHOUT: &[Case] = &[
 #[test]
 fn gates_without_wires_before_them_settle_too(rt: HostRuntime) -> Result<(), Fail> {
     are_scheduled(&rt, rt.alloc(), WITHOUT)
+}
+
+const RINGS: &[Case] = &[
+    // from gate to gate once round the ring: sent at 0, 1, 2, 4 and 7, the bit arrives at 0, 1, 3, 6 and 22
+    Case {
+        netlist: Netlist {
+            inputs: 1,
+            parts: &[
+                Part::Gate(&[0]),
+                Part::Gate(&[1]),
+                Part::Gate(&[2]),
+                Part::Gate(&[3]),
+                Part::Latch(4),
+            ],
+            outputs: &[5],
+        },
+        board: RING,
+        chips: &[1, 2, 3, 4, 1],
+        numbers: &[
+            0, 1, 0, 1, 0, 0, 1, 2, 1, 2, 0, 1, 2, 3, 2, 3, 0, 2, 3, 4, 3, 4, 0, 4, 4, 1, 4, 1, 0,
+            7, 5, 0, 1, 0, 0, 0, 23,
+        ],
+    },
+    // forwarded at 1 and 3 behind arrivals at 0 and 2, and at 16 and 17 behind arrivals at 15 and 16
+    Case {
+        netlist: Netlist {
+            inputs: 0,
+            parts: &[Part::Latch(0), Part::Latch(0), Part::Latch(1)],
+            outputs: &[],
+        },
+        board: RING,
+        chips: &[1, 4, 3],
+        numbers: &[
+            0, 4, 1, 2, 0, 0, 0, 4, 2, 3, 0, 1, 0, 4, 3, 4, 0, 3, 1, 3, 4, 1, 0, 0, 1, 3, 1, 2, 0,
+            16, 1, 3, 2, 3, 0, 17, 19,
+        ],
+    },
+    // a second bit follows at once on the same pin, while the first is under way
+    Case {
+        netlist: Netlist {
+            inputs: 0,
+            parts: &[
+                Part::Latch(0),
+                Part::Latch(1),
+                Part::Latch(0),
+                Part::Latch(1),
+            ],
+            outputs: &[],
+        },
+        board: RING,
+        chips: &[4, 4, 1, 1],
+        numbers: &[0, 1, 4, 1, 0, 0, 1, 1, 4, 1, 0, 1, 17],
+    },
+];
+
+#[test]
+fn bits_take_the_delays_of_their_links(rt: HostRuntime) -> Result<(), Fail> {
+    are_scheduled(&rt, rt.alloc(), RINGS)
 }

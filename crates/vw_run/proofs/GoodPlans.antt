@@ -16,7 +16,7 @@ use Rattle.vw_plan.specs.Needs.{needed_pairs}
 use Rattle.vw_plan.specs.Nets.{node_of}
 use Rattle.vw_plan.specs.Routes.{AreRoutes, FollowsRoute, need_of_route}
 use Rattle.vw_plan.specs.PlannedBoard.{planned_board}
-use Rattle.vw_phase.specs.Schedules.{IsSchedule}
+use Rattle.vw_pipe.specs.Schedules.{IsSchedule}
 use Rattle.vw_run.specs.Shortest.{IsShortRoute}
 
 abbrev need_of_wire : Wire → Need
@@ -61,6 +61,6 @@ good_plan ordered board chip_of routes plan is are short moves exchanges = recor
   no_move_helps = subst (NoMoveHelps ordered.flat board) (sym is.chips) moves;
   no_exchange_helps = subst (NoExchangeHelps ordered.flat board) (sym is.chips) exchanges;
   short = subst (λ (chips : List ℕ). All (λ (wire : Wire). length wire.hops ≡ distance board (node_of ordered.flat chips wire.net) wire.to) plan.wires) (sym is.chips) (short_wires ordered.flat board chip_of routes plan.wires is.follows short);
-  phased = is.phased;
+  earliest = is.earliest;
   least_period = is.least_period;
 }

@@ -18,7 +18,7 @@ use Rattle.vw_plan.proofs.ChipNumbers.{low_chips}
 use Rattle.vw_plan.proofs.NeededPairs.{any-needed_pairs}
 use Rattle.vw_plan.proofs.Shortest.{distance-le}
 use Rattle.vw_place.proofs.PairTables.{few_pairs, pairs_within}
-use Rattle.vw_phase.proofs.StepsOf.{steps_long}
+use Rattle.vw_pipe.proofs.StepsOf.{steps_long}
 use Rattle.vw_route.specs.Routes.{IsRouteBySteps}
 use Rattle.vw_run.specs.Shortest.{IsShortRoute}
 

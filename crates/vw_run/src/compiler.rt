@@ -12,7 +12,7 @@ use std::alloc::Global;
 use vw_board::Distances;
 use vw_net::{Ordered, Sequence};
 use vw_part::{PartFault, partition};
-use vw_phase::schedule;
+use vw_pipe::schedule;
 use vw_place::place;
 use vw_plan::{Board, Checked, Plan};
 
@@ -74,7 +74,7 @@ fn good_plan_of(alloc: Global, ordered: &Ordered, board: &Board) -> Result<Plan,
 
 /// A design on a board, with a good plan: it is sound, its wires stand by net and then by node, no move of a cell lowers the
 /// number of needed pairs, no exchange of two chips shortens their way, each wire is as short as it can be, each hop as early
-/// as the phases of wires allow, and no smaller period is sound. On a refusal the design and the board are handed back.
+/// as its link has a free pin once its net is there, and no smaller period is sound. On a refusal the design and the board are handed back.
 pub fn compile(alloc: Global, ordered: Ordered, board: Board) -> Result<Checked, CompileRefused>
     ensures compiled { IfOk result (IsCompiled ordered board) }
     ensures refused { IfErr result (IsCompileRefused ordered board) }

@@ -5,5 +5,4 @@ mod crossing;
 mod table;
 mod wires;
 
-pub use table::depth_table;
 pub use wires::{depths, needed};

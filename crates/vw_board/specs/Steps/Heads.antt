@@ -2,7 +2,7 @@
 use Rattle.std.specs.Prelude.{◌≡◌, ◌≤◌, List, length, None}
 use Rattle.vw_text.specs.declared.line.Line.{Line}
 use Rattle.vw_board.specs.declared.head.BoardHead.{BoardHead}
-use Rattle.vw_board.specs.Headers.{headers_fault, chips_of, cells_of, settle_of, pins_of}
+use Rattle.vw_board.specs.Headers.{headers_fault, version_of, chips_of, cells_of, settle_of, pins_of}
 
 -- numbers that a board can have
 pub record IsHeadInRange (head : BoardHead) : Type 0 where
@@ -15,6 +15,7 @@ pub record IsHeadInRange (head : BoardHead) : Type 0 where
 -- none of the lines is at fault, and these are their numbers
 pub record IsBoardHead (lines : List Line) (head : BoardHead) : Type 0 where
   pub fine : headers_fault lines ≡ None
+  pub version : head.version ≡ version_of lines
   pub chips : head.chips ≡ chips_of lines
   pub cells : head.cells ≡ cells_of lines
   pub settle : head.settle ≡ settle_of lines

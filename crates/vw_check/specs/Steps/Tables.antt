@@ -1,7 +1,6 @@
 -- What tables of pairs are made from, and a table of pins.
 use Rattle.std.specs.Prelude.{◌≡◌, ◌==◌, ℕ, Bool, ◌&&◌, List, map, Option, option_map}
 use Rattle.std.specs.HashMap as hash
-use Rattle.vw_plan.specs.declared.link.Link.{Link}
 use Rattle.vw_plan.specs.declared.need.Need.{Need}
 use Rattle.vw_plan.specs.declared.wire.Hop.{Hop}
 use Rattle.vw_plan.specs.declared.wire.Wire.{Wire}
@@ -14,9 +13,6 @@ wire_pairs wires = map (λ wire. (wire.net, wire.to)) wires
 
 abbrev pub need_pairs : List Need → List (ℕ × ℕ)
 need_pairs needs = map (λ need. (need.net, need.to)) needs
-
-abbrev pub link_pairs : List Link → List (ℕ × ℕ)
-link_pairs links = map (λ link. (link.from, link.to)) links
 
 -- ---- pins in use
 

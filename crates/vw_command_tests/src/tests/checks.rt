@@ -236,6 +236,71 @@ fn gates_need_time_to_settle(rt: HostRuntime) -> Result<(), Fail> {
     checks_end(&rt, rt.alloc(), TABLE)
 }
 
+/// The `and` on a board with a link of delay 2 from the host, and one of delay 2 both ways.
+const LATE_INPUTS: &str =
+    "board 2\nchips 1\ncells 1\nsettle 0\npins 2\nlink 0 1 1 2\nlink 1 0 1 1\n";
+
+const LATE_BOTH: &str = "board 2\nchips 1\ncells 1\nsettle 0\npins 2\nlink 0 1 1 2\nlink 1 0 1 2\n";
+
+/// The chain, with a delay of 3 from chip 2 to chip 1.
+const LATE_CHAIN: &str =
+    "board 2\nchips 2\ncells 2\nsettle 0\npins 4\nlink 0 1 1 1\nlink 1 0 1 1\nlink 1 2 1 1\nlink 2 1 1 3\n";
+
+#[test]
+fn bits_take_the_delays_of_their_links(rt: HostRuntime) -> Result<(), Fail> {
+    const TABLE: &[(&str, &str, &str, u8, &str, &str)] = &[
+        (
+            AND,
+            LATE_INPUTS,
+            "plan 1 1 3 3\nchips 1\nwire 0 1 1\nhop 0 1 0 0\nwire 1 1 1\nhop 0 1 0 1\nwire 2 0 1\nhop 1 0 0 2\nend\n",
+            4,
+            "",
+            "plan 14: wire 2 sent at 2, usable at 3\n",
+        ),
+        (
+            AND,
+            LATE_INPUTS,
+            "plan 1 1 3 4\nchips 1\nwire 0 1 1\nhop 0 1 0 0\nwire 1 1 1\nhop 0 1 0 1\nwire 2 0 1\nhop 1 0 0 3\nend\n",
+            0,
+            "sound 3 3 4\n",
+            "",
+        ),
+        (
+            AND,
+            LATE_BOTH,
+            "plan 1 1 3 4\nchips 1\nwire 0 1 1\nhop 0 1 0 0\nwire 1 1 1\nhop 0 1 0 1\nwire 2 0 1\nhop 1 0 0 3\nend\n",
+            4,
+            "",
+            "plan 12: wire 2 hop 0 is past the period\n",
+        ),
+        (
+            AND,
+            LATE_BOTH,
+            "plan 1 1 3 5\nchips 1\nwire 0 1 1\nhop 0 1 0 0\nwire 1 1 1\nhop 0 1 0 1\nwire 2 0 1\nhop 1 0 0 3\nend\n",
+            0,
+            "sound 3 3 5\n",
+            "",
+        ),
+        (
+            FLIP,
+            LATE_CHAIN,
+            "plan 1 2 1 4\nchips 2 2\nwire 1 0 2\nhop 2 1 0 0\nhop 1 0 0 2\nend\n",
+            4,
+            "",
+            "plan 11: wire 0 hop 1 is out of order\n",
+        ),
+        (
+            FLIP,
+            LATE_CHAIN,
+            "plan 1 2 1 4\nchips 2 2\nwire 1 0 2\nhop 2 1 0 0\nhop 1 0 0 3\nend\n",
+            0,
+            "sound 1 2 4\n",
+            "",
+        ),
+    ];
+    checks_end(&rt, rt.alloc(), TABLE)
+}
+
 #[test]
 fn each_fault_of_a_board_has_its_line(rt: HostRuntime) -> Result<(), Fail> {
     // whatever the plan is: the board comes first

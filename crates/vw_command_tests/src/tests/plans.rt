@@ -71,11 +71,11 @@ fn plans_are_sound_and_short(rt: HostRuntime) -> Result<(), Fail> {
     const TABLE: &[(&str, &str, &str)] = &[
         // by hand: the input and the latch are sent in microcycle 0, and the gate behind them
         (TOGGLE, TRIANGLE, "sound 4 4 2\n"),
-        // both inputs over one link, one after the other; the outputs begin behind them
+        // both inputs over one link, one after the other; each output is sent as soon as its own input is there
         (
             ".model m\n.inputs a b\n.outputs y z\n.names a y\n1 1\n.names b z\n1 1\n.end\n",
             "board 1\nchips 1\ncells 2\nsettle 0\npins 2\nlink 0 1 1\nlink 1 0 1\n",
-            "sound 4 4 4\n",
+            "sound 4 4 3\n",
         ),
         // with two pins a link, both at once
         (
@@ -195,7 +195,7 @@ fn what_stops_a_plan_is_named(rt: HostRuntime) -> Result<(), Fail> {
         "",
         "design 4: line 1: wrong number of words\n",
     )];
-    const BAD_BOARD: &[(&str, &str)] = &[("d", TOGGLE), ("b", "board 2\n")];
+    const BAD_BOARD: &[(&str, &str)] = &[("d", TOGGLE), ("b", "board 3\n")];
     const BOARD_TOLD: &[(&[&str], u8, &str, &str)] = &[(
         PLAN,
         3,

@@ -35,8 +35,16 @@ no_wires : (c : Else-is_some-2) → wires (planned_board c.args.ordered.now c.ar
 no_wires c = sym c.in_ok-wires.ensures ∙ no_fault c.in_ok-wires.wires c.if-is_some-2.ensures
 
 -- without a fault of the wires, each brings one of the nets
-pub hop_fault-requires-clause-nets : goal.hop_fault-requires-clause-nets
-hop_fault-requires-clause-nets c = wires_fine c.args.ordered.now.flat c.args.plan.now (no_wires c)
+-- without a fault of the wires, each brings one of the nets
+pub invariant_of-wired : goal.invariant_of-wired
+invariant_of-wired c =
+    let at = goal.at.invariant_of-wired c in
+    record {
+      each = (chips_fine c.args.ordered.now.flat c.args.board.now c.args.plan.now (no_cells at.Else-is_some)).0;
+      nets = wires_fine c.args.ordered.now.flat c.args.plan.now (no_wires at.Else-is_some-2);
+      has_wires = c.in_ok-table.ensures;
+      has_links = c.in_ok-links.ensures;
+    }
 
 -- then one of the hops
 pub returns-then-is_some-3 : goal.returns-then-is_some-3
@@ -44,9 +52,6 @@ returns-then-is_some-3 c =
     let planned = planned_board c.args.ordered.now c.args.board.now c.args.plan.now in
     let at = goal.at.returns-then-is_some-3 c in
     c.in_ok-hops.ensures ∙ by_hops planned (no_cells at.Else-is_some) (no_wires at.Else-is_some-2) (c.if-is_some-3.ensures ∙ ap is_some c.in_ok-hops.ensures)
-
-pub moment_fault-requires-clause-nets : goal.moment_fault-requires-clause-nets
-moment_fault-requires-clause-nets c = wires_fine c.args.ordered.now.flat c.args.plan.now (no_wires (goal.at.moment_fault-requires-clause-nets c).Else-is_some-2)
 
 -- and then one of the moments
 pub returns : goal.returns

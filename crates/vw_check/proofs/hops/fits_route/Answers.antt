@@ -1,5 +1,6 @@
-use Rattle.std.proofs.Common.{◌≡◌, ◌<◌, ◌&&◌, ◌||◌, ℕ, suc, Bool, true, false, not, length, eqb, nat_lt, refl, sym, ap, ap₂, ◌∙◌, eq-eqb, ne_eqb, lt-ltb, le-ltb, arith}
+use Rattle.std.proofs.Common.{◌≡◌, ◌<◌, ◌&&◌, ◌||◌, ℕ, suc, Bool, true, false, not, List, length, eqb, nat_lt, refl, sym, ap, ap₂, ◌∙◌, eq-eqb, ne_eqb, lt-ltb, le-ltb, arith}
 use Rattle.std.proofs.lemmas.Bool.{and_left, and_right, or_left}
+use Rattle.vw_plan.specs.declared.link.Link.{Link}
 use Rattle.vw_plan.specs.Walks.{has_link}
 use Rattle.vw_check.specs.HopFaults.{begins_at}
 use Rattle.vw_check.specs.Steps.Rules.{width_between}
@@ -15,7 +16,7 @@ ends_or begins link more ends begin_is link_is more_is = rw (begin_is, link_is, 
 -- no link leads where the hop goes
 pub returns-then-width_between-eq0 : goal.returns-then-width_between-eq0
 returns-then-width_between-eq0 c =
-    let board = c.args.board.now in
+    let board = c.args.wired.now.board.now in
     let hop = c.args.hop.now in
     let width : width_between board.links hop.from hop.to ≡ 0 = cc in
     let none : has_link board.links hop.from hop.to ≡ false = has_link-width board.links board.linked.separate.wide hop.from hop.to ∙ ap (λ (number : ℕ). not (eqb number 0)) width in
@@ -24,11 +25,11 @@ returns-then-width_between-eq0 c =
 -- the hop begins where it has to, a link leads where it goes, and it isn't the last
 pub returns-then-number-hops : goal.returns-then-number-hops
 returns-then-number-hops c =
-    let board = c.args.board.now in
+    let board = c.args.wired.now.board.now in
     let hop = c.args.hop.now in
     let hops = c.args.wire.now.hops in
     let begins : eqb hop.from (begins_at c.args.from hops c.args.number) ≡ true = eq-eqb _ _ (cc) in
-    let width : eqb (width_between board.links hop.from hop.to) 0 ≡ false = ne_eqb _ _ (λ none. c.if-width_between-eq0.false (c.width_between.ensures ∙ ap₂ (width_between board.links) c.from-2.ensures c.to.ensures ∙ none)) in
+    let width : eqb (width_between board.links hop.from hop.to) 0 ≡ false = ne_eqb _ _ (λ none. c.if-width_between-eq0.false (c.width_between.ensures ∙ ap (λ (links : List Link). width_between links c.from-2.result c.to.result) c.args.wired.now.has_links ∙ ap₂ (width_between board.links) c.from-2.ensures c.to.ensures ∙ none)) in
     let link : has_link board.links hop.from hop.to ≡ true = has_link-width board.links board.linked.separate.wide hop.from hop.to ∙ ap not width in
     let within : suc c.args.number < length hops = omega (arith, ap length c.hops-hops.ensures) in
     lt-ltb _ _ c.if-number-hops.true ∙ sym (all_hold (eqb hop.from (begins_at c.args.from hops c.args.number)) (has_link board.links hop.from hop.to) (nat_lt (suc c.args.number) (length hops)) _ begins link (or_left _ _ (lt-ltb _ _ within)))
@@ -36,11 +37,11 @@ returns-then-number-hops c =
 -- it is the last, and ends where the wire does or not
 pub returns-else-number-hops : goal.returns-else-number-hops
 returns-else-number-hops c =
-    let board = c.args.board.now in
+    let board = c.args.wired.now.board.now in
     let hop = c.args.hop.now in
     let hops = c.args.wire.now.hops in
     let begins : eqb hop.from (begins_at c.args.from hops c.args.number) ≡ true = eq-eqb _ _ (cc) in
-    let width : eqb (width_between board.links hop.from hop.to) 0 ≡ false = ne_eqb _ _ (λ none. c.if-width_between-eq0.false (c.width_between.ensures ∙ ap₂ (width_between board.links) c.from-2.ensures c.to.ensures ∙ none)) in
+    let width : eqb (width_between board.links hop.from hop.to) 0 ≡ false = ne_eqb _ _ (λ none. c.if-width_between-eq0.false (c.width_between.ensures ∙ ap (λ (links : List Link). width_between links c.from-2.result c.to.result) c.args.wired.now.has_links ∙ ap₂ (width_between board.links) c.from-2.ensures c.to.ensures ∙ none)) in
     let link : has_link board.links hop.from hop.to ≡ true = has_link-width board.links board.linked.separate.wide hop.from hop.to ∙ ap not width in
     let past : nat_lt (suc c.args.number) (length hops) ≡ false = le-ltb _ _ (omega (arith, ap length c.hops-hops.ensures)) in
     let ends : eqb c.to-else-number-hops.result c.to-else-number-hops-2.result ≡ eqb hop.to c.args.wire.now.to = ap₂ eqb c.to-else-number-hops.ensures c.to-else-number-hops-2.ensures in

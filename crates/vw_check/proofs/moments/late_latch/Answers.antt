@@ -7,7 +7,8 @@ use Rattle.vw_net.specs.declared.flat.Flat.{Flat}
 use Rattle.vw_net.proofs.FittingCells.{cell_fits}
 use Rattle.vw_plan.specs.Lead.{usable}
 use Rattle.vw_plan.specs.Nets.{node_of}
-use Rattle.vw_plan.specs.PlannedBoard.{PlannedBoard, home, planned_board}
+use Rattle.vw_plan.specs.PlannedBoard.{PlannedBoard, home}
+use Rattle.vw_check.specs.Steps.LeadTables.{planned_in}
 use Rattle.vw_check.specs.FirstFound.{found_unless}
 use Rattle.vw_check.specs.MomentFaults.{late_cell, latch_moment}
 use Rattle.vw_check.specs.declared.fault.PlanFault.TheVariants.{LateLatch}
@@ -33,18 +34,18 @@ bounds-chip_of-number c = omega (arith, ap length c.cells-cell-items.ensures, ap
 
 pub usable_at-usable-requires-clause-net : goal.usable_at-usable-requires-clause-net
 usable_at-usable-requires-clause-net c =
-    let flat = c.args.ordered.now.flat in
+    let flat = c.args.wired.now.ordered.now.flat in
     let listed = c.cells-cell-items.ensures ∙ ap (λ (flat : Flat). flat.cells) c.flat.ensures in
     let is : slice_get flat.cells c.loop-number.number ≡ Some (Latch c.in-Latch.d c.in-Latch.init) = slice_get_read flat.cells (length flat.cells) c.loop-number.number c.cell-item.result refl (rw listed at c.loop-number-test.true) (rw listed at c.cell-item.is) ∙ ap Some c.in-Latch.is in
     (cell_fits (flat.inputs + length flat.cells) flat.cells c.loop-number.number (Latch c.in-Latch.d c.in-Latch.init) flat.cells_fit is).1 0 0 (omega arith)
 
 pub overflow_cast-result : goal.overflow_cast-result
-overflow_cast-result c = omega (arith, ap length c.cells-cell-items.ensures, ap (λ (flat : Flat). length flat.cells) c.flat.ensures, c.args.ordered.now.flat.few_cells)
+overflow_cast-result c = omega (arith, ap length c.cells-cell-items.ensures, ap (λ (flat : Flat). length flat.cells) c.flat.ensures, c.args.wired.now.ordered.now.flat.few_cells)
 
 -- a latch that is late is the first of those that are looked for
 pub returns-then-period-usable : goal.returns-then-period-usable
 returns-then-period-usable c =
-    let planned = planned_board c.args.ordered.now c.args.board.now c.args.plan.now in
+    let planned = planned_in c.args.wired.now in
     let number = c.loop-number.number in
     let cells = planned.ordered.flat.cells in
     let listed : c.cells-cell-items.result.now ≡ cells = c.cells-cell-items.ensures ∙ ap (λ flat. flat.cells) c.flat.ensures in
@@ -61,7 +62,7 @@ returns-then-period-usable c =
 -- a cell that isn't late is none of those that are looked for
 pub loop-number-preserved : goal.loop-number-preserved
 loop-number-preserved c =
-    let planned = planned_board c.args.ordered.now c.args.board.now c.args.plan.now in
+    let planned = planned_in c.args.wired.now in
     let number = c.loop-number.number in
     let cells = planned.ordered.flat.cells in
     let listed : c.cells-cell-items.result.now ≡ cells = c.cells-cell-items.ensures ∙ ap (λ flat. flat.cells) c.flat.ensures in

@@ -5,7 +5,8 @@ use Rattle.std.specs.Option.{option_and_then, option_copied}
 use Rattle.vw_net.specs.declared.flat.Flat.{Flat}
 use Rattle.vw_plan.specs.Lead.{usable}
 use Rattle.vw_plan.specs.Nets.{node_of}
-use Rattle.vw_plan.specs.PlannedBoard.{PlannedBoard, planned_board}
+use Rattle.vw_plan.specs.PlannedBoard.{PlannedBoard}
+use Rattle.vw_check.specs.Steps.LeadTables.{planned_in}
 use Rattle.vw_plan.specs.declared.wire.Hop.{Hop}
 use Rattle.vw_plan.specs.declared.wire.Wire.{Wire}
 use Rattle.vw_check.specs.FirstFound.{found_unless}
@@ -45,7 +46,7 @@ module _ (planned : PlannedBoard) (number : ℕ) (wire : Wire) where
 -- a wire that is sent too early is the first of those that are looked for
 pub returns-then-at-usable : goal.returns-then-at-usable
 returns-then-at-usable c =
-    let planned = planned_board c.args.ordered.now c.args.board.now c.args.plan.now in
+    let planned = planned_in c.args.wired.now in
     let number = c.loop-number.number in
     let wire = c.wire-item.result in
     let first = ap (λ (hops : List Hop). slice_get hops 0) (sym c.hops.ensures) ∙ sym c.in-Some.ensures.value in
@@ -58,7 +59,7 @@ returns-then-at-usable c =
 -- a wire that isn't is none of them
 pub loop-number-preserved : goal.loop-number-preserved
 loop-number-preserved c =
-    let planned = planned_board c.args.ordered.now c.args.board.now c.args.plan.now in
+    let planned = planned_in c.args.wired.now in
     let number = c.loop-number.number in
     let wire = c.wire-item.result in
     let listed = ap (λ (hops : List Hop). slice_get hops 0) (sym c.hops.ensures) in

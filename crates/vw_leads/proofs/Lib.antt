@@ -1,0 +1,6 @@
+pub mod FirstPairs
+pub mod FirstPlaces
+pub mod PushedElements
+pub mod LinkNumbers
+pub mod LinkPlaces
+pub mod LastHops

@@ -1,0 +1,118 @@
+-- Hops and taken slots, counted.
+use Rattle.std.proofs.Common.{◌≡◌, ◌<◌, ◌+◌, ◌&&◌, ◌||◌, ◌++◌, ℕ, zero, suc, Bool, true, false, List, [], ◌∷◌, length, map, get_or, set, eqb, ap, ap₂, refl, sym, ◌∙◌, arith, ⊎_elim, true≢false, eqb-true, eq-eqb}
+use Rattle.std.proofs.lemmas.Bool.{cases_Bool, and_from, and_parts}
+use Rattle.std.specs.Cmp.{both_ways}
+use Rattle.std.proofs.lemmas.List.{append_assoc, append-nil}
+use Rattle.std.proofs.lemmas.List.Concat.{flat_map-cons}
+use Rattle.std.proofs.lemmas.List.Folds.{list_any-append}
+use Rattle.std.proofs.Math.Bool.{or-false}
+use Rattle.vw_net.specs.Steps.Bits.{one_if}
+use Rattle.vw_plan.specs.declared.board.Board.{Board}
+use Rattle.vw_plan.specs.declared.link.Link.{Link}
+use Rattle.vw_plan.specs.declared.wire.Hop.{Hop}
+use Rattle.vw_plan.specs.Lead.{arrival}
+use Rattle.vw_plan.specs.Routes.{steps_of}
+use Rattle.vw_plan.specs.Sound.{share_pin}
+use Rattle.vw_plan.specs.Walks.{has_link}
+use Rattle.vw_slots.specs.declared.slot.Taken.{Taken}
+use Rattle.vw_slots.specs.Slots.{is_taken}
+use Rattle.vw_pipe.specs.Steps.SentHops.{AreLinked, AreSent, link_place, hop_link, taken_by}
+use Rattle.vw_pipe.specs.Steps.FinishedSchedules.{all_hops, uses}
+
+-- links of one number are one
+same_ends : (links : List Link) (a b c d : ℕ) → has_link links a b ≡ true → link_place links a b ≡ link_place links c d → (a ≡ c) × (b ≡ d)
+same_ends [] a b c d there same = absurd (true≢false (sym there))
+same_ends (link ∷ links) a b c d there same =
+    let first = eqb link.from a && eqb link.to b in
+    let second = eqb link.from c && eqb link.to d in
+    let both = λ (one : first ≡ true) (other : second ≡ true).
+    let p = and_parts (eqb link.from a) (eqb link.to b) one in
+    let q = and_parts (eqb link.from c) (eqb link.to d) other in
+    let whole : (a ≡ c) × (b ≡ d) = (sym (eqb-true link.from a p.0) ∙ eqb-true link.from c q.0, sym (eqb-true link.to b p.1) ∙ eqb-true link.to d q.1) in whole in
+    let one_only = λ (one : first ≡ true) (other : second ≡ false).
+    let no_such : 0 ≡ suc (link_place links c d) = rw (one, other) at same in
+    let whole : (a ≡ c) × (b ≡ d) = absurd (omega (arith, no_such)) in whole in
+    let other_only = λ (one : first ≡ false) (other : second ≡ true).
+    let no_such : suc (link_place links a b) ≡ 0 = rw (one, other) at same in
+    let whole : (a ≡ c) × (b ≡ d) = absurd (omega (arith, no_such)) in whole in
+    let neither = λ (one : first ≡ false) (other : second ≡ false).
+    let deep : suc (link_place links a b) ≡ suc (link_place links c d) = rw (one, other) at same in
+    let later : has_link links a b ≡ true = sym (ap (λ (bit : Bool). bit || has_link links a b) one) ∙ there in
+    let whole : (a ≡ c) × (b ≡ d) = same_ends links a b c d later (omega (arith, deep)) in whole in
+    ⊎_elim (λ one. ⊎_elim (both one) (one_only one) (cases_Bool second)) (λ one. ⊎_elim (other_only one) (neither one) (cases_Bool second)) (cases_Bool first)
+
+module _ (board : Board) where
+  -- whether the pin and the microcycle of a hop are taken
+  abbrev pub is_in : List Taken → Hop → Bool
+  is_in taken hop = is_taken taken (hop_link board hop) hop.pin hop.at
+
+  abbrev takes_slot : Hop → Hop → Bool
+  takes_slot other hop = (eqb (hop_link board other) (hop_link board hop) && eqb other.at hop.at) && eqb other.pin hop.pin
+
+  -- hops that share a pin take one slot
+  shares : (hop other : Hop) → has_link board.links other.from other.to ≡ true → share_pin hop other ≡ takes_slot other hop
+  shares hop other there = both_ways (share_pin hop other) (takes_slot other hop) to back where
+    to : share_pin hop other ≡ true → takes_slot other hop ≡ true
+    to is =
+        let parts = and_parts (eqb hop.from other.from && eqb hop.to other.to) (eqb hop.pin other.pin && eqb hop.at other.at) is in
+        let ends = and_parts (eqb hop.from other.from) (eqb hop.to other.to) parts.0 in
+        let slot = and_parts (eqb hop.pin other.pin) (eqb hop.at other.at) parts.1 in
+        let place : hop_link board other ≡ hop_link board hop = sym (ap₂ (link_place board.links) (eqb-true hop.from other.from ends.0) (eqb-true hop.to other.to ends.1)) in
+        and_from _ _ (and_from _ _ (eq-eqb (hop_link board other) (hop_link board hop) place) (eq-eqb other.at hop.at (sym (eqb-true hop.at other.at slot.1)))) (eq-eqb other.pin hop.pin (sym (eqb-true hop.pin other.pin slot.0)))
+
+    back : takes_slot other hop ≡ true → share_pin hop other ≡ true
+    back is =
+        let parts = and_parts (eqb (hop_link board other) (hop_link board hop) && eqb other.at hop.at) (eqb other.pin hop.pin) is in
+        let slot = and_parts (eqb (hop_link board other) (hop_link board hop)) (eqb other.at hop.at) parts.0 in
+        let ends = same_ends board.links other.from other.to hop.from hop.to there (eqb-true (hop_link board other) (hop_link board hop) slot.0) in
+        and_from _ _ (and_from _ _ (eq-eqb hop.from other.from (sym ends.0)) (eq-eqb hop.to other.to (sym ends.1))) (and_from _ _ (eq-eqb hop.pin other.pin (sym (eqb-true other.pin hop.pin parts.1))) (eq-eqb hop.at other.at (sym (eqb-true other.at hop.at slot.1))))
+
+  in_more : (taken : List Taken) (hop other : Hop) → is_in (taken ++ taken_by board other ∷ []) hop ≡ (is_in taken hop || takes_slot other hop)
+  in_more taken hop other = list_any-append (λ slot. (eqb slot.link (hop_link board hop) && eqb slot.at hop.at) && eqb slot.pin hop.pin) taken (taken_by board other ∷ []) ∙ ap (λ (bit : Bool). is_in taken hop || bit) (or-false (takes_slot other hop))
+
+  one_more_bit : (before own : Bool) → (own ≡ true → before ≡ false) → one_if before + one_if own ≡ one_if (before || own)
+  one_more_bit true true apart = absurd (true≢false (apart refl))
+  one_more_bit true false apart = refl
+  one_more_bit false true apart = refl
+  one_more_bit false false apart = refl
+
+  -- one more hop is one more taken slot
+  tally_one : (count : Hop → ℕ) (taken : List Taken) (other : Hop) → has_link board.links other.from other.to ≡ true → (is_in taken other ≡ true → ⊥) → ((hop : Hop) → count hop ≡ one_if (is_in taken hop)) → (hop : Hop) → count hop + one_if (share_pin hop other) ≡ one_if (is_in (taken ++ taken_by board other ∷ []) hop)
+  tally_one count taken other there free tally hop =
+      let apart = λ (is : takes_slot other hop ≡ true).
+      let parts = and_parts (eqb (hop_link board other) (hop_link board hop) && eqb other.at hop.at) (eqb other.pin hop.pin) is in
+      let slot = and_parts (eqb (hop_link board other) (hop_link board hop)) (eqb other.at hop.at) parts.0 in
+      let same : is_in taken other ≡ is_in taken hop = ap₂ (λ (place at : ℕ). is_taken taken place other.pin at) (eqb-true (hop_link board other) (hop_link board hop) slot.0) (eqb-true other.at hop.at slot.1) ∙ ap (λ (pin : ℕ). is_taken taken (hop_link board hop) pin hop.at) (eqb-true other.pin hop.pin parts.1) in
+      let not_before = λ (before : is_in taken hop ≡ true). free (same ∙ before) in
+      let whole : is_in taken hop ≡ false = ⊎_elim (λ before. absurd (not_before before)) (λ none. none) (cases_Bool (is_in taken hop)) in whole in
+      ap₂ (λ (a : ℕ) (bit : Bool). a + one_if bit) (tally hop) (shares hop other there) ∙ one_more_bit (is_in taken hop) (takes_slot other hop) apart ∙ ap one_if (sym (in_more taken hop other))
+
+  pub tally_sent : (count : Hop → ℕ) (taken : List Taken) (ready from : ℕ) (further : List ℕ) (hops : List Hop) → AreLinked board.links from further → AreSent board taken ready (steps_of (from ∷ further)) hops → ((hop : Hop) → count hop ≡ one_if (is_in taken hop)) → (hop : Hop) → count hop + uses hop hops ≡ one_if (is_in (taken ++ map (taken_by board) hops) hop)
+  tally_sent count taken ready from [] [] linked sent tally hop =
+      let none : taken ++ [] ≡ taken = append-nil taken in
+      let nothing : count hop + 0 ≡ count hop = omega arith in
+      nothing ∙ tally hop ∙ ap (λ (list : List Taken). one_if (is_in list hop)) (sym none)
+  tally_sent count taken ready from [] (next ∷ hops) linked sent tally hop = absurd sent
+  tally_sent count taken ready from (to ∷ further) [] linked sent tally hop = absurd sent
+  tally_sent count taken ready from (to ∷ further) (next ∷ hops) linked sent tally hop =
+      let its_from : next.from ≡ from = ap (λ (step : ℕ × ℕ). step.0) sent.0 in
+      let its_to : next.to ≡ to = ap (λ (step : ℕ × ℕ). step.1) sent.0 in
+      let there : has_link board.links next.from next.to ≡ true = ap₂ (has_link board.links) its_from its_to ∙ linked.0 in
+      let more = tally_sent (λ one. count one + one_if (share_pin one next)) (taken ++ taken_by board next ∷ []) (arrival board.links next + 1) to further hops linked.1 sent.2 (tally_one count taken next there sent.1.free tally) hop in
+      let joined : (taken ++ taken_by board next ∷ []) ++ map (taken_by board) hops ≡ taken ++ taken_by board next ∷ map (taken_by board) hops = append_assoc taken (taken_by board next ∷ []) (map (taken_by board) hops) in
+      let sum : count hop + (one_if (share_pin hop next) + uses hop hops) ≡ count hop + one_if (share_pin hop next) + uses hop hops = omega arith in
+      sum ∙ more ∙ ap (λ (list : List Taken). one_if (is_in list hop)) joined
+
+-- ---- the hops of one route are written
+
+pub uses-append : (hop : Hop) (hops more : List Hop) → uses hop (hops ++ more) ≡ uses hop hops + uses hop more
+uses-append hop [] more = let none : 0 + uses hop more ≡ uses hop more = omega arith in sym none
+uses-append hop (other ∷ hops) more = let sum : one_if (share_pin hop other) + (uses hop hops + uses hop more) ≡ one_if (share_pin hop other) + uses hop hops + uses hop more = omega arith in ap (λ (rest : ℕ). one_if (share_pin hop other) + rest) (uses-append hop hops more) ∙ sum
+
+uses_all : (hop : Hop) (sent : List Hop) (hops : List (List Hop)) → uses hop (all_hops (sent ∷ hops)) ≡ uses hop sent + uses hop (all_hops hops)
+uses_all hop sent hops = ap (uses hop) (flat_map-cons (λ (one : List Hop). one) sent hops) ∙ uses-append hop sent (all_hops hops)
+
+pub uses_set : (hop : Hop) (hops : List (List Hop)) (number : ℕ) (sent : List Hop) → number < length hops → get_or hops number [] ≡ [] → uses hop (all_hops (set hops number sent)) ≡ uses hop (all_hops hops) + uses hop sent
+uses_set hop [] number sent within none = absurd (omega (arith, within))
+uses_set hop (first ∷ hops) zero sent within none = let empty : uses hop first ≡ 0 = ap (uses hop) none in omega (arith, uses_all hop sent hops, uses_all hop first hops, empty)
+uses_set hop (first ∷ hops) (suc number) sent within none = omega (arith, uses_all hop first (set hops number sent), uses_all hop first hops, uses_set hop hops number sent (omega (arith, within)) none)

@@ -1,0 +1,104 @@
+-- Turns by the order of the gates can be kept.
+use Rattle.std.proofs.Common.{◌≡◌, ◌<◌, ◌≤◌, ◌+◌, ◌-◌, ◌∙◌, ◌∷◌, ◌||◌, ℕ, zero, suc, Bool, true, false, List, [], length, take, replicate, get_or, set, eqb, nat_lt, if◌then◌else◌, slice_get, slice_index, Option, Some, None, ap, refl, sym, ⊎_elim, true≢false, arith, eqb-true, lt-ltb}
+use Rattle.std.specs.List.{All}
+use Rattle.std.proofs.lemmas.Bool.{cases_Bool, cases_eq, cases_lt, or_cases}
+use Rattle.std.proofs.lemmas.Grind.{get_or-set_at}
+use Rattle.std.proofs.lemmas.List.{get_or_past, get_or-replicate, get_or-set_other, length-replicate, length-set}
+use Rattle.std.proofs.lemmas.List.Sums.{AllPass-from_list_all}
+use Rattle.vw_net.specs.declared.cell.Cell.{Cell}
+use Rattle.vw_net.specs.declared.cell.Cell.TheVariants.{Gate, Latch}
+use Rattle.vw_net.specs.declared.ordered.Ordered.{Ordered}
+use Rattle.vw_net.specs.Order.{gate_inputs, is_among, is_gate, is_latch, is_ready, read_nets_at}
+use Rattle.vw_net.proofs.ReadyNets.{order_within}
+use Rattle.vw_plan.specs.Nets.{driving_cell}
+use Rattle.vw_plan.proofs.AlongOrder.{All-gate_reads}
+use Rattle.vw_pipe.specs.Steps.Turns.{AreTurns, IsBehindReads}
+use Rattle.vw_pipe.proofs.LeadWorked.{gate_in_order, one_place}
+
+among_take : (count : ℕ) (numbers : List ℕ) (number : ℕ) → is_among (take count numbers) number ≡ true → (place : ℕ) × (place < length numbers) × (place < count) × (get_or numbers place 0 ≡ number)
+among_take zero numbers number among = absurd (true≢false (sym among))
+among_take (suc count) [] number among = absurd (true≢false (sym among))
+among_take (suc count) (first ∷ numbers) number among =
+    let here = λ (is : eqb first number ≡ true).
+    let early : 0 < length (first ∷ numbers) = omega arith in
+    let low : 0 < suc count = omega arith in
+    let whole : (place : ℕ) × (place < length (first ∷ numbers)) × (place < suc count) × (get_or (first ∷ numbers) place 0 ≡ number) = (0, early, low, eqb-true first number is) in whole in
+    let later = λ (rest : is_among (take count numbers) number ≡ true).
+    let found = among_take count numbers number rest in
+    let early : suc found.0 < length (first ∷ numbers) = omega (arith, found.1) in
+    let low : suc found.0 < suc count = omega (arith, found.2) in
+    let whole : (place : ℕ) × (place < length (first ∷ numbers)) × (place < suc count) × (get_or (first ∷ numbers) place 0 ≡ number) = (suc found.0, early, low, found.3) in whole in
+    ⊎_elim here later (or_cases (eqb first number) (is_among (take count numbers) number) among)
+
+not_both : (cell : Option Cell) → is_latch cell ≡ true → is_gate cell ≡ false
+not_both None latch = refl
+not_both (Some (Gate ins cover)) latch = absurd (true≢false (sym latch))
+not_both (Some (Latch d init)) latch = refl
+
+-- a list of zeros has 0 everywhere, and past its end
+zero_at : (count net : ℕ) → ◌≡◌ {A = ℕ} (get_or (replicate count 0) net 0) 0
+zero_at count net = ⊎_elim (λ within. get_or-replicate count net 0 0 within) (λ past. get_or_past (replicate count 0) net 0 (let long : length (replicate {A = ℕ} count 0) ≡ count = length-replicate {A = ℕ} count 0 in omega arith)) (cases_lt net count)
+
+module _ (ordered : Ordered) where
+  abbrev net_at : ℕ → ℕ
+  net_at place = ordered.flat.inputs + slice_index ordered.order place
+
+  -- the gates before a place have their turns, and what no gate drives has turn 0
+  pub record HasTurns (count : ℕ) (turns : List ℕ) : Type 0 where
+    pub long : length turns ≡ ordered.flat.inputs + length ordered.flat.cells
+    pub gates : (place : ℕ) → place < count → place < length ordered.order → slice_index turns (net_at place) ≡ place + 1
+    pub others : (net : ℕ) → is_gate (driving_cell ordered.flat net) ≡ false → slice_index turns net ≡ 0
+
+  pub none_turned : (turns : List ℕ) (nets : ℕ) → turns ≡ replicate nets 0 → nets ≡ ordered.flat.inputs + length ordered.flat.cells → HasTurns 0 turns
+  none_turned turns nets zeros all = record {
+    long = ap length zeros ∙ length-replicate nets 0 ∙ all;
+    gates = λ place before within. absurd (omega (arith, before));
+    others = λ net no. ap (λ (list : List ℕ). slice_index list net) zeros ∙ zero_at nets net;
+  }
+
+  pub one_turned : (count : ℕ) (turns : List ℕ) (net value : ℕ) → count < length ordered.order → net ≡ net_at count → value ≡ count + 1 → HasTurns count turns → HasTurns (count + 1) (set turns net value)
+  one_turned count turns net value inside its_net its_value has = record {
+    long = length-set turns net value ∙ has.long;
+    gates = λ place before within.
+        let here = λ (same : place ≡ count).
+        let at : net_at place ≡ net = ap net_at same ∙ sym its_net in
+        let whole : slice_index (set turns net value) (net_at place) ≡ place + 1 = get_or-set_at turns net (net_at place) value 0 at (omega (arith, its_net, has.long, order_within ordered.is_order count inside)) ∙ its_value ∙ ap (λ (n : ℕ). n + 1) (sym same) in whole in
+        let sooner = λ (apart : place ≡ count → ⊥).
+        let other : net_at place ≡ net → ⊥ = λ same. apart (one_place ordered place count within inside (let numbers : slice_index ordered.order place ≡ slice_index ordered.order count = omega (arith, same, its_net) in numbers)) in
+        let early : place < count = omega (arith, before, apart) in
+        let whole : slice_index (set turns net value) (net_at place) ≡ place + 1 = get_or-set_other turns net (net_at place) value 0 other ∙ has.gates place early within in whole in
+        ⊎_elim here sooner (cases_eq place count);
+    others = λ other no. get_or-set_other turns net other value 0 (λ same. true≢false (sym (ap (λ (n : ℕ). is_gate (driving_cell ordered.flat n)) (same ∙ its_net) ∙ gate_in_order ordered count inside) ∙ no)) ∙ has.others other no;
+  }
+
+  -- a net that is ready before a place has an earlier turn
+  ready_sooner : (place : ℕ) (turns : List ℕ) → place < length ordered.order → HasTurns (length ordered.order) turns → (net : ℕ) → is_ready ordered.flat.inputs ordered.flat.cells (take place ordered.order) net ≡ true → slice_index turns net < place + 1
+  ready_sooner place turns within has net ready =
+      let inputs = ordered.flat.inputs in
+      let cell = slice_get ordered.flat.cells (net - inputs) in
+      let if_input = λ (input : nat_lt net inputs ≡ true).
+      let none : is_gate (driving_cell ordered.flat net) ≡ false = ap (λ (bit : Bool). is_gate (if bit then None else cell)) input in
+      let whole : slice_index turns net < place + 1 = omega (arith, has.others net none) in whole in
+      let if_past = λ (past : nat_lt net inputs ≡ false).
+      let if_latch = λ (latch : is_latch cell ≡ true).
+      let none : is_gate (driving_cell ordered.flat net) ≡ false = ap (λ (bit : Bool). is_gate (if bit then None else cell)) past ∙ not_both cell latch in
+      let whole : slice_index turns net < place + 1 = omega (arith, has.others net none) in whole in
+      let if_done = λ (done : is_among (take place ordered.order) (net - inputs) ≡ true).
+      let found = among_take place ordered.order (net - inputs) done in
+      let late : inputs ≤ net = ⊎_elim (λ less. absurd (true≢false (sym (lt-ltb net inputs less) ∙ past))) (λ no_less. no_less) (cases_lt net inputs) in
+      let same : net ≡ net_at found.0 = omega (arith, late, found.3) in
+      let whole : slice_index turns net < place + 1 = omega (arith, ap (slice_index turns) same, has.gates found.0 found.1 found.1, found.2) in whole in
+      let rest : (is_latch cell || is_among (take place ordered.order) (net - inputs)) ≡ true = sym (ap (λ (bit : Bool). bit || (is_latch cell || is_among (take place ordered.order) (net - inputs))) past) ∙ ready in
+      ⊎_elim if_latch if_done (or_cases (is_latch cell) (is_among (take place ordered.order) (net - inputs)) rest) in
+      ⊎_elim if_input if_past (cases_Bool (nat_lt net inputs))
+
+  pub turns_kept : (turns : List ℕ) → HasTurns (length ordered.order) turns → AreTurns ordered turns
+  turns_kept turns has place within =
+      let cell = slice_get ordered.flat.cells (slice_index ordered.order place) in
+      let is_done = is_ready ordered.flat.inputs ordered.flat.cells (take place ordered.order) in
+      let ready : All (λ net. is_done net ≡ true) (gate_inputs cell) = All-gate_reads (λ net. is_done net ≡ true) cell (AllPass-from_list_all is_done (read_nets_at cell) (ordered.is_order.after place within)) in
+      λ turn default inside. omega (arith, ready_sooner place turns within has (get_or (gate_inputs cell) turn default) (ready turn default inside), has.gates place within within)
+
+  -- turns in which each gate so far comes behind what it reads
+  pub all_behind : (turns : List ℕ) (count : ℕ) → length ordered.order ≤ count → ((place : ℕ) → place < count → IsBehindReads ordered turns place) → AreTurns ordered turns
+  all_behind turns count whole each place within = each place (omega (arith, whole, within))

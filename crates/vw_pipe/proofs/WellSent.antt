@@ -1,0 +1,88 @@
+-- Hops that took the first free slots are earliest in the plan.
+use Rattle.std.proofs.Common.{◌≡◌, ◌<◌, ◌≤◌, ◌+◌, ◌∙◌, ◌∷◌, ◌++◌, ◌&&◌, ◌||◌, ℕ, suc, Bool, true, false, List, [], length, map, eqb, nat_lt, if◌then◌else◌, slice_get, slice_index, slice_index_or, Some, ap, refl, sym, ⊎_elim, true≢false, arith, eqb-true, ltb-true}
+use Rattle.std.specs.List.{All, AllPairs, list_any, flat_map}
+use Rattle.std.proofs.lemmas.Bool.{and_parts, cases_Bool, or_cases, or_left, or_right}
+use Rattle.std.proofs.lemmas.List.{append_assoc}
+use Rattle.std.proofs.lemmas.List.Concat.{flat_map-cons}
+use Rattle.std.proofs.lemmas.List.Elements.{All-cons, All-head, All-nil, All-tail}
+use Rattle.std.proofs.lemmas.List.Folds.{list_any-append}
+use Rattle.vw_plan.specs.declared.board.Board.{Board}
+use Rattle.vw_plan.specs.declared.link.Link.{Link}
+use Rattle.vw_plan.specs.declared.need.Route.{Route}
+use Rattle.vw_plan.specs.declared.plan.Plan.{Plan}
+use Rattle.vw_plan.specs.declared.wire.Hop.{Hop}
+use Rattle.vw_plan.specs.declared.wire.Wire.{Wire}
+use Rattle.vw_plan.specs.Earliest.{AreEarliest, IsEarliest, is_in_use}
+use Rattle.vw_plan.specs.Lead.{arrival}
+use Rattle.vw_plan.specs.Links.{HaveSameEnds}
+use Rattle.vw_plan.specs.Sound.{has_pin, share_pin}
+use Rattle.vw_slots.specs.declared.slot.Taken.{Taken}
+use Rattle.vw_slots.specs.Slots.{is_taken}
+use Rattle.vw_pipe.specs.Steps.SentHops.{AreSent, link_place, hop_link, taken_by}
+use Rattle.vw_pipe.specs.Steps.FinishedSchedules.{all_hops, uses}
+use Rattle.vw_pipe.specs.Steps.Leads.{wires_of}
+
+-- ---- a pin of the board is within the width of its link
+
+no_other : (link : Link) (links : List Link) (hop : Hop) → All (λ other. ¬ (HaveSameEnds link other)) links → link.from ≡ hop.from → link.to ≡ hop.to → has_pin links hop ≡ true → ⊥
+no_other link [] hop apart from to pin = true≢false (sym pin)
+no_other link (other ∷ links) hop apart from to pin =
+    let here = λ (is : ((eqb other.from hop.from && eqb other.to hop.to) && nat_lt hop.pin other.width) ≡ true).
+    let ends = and_parts (eqb other.from hop.from) (eqb other.to hop.to) (and_parts (eqb other.from hop.from && eqb other.to hop.to) (nat_lt hop.pin other.width) is).0 in
+    All-head (λ (one : Link). ¬ (HaveSameEnds link one)) other links apart (from ∙ sym (eqb-true other.from hop.from ends.0), to ∙ sym (eqb-true other.to hop.to ends.1)) in
+    ⊎_elim here (no_other link links hop (All-tail (λ (one : Link). ¬ (HaveSameEnds link one)) other links apart) from to) (or_cases ((eqb other.from hop.from && eqb other.to hop.to) && nat_lt hop.pin other.width) (has_pin links hop) pin)
+
+pub pin_within : (links : List Link) (hop : Hop) → AllPairs (λ link other. ¬ (HaveSameEnds link other)) links → has_pin links hop ≡ true → hop.pin < slice_index (map (λ link. link.width) links) (link_place links hop.from hop.to)
+pin_within [] hop once pin = absurd (true≢false (sym pin))
+pin_within (link ∷ links) hop once pin =
+    let here = eqb link.from hop.from && eqb link.to hop.to in
+    let if_here = λ (is : here ≡ true).
+    let ends = and_parts (eqb link.from hop.from) (eqb link.to hop.to) is in
+    let in_it = λ (its : (here && nat_lt hop.pin link.width) ≡ true). let whole : hop.pin < slice_index (map (λ one. one.width) (link ∷ links)) (link_place (link ∷ links) hop.from hop.to) = rw is (ltb-true hop.pin link.width (and_parts here (nat_lt hop.pin link.width) its).1) in whole in
+    let in_other = λ (rest : has_pin links hop ≡ true). let whole : hop.pin < slice_index (map (λ one. one.width) (link ∷ links)) (link_place (link ∷ links) hop.from hop.to) = absurd (no_other link links hop (λ place default within. once 0 (suc place) default (omega arith) (omega (arith, within))) (eqb-true link.from hop.from ends.0) (eqb-true link.to hop.to ends.1) rest) in whole in
+    ⊎_elim in_it in_other (or_cases (here && nat_lt hop.pin link.width) (has_pin links hop) pin) in
+    let if_not = λ (is : here ≡ false).
+    let rest : has_pin links hop ≡ true = sym (ap (λ (bit : Bool). (bit && nat_lt hop.pin link.width) || has_pin links hop) is) ∙ pin in
+    let whole : hop.pin < slice_index (map (λ one. one.width) (link ∷ links)) (link_place (link ∷ links) hop.from hop.to) = rw is (pin_within links hop (λ i j default before within. once (suc i) (suc j) default (omega (arith, before)) (omega (arith, within))) rest) in whole in
+    ⊎_elim if_here if_not (cases_Bool here)
+
+-- ---- hops of the plan
+
+pub uses_some : (hop : Hop) (hops : List Hop) → 1 ≤ uses hop hops → list_any (share_pin hop) hops ≡ true
+uses_some hop [] one = absurd (omega (arith, one))
+uses_some hop (other ∷ hops) one =
+    let if_here = λ (is : share_pin hop other ≡ true). or_left (share_pin hop other) (list_any (share_pin hop) hops) is in
+    let if_not = λ (is : share_pin hop other ≡ false).
+    let none : ◌≡◌ {A = ℕ} (if share_pin hop other then 1 else 0) 0 = ap (λ (bit : Bool). if bit then 1 else 0) is in
+    or_right (share_pin hop other) (list_any (share_pin hop) hops) (uses_some hop hops (omega (arith, one, none))) in
+    ⊎_elim if_here if_not (cases_Bool (share_pin hop other))
+
+pub hops_same : (routes : List Route) (hops : List (List Hop)) → length hops ≡ length routes → flat_map (λ wire. wire.hops) (wires_of routes hops) ≡ all_hops hops
+hops_same [] [] long = refl
+hops_same [] (sent ∷ hops) long = absurd (omega (arith, long))
+hops_same (route ∷ routes) [] long = absurd (omega (arith, long))
+hops_same (route ∷ routes) (sent ∷ hops) long =
+    let first : Wire = record { net = route.net; to = route.to; hops = sent } in
+    flat_map-cons (λ (wire : Wire). wire.hops) first (wires_of routes hops) ∙ ap (λ (rest : List Hop). sent ++ rest) (hops_same routes hops (omega (arith, long))) ∙ sym (flat_map-cons (λ (one : List Hop). one) sent hops)
+
+-- what holds of each wire
+pub all_wires : (P : Wire → Type 0) (routes : List Route) (hops : List (List Hop)) → length hops ≡ length routes → ((number : ℕ) (route : Route) → slice_get routes number ≡ Some route → P (record { net = route.net; to = route.to; hops = slice_index_or hops number [] })) → All P (wires_of routes hops)
+all_wires P [] hops long each = All-nil P
+all_wires P (route ∷ routes) [] long each = absurd (omega (arith, long))
+all_wires P (route ∷ routes) (sent ∷ hops) long each = All-cons P (record { net = route.net; to = route.to; hops = sent }) (wires_of routes hops) (each 0 route refl) (all_wires P routes hops (omega (arith, long)) (λ number other at. each (suc number) other at))
+
+-- ---- earliest hops
+
+module _ (board : Board) (plan : Plan) (final : List Taken) (in_use : (hop : Hop) → is_taken final (hop_link board hop) hop.pin hop.at ≡ true → is_in_use plan hop ≡ true) where
+  pub early_from : (taken : List Taken) (ready : ℕ) (steps : List (ℕ × ℕ)) (hops : List Hop) → AreSent board taken ready steps hops → ((link pin at : ℕ) → is_taken (taken ++ map (taken_by board) hops) link pin at ≡ true → is_taken final link pin at ≡ true) → AreEarliest board plan ready hops
+  early_from taken ready [] [] sent stays = tt
+  early_from taken ready [] (hop ∷ hops) sent stays = absurd sent
+  early_from taken ready (step ∷ steps) [] sent stays = absurd sent
+  early_from taken ready (step ∷ steps) (hop ∷ hops) sent stays =
+      let first : IsEarliest board plan ready hop = λ at late before pin there.
+      let other : Hop = record { from = hop.from; to = hop.to; pin = pin; at = at } in
+      let inside : pin < slice_index (map (λ link. link.width) board.links) (link_place board.links hop.from hop.to) = pin_within board.links other board.linked.separate.once there in
+      let full : is_taken taken (hop_link board hop) pin at ≡ true = sent.1.full_before at late before pin inside in
+      let stayed : is_taken final (hop_link board hop) pin at ≡ true = stays (hop_link board hop) pin at (list_any-append (λ slot. (eqb slot.link (hop_link board hop) && eqb slot.at at) && eqb slot.pin pin) taken (map (taken_by board) (hop ∷ hops)) ∙ or_left _ _ full) in
+      in_use other stayed in
+      (first, early_from (taken ++ taken_by board hop ∷ []) (arrival board.links hop + 1) steps hops sent.2 (λ link pin at is. stays link pin at (ap (λ (list : List Taken). is_taken list link pin at) (sym (append_assoc taken (taken_by board hop ∷ []) (map (taken_by board) hops))) ∙ is)))

@@ -1,0 +1,32 @@
+-- What is done for a schedule, in which order. Source: this project.
+use Rattle.std.specs.Prelude.{◌≡◌, ◌≤◌, ◌+◌, ◌++◌, ℕ, suc, Bool, true, false, List, [], ◌∷◌, slice_index}
+use Rattle.std.specs.List.{AllPairs}
+use Rattle.vw_net.specs.declared.ordered.Ordered.{Ordered}
+use Rattle.vw_plan.specs.declared.need.Route.{Route}
+use Rattle.vw_pipe.specs.declared.task.Task.{Task}
+
+-- a task for each of some things, which are numbered from a number on
+abbrev pub tasks_from : {X : Type 0} → (X → ℕ) → Bool → ℕ → List X → List Task
+tasks_from turn_of sends place [] = []
+tasks_from turn_of sends place (x ∷ xs) = record { turn = turn_of x; sends = sends; place = place } ∷ tasks_from turn_of sends (suc place) xs
+
+-- the lead of each gate, and the hops of each route
+abbrev pub all_tasks : Ordered → List ℕ → List Route → List Task
+all_tasks ordered turns routes =
+    tasks_from (λ number. slice_index turns (ordered.flat.inputs + number)) false 0 ordered.order
+    ++ tasks_from (λ route. slice_index turns route.net) true 0 routes
+
+-- leads come before hops
+abbrev pub rank : Bool → ℕ
+rank false = 0
+rank true = 1
+
+-- a task comes before another, or is the same
+pub record IsAtMost (task other : Task) : Type 0 where
+  pub turns : task.turn ≤ other.turn
+  pub kinds : task.turn ≡ other.turn → rank task.sends ≤ rank other.sends
+  pub places : task.turn ≡ other.turn → rank task.sends ≡ rank other.sends → task.place ≤ other.place
+
+-- each task comes before all later ones
+abbrev pub AreRising : List Task → Type 0
+AreRising tasks = AllPairs IsAtMost tasks

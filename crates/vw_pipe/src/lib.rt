@@ -1,0 +1,15 @@
+//! Schedules in which each hop takes the first free slot of its link once its net is usable.
+#![tactic(auto)]
+
+mod along;
+mod draft;
+mod drafting;
+mod given;
+mod planning;
+mod refused;
+mod rests;
+mod task;
+mod turns;
+
+pub use planning::schedule;
+pub use refused::ScheduleRefused;
