@@ -7,6 +7,10 @@ pub mod LeadLevels
 pub mod Depths
 pub mod NeededPairs
 pub mod NeededNets
+pub mod ReadNets
+pub mod HopsOfWires
+pub mod PinUsers
+pub mod LinkDelays
 pub mod Walking
 pub mod Shortest
 pub mod TestedPairs

@@ -9,6 +9,7 @@ pub mod Lead
 pub mod Needs
 pub mod ChainsBack
 pub mod Sound
+pub mod Wiring
 pub mod Earliest
 pub mod Routes
 pub mod Good

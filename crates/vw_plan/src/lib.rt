@@ -13,8 +13,9 @@ mod wire;
 pub use board::Board;
 pub use checked::Checked;
 pub use laws::{
-    depths_are_deepest, depths_are_small, depths_follow_drivers, distances_are_least,
-    leads_follow_drivers, needed_pairs_are_needed,
+    depths_are_deepest, depths_are_small, depths_follow_drivers, distances_are_least, hops_go_on,
+    leads_follow_drivers, links_differ, needed_nets_are_nets, needed_pairs_are_needed,
+    pins_have_one_user, read_nets_are_there,
 };
 pub use link::Link;
 pub use need::{Need, Route};

@@ -1,0 +1,5 @@
+use Rattle.vw_plan.proofs.PinUsers.{one_user}
+use Rattle.vw_plan.proofs.laws.pins_have_one_user.Goals as goal
+
+pub returns : goal.returns
+returns c = one_user
