@@ -138,15 +138,15 @@ window() {
     }
     printf ".end\n" }'
 }
-# mesh ROWS COLUMNS ROOM WIDTH: chips in rows, each linked to its neighbours and to the host
+# mesh ROWS COLUMNS ROOM WIDTH DELAY: chips in rows, each linked to its neighbours and to the host
 mesh() {
-  awk -v rows="$1" -v columns="$2" -v room="$3" -v width="$4" 'BEGIN {
+  awk -v rows="$1" -v columns="$2" -v room="$3" -v width="$4" -v delay="$5" 'BEGIN {
     chips = rows * columns
-    printf "board 1\nchips %d\ncells %d\nsettle 0\npins 4096\n", chips, room
+    printf "board 2\nchips %d\ncells %d\nsettle 0\npins 4096\n", chips, room
     for (a = 0; a <= chips; a++) for (b = 0; b <= chips; b++) {
       p = a - 1; q = b - 1
       beside = (q == p + 1 && q % columns) || (p == q + 1 && p % columns) || q == p + columns || p == q + columns
-      if (a != b && (a == 0 || b == 0 || beside)) printf "link %d %d %d\n", a, b, width
+      if (a != b && (a == 0 || b == 0 || beside)) printf "link %d %d %d %d\n", a, b, width, delay
     } }'
 }
 # wires_in_blocks DESIGN ROOM: the number of wires where the cells are dealt to the chips in their order
@@ -185,26 +185,71 @@ halves() {
     }
     printf ".end\n" }'
 }
-# least_period DESIGN PLAN WIDTH: a bound for the period of a plan by phases. A phase takes as many microcycles as the fullest
-# link has hops for each pin, and as its longest wire has hops. Each gate of the design stands behind what it reads
-least_period() {
-  awk -v width="$3" '
-    function done() { if (wire && hops > longest[phase]) longest[phase] = hops }
+# hop_times BOARD PLAN DESIGN: for each hop of the plan its link, the width of the link, the first microcycle in which the hop
+# could be sent if all links had pins enough, and how many microcycles the plan needs at least behind that microcycle
+hop_times() {
+  awk '
+    function later(moment, other) { return other > moment ? other : moment }
     FNR == 1 { file++ }
-    file == 1 && $1 == "chips" { for (k = 2; k <= NF; k++) chip[k - 2] = $k }
-    file == 2 && $1 == ".inputs" { for (k = 2; k <= NF; k++) { number[$k] = inputs; net[inputs++] = 0 } }
-    file == 2 && ($1 == ".names" || $1 == ".latch") {
-      node = chip[cell++]; out = $1 == ".names" ? $NF : $3; deep = 0
-      if ($1 == ".names") for (k = 2; k < NF; k++) { d = depth[number[$k]] + (net[number[$k]] != node); if (d > deep) deep = d }
-      number[out] = inputs + cell - 1; net[number[out]] = node; depth[number[out]] = deep
+    file == 1 && $1 == "settle" { settle = $2 }
+    file == 1 && $1 == "link" { width[$2, $3] = $4; delay[$2, $3] = $5 }
+    file == 2 && $1 == "chips" { for (k = 2; k <= NF; k++) chip[k - 2] = $k }
+    file == 2 && $1 == "wire" { net = $2; wire = net SUBSEP wires[net]++; ends[wire] = $3; hops = 0 }
+    file == 2 && $1 == "hop" { route[wire, hops++] = $2 SUBSEP $3; lengths[wire] = hops }
+    file == 3 && $1 == ".inputs" { for (k = 2; k <= NF; k++) number[$k] = inputs++ }
+    file == 3 && ($1 == ".names" || $1 == ".latch") {
+      gates[cells] = $1 == ".names"; number[gates[cells] ? $NF : $3] = inputs + cells
+      reads[cells] = gates[cells] ? NF - 2 : 1
+      for (k = 0; k < reads[cells]; k++) word[cells, k] = $(k + 2)
+      cells++
     }
-    file == 3 && $1 == "wire" { done(); wire = 1; hops = 0; phase = depth[$2] + 0; if (phase > last) last = phase }
-    file == 3 && $1 == "hop" { hops++; load = ++used[phase, $2, $3]; if (load > most[phase]) most[phase] = load }
     END {
-      done()
-      for (p = 0; p <= last; p++) { link = int((most[p] + width - 1) / width); sum += link > longest[p] ? link : longest[p] }
-      print sum + 0
-    }' "$2" "$1" "$2"
+      for (c = 0; c < cells; c++) for (k = 0; k < reads[c]; k++) {
+        u = read[c, k] = number[word[c, k]]
+        if (gates[c] && u >= inputs && gates[u - inputs]) { waits[c]++; users[u, many[u]++] = c }
+      }
+      # the nets, each behind what it rests on
+      for (n = 0; n < inputs; n++) order[nets++] = n
+      for (c = 0; c < cells; c++) if (!gates[c] || !waits[c]) order[nets++] = inputs + c
+      for (i = 0; i < nets; i++) { n = order[i]; for (k = 0; k < many[n]; k++) if (!--waits[users[n, k]]) order[nets++] = inputs + users[n, k] }
+      for (i = 0; i < nets; i++) {
+        n = order[i]; c = n - inputs; own = n < inputs ? 0 : chip[c]; gate = n >= inputs && gates[c]; lead = 0
+        if (gate) for (k = 0; k < reads[c]; k++) lead = later(lead, there[read[c, k], own])
+        there[n, own] = lead
+        for (w = 0; w < wires[n]; w++) {
+          wire = n SUBSEP w; at = lead + (gate ? settle : 0)
+          for (h = 0; h < lengths[wire]; h++) { start[wire, h] = at; at += delay[route[wire, h]] }
+          there[n, ends[wire]] = at
+        }
+      }
+      for (c = 0; c < cells; c++) if (!gates[c]) {
+        u = read[c, 0]
+        if (u >= inputs && gates[u - inputs] && chip[u - inputs] == chip[c]) rest[u, chip[c]] = settle
+      }
+      for (i = nets - 1; i >= 0; i--) {
+        n = order[i]; c = n - inputs; own = n < inputs ? 0 : chip[c]; gate = n >= inputs && gates[c]
+        for (w = 0; w < wires[n]; w++) {
+          wire = n SUBSEP w; after = rest[n, ends[wire]]
+          for (h = lengths[wire] - 1; h >= 0; h--) {
+            after += delay[route[wire, h]]; split(route[wire, h], end, SUBSEP)
+            print end[1], end[2], width[route[wire, h]], start[wire, h], after - 1
+          }
+          rest[n, own] = later(rest[n, own], after + (gate ? settle : 0))
+        }
+        if (gate) for (k = 0; k < reads[c]; k++) rest[read[c, k], own] = later(rest[read[c, k], own], rest[n, own])
+      }
+    }' "$1" "$2" "$3"
+}
+# least_period BOARD PLAN DESIGN: a bound for the period, for these chips and routes: the longest path if no hop waits for a
+# pin, and for each link, over all moments, what the hops need that start no earlier and have as much behind them
+least_period() {
+  hop_times "$1" "$2" "$3" | sort -k1,1n -k2,2n -k4,4nr | awk '
+    function fullest() { for (k = 1; k <= count; k++) { need = start + int((k + width - 1) / width) + behind[k]; if (need > most) most = need } }
+    { if ($1 != from || $2 != to) { fullest(); count = 0 } else if ($4 != start) fullest()
+      from = $1; to = $2; width = $3; start = $4
+      for (k = ++count; k > 1 && behind[k - 1] < $5; k--) behind[k] = behind[k - 1]
+      behind[k] = $5 }
+    END { fullest(); print most + 0 }'
 }
 
 # ---- one run
@@ -310,22 +355,25 @@ checked "the same, cut behind its second line" early.plan
 expect 4 "plan 2: line 3"
 
 echo
-echo "| design | chips | wires in blocks | wires of the plan | period | bound of the period | seconds | peak, MB |"
-echo "|---|---|---|---|---|---|---|---|"
+echo "| design | chips | wires in blocks | wires of the plan | period | bound | seconds | peak, MB | period, delays of 3 | bound |"
+echo "|---|---|---|---|---|---|---|---|---|---|"
 # planned NAME CELLS ROWS COLUMNS WIDTH: one line of the table of plans that are made, of design.blif, with room for 3 % more
-# cells. Of a mixed design no bound is worked out
+# cells, on links of a delay of 1 and of 3
 planned() {
-  local chips=$(($3 * $4)) wires period bound=-
+  local chips=$(($3 * $4)) delay line="" wires period
   local room=$((($2 * 103 + 100 * chips - 1) / (100 * chips)))
-  mesh "$3" "$4" $room "$5" >mesh.board
-  measured plan design.blif mesh.board
-  expect 0 ""
-  read -r _ _ _ wires period <out
-  mv out made.plan
-  case $1 in *mixed) ;; *) bound=$(least_period design.blif made.plan "$5") ;; esac
-  echo "| $1 | $chips | $(wires_in_blocks design.blif $room) | $wires | $period | $bound | $seconds | $peak |"
-  measured check design.blif mesh.board made.plan
-  expect 0 ""
+  for delay in 1 3; do
+    mesh "$3" "$4" $room "$5" $delay >mesh.board
+    measured plan design.blif mesh.board
+    expect 0 ""
+    read -r _ _ _ wires period <out
+    mv out made.plan
+    [ $delay = 1 ] && line="$(wires_in_blocks design.blif $room) | $wires | $period | $(least_period mesh.board made.plan design.blif) | $seconds | $peak"
+    [ $delay = 3 ] && line="$line | $period | $(least_period mesh.board made.plan design.blif)"
+    measured check design.blif mesh.board made.plan
+    expect 0 ""
+  done
+  echo "| $1 | $chips | $line |"
 }
 grid 32 1 >design.blif
 planned "grid of 32 by 32" 1024 2 2 8

@@ -100,7 +100,7 @@ module _ (ordered : Ordered) (board : Board) (plan : Plan) (routes : List Route)
       ∙ ap (list_any (share_pin hop)) (hops_same routes draft.hops.items way.fit.long)
       ∙ uses_some hop (all_hops draft.hops.items) (omega (arith, one))
 
-  -- when a net is usable, and when its phase begins
+  -- when a net is usable
   usable_same : (net : ℕ) → usable planned (home planned net) net ≡ usable_by ordered.flat board plan.chip_of routes draft.hops.items draft.leads.items (node_of ordered.flat plan.chip_of net) net
   usable_same net = ap (λ (lead : ℕ). lead + (if is_gate (driving_cell ordered.flat net) && eqb (home planned net) (home planned net) then board.settle else 0)) (right_at ordered board plan routes draft.hops.items draft.leads.items way.fit.long wires worked way.zero (home planned net) net (plan_leads net))
 

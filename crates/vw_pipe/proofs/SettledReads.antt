@@ -17,6 +17,7 @@ use Rattle.vw_plan.specs.Needs.{is_pair}
 use Rattle.vw_plan.specs.Nets.{driving_cell, is_needed, is_read_at, node_of}
 use Rattle.vw_plan.specs.Routes.{AreRoutes, need_of_route}
 use Rattle.vw_plan.proofs.NeededPairs.{any-needed_pairs}
+use Rattle.vw_plan.proofs.ReadNets.{read_there}
 use Rattle.vw_pipe.specs.declared.task.Task.{Task}
 use Rattle.vw_pipe.specs.Steps.Turns.{AreTurns}
 use Rattle.vw_pipe.specs.Steps.Underway.{AreTasks, is_passed, task_at}
@@ -39,14 +40,6 @@ reads_among : (cell : Option Cell) (place default : ℕ) → place < length (gat
 reads_among None place default within = absurd (omega (arith, within))
 reads_among (Some (Gate ins cover)) place default within = list_any_at (λ other. eqb other (get_or ins place default)) ins place default within (eq-eqb (get_or ins place default) (get_or ins place default) refl)
 reads_among (Some (Latch d init)) place default within = absurd (omega (arith, within))
-
--- a cell that reads a net has it read on its chip
-read_there : (chips : List ℕ) (cells : List Cell) (number net : ℕ) → length chips ≡ length cells → is_among (read_nets_at (slice_get cells number)) net ≡ true → list_any (λ (placed : ℕ × Cell). eqb placed.0 (slice_index chips number) && is_among (read_nets placed.1) net) (zip chips cells) ≡ true
-read_there [] [] number net long among = absurd (true≢false (sym among))
-read_there [] (cell ∷ cells) number net long among = absurd (omega (arith, long))
-read_there (chip ∷ chips) [] number net long among = absurd (omega (arith, long))
-read_there (chip ∷ chips) (cell ∷ cells) zero net long among = or_left _ _ (and_from _ _ (eq-eqb chip chip refl) among)
-read_there (chip ∷ chips) (cell ∷ cells) (suc number) net long among = or_right (eqb chip (slice_index chips number) && is_among (read_nets cell) net) _ (read_there chips cells number net (omega (arith, long)) among)
 
 -- a pair that is listed has a route
 place_listed : (routes : List Route) (net node : ℕ) → list_any (is_pair net node) (map need_of_route routes) ≡ true → (route_place routes net node < length routes) × ((route : Route) → slice_get routes (route_place routes net node) ≡ Some route → route.net ≡ net)

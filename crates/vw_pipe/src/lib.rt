@@ -7,7 +7,7 @@ mod drafting;
 mod given;
 mod planning;
 mod refused;
-mod rests;
+mod remaining;
 mod task;
 mod turns;
 

@@ -6,7 +6,7 @@ ghost use Rattle.vw_net.specs.Order.{gate_inputs};
 ghost use Rattle.vw_pipe.specs.Steps.Turns.{AreTurns};
 
 use crate::given::Given;
-use crate::rests::rests_of;
+use crate::remaining::remaining_of;
 use std::alloc::{AllocError, Global};
 use vw_net::{Cell, Ordered};
 
@@ -44,11 +44,11 @@ fn turns_by_order(alloc: Global, ordered: &Ordered) -> Result<Vec<u64>, AllocErr
 }
 
 /// Turns by what follows each net, the longest path first. They needn't be turns that can be kept.
-fn turns_by_rests(alloc: Global, given: &Given, own: &[u64]) -> Result<Vec<u64>, AllocError> {
-    let rests = rests_of(alloc, given)?;
-    let mut ranked = Vec::with_capacity(alloc, rests.len())?;
+fn turns_by_remaining(alloc: Global, given: &Given, own: &[u64]) -> Result<Vec<u64>, AllocError> {
+    let remaining = remaining_of(alloc, given)?;
+    let mut ranked = Vec::with_capacity(alloc, remaining.len())?;
     for (net, place) in own.iter().enumerate() {
-        let rest = rests.get(net).copied().unwrap_or(0);
+        let rest = remaining.get(net).copied().unwrap_or(0);
         ranked.push(Ranked {
             less: u64::MAX - rest,
             place: *place,
@@ -120,7 +120,7 @@ pub fn turns_of(alloc: Global, given: &Given) -> Result<Vec<u64>, AllocError>
     ensures { IfOk result (λ turns. AreTurns given.now.ordered.now turns.items) }
 {
     let own = turns_by_order(alloc, given.ordered)?;
-    let wished = turns_by_rests(alloc, given, own.as_slice())?;
+    let wished = turns_by_remaining(alloc, given, own.as_slice())?;
     if can_be_kept(given.ordered, wished.as_slice()) {
         return Ok(wished);
     }

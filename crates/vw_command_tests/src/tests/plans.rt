@@ -162,10 +162,11 @@ fn are_linked(from: u32, to: u32) -> bool {
     more == less + 4 || (more == less + 1 && less % 4 != 0)
 }
 
-/// 500 cells: gates that read near nets before them, and latches between them.
-fn near_reads(alloc: Global) -> Result<String, AllocError> {
-    let mut text = String::from_str(alloc, ".model m\n.inputs n0 n1 n2 n3\n.outputs n500\n")?;
-    for cell in 0u32..500 {
+/// So many cells: gates that read near nets before them, and latches between them.
+fn near_reads(alloc: Global, cells: u32) -> Result<String, AllocError> {
+    let mut text = String::from_str(alloc, ".model m\n.inputs n0 n1 n2 n3\n")?;
+    push_form(&mut text, ".outputs n#\n", cells, 0)?;
+    for cell in 0u32..cells {
         let form = if cell % 7 == 6 {
             ".latch n# n+ 0\n"
         } else {
@@ -179,10 +180,43 @@ fn near_reads(alloc: Global) -> Result<String, AllocError> {
 
 #[test]
 fn five_hundred_cells_are_planned_on_a_mesh(rt: HostRuntime) -> Result<(), Fail> {
-    let design = near_reads(rt.alloc())?;
+    let design = near_reads(rt.alloc(), 500)?;
     let board = mesh(rt.alloc())?;
     let ran = planned_and_checked(rt.alloc(), design.as_str(), board.as_str())?;
     assert_eq!(rt; ran.status, 0);
+    Ok(())
+}
+
+/// A ring of 4 chips behind the host, which is linked to each, with 16 cells a chip. Its links have delays that are
+/// drawn from a seed.
+fn delayed_ring(alloc: Global, seed: u32) -> Result<String, AllocError> {
+    let mut text = String::from_str(alloc, "board 2\nchips 4\ncells 16\nsettle 1\npins 64\n")?;
+    let mut draw = seed;
+    for from in 0u32..5 {
+        for to in 0u32..5 {
+            if from != to && are_near(from, to) {
+                draw = draw.wrapping_mul(1_664_525).wrapping_add(1_013_904_223);
+                push_form(&mut text, "link # ~ 1 ", from, to)?;
+                push_form(&mut text, "#\n", (draw >> 28).saturating_add(1), 0)?;
+            }
+        }
+    }
+    Ok(text)
+}
+
+/// Whether two nodes of the ring are linked: those that don't lie across from each other.
+fn are_near(from: u32, to: u32) -> bool {
+    from == 0 || to == 0 || from.abs_diff(to) != 2
+}
+
+#[test]
+fn plans_on_boards_of_drawn_delays_are_sound(rt: HostRuntime) -> Result<(), Fail> {
+    let design = near_reads(rt.alloc(), 48)?;
+    for seed in 1u32..7 {
+        let board = delayed_ring(rt.alloc(), seed)?;
+        let ran = planned_and_checked(rt.alloc(), design.as_str(), board.as_str())?;
+        assert_eq!(rt; ran.status, 0);
+    }
     Ok(())
 }
 

@@ -7,7 +7,7 @@ use vw_net::Cell;
 use vw_plan::Route;
 
 /// How long a bit is under way along a route, if it never waits.
-fn travel(links: &LinkTable, route: &Route) -> u64 {
+fn time_along(links: &LinkTable, route: &Route) -> u64 {
     let mut time: u64 = 0;
     let mut from = None;
     for to in route.nodes() {
@@ -22,12 +22,12 @@ fn travel(links: &LinkTable, route: &Route) -> u64 {
 }
 
 /// How long it takes along each route.
-fn travels_of(alloc: Global, given: &Given) -> Result<Vec<u64>, AllocError> {
-    let mut travels = Vec::with_capacity(alloc, given.routes.len())?;
+fn times_of(alloc: Global, given: &Given) -> Result<Vec<u64>, AllocError> {
+    let mut times = Vec::with_capacity(alloc, given.routes.len())?;
     for route in given.routes {
-        travels.push(travel(given.links, route))?;
+        times.push(time_along(given.links, route))?;
     }
-    Ok(travels)
+    Ok(times)
 }
 
 /// The cell that drives a net; none where it is an input.
@@ -61,14 +61,14 @@ fn settling(given: &Given, net: u32) -> u64 {
 }
 
 /// How long it takes from a net's lead until a node can use it, if it never waits; 0 for a gate that reads it at home.
-fn way(given: &Given, travels: &[u64], net: u32, node: u32) -> u64 {
+fn way(given: &Given, times: &[u64], net: u32, node: u32) -> u64 {
     if home(given, net) == node {
         return 0;
     }
     match given.places.first(net, node) {
         Some(place) => {
-            let travel = travels.get(place).copied().unwrap_or(0);
-            settling(given, net).saturating_add(travel)
+            let time = times.get(place).copied().unwrap_or(0);
+            settling(given, net).saturating_add(time)
         }
         None => 0,
     }
@@ -82,50 +82,50 @@ fn raise(list: &mut Vec<u64>, place: u32, least: u64) {
 }
 
 /// Says that a path follows each net that is sent, as long as its route.
-fn follow_routes(given: &Given, travels: &[u64], rests: &mut Vec<u64>) {
+fn follow_routes(given: &Given, times: &[u64], remaining: &mut Vec<u64>) {
     for (number, route) in given.routes.iter().enumerate() {
-        let travel = travels.get(number).copied().unwrap_or(0);
+        let time = times.get(number).copied().unwrap_or(0);
         let net = route.net();
-        raise(rests, net, settling(given, net).saturating_add(travel));
+        raise(remaining, net, settling(given, net).saturating_add(time));
     }
 }
 
 /// Says that each net that a latch reads at home has to settle.
-fn follow_latches(given: &Given, rests: &mut Vec<u64>) {
+fn follow_latches(given: &Given, remaining: &mut Vec<u64>) {
     for (number, cell) in given.ordered.flat().cells().iter().enumerate() {
         if let Cell::Latch { d, .. } = cell {
             let node = given.chip_of.get(number).copied().unwrap_or(0);
             if home(given, *d) == node {
-                raise(rests, *d, settling(given, *d));
+                raise(remaining, *d, settling(given, *d));
             }
         }
     }
 }
 
 /// Says of each net that a gate reads that what follows the gate follows it, too.
-fn follow_gate(given: &Given, travels: &[u64], rests: &mut Vec<u64>, number: u32) {
+fn follow_gate(given: &Given, times: &[u64], remaining: &mut Vec<u64>, number: u32) {
     let flat = given.ordered.flat();
     let net = flat.inputs().saturating_add(number);
-    let rest = rests.get(net as usize).copied().unwrap_or(0);
+    let rest = remaining.get(net as usize).copied().unwrap_or(0);
     let node = home(given, net);
     if let Some(Cell::Gate { ins, .. }) = driver(given, net) {
         for read in ins.as_slice() {
-            let time = way(given, travels, *read, node);
-            raise(rests, *read, rest.saturating_add(time));
+            let time = way(given, times, *read, node);
+            raise(remaining, *read, rest.saturating_add(time));
         }
     }
 }
 
 /// How long a path still follows each net. Gates are gone over from the last to the first, so that what follows a gate is
 /// known before it is said of what the gate reads.
-pub fn rests_of(alloc: Global, given: &Given) -> Result<Vec<u64>, AllocError> {
+pub fn remaining_of(alloc: Global, given: &Given) -> Result<Vec<u64>, AllocError> {
     let flat = given.ordered.flat();
-    let travels = travels_of(alloc, given)?;
-    let mut rests = vec![in alloc; 0; flat.inputs() as usize + flat.cells().len()]?;
-    follow_routes(given, travels.as_slice(), &mut rests);
-    follow_latches(given, &mut rests);
+    let times = times_of(alloc, given)?;
+    let mut remaining = vec![in alloc; 0; flat.inputs() as usize + flat.cells().len()]?;
+    follow_routes(given, times.as_slice(), &mut remaining);
+    follow_latches(given, &mut remaining);
     for number in given.ordered.order().iter().rev() {
-        follow_gate(given, travels.as_slice(), &mut rests, *number);
+        follow_gate(given, times.as_slice(), &mut remaining, *number);
     }
-    Ok(rests)
+    Ok(remaining)
 }
