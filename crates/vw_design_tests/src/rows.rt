@@ -1,24 +1,49 @@
-use crate::outside::held;
 use crate::plain::{assert_number, assert_same, name};
 use std::alloc::{AllocError, Global};
 use std::process::Abort;
 use std::test::Fail;
 use vw_net::Bits;
-use vw_outside::MemShelf;
-use vw_rows::{RowRuns, StimFault, read_all};
+use vw_outside::{Failed, Name, Shelf};
+use vw_rows::{StimFault, Stimulus};
 
-/// A shelf that holds a text under the name `a`.
-fn shelf(alloc: Global, text: &[u8]) -> Result<MemShelf, AllocError> {
-    let mut files = Vec::new(alloc);
-    files.push(held(alloc, text)?)?;
-    Ok(MemShelf::new(files, 65_536, Vec::new(alloc)))
+/// A shelf that tells nothing, has one text under every name, gives at most so many bytes a read, and fails at one read.
+#[derive(Drop)]
+struct Quiet {
+    text: Vec<u8>,
+    most: usize,
+    calls: u64,
+    failing: u64,
+    faults: u64,
 }
 
-/// What reading a stimulus gives.
-fn read(alloc: Global, text: &[u8], width: u32) -> Result<RowRuns, StimFault> {
-    let mut shelf = shelf(alloc, text)?;
-    let name = name(alloc, b"a")?;
-    read_all(alloc, &mut shelf, &name, width)
+impl Shelf for Quiet {
+    ghost use Rattle.vw_outside.specs.Told.{untold};
+
+    ghost seen = { λ shelf. record { told = λ name. untold; faults = λ name. shelf.faults } };
+
+    fn read(&mut self, _: &Name, from: u64, into: &mut [u8]) -> Result<usize, Failed> {
+        self.calls = self.calls.saturating_add(1);
+        if self.calls == self.failing {
+            self.faults = self.faults.saturating_add(1);
+            return Err(Failed);
+        }
+        let from = self.text.len().min(from as usize);
+        let rest = &self.text[from..];
+        let count = rest.len().min(into.len()).min(self.most);
+        into[..count].copy_from_slice(&rest[..count]);
+        Ok(count)
+    }
+}
+
+/// Such a shelf, of which no read fails.
+fn quiet_shelf(alloc: Global, text: &[u8], most: usize) -> Result<Quiet, AllocError> {
+    Ok(Quiet {
+        text: text.to_vec(alloc)?,
+        most,
+        calls: 0,
+        failing: 0,
+        faults: 0,
+    })
 }
 
 /// Adds the characters of a row, or `-`, and `|`.
@@ -42,36 +67,66 @@ fn add_batch(shown: &mut Vec<u8>, batch: &[Bits]) -> Result<(), AllocError> {
     Ok(())
 }
 
-/// The rows in batches of a size, at most 20 batches.
-fn batches(alloc: Global, rows: &RowRuns, most: usize) -> Result<Vec<u8>, AllocError> {
-    let mut shown = Vec::new(alloc);
-    let mut reader = rows.reader();
+/// Adds the rows of a stimulus in batches of a size, at most 20 batches, and each fault. A read that failed is tried
+/// again.
+fn add_batches(
+    alloc: Global,
+    shown: &mut Vec<u8>,
+    shelf: &mut Quiet,
+    stimulus: &mut Stimulus,
+    most: u32,
+) -> Result<(), AllocError> {
     for _ in 0..20 {
-        let batch = reader.next_batch(alloc, most)?;
-        if batch.len() == 0 {
-            break;
+        match stimulus.next_batch(alloc, shelf, most.max(1)) {
+            Ok(batch) if batch.len() == 0 => break,
+            Ok(batch) => add_batch(shown, batch.as_slice())?,
+            Err(fault) => {
+                shown.extend_from_slice(&fault.text(alloc)?)?;
+                if fault != StimFault::ReadFault {
+                    break;
+                }
+            }
         }
-        add_batch(&mut shown, batch.as_slice())?;
     }
-    Ok(shown)
+    Ok(())
 }
 
-/// The rows of a text in batches of a size, or its fault.
-fn shown(alloc: Global, text: &[u8], width: u32, most: usize) -> Result<Vec<u8>, AllocError> {
-    match read(alloc, text, width) {
-        Ok(rows) => batches(alloc, &rows, most),
+/// The rows of the text of a shelf in batches of a size, or its fault.
+fn read(alloc: Global, shelf: &mut Quiet, width: u32, most: u32) -> Result<Vec<u8>, AllocError> {
+    let name = name(alloc, b"a")?;
+    match Stimulus::check(alloc, shelf, &name, width) {
+        Ok(mut stimulus) => {
+            let mut shown = Vec::new(alloc);
+            add_batches(alloc, &mut shown, shelf, &mut stimulus, most)?;
+            Ok(shown)
+        }
         Err(fault) => fault.text(alloc),
     }
 }
 
-/// Asserts of each text with so many columns what its rows are in one batch, or its fault.
+/// The rows of a text that is read in pieces of a size, in batches of a size, or its fault.
+fn shown(
+    alloc: Global,
+    text: &[u8],
+    width: u32,
+    most: u32,
+    piece: usize,
+) -> Result<Vec<u8>, AllocError> {
+    let mut shelf = quiet_shelf(alloc, text, piece)?;
+    read(alloc, &mut shelf, width, most)
+}
+
+/// Asserts of each text with so many columns what its rows are in one batch, or its fault, in large pieces and in
+/// pieces of one byte.
 fn assert_all(
     rt: &impl Abort,
     alloc: Global,
     table: &[(&[u8], u32, &[u8])],
 ) -> Result<(), AllocError> {
     for (text, width, wanted) in table {
-        let found = shown(alloc, text, *width, 256)?;
+        let found = shown(alloc, text, *width, 256, 65_536)?;
+        assert_same(rt, text, &found, wanted);
+        let found = shown(alloc, text, *width, 256, 1)?;
         assert_same(rt, text, &found, wanted);
     }
     Ok(())
@@ -215,19 +270,17 @@ fn clocks_are_counted_over_all_lines(rt: HostRuntime) -> Result<(), Fail> {
     Ok(())
 }
 
-/// The clocks of rows and the size of their first batch of at most 256.
-fn counts(alloc: Global, rows: &RowRuns) -> Result<(u64, u64), AllocError> {
-    let mut reader = rows.reader();
-    let batch = reader.next_batch(alloc, 256)?;
-    Ok((rows.clocks(), batch.len() as u64))
-}
-
-/// The counts of the rows of a text, where it has no fault.
+/// The clocks of the text of a shelf and the size of their first batch of at most 256, where it has no fault.
 fn counted(alloc: Global, text: &[u8], width: u32) -> Result<(u64, u64), Fail> {
-    match read(alloc, text, width) {
-        Ok(rows) => Ok(counts(alloc, &rows)?),
-        Err(_) => Err("a fault".into()),
-    }
+    let mut shelf = quiet_shelf(alloc, text, 65_536)?;
+    let name = name(alloc, b"a")?;
+    let Ok(mut stimulus) = Stimulus::check(alloc, &mut shelf, &name, width) else {
+        return Err("a fault".into());
+    };
+    let Ok(batch) = stimulus.next_batch(alloc, &mut shelf, 256) else {
+        return Err("a fault of the batch".into());
+    };
+    Ok((stimulus.clocks(), batch.len() as u64))
 }
 
 /// Asserts of each text with so many columns how many clocks and how many rows in the first batch it has.
@@ -261,8 +314,7 @@ fn as_many_clocks_as_there_may_be_take_little_memory(rt: HostRuntime) -> Result<
 const RUNS: &[u8] = b"hold 1\n10\nhold 2\n01\n11\nhold 1\n";
 
 /// The size of a batch, and the rows of those runs in such batches.
-const BATCHES: &[(usize, &[u8])] = &[
-    (0, b""),
+const BATCHES: &[(u32, &[u8])] = &[
     (1, b"00|/10|/10|/10|/01|/11|/11|/"),
     (2, b"00|10|/10|10|/01|11|/11|/"),
     (3, b"00|10|10|/10|01|11|/11|/"),
@@ -275,10 +327,10 @@ const BATCHES: &[(usize, &[u8])] = &[
 fn assert_batches(
     rt: &impl Abort,
     alloc: Global,
-    table: &[(usize, &[u8])],
+    table: &[(u32, &[u8])],
 ) -> Result<(), AllocError> {
     for (most, wanted) in table {
-        let found = shown(alloc, RUNS, 2, *most)?;
+        let found = shown(alloc, RUNS, 2, *most, 65_536)?;
         assert_same(rt, RUNS, &found, wanted);
     }
     Ok(())
@@ -291,8 +343,8 @@ fn batches_go_over_runs(rt: HostRuntime) -> Result<(), Fail> {
     Ok(())
 }
 
-/// A text of 8388608 rows, as long as a text may be.
-fn longest(alloc: Global) -> Result<Vec<u8>, AllocError> {
+/// A text of 8388608 rows.
+fn long(alloc: Global) -> Result<Vec<u8>, AllocError> {
     let mut text = Vec::new(alloc);
     for _ in 0..8_388_608 {
         text.extend_from_slice(b"1\n")?;
@@ -301,12 +353,117 @@ fn longest(alloc: Global) -> Result<Vec<u8>, AllocError> {
 }
 
 #[test]
-fn texts_up_to_the_limit_are_read(rt: HostRuntime) -> Result<(), Fail> {
-    let mut text = longest(rt.alloc())?;
-    assert_counts(&rt, rt.alloc(), &[(&text, 1, 8_388_608, 256)])?;
-    // a text that is too long has this fault alone
-    text.push(b'x')?;
-    let wanted = b"stimulus 1: text longer than 16777216 bytes\n";
-    assert_all(&rt, rt.alloc(), &[(&text, 2, wanted)])?;
+fn a_long_text_is_read(rt: HostRuntime) -> Result<(), Fail> {
+    let text = long(rt.alloc())?;
+    assert_counts(&rt, rt.alloc(), &[(&text, 1, 8_388_608, 256)])
+}
+
+/// A text, the one that stands in its place when it is read again, and what its rows are then, with one column, in
+/// batches of two.
+const CHANGED: &[(&[u8], &[u8], &[u8])] = &[
+    // shorter, longer, another width, a bad line, and too many clocks
+    (
+        b"1\n0\n1\n",
+        b"1\n0\n",
+        b"1|0|/stimulus 2: line 3: bad line\n",
+    ),
+    (b"1\n0\n1\n", b"", b"stimulus 2: line 1: bad line\n"),
+    (b"1\n0\n", b"1\n0\n1\n", b"1|0|/"),
+    (
+        b"1\n0\n1\n",
+        b"1\n0\n10\n",
+        b"1|0|/stimulus 3: line 3: found 2 bits, wanted 1\n",
+    ),
+    (
+        b"1\n0\n1\n",
+        b"1\n0\n1 1\n",
+        b"1|0|/stimulus 2: line 3: bad line\n",
+    ),
+    (
+        b"1\n0\n1\n",
+        b"1\n0\nhold 4294967295",
+        b"1|0|/stimulus 4: 4294967297 clocks\n",
+    ),
+];
+
+/// What the rows of a text are if another stands in its place when it is read again.
+fn changed(alloc: Global, first: &[u8], second: &[u8]) -> Result<Vec<u8>, AllocError> {
+    let mut shelf = quiet_shelf(alloc, first, 65_536)?;
+    let name = name(alloc, b"a")?;
+    match Stimulus::check(alloc, &mut shelf, &name, 1) {
+        Ok(mut stimulus) => {
+            let mut later = quiet_shelf(alloc, second, 65_536)?;
+            let mut shown = Vec::new(alloc);
+            add_batches(alloc, &mut shown, &mut later, &mut stimulus, 2)?;
+            Ok(shown)
+        }
+        Err(fault) => fault.text(alloc),
+    }
+}
+
+#[test]
+fn another_text_in_its_place_is_found_at_fault(rt: HostRuntime) -> Result<(), Fail> {
+    for (first, second, wanted) in CHANGED {
+        let found = changed(rt.alloc(), first, second)?;
+        assert_same(&rt, second, &found, wanted);
+    }
+    Ok(())
+}
+
+/// The number of a read that fails, and what the rows are then: three reads are those of the check.
+const FAILING: &[(u64, &[u8])] = &[
+    (1, b"read fault: stimulus\n"),
+    (2, b"read fault: stimulus\n"),
+    (3, b"read fault: stimulus\n"),
+    (4, b"read fault: stimulus\n10|10|10|01|/"),
+    (5, b"read fault: stimulus\n10|10|10|01|/"),
+    (6, b"10|10|10|01|/"),
+];
+
+#[test]
+fn a_read_that_fails_loses_no_row(rt: HostRuntime) -> Result<(), Fail> {
+    for (failing, wanted) in FAILING {
+        let mut shelf = quiet_shelf(rt.alloc(), b"10\nhold 2\n01", 65_536)?;
+        shelf.failing = *failing;
+        let found = read(rt.alloc(), &mut shelf, 2, 256)?;
+        assert_same(&rt, b"a read that fails", &found, wanted);
+    }
+    Ok(())
+}
+
+/// A shelf that has one byte, at the place 1073741824.
+#[derive(Drop)]
+struct Far {
+    calls: u64,
+}
+
+impl Shelf for Far {
+    ghost use Rattle.vw_outside.specs.Told.{untold};
+
+    ghost seen = { λ shelf. record { told = λ name. untold; faults = λ name. 0 } };
+
+    fn read(&mut self, _: &Name, from: u64, into: &mut [u8]) -> Result<usize, Failed> {
+        self.calls = self.calls.saturating_add(1);
+        if from == 1_073_741_824 && !into.is_empty() {
+            into[0] = b'0';
+            return Ok(1);
+        }
+        Ok(0)
+    }
+}
+
+#[test]
+fn a_text_past_the_limit_is_refused_at_the_first_read(rt: HostRuntime) -> Result<(), Fail> {
+    let mut shelf = Far { calls: 0 };
+    let name = name(rt.alloc(), b"a")?;
+    match Stimulus::check(rt.alloc(), &mut shelf, &name, 1) {
+        Ok(_) => return Err("no fault".into()),
+        Err(fault) => {
+            let found = fault.text(rt.alloc())?;
+            let wanted = b"stimulus 1: text longer than 1073741824 bytes\n";
+            assert_same(&rt, b"one byte", &found, wanted);
+        }
+    }
+    assert_number(&rt, b"reads", Some(shelf.calls), Some(1));
     Ok(())
 }

@@ -125,14 +125,6 @@ fn texts_past_the_limit_are_refused(rt: HostRuntime) -> Result<(), Fail> {
             err: &[(1, "design 1: text longer than 16777216 bytes\n")],
             ..REFUSED
         },
-        Large {
-            on: "a stimulus past the limit",
-            design: &[(1, TOGGLE)],
-            stimulus: &[(16_777_217, "2")],
-            status: 5,
-            err: &[(1, "stimulus 1: text longer than 16777216 bytes\n")],
-            ..REFUSED
-        },
     ];
     large_designs_end(&rt, rt.alloc(), TABLE)
 }
