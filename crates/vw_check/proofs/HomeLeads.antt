@@ -17,7 +17,7 @@ use Rattle.vw_plan.specs.Lead.{brought_at, lead, usable}
 use Rattle.vw_plan.specs.Nets.{driving_cell, greatest_read}
 use Rattle.vw_plan.specs.PlannedBoard.{PlannedBoard, home}
 use Rattle.vw_leads.specs.Leads as by_table
-use Rattle.vw_check.specs.Steps.LeadTables.{AreLeads, lead_by}
+use Rattle.vw_check.specs.Steps.LeadTables.{AreLeads, lead_from_homes}
 
 -- a latch has lead 0
 driven_latch : (lead_at : ℕ → ℕ) (cell : Option Cell) → is_latch cell ≡ true → greatest_read lead_at cell ≡ 0
@@ -30,8 +30,8 @@ zero_at : (count net : ℕ) → slice_index (replicate count 0) net ≡ 0
 zero_at count net = ⊎_elim (λ within. get_or-replicate count net 0 0 within) (λ past. get_or_past (replicate count 0) net 0 (let long : length (replicate {A = ℕ} count 0) ≡ count = length-replicate {A = ℕ} count 0 in omega arith)) (cases_lt net count)
 
 -- the lead of a cell, by a list of leads
-pub same_lead : (planned : PlannedBoard) (items leads : List ℕ) (other number : ℕ) → items ≡ leads → other ≡ number → greatest_read (lead_by planned items (slice_index planned.plan.chip_of other)) (slice_get planned.ordered.flat.cells other) ≡ greatest_read (lead_by planned leads (slice_index planned.plan.chip_of number)) (slice_get planned.ordered.flat.cells number)
-same_lead planned items leads other number same_items same_number = ap₂ (λ (list : List ℕ) (at : ℕ). greatest_read (lead_by planned list (slice_index planned.plan.chip_of at)) (slice_get planned.ordered.flat.cells at)) same_items same_number
+pub same_lead : (planned : PlannedBoard) (items leads : List ℕ) (other number : ℕ) → items ≡ leads → other ≡ number → greatest_read (lead_from_homes planned items (slice_index planned.plan.chip_of other)) (slice_get planned.ordered.flat.cells other) ≡ greatest_read (lead_from_homes planned leads (slice_index planned.plan.chip_of number)) (slice_get planned.ordered.flat.cells number)
+same_lead planned items leads other number same_items same_number = ap₂ (λ (list : List ℕ) (at : ℕ). greatest_read (lead_from_homes planned list (slice_index planned.plan.chip_of at)) (slice_get planned.ordered.flat.cells at)) same_items same_number
 
 module _ (planned : PlannedBoard) where
   abbrev inputs : ℕ
@@ -67,7 +67,7 @@ module _ (planned : PlannedBoard) where
         ⊎_elim if_input if_driven (or_cases (nat_lt net inputs) (is_latch cell || false) ready)
 
     -- what a list of them gives a net at a node, where the net is right in it
-    right_lead : (leads : List ℕ) (node net : ℕ) → slice_index_or leads net 0 ≡ home_lead net → lead_by planned leads node net ≡ lead planned node net
+    right_lead : (leads : List ℕ) (node net : ℕ) → slice_index_or leads net 0 ≡ home_lead net → lead_from_homes planned leads node net ≡ lead planned node net
     right_lead leads node net right =
         let if_home = λ (is : eqb (home planned net) node ≡ true).
         let here : home planned net ≡ node = eqb-true (home planned net) node is in
@@ -82,7 +82,7 @@ module _ (planned : PlannedBoard) where
     here place = inputs + get_or order place 0
 
     abbrev pub home_lead_at : ℕ → List ℕ → ℕ
-    home_lead_at place leads = greatest_read (lead_by planned leads (slice_index planned.plan.chip_of (get_or order place 0))) (slice_get cells (get_or order place 0))
+    home_lead_at place leads = greatest_read (lead_from_homes planned leads (slice_index planned.plan.chip_of (get_or order place 0))) (slice_get cells (get_or order place 0))
 
     gate_right : (place : ℕ) (leads : List ℕ) → place < length order → AreLeadsRight (take place order) leads → home_lead_at place leads ≡ home_lead (here place)
     gate_right place leads within right =
@@ -92,12 +92,12 @@ module _ (planned : PlannedBoard) where
         let cell = slice_get cells number in
         let is_done = is_ready inputs cells (take place order) in
         let ready : All (λ read. is_done read ≡ true) (read_nets_at cell) = AllPass-from_list_all is_done (read_nets_at cell) (planned.ordered.is_order.after place within) in
-        let agree : All (λ read. lead_by planned leads node read ≡ lead planned node read) (read_nets_at cell) = All-weaker (λ read. is_done read ≡ true) (λ read. lead_by planned leads node read ≡ lead planned node read) (λ read done. right_lead leads node read (right read done)) (read_nets_at cell) ready in
+        let agree : All (λ read. lead_from_homes planned leads node read ≡ lead planned node read) (read_nets_at cell) = All-weaker (λ read. is_done read ≡ true) (λ read. lead_from_homes planned leads node read ≡ lead planned node read) (λ read done. right_lead leads node read (right read done)) (read_nets_at cell) ready in
         let no_input : nat_lt net inputs ≡ false = le-ltb net inputs (omega arith) in
         let its_number : net - inputs ≡ number = omega arith in
         let its_driver : driving_cell planned.ordered.flat net ≡ cell = ap (λ (input : Bool). if input then None else slice_get cells (net - inputs)) no_input ∙ ap (λ (at : ℕ). slice_get cells at) its_number in
         let its_home : home planned net ≡ node = ap (λ (input : Bool). if input then 0 else slice_index planned.plan.chip_of (net - inputs)) no_input ∙ ap (λ (at : ℕ). slice_index planned.plan.chip_of at) its_number in
-        greatest_read-agree (lead_by planned leads node) (lead planned node) cell (All-gate_reads (λ read. lead_by planned leads node read ≡ lead planned node read) cell agree)
+        greatest_read-agree (lead_from_homes planned leads node) (lead planned node) cell (All-gate_reads (λ read. lead_from_homes planned leads node read ≡ lead planned node read) cell agree)
         ∙ ap₂ (λ (at : ℕ) (drives : Option Cell). greatest_read (lead planned at) drives) (sym its_home) (sym its_driver)
         ∙ sym (own_lead net)
 

@@ -15,7 +15,7 @@ use crate::refused::CheckRefused;
 use crate::wired::Wired;
 use crate::wires::{wire_fault, wire_table};
 use std::alloc::{AllocError, Global};
-use vw_leads::{LinkTable, Moments};
+use vw_leads::{LeadTable, LinkTable};
 use vw_net::{Flat, Ordered};
 use vw_plan::{Board, Checked, Plan};
 
@@ -49,7 +49,7 @@ fn moment_fault(alloc: Global, wired: &Wired) -> Result<Option<PlanFault>, Alloc
 {
     let arrivals = arrivals_of(alloc, wired)?;
     let leads = home_leads(alloc, wired, arrivals.as_slice())?;
-    let known = Moments {
+    let known = LeadTable {
         ordered: wired.ordered,
         chip_of: wired.plan.chip_of(),
         settle: wired.board.settle(),

@@ -4,12 +4,12 @@ ghost use Rattle.std.specs.List.{All};
 ghost use Rattle.vw_plan.specs.Lead.{usable};
 ghost use Rattle.vw_plan.specs.Nets.{greatest_read};
 ghost use Rattle.vw_check.specs.MomentFaults.{late_latch, too_early};
-ghost use Rattle.vw_check.specs.Steps.LeadTables.{AreArrivals, AreLeads, AreMoments, lead_by, planned_in};
+ghost use Rattle.vw_check.specs.Steps.LeadTables.{AreArrivals, AreLeads, IsLeadTable, lead_from_homes, planned_in};
 
 use crate::fault::PlanFault;
 use crate::wired::Wired;
 use std::alloc::{AllocError, Global};
-use vw_leads::Moments;
+use vw_leads::LeadTable;
 use vw_net::Cell;
 use vw_plan::{leads_follow_drivers, node_of};
 
@@ -31,12 +31,12 @@ fn lead_of_cell(wired: &Wired, arrivals: &[u64], leads: &[u64], number: u32) -> 
     requires nets { length leads.now
         ≡ wired.now.ordered.now.flat.inputs + length wired.now.ordered.now.flat.cells }
     requires low { All (λ lead. lead < 2 ^ 63) leads.now }
-    ensures value { result ≡ greatest_read (lead_by (planned_in wired.now) leads.now
+    ensures value { result ≡ greatest_read (lead_from_homes (planned_in wired.now) leads.now
         (slice_index wired.now.plan.now.chip_of number))
         (slice_get wired.now.ordered.now.flat.cells number) }
     ensures few { result < 2 ^ 63 }
 {
-    let known = Moments {
+    let known = LeadTable {
         ordered: wired.ordered,
         chip_of: wired.plan.chip_of(),
         settle: wired.board.settle(),
@@ -64,8 +64,8 @@ pub fn home_leads(alloc: Global, wired: &Wired, arrivals: &[u64]) -> Result<Vec<
 }
 
 /// The microcycle from which on a node can use a net.
-fn usable_at(wired: &Wired, known: &Moments, node: u32, net: u32) -> u64
-    requires known { AreMoments (planned_in wired.now) known.now }
+fn usable_at(wired: &Wired, known: &LeadTable, node: u32, net: u32) -> u64
+    requires known { IsLeadTable (planned_in wired.now) known.now }
     requires net { net < wired.now.ordered.now.flat.inputs
         + length wired.now.ordered.now.flat.cells }
     ensures { result ≡ usable (planned_in wired.now) node net }
@@ -74,8 +74,8 @@ fn usable_at(wired: &Wired, known: &Moments, node: u32, net: u32) -> u64
 }
 
 /// The first wire whose first hop is before its net is usable.
-pub fn too_early(wired: &Wired, known: &Moments) -> Option<PlanFault>
-    requires { AreMoments (planned_in wired.now) known.now }
+pub fn too_early(wired: &Wired, known: &LeadTable) -> Option<PlanFault>
+    requires { IsLeadTable (planned_in wired.now) known.now }
     ensures { result ≡ too_early (planned_in wired.now) }
 {
     for (number, wire) in wired.plan.wires().iter().enumerate() {
@@ -91,8 +91,8 @@ pub fn too_early(wired: &Wired, known: &Moments) -> Option<PlanFault>
 }
 
 /// The first latch that reads a net which is usable only after the period.
-pub fn late_latch(wired: &Wired, known: &Moments) -> Option<PlanFault>
-    requires { AreMoments (planned_in wired.now) known.now }
+pub fn late_latch(wired: &Wired, known: &LeadTable) -> Option<PlanFault>
+    requires { IsLeadTable (planned_in wired.now) known.now }
     ensures { result ≡ late_latch (planned_in wired.now) }
 {
     for (number, cell) in wired.ordered.flat().cells().iter().enumerate() {

@@ -5,7 +5,7 @@ use Rattle.std.specs.HashMap.{HashMap}
 use Rattle.vw_net.specs.declared.flat.Flat.{Flat}
 use Rattle.vw_net.specs.Order.{is_gate}
 use Rattle.vw_plan.specs.Nets.{driving_cell, node_of}
-use Rattle.vw_leads.specs.declared.moments.Moments.{Moments}
+use Rattle.vw_leads.specs.declared.lead_table.LeadTable.{LeadTable}
 use Rattle.vw_leads.specs.Pairs.{pair_in}
 
 -- one past the arrival of a net at a node, by a table of such pairs and the moments at their places; 0 where there is no such
@@ -25,14 +25,14 @@ usable_by flat chip_of settle arrived leads node net =
 -- ---- by what is known of moments
 
 -- how many nets there are
-abbrev pub net_count : Moments → ℕ
-net_count known = known.ordered.now.flat.inputs + length known.ordered.now.flat.cells
+abbrev pub nets_in : LeadTable → ℕ
+nets_in known = known.ordered.now.flat.inputs + length known.ordered.now.flat.cells
 
-abbrev pub arrival_in : Moments → ℕ → ℕ → ℕ
+abbrev pub arrival_in : LeadTable → ℕ → ℕ → ℕ
 arrival_in known net node = arrival_by known.places.now.places known.arrivals.now net node
 
-abbrev pub lead_in : Moments → ℕ → ℕ → ℕ
+abbrev pub lead_in : LeadTable → ℕ → ℕ → ℕ
 lead_in known node net = lead_by known.ordered.now.flat known.chip_of.now (arrival_in known) known.leads.now node net
 
-abbrev pub usable_in : Moments → ℕ → ℕ → ℕ
+abbrev pub usable_in : LeadTable → ℕ → ℕ → ℕ
 usable_in known node net = usable_by known.ordered.now.flat known.chip_of.now known.settle (arrival_in known) known.leads.now node net

@@ -4,9 +4,9 @@ ghost use Rattle.std.specs.List.{All};
 ghost use Rattle.vw_net.specs.Lists.{greatest};
 ghost use Rattle.vw_net.specs.Order.{is_gate};
 ghost use Rattle.vw_plan.specs.Nets.{driving_cell, greatest_read};
-ghost use Rattle.vw_leads.specs.Leads.{arrival_in, lead_in, net_count, usable_in};
+ghost use Rattle.vw_leads.specs.Leads.{arrival_in, lead_in, nets_in, usable_in};
 
-use crate::moments::Moments;
+use crate::lead_table::LeadTable;
 use vw_net::{Cell, Flat};
 use vw_plan::node_of;
 
@@ -24,7 +24,7 @@ fn is_gate(flat: &Flat, net: u32) -> bool
     }
 }
 
-impl<'a> Moments<'a> {
+impl<'a> LeadTable<'a> {
     /// One past the arrival of a net at a node; 0 where it isn't brought there.
     fn arrival(&self, node: u32, net: u32) -> u64
         ensures value { result ≡ arrival_in self.now net node }
@@ -41,7 +41,7 @@ impl<'a> Moments<'a> {
 
     /// The lead of a net at a node.
     fn lead(&self, node: u32, net: u32) -> u64
-        requires { net < net_count self.now }
+        requires { net < nets_in self.now }
         ensures value { result ≡ lead_in self.now node net }
         ensures low { result < 2 ^ 63 }
     {
@@ -53,7 +53,7 @@ impl<'a> Moments<'a> {
 
     /// The greatest lead at a node of some nets.
     fn greatest_lead(&self, node: u32, nets: &[u32]) -> u64
-        requires { All (λ net. net < net_count self.now) nets.now }
+        requires { All (λ net. net < nets_in self.now) nets.now }
         ensures value { result ≡ greatest (map (lead_in self.now node) nets.now) }
         ensures low { result < 2 ^ 63 }
     {
@@ -84,7 +84,7 @@ impl<'a> Moments<'a> {
 
     /// The microcycle from which on a node can use a net.
     pub fn usable(&self, node: u32, net: u32) -> u64
-        requires { net < net_count self.now }
+        requires { net < nets_in self.now }
         ensures { result ≡ usable_in self.now node net }
     {
         let flat = self.ordered.flat();

@@ -2,11 +2,11 @@
 //! net.
 #![tactic(auto)]
 
+mod lead_table;
 mod leads;
 mod links;
-mod moments;
 mod pairs;
 
+pub use lead_table::LeadTable;
 pub use links::LinkTable;
-pub use moments::Moments;
 pub use pairs::PairTable;

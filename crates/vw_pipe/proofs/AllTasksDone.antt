@@ -25,7 +25,7 @@ use Rattle.vw_pipe.specs.declared.task.Task.{Task}
 use Rattle.vw_pipe.specs.Steps.SentHops.{AreSent, hop_link}
 use Rattle.vw_pipe.specs.Steps.FinishedSchedules.{IsAlong, IsTasksDone, IsSentWell, all_hops, uses}
 use Rattle.vw_pipe.specs.Steps.Drafts.{hops_at}
-use Rattle.vw_pipe.specs.Steps.Leads.{usable_by, wires_of}
+use Rattle.vw_pipe.specs.Steps.Leads.{usable_so_far, wires_of}
 use Rattle.vw_pipe.specs.Steps.Underway.{AreTasks, IsSentOff, IsUnderway, is_passed, is_task, lead_at_place, ready_by}
 use Rattle.vw_pipe.proofs.LeadsRight.{leads_right, right_at}
 use Rattle.vw_pipe.proofs.NeededRoutes.{route_needed}
@@ -101,7 +101,7 @@ module _ (ordered : Ordered) (board : Board) (plan : Plan) (routes : List Route)
       ∙ uses_some hop (all_hops draft.hops.items) (omega (arith, one))
 
   -- when a net is usable
-  usable_same : (net : ℕ) → usable planned (home planned net) net ≡ usable_by ordered.flat board plan.chip_of routes draft.hops.items draft.leads.items (node_of ordered.flat plan.chip_of net) net
+  usable_same : (net : ℕ) → usable planned (home planned net) net ≡ usable_so_far ordered.flat board plan.chip_of routes draft.hops.items draft.leads.items (node_of ordered.flat plan.chip_of net) net
   usable_same net = ap (λ (lead : ℕ). lead + (if is_gate (driving_cell ordered.flat net) && eqb (home planned net) (home planned net) then board.settle else 0)) (right_at ordered board plan routes draft.hops.items draft.leads.items way.fit.long wires worked way.zero (home planned net) net (plan_leads net))
 
   well : (number : ℕ) (route : Route) → slice_get routes number ≡ Some route → IsSentWell planned (record { net = route.net; to = route.to; hops = slice_index_or draft.hops.items number [] })

@@ -15,7 +15,7 @@ use Rattle.vw_plan.specs.Lead.{after_last, brings, brought_at, lead, usable}
 use Rattle.vw_plan.specs.Nets.{driving_cell, greatest_read}
 use Rattle.vw_plan.specs.PlannedBoard.{PlannedBoard, home, planned_board}
 use Rattle.vw_plan.proofs.LeadLevels.{LeadsFollowDrivers}
-use Rattle.vw_pipe.specs.Steps.Leads.{hops_to, lead_by, usable_by, wires_of}
+use Rattle.vw_pipe.specs.Steps.Leads.{hops_to, lead_so_far, usable_so_far, wires_of}
 
 pub brought_wires : (links : List Link) (node net : ℕ) (routes : List Route) (hops : List (List Hop)) → option_map_or (λ (wire : Wire). after_last links wire.hops) (find (brings net node) (wires_of routes hops)) 0 ≡ after_last links (hops_to routes hops node net)
 brought_wires links node net [] hops = refl
@@ -32,7 +32,7 @@ module _ (ordered : Ordered) (board : Board) (plan : Plan) (routes : List Route)
   brought_is : (node net : ℕ) → brought_at planned node net ≡ after_last board.links (hops_to routes hops node net)
   brought_is node net = ap (λ (list : List Wire). option_map_or (λ (wire : Wire). after_last board.links wire.hops) (find (brings net node) list) 0) wires ∙ brought_wires board.links node net routes hops
 
-  pub lead_is : (node net : ℕ) → lead planned (home planned net) net ≡ slice_index leads net → lead planned node net ≡ lead_by ordered.flat board plan.chip_of routes hops leads node net
+  pub lead_is : (node net : ℕ) → lead planned (home planned net) net ≡ slice_index leads net → lead planned node net ≡ lead_so_far ordered.flat board plan.chip_of routes hops leads node net
   lead_is node net right =
       let by = λ (own : Bool). if own then slice_index leads net else after_last board.links (hops_to routes hops node net) in
       let if_home = λ (is : eqb (home planned net) node ≡ true).
@@ -42,5 +42,5 @@ module _ (ordered : Ordered) (board : Board) (plan : Plan) (routes : List Route)
       settles node net ∙ ap (λ (own : Bool). if own then greatest_read (lead planned node) (driving_cell ordered.flat net) else brought_at planned node net) is ∙ brought_is node net ∙ sym (ap by is) in
       ⊎_elim if_home if_away (cases_Bool (eqb (home planned net) node))
 
-  pub usable_is : (node net : ℕ) → lead planned (home planned net) net ≡ slice_index leads net → usable planned node net ≡ usable_by ordered.flat board plan.chip_of routes hops leads node net
+  pub usable_is : (node net : ℕ) → lead planned (home planned net) net ≡ slice_index leads net → usable planned node net ≡ usable_so_far ordered.flat board plan.chip_of routes hops leads node net
   usable_is node net right = ap (λ (at : ℕ). at + (if is_gate (driving_cell ordered.flat net) && eqb (home planned net) node then board.settle else 0)) (lead_is node net right)

@@ -15,7 +15,7 @@ use Rattle.vw_plan.specs.Nets.{driving_cell, greatest_read}
 use Rattle.vw_plan.specs.PlannedBoard.{PlannedBoard, home, planned_board}
 use Rattle.vw_plan.proofs.AlongOrder.{every_net}
 use Rattle.vw_plan.proofs.LeadLevels.{lead-by_driver}
-use Rattle.vw_pipe.specs.Steps.Leads.{lead_by, wires_of}
+use Rattle.vw_pipe.specs.Steps.Leads.{lead_so_far, wires_of}
 use Rattle.vw_pipe.specs.Steps.Underway.{lead_at_place}
 use Rattle.vw_plan.proofs.GreatestReads.{greatest_read-agree}
 use Rattle.vw_net.proofs.Orders.{among_at}
@@ -42,7 +42,7 @@ module _ (ordered : Ordered) (board : Board) (plan : Plan) (routes : List Route)
   own_lead net = lead-by_driver planned (home planned net) net ∙ ap (λ (own : Bool). if own then greatest_read (lead planned (home planned net)) (driving_cell ordered.flat net) else brought_at planned (home planned net) net) (eq-eqb (home planned net) (home planned net) refl)
 
   -- where a net is right at home, it is right at each node
-  pub right_at : (node net : ℕ) → IsRight 0 net → lead planned node net ≡ lead_by ordered.flat board plan.chip_of routes hops leads node net
+  pub right_at : (node net : ℕ) → IsRight 0 net → lead planned node net ≡ lead_so_far ordered.flat board plan.chip_of routes hops leads node net
   right_at node net right = lead_is ordered board plan routes hops leads wires (lead-by_driver planned) node net right
 
   -- a net is right if the nets that its gate reads are
@@ -57,8 +57,8 @@ module _ (ordered : Ordered) (board : Board) (plan : Plan) (routes : List Route)
       let its_driver : driving_cell ordered.flat net ≡ slice_get ordered.flat.cells (slice_index ordered.order found.0) = ap (λ (bit : Bool). if bit then None else slice_get ordered.flat.cells (net - ordered.flat.inputs)) no_input ∙ ap (slice_get ordered.flat.cells) (sym number) in
       let its_node : home planned net ≡ slice_index plan.chip_of (slice_index ordered.order found.0) = ap (λ (bit : Bool). if bit then 0 else slice_index plan.chip_of (net - ordered.flat.inputs)) no_input ∙ ap (slice_index plan.chip_of) (sym number) in
       own_lead net
-      ∙ greatest_read-agree (lead planned (home planned net)) (lead_by ordered.flat board plan.chip_of routes hops leads (home planned net)) (driving_cell ordered.flat net) (λ place default within. right_at (home planned net) _ (reads place default within))
-      ∙ ap₂ (λ (at : ℕ) (cell : Option Cell). greatest_read (lead_by ordered.flat board plan.chip_of routes hops leads at) cell) its_node its_driver
+      ∙ greatest_read-agree (lead planned (home planned net)) (lead_so_far ordered.flat board plan.chip_of routes hops leads (home planned net)) (driving_cell ordered.flat net) (λ place default within. right_at (home planned net) _ (reads place default within))
+      ∙ ap₂ (λ (at : ℕ) (cell : Option Cell). greatest_read (lead_so_far ordered.flat board plan.chip_of routes hops leads at) cell) its_node its_driver
       ∙ sym (worked found.0 found.1) ∙ ap (slice_index leads) same in
       let if_not = λ (no : is_gate (driving_cell ordered.flat net) ≡ false). own_lead net ∙ no_gate_zero (lead planned (home planned net)) (driving_cell ordered.flat net) no ∙ sym (zero_at net no) in
       ⊎_elim if_gate if_not (cases_Bool (is_gate (driving_cell ordered.flat net)))

@@ -25,7 +25,7 @@ use Rattle.vw_pipe.specs.Steps.SentHops.{AreSent, hop_link, taken_by}
 use Rattle.vw_pipe.specs.Steps.FinishedSchedules.{all_hops, uses}
 use Rattle.vw_pipe.specs.Steps.Turns.{AreTurns}
 use Rattle.vw_pipe.specs.Steps.Drafts.{Does, IsSentMore, hops_at, moment_limit}
-use Rattle.vw_pipe.specs.Steps.Leads.{usable_by}
+use Rattle.vw_pipe.specs.Steps.Leads.{usable_so_far}
 use Rattle.vw_pipe.specs.Steps.Underway.{AreTasks, IsOfKind, IsSentOff, IsUnderway, is_passed, is_task, ready_by, task_at}
 use Rattle.vw_pipe.proofs.DoneTasks.{is_passed-more, is_task-own, is_task-true, kind_at, not_done_before}
 use Rattle.vw_pipe.proofs.UntouchedMoments.{AreUntouched, place_kept, ready_kept}
@@ -84,9 +84,9 @@ module _ (ordered : Ordered) (board : Board) (chip_of : List ℕ) (routes : List
     no_lead : (place : ℕ) → is_passed tasks (count + 1) false place ≡ true → is_passed tasks count false place ≡ true
     no_lead place done = done_other tasks count false place within (λ leads _. true≢false (sym sends ∙ leads)) done
 
-    module _ (route : Route) (there : slice_get routes number ≡ Some route) (has : IsSentMore board route number (usable_by ordered.flat board chip_of routes draft.hops.items draft.leads.items (node_of ordered.flat chip_of route.net) route.net) draft new) where
+    module _ (route : Route) (there : slice_get routes number ≡ Some route) (has : IsSentMore board route number (usable_so_far ordered.flat board chip_of routes draft.hops.items draft.leads.items (node_of ordered.flat chip_of route.net) route.net) draft new) where
       abbrev ready : ℕ
-      ready = usable_by ordered.flat board chip_of routes draft.hops.items draft.leads.items (node_of ordered.flat chip_of route.net) route.net
+      ready = usable_so_far ordered.flat board chip_of routes draft.hops.items draft.leads.items (node_of ordered.flat chip_of route.net) route.net
 
       abbrev sent_hops : List Hop
       sent_hops = hops_at new number

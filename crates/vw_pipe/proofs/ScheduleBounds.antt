@@ -21,7 +21,7 @@ use Rattle.vw_plan.specs.Routes.{steps_of}
 use Rattle.vw_pipe.specs.declared.draft.Draft.{Draft}
 use Rattle.vw_pipe.specs.Steps.FinishedSchedules.{IsAlong, cell_moment, latest}
 use Rattle.vw_pipe.specs.Steps.Drafts.{IsFit, moment_limit}
-use Rattle.vw_pipe.specs.Steps.Leads.{hops_to, lead_by, usable_by, wires_of}
+use Rattle.vw_pipe.specs.Steps.Leads.{hops_to, lead_so_far, usable_so_far, wires_of}
 use Rattle.vw_pipe.proofs.Scheduled.{last_within, latest_at_most}
 
 pub as_many_wires : (routes : List Route) (hops : List (List Hop)) → length hops ≡ length routes → length (wires_of routes hops) ≡ length routes
@@ -57,16 +57,16 @@ module _ (ordered : Ordered) (board : Board) (chip_of : List ℕ) (routes : List
   abbrev last_moment : ℕ
   last_moment = moment_limit (length draft.table.taken)
 
-  pub lead_early : (node net : ℕ) → lead_by ordered.flat board chip_of routes draft.hops.items draft.leads.items node net ≤ last_moment
+  pub lead_early : (node net : ℕ) → lead_so_far ordered.flat board chip_of routes draft.hops.items draft.leads.items node net ≤ last_moment
   lead_early node net =
       let home = eqb (node_of ordered.flat chip_of net) node in
       let at_home : slice_index draft.leads.items net ≤ last_moment = ⊎_elim (λ inside. fit.early.soon net 0 inside) (λ past. let none : slice_index draft.leads.items net ≡ 0 = get_or_past draft.leads.items net 0 past in omega (arith, none)) (cases_lt net (length draft.leads.items)) in
       let away = hops_to_early board.links last_moment node net routes draft.hops.items fit.early.sent in
-      let if_home = λ (is : home ≡ true). let whole : lead_by ordered.flat board chip_of routes draft.hops.items draft.leads.items node net ≤ last_moment = rw is at_home in whole in
-      let if_away = λ (is : home ≡ false). let whole : lead_by ordered.flat board chip_of routes draft.hops.items draft.leads.items node net ≤ last_moment = rw is away in whole in
+      let if_home = λ (is : home ≡ true). let whole : lead_so_far ordered.flat board chip_of routes draft.hops.items draft.leads.items node net ≤ last_moment = rw is at_home in whole in
+      let if_away = λ (is : home ≡ false). let whole : lead_so_far ordered.flat board chip_of routes draft.hops.items draft.leads.items node net ≤ last_moment = rw is away in whole in
       ⊎_elim if_home if_away (cases_Bool home)
 
-  pub usable_early : (node net : ℕ) → usable_by ordered.flat board chip_of routes draft.hops.items draft.leads.items node net ≤ last_moment + 15
+  pub usable_early : (node net : ℕ) → usable_so_far ordered.flat board chip_of routes draft.hops.items draft.leads.items node net ≤ last_moment + 15
   usable_early node net =
       let gate = is_gate (driving_cell ordered.flat net) && eqb (node_of ordered.flat chip_of net) node in
       let settle : (if gate then board.settle else 0) ≤ 15 = elim gate as (λ is. (if is then board.settle else 0) ≤ 15) [ true ↦ board.quick | false ↦ omega arith ] in

@@ -11,7 +11,7 @@ use Rattle.vw_plan.specs.Lead.{after_last}
 use Rattle.vw_plan.specs.Nets.{driving_cell, node_of}
 use Rattle.vw_plan.proofs.GreatestReads.{greatest_read-agree}
 use Rattle.vw_pipe.specs.declared.task.Task.{Task}
-use Rattle.vw_pipe.specs.Steps.Leads.{hops_to, lead_by}
+use Rattle.vw_pipe.specs.Steps.Leads.{hops_to, lead_so_far}
 use Rattle.vw_pipe.specs.Steps.Underway.{is_passed, lead_at_place, ready_by}
 
 -- the number of the first route that brings a net to a node; that of the routes where there is none
@@ -48,7 +48,7 @@ module _ (ordered : Ordered) (board : Board) (chip_of : List ℕ) (routes : List
     pub hops_same : (number : ℕ) → is_passed tasks count true number ≡ true → slice_index_or more number [] ≡ slice_index_or hops number []
 
   module _ (hops more : List (List Hop)) (leads later : List ℕ) (kept : AreUntouched hops more leads later) where
-    pub lead_kept : (node net : ℕ) → RestsOnDone node net → lead_by ordered.flat board chip_of routes more later node net ≡ lead_by ordered.flat board chip_of routes hops leads node net
+    pub lead_kept : (node net : ℕ) → RestsOnDone node net → lead_so_far ordered.flat board chip_of routes more later node net ≡ lead_so_far ordered.flat board chip_of routes hops leads node net
     lead_kept node net settled =
         let own = node_of ordered.flat chip_of net in
         let if_home = λ (is : eqb own node ≡ true).
@@ -67,7 +67,7 @@ module _ (ordered : Ordered) (board : Board) (chip_of : List ℕ) (routes : List
         → lead_at_place ordered board chip_of routes more later place ≡ lead_at_place ordered board chip_of routes hops leads place
     place_kept place settled =
         let node = slice_index chip_of (slice_index ordered.order place) in
-        greatest_read-agree (lead_by ordered.flat board chip_of routes more later node) (lead_by ordered.flat board chip_of routes hops leads node) (slice_get ordered.flat.cells (slice_index ordered.order place)) (λ at default within. lead_kept node _ (settled at default within))
+        greatest_read-agree (lead_so_far ordered.flat board chip_of routes more later node) (lead_so_far ordered.flat board chip_of routes hops leads node) (slice_get ordered.flat.cells (slice_index ordered.order place)) (λ at default within. lead_kept node _ (settled at default within))
 
     -- when a net is usable at home
     pub ready_kept : (net : ℕ) → IsHomeDone net → ready_by ordered board chip_of routes more later net ≡ ready_by ordered board chip_of routes hops leads net

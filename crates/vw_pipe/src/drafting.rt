@@ -11,7 +11,7 @@ use crate::given::Given;
 use crate::task::{Task, tasks_in_order};
 use crate::turns::turns_of;
 use std::alloc::{AllocError, Global};
-use vw_leads::Moments;
+use vw_leads::LeadTable;
 use vw_net::Sequence;
 use vw_plan::node_of;
 use vw_slots::SlotTable;
@@ -25,7 +25,7 @@ fn lead_of_cell(given: &Given, draft: &Draft, number: u32) -> u64
         (slice_index given.now.chip_of.now number))
         (slice_get given.now.ordered.now.flat.cells number) }
 {
-    let known = Moments {
+    let known = LeadTable {
         ordered: given.ordered,
         chip_of: given.chip_of,
         settle: given.board.settle(),
@@ -42,7 +42,7 @@ pub fn usable_at(given: &Given, draft: &Draft, node: u32, net: u32) -> u64
     requires fit { IsFitFor given.now draft.now }
     ensures { result ≡ usable_for given.now draft.now.hops.items draft.now.leads.items node net }
 {
-    let known = Moments {
+    let known = LeadTable {
         ordered: given.ordered,
         chip_of: given.chip_of,
         settle: given.board.settle(),

@@ -9,7 +9,7 @@ pub mod NeededPairs
 pub mod NeededNets
 pub mod ReadNets
 pub mod HopsOfWires
-pub mod PinUsers
+pub mod OneHopAPin
 pub mod LinkDelays
 pub mod Walking
 pub mod Shortest

@@ -3,7 +3,7 @@ use Rattle.std.specs.Prelude.{◌≡◌, ◌<◌, ◌+◌, ◌^◌, ℕ, List, l
 use Rattle.std.specs.List.{All}
 use Rattle.vw_plan.specs.PlannedBoard.{PlannedBoard, home, planned_board}
 use Rattle.vw_plan.specs.Lead.{after_last, brought_at, lead, usable}
-use Rattle.vw_leads.specs.declared.moments.Moments.{Moments}
+use Rattle.vw_leads.specs.declared.lead_table.LeadTable.{LeadTable}
 use Rattle.vw_leads.specs.Leads as by_table
 use Rattle.vw_leads.specs.Leads.{usable_in}
 use Rattle.vw_check.specs.declared.wired.Wired.{Wired}
@@ -21,8 +21,8 @@ pub record AreArrivals (planned : PlannedBoard) (arrivals : List ℕ) : Type 0 w
   pub early : All (λ moment. moment < 2 ^ 63) arrivals
 
 -- the lead of a net at a node, from leads at their own nodes
-abbrev pub lead_by : PlannedBoard → List ℕ → ℕ → ℕ → ℕ
-lead_by planned leads node net = by_table.lead_by planned.ordered.flat planned.plan.chip_of (λ net node. brought_at planned node net) leads node net
+abbrev pub lead_from_homes : PlannedBoard → List ℕ → ℕ → ℕ → ℕ
+lead_from_homes planned leads node net = by_table.lead_by planned.ordered.flat planned.plan.chip_of (λ net node. brought_at planned node net) leads node net
 
 -- for each net its lead at its own node
 pub record AreLeads (planned : PlannedBoard) (leads : List ℕ) : Type 0 where
@@ -31,6 +31,6 @@ pub record AreLeads (planned : PlannedBoard) (leads : List ℕ) : Type 0 where
   pub leads_at : (net : ℕ) → net < length leads → slice_index_or leads net 0 ≡ lead planned (home planned net) net
 
 -- what is known of moments is right
-pub record AreMoments (planned : PlannedBoard) (known : Moments) : Type 0 where
+pub record IsLeadTable (planned : PlannedBoard) (known : LeadTable) : Type 0 where
   pub netlist : known.ordered.now ≡ planned.ordered
   pub right : (node net : ℕ) → net < planned.ordered.flat.inputs + length planned.ordered.flat.cells → usable_in known node net ≡ usable planned node net

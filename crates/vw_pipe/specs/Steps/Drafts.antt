@@ -11,7 +11,7 @@ use Rattle.vw_plan.specs.Routes.{steps_of}
 use Rattle.vw_slots.specs.Slots.{no_slots}
 use Rattle.vw_pipe.specs.declared.draft.Draft.{Draft}
 use Rattle.vw_pipe.specs.Steps.SentHops.{AreLinked, AreSent, taken_by}
-use Rattle.vw_pipe.specs.Steps.Leads.{lead_by, usable_by}
+use Rattle.vw_pipe.specs.Steps.Leads.{lead_so_far, usable_so_far}
 
 -- how late the moments of a draft may be that has so many taken slots
 abbrev pub moment_limit : ℕ → ℕ
@@ -56,14 +56,14 @@ pub record HasLead (ordered : Ordered) (board : Board) (chip_of : List ℕ) (rou
   pub last : new.after ≡ old.after
   pub leads : let number = slice_index ordered.order place in
       new.leads.items ≡ slice_set old.leads.items (ordered.flat.inputs + number)
-      (greatest_read (lead_by ordered.flat board chip_of routes old.hops.items old.leads.items (slice_index chip_of number)) (slice_get ordered.flat.cells number))
+      (greatest_read (lead_so_far ordered.flat board chip_of routes old.hops.items old.leads.items (slice_index chip_of number)) (slice_get ordered.flat.cells number))
 
 -- what a task makes of a draft
 abbrev pub Does : Ordered → Board → List ℕ → List Route → Bool → ℕ → Draft → Draft → Type 0
 Does ordered board chip_of routes false place old new = HasLead ordered board chip_of routes place old new
 Does ordered board chip_of routes true number old new =
     (route : Route) → slice_get routes number ≡ Some route
-    → IsSentMore board route number (usable_by ordered.flat board chip_of routes old.hops.items old.leads.items (node_of ordered.flat chip_of route.net) route.net) old new
+    → IsSentMore board route number (usable_so_far ordered.flat board chip_of routes old.hops.items old.leads.items (node_of ordered.flat chip_of route.net) route.net) old new
 
 -- a draft is as long as it has to be, it has the arrivals of its hops, and its moments are early
 pub record IsFit (ordered : Ordered) (board : Board) (routes : List Route) (draft : Draft) : Type 0 where

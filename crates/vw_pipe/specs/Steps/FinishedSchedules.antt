@@ -18,7 +18,7 @@ use Rattle.vw_plan.specs.PlannedBoard.{PlannedBoard, home, planned_board}
 use Rattle.vw_plan.specs.Sound.{IsSentWhenUsable, has_pin, rises, share_pin}
 use Rattle.vw_pipe.specs.declared.draft.Draft.{Draft}
 use Rattle.vw_pipe.specs.Steps.Drafts.{IsFit}
-use Rattle.vw_pipe.specs.Steps.Leads.{usable_by, wires_of}
+use Rattle.vw_pipe.specs.Steps.Leads.{usable_so_far, wires_of}
 
 -- a plan has these chips, and wires with these hops
 pub record IsMadeOf (chip_of : List ℕ) (routes : List Route) (hops : List (List Hop)) (plan : Plan) : Type 0 where
@@ -57,7 +57,7 @@ pub record IsTasksDone (ordered : Ordered) (board : Board) (chip_of : List ℕ) 
 -- the moment at which what a latch reads is usable on the latch's chip; 0 for a gate
 abbrev pub cell_moment : Flat → Board → List ℕ → List Route → List (List Hop) → List ℕ → ℕ → Cell → ℕ
 cell_moment flat board chip_of routes hops leads number (Gate ins cover) = 0
-cell_moment flat board chip_of routes hops leads number (Latch d init) = usable_by flat board chip_of routes hops leads (slice_index chip_of number) d
+cell_moment flat board chip_of routes hops leads number (Latch d init) = usable_so_far flat board chip_of routes hops leads (slice_index chip_of number) d
 
 -- the greatest of these moments, of some cells that are numbered from a number on
 abbrev pub latest : (ℕ → Cell → ℕ) → ℕ → List Cell → ℕ

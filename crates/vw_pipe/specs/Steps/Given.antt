@@ -7,7 +7,7 @@ use Rattle.vw_pipe.specs.declared.draft.Draft.{Draft}
 use Rattle.vw_pipe.specs.declared.given.Given.{Given}
 use Rattle.vw_pipe.specs.Steps.FinishedSchedules.{IsTasksDone, cell_moment}
 use Rattle.vw_pipe.specs.Steps.Drafts.{Does, IsFit, IsDraftReady, IsUntouched}
-use Rattle.vw_pipe.specs.Steps.Leads.{lead_by, usable_by}
+use Rattle.vw_pipe.specs.Steps.Leads.{lead_so_far, usable_so_far}
 
 -- how many nets there are
 abbrev pub net_count : Given → ℕ
@@ -15,11 +15,11 @@ net_count given = given.ordered.now.flat.inputs + length given.ordered.now.flat.
 
 -- the lead of a net at a node
 abbrev pub lead_for : Given → List (List Hop) → List ℕ → ℕ → ℕ → ℕ
-lead_for given hops leads node net = lead_by given.ordered.now.flat given.board.now given.chip_of.now given.routes.now hops leads node net
+lead_for given hops leads node net = lead_so_far given.ordered.now.flat given.board.now given.chip_of.now given.routes.now hops leads node net
 
 -- the microcycle from which on a node can use a net
 abbrev pub usable_for : Given → List (List Hop) → List ℕ → ℕ → ℕ → ℕ
-usable_for given hops leads node net = usable_by given.ordered.now.flat given.board.now given.chip_of.now given.routes.now hops leads node net
+usable_for given hops leads node net = usable_so_far given.ordered.now.flat given.board.now given.chip_of.now given.routes.now hops leads node net
 
 -- the moment at which what a latch reads is usable; 0 for a gate
 abbrev pub cell_moment_for : Given → Draft → ℕ → Cell → ℕ

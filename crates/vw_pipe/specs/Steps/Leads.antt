@@ -29,11 +29,11 @@ abbrev pub arrived_by : Board → List Route → List (List Hop) → ℕ → ℕ
 arrived_by board routes hops net node = after_last board.links (hops_to routes hops node net)
 
 -- the lead of a net at a node, from leads at their own nodes and hops
-abbrev pub lead_by : Flat → Board → List ℕ → List Route → List (List Hop) → List ℕ → ℕ → ℕ → ℕ
-lead_by flat board chip_of routes hops leads node net =
+abbrev pub lead_so_far : Flat → Board → List ℕ → List Route → List (List Hop) → List ℕ → ℕ → ℕ → ℕ
+lead_so_far flat board chip_of routes hops leads node net =
     by_table.lead_by flat chip_of (arrived_by board routes hops) leads node net
 
 -- the microcycle from which on a node can use a net, from the same
-abbrev pub usable_by : Flat → Board → List ℕ → List Route → List (List Hop) → List ℕ → ℕ → ℕ → ℕ
-usable_by flat board chip_of routes hops leads node net =
+abbrev pub usable_so_far : Flat → Board → List ℕ → List Route → List (List Hop) → List ℕ → ℕ → ℕ → ℕ
+usable_so_far flat board chip_of routes hops leads node net =
     by_table.usable_by flat chip_of board.settle (arrived_by board routes hops) leads node net

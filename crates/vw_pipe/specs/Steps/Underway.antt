@@ -17,7 +17,7 @@ use Rattle.vw_pipe.specs.declared.task.Task.{Task}
 use Rattle.vw_pipe.specs.Steps.SentHops.{AreSent, hop_link, taken_by}
 use Rattle.vw_pipe.specs.Steps.FinishedSchedules.{all_hops, uses}
 use Rattle.vw_pipe.specs.Steps.Drafts.{IsFit, hops_at}
-use Rattle.vw_pipe.specs.Steps.Leads.{lead_by, usable_by}
+use Rattle.vw_pipe.specs.Steps.Leads.{lead_so_far, usable_so_far}
 use Rattle.vw_pipe.specs.Steps.Tasks.{AreRising, rank}
 
 -- ---- which tasks are done
@@ -55,11 +55,11 @@ pub record AreTasks (ordered : Ordered) (turns : List ℕ) (routes : List Route)
 abbrev pub lead_at_place : Ordered → Board → List ℕ → List Route → List (List Hop) → List ℕ → ℕ → ℕ
 lead_at_place ordered board chip_of routes hops leads place =
     let number = slice_index ordered.order place in
-    greatest_read (lead_by ordered.flat board chip_of routes hops leads (slice_index chip_of number)) (slice_get ordered.flat.cells number)
+    greatest_read (lead_so_far ordered.flat board chip_of routes hops leads (slice_index chip_of number)) (slice_get ordered.flat.cells number)
 
 -- when the first hop of a net's route is ready: the net is usable at its own node
 abbrev pub ready_by : Ordered → Board → List ℕ → List Route → List (List Hop) → List ℕ → ℕ → ℕ
-ready_by ordered board chip_of routes hops leads net = usable_by ordered.flat board chip_of routes hops leads (node_of ordered.flat chip_of net) net
+ready_by ordered board chip_of routes hops leads net = usable_so_far ordered.flat board chip_of routes hops leads (node_of ordered.flat chip_of net) net
 
 -- ---- slots
 

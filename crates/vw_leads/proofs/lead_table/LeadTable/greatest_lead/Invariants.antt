@@ -2,7 +2,7 @@
 use Rattle.std.proofs.Common.{◌≡◌, ◌<◌, ◌^◌, drop, map, max}
 use Rattle.vw_net.specs.Lists.{greatest}
 use Rattle.vw_leads.specs.Leads.{lead_in}
-use Rattle.vw_leads.proofs.moments.Moments.greatest_lead.Given as goal
+use Rattle.vw_leads.proofs.lead_table.LeadTable.greatest_lead.Given as goal
 
 abbrev pub invariant-loop-net : goal.invariant-loop-net
 invariant-loop-net l = record {

@@ -6,7 +6,7 @@ use vw_net::Ordered;
 
 /// What is known of the moments at which nets are at nodes, while a plan is made or checked.
 #[derive(Drop)]
-pub struct Moments<'a> {
+pub struct LeadTable<'a> {
     /// The netlist, with the order of its gates.
     pub ordered: &'a Ordered,
     /// The chip of each cell.
