@@ -7,7 +7,8 @@ use Rattle.vw_course.specs.Course.{Again, once, again, Course, works, refuses, r
 use Rattle.vw_course.specs.Follows.{May, IsAgain, BreaksOff}
 use Rattle.vw_course.specs.Endings.{SeenCall, IsCallOf}
 use Rattle.vw_course.specs.Places.{IsOneOf, Files, BreaksHere, ReadsAgainHere, RefusesHere, ReadsHere}
-use Rattle.vw_course.specs.Statuses.{NothingDone, NoWork, IsReadStop, IsReadFault, IsRefused, Statuses}
+use Rattle.vw_course.specs.Statuses.{NothingDone, DidSome, NoWork, IsReadStop, IsReadFault, IsRefused, Statuses}
+use Rattle.vw_course.proofs.Inductions.{not_untold}
 use Rattle.vw_course.proofs.CallLaws.{shelf_alone}
 use Rattle.vw_course.proofs.CallTable.{call_table}
 
@@ -39,6 +40,10 @@ one_is V files is same one = rw (is, same) one
 abbrev pub ReadsAgain : {V : Vocabulary} → Files V → Again V → Type 0
 ReadsAgain files once = Unit {0}
 ReadsAgain files (again file name Broken Allowed) = IsOneOf files (file, name)
+
+abbrev pub ReadsHeld : {V : Vocabulary} → (List ℕ → Told) → Again V → Type 0
+ReadsHeld told once = Unit {0}
+ReadsHeld told (again file name Broken Allowed) = (text : List ℕ) × (told name ≡ held text)
 
 -- only these files are read, or read again
 abbrev pub ReadsOnly : {V : Vocabulary} → Files V → Course V → Type 0
@@ -124,6 +129,32 @@ module _ {V : Vocabulary} (told : List ℕ → Told) (number : ℕ) (course : Co
   pub no_break : Every (IsUnbroken number) course → (reason : V.Reason) (did : Work V.Word) → V.status reason ≡ number → May told (BreaksHere told reason did) course → ⊥
   no_break whole reason did same may = every_place told (BreaksHere told reason did) (IsUnbroken number) (not_broken reason did same) course whole may
 
+-- ---- files that are read again and are held
+
+abbrev pub IsHeldThere : {V : Vocabulary} → (List ℕ → Told) → Course V → Type 0
+IsHeldThere told (works over work) = ReadsHeld told over
+IsHeldThere told (refuses reason) = Unit {0}
+IsHeldThere told (reads file name next) = Unit {0}
+IsHeldThere told (makes A Good Bad Comes apart sure next) = Unit {0}
+
+pub held_stage : {V : Vocabulary} (told : List ℕ → Told) {A : Type 0} (kind : Kind V A) (name : List ℕ) (next : A → Course V) → ((x : A) → Every (IsHeldThere told) (next x)) → Every (IsHeldThere told) (stage kind name next)
+held_stage told kind name next later = (tt, λ text. (tt, λ x good. later x))
+
+module _ {V : Vocabulary} (told : List ℕ → Told) (course : Course V) where
+  held_whole : (over : Again V) (reason : V.Reason) → BreaksOff over told reason → ReadsHeld told over → ⊥
+  held_whole once reason breaks held_is = breaks
+  held_whole (again file name Broken Allowed) reason breaks (text, is) = not_untold (told name) text is breaks.0
+
+  unbroken_held : (reason : V.Reason) (did : Work V.Word) (place : Course V) → BreaksHere told reason did place → IsHeldThere told place → ⊥
+  unbroken_held reason did (works over work) breaks held_is = held_whole over reason breaks.1 held_is
+  unbroken_held reason did (refuses other) breaks held_is = breaks
+  unbroken_held reason did (reads file name next) breaks held_is = breaks
+  unbroken_held reason did (makes A Good Bad Comes apart sure next) breaks held_is = breaks
+
+  -- then no work is broken off
+  pub no_break_held : Every (IsHeldThere told) course → (reason : V.Reason) (did : Work V.Word) → May told (BreaksHere told reason did) course → ⊥
+  no_break_held all reason did may = every_place told (BreaksHere told reason did) (IsHeldThere told) (unbroken_held reason did) course all may
+
 -- ---- what it says of a call
 
 module _ {V : Vocabulary} (course : Course V) (call : SeenCall V.Word) (is : IsCallOf course call) where
@@ -175,6 +206,18 @@ module _ {V : Vocabulary} (course : Course V) (call : SeenCall V.Word) (is : IsC
           every_place told (ReadsHere fault.file fault.name) (ReadsOnly files) (one_here fault.file fault.name) course only may
       by (inr (did, may, part)) =
           every_place told (ReadsAgainHere told fault.file fault.name did) (ReadsOnly files) (again_here fault.file fault.name did) course only may
+
+    -- a read fault was counted at one of these files; where it was read again, a part of such work was done
+    pub fault_at_one : (What : Work V.Word → Type 0) → ((file : V.File) (name : List ℕ) (did : Work V.Word) → May told (ReadsAgainHere told file name did) course → What did)
+        → call.status ≡ 7 → IsReadStop V What files call
+    fault_at_one What says status =
+        let fault = table.read_fault status in
+        record { file = fault.file; name = fault.name; one = one_of fault; status = status; counted = fault.counted; part = by fault fault.cause; message = fault.message } where
+          by : (fault : IsReadFault course call) → (May told (ReadsHere fault.file fault.name) course × ShelfAlone call.before call.after)
+              ⊎ ((did : Work V.Word) × May told (ReadsAgainHere told fault.file fault.name did) course × DidPart did call.before call.after)
+              → DidSome What call.before call.after
+          by fault (inl (may, alone)) = inl (shelf_alone V call.before call.after alone)
+          by fault (inr (did, may, part)) = inr (did, says fault.file fault.name did may, part)
 
     module _ (first : Every IsOnce course) where
       not_again : (over : Again V) (file : V.File) (name : List ℕ) → IsAgain over file name → ReadsAgain {V = V} [] over → ⊥

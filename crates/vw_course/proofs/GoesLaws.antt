@@ -9,8 +9,8 @@ use Rattle.vw_course.specs.declared.outside.Outside.{Outside}
 use Rattle.vw_course.specs.declared.unfinished.Unfinished.{Unfinished}
 use Rattle.vw_course.specs.declared.unfinished.Unfinished.TheVariants.{ReadFault, WriteFault, NoMemory, Refused}
 use Rattle.vw_course.specs.Vocabulary.{Vocabulary}
-use Rattle.vw_course.specs.Outside.{SeenOutside, Carried}
-use Rattle.vw_course.specs.Course.{once, Course, Judged, Kind, Making, writing, writes, judges, made, stage}
+use Rattle.vw_course.specs.Outside.{SeenOutside, Work, Carried}
+use Rattle.vw_course.specs.Course.{Again, once, Course, works, Judged, Kind, Making, writing, writes, judges, made, stage}
 use Rattle.vw_course.specs.Follows.{Answer, EndsWorking, EndsRefused, Follows}
 use Rattle.vw_course.specs.Stages.{answer_of, EndsUnfinished, EndsJudging, EndsStage}
 use Rattle.vw_course.specs.Endings.{SeenCall, IsCallOf}
@@ -50,6 +50,11 @@ module _ (V : Vocabulary) where
     judging_ends Made WriteFault ends = absurd ends
     judging_ends Made NoMemory ends = refl
     judging_ends Made (Refused reason) bad = (refl, bad)
+
+-- what was made of a text may be said with the text, which the name may have
+pub with_text : {F A R : Type 0} (file : F) (name : List ℕ) (Made : List ℕ → A → Type 0) (Bad : List ℕ → R → Type 0) (before after : SeenShelf) (x : A)
+    → EndsStage file name Made Bad before after (Ok x) → EndsStage file name (λ text one. IsTextOf (before.told name) text × Made text one) Bad before after (Ok x)
+with_text file name Made Bad before after x (same, text, of, is) = (same, text, of, (of, is))
 
 -- ---- over the shelf and out
 
@@ -132,6 +137,12 @@ module _ {S O : Type 0} (seen_shelf : S → SeenShelf) (seen_out : O → SeenSin
       same = record { shelf = refl; out = refl };
       leads = record { follows = λ links. inl (judging_ends V judged.Bad (seen_outside (seen_shelf before.shelf.now) (seen_out before.out.now) links) Made unfinished ends) };
     }
+
+  -- the work of the course was done, or a part of it
+  pub goes_works : (over : Again V) (work : Work V.Word) (before after : Outside S O) (answer : Answer V) → IsSame seen_shelf seen_out before after
+      → ((links : Carried V.Word) → EndsWorking over work (seen_outside (seen_shelf before.shelf.now) (seen_out before.out.now) links) (seen_outside (seen_shelf after.shelf.now) (seen_out after.out.now) links) answer)
+      → ItGoes (works over work) before after answer
+  goes_works over work before after answer same ends = record { same = same; leads = record { follows = ends } }
 
   -- a text was written, or a part of it
   module _ (text : List ℕ) (before after : Outside S O) (same : IsSame seen_shelf seen_out before after) (shelf : after.shelf.now ≡ before.shelf.now) where

@@ -1,6 +1,6 @@
 -- From a course to its places: one induction for each way to say something of a place.
 use Rattle.std.proofs.Common.{◌≡◌, ◌⊎◌, ℕ, List, inl, inr, subst, sym, refl}
-use Rattle.vw_outside.specs.Told.{Told, absent, held, IsTextOf}
+use Rattle.vw_outside.specs.Told.{Told, untold, absent, held, IsTextOf}
 use Rattle.vw_course.specs.Vocabulary.{Vocabulary}
 use Rattle.vw_course.specs.Course.{Course, works, refuses, reads, makes}
 use Rattle.vw_course.specs.Follows.{May}
@@ -17,6 +17,14 @@ of_held told text is = subst (λ (t : Told). IsTextOf t text) (sym is) refl
 
 pub no_text : (told : Told) (text : List ℕ) → told ≡ absent → IsTextOf told text → ⊥
 no_text told text is may = subst (λ (t : Told). IsTextOf t text) is may
+
+abbrev IsUntold : Told → Type 0
+IsUntold untold = Unit {0}
+IsUntold absent = ⊥
+IsUntold (held text) = ⊥
+
+pub not_untold : (told : Told) (text : List ℕ) → told ≡ held text → told ≡ untold → ⊥
+not_untold told text is its = subst (λ (t : Told). IsUntold t) is (subst (λ (t : Told). IsUntold t) (sym its) tt)
 
 -- ---- places
 

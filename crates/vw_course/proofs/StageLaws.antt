@@ -7,9 +7,9 @@ use Rattle.vw_course.specs.Outside.{SeenOutside, Work, with_all, DidPart}
 use Rattle.vw_course.specs.Course.{Again, once, again, Course, works, refuses, reads, makes, Judged, Kind, Making, judges, made, stage}
 use Rattle.vw_course.specs.Follows.{May, BreaksOff}
 use Rattle.vw_course.specs.Endings.{SeenCall, IsCallOf}
-use Rattle.vw_course.specs.Places.{IsOneOf, Files, WorksHere, BreaksHere, RefusesHere, StandsAt, IsToWork, IsToRefuse, IsToMiss}
+use Rattle.vw_course.specs.Places.{IsOneOf, Files, WorksHere, BreaksHere, ReadsAgainHere, RefusesHere, StandsAt, IsToWork, IsToRefuse, IsToMiss}
 use Rattle.vw_course.specs.Statuses.{IsDone, IsRefusedFor, IsRefused, MayDo, Statuses}
-use Rattle.vw_course.proofs.Inductions.{its_text}
+use Rattle.vw_course.proofs.Inductions.{its_text, some_place}
 use Rattle.vw_course.proofs.CallTable.{call_table}
 use Rattle.vw_course.proofs.EveryPlace.{Every, every_place, IsNever, no_refusal, no_break}
 
@@ -69,6 +69,18 @@ module _ {V : Vocabulary} (told : List ℕ → Told) where
     refused_behind reason differs (inl here) = absurd here
     refused_behind reason differs (inr (text, of, inl bad)) = absurd (differs (sym ((kind.judged text).its_status reason bad)))
     refused_behind reason differs (inr (text, of, inr (x, good, later))) = (text, of, x, good, later)
+
+-- work in which a file is read again is work that the course may do
+module _ {V : Vocabulary} (told : List ℕ → Told) (file : V.File) (name : List ℕ) (did : Work V.Word) where
+  works_again : (place : Course V) → ReadsAgainHere told file name did place → Unit {0} × WorksHere told did place
+  works_again (works over work) (does, its) = (tt, does)
+  works_again (refuses reason) here = absurd here
+  works_again (reads other own next) here = absurd here
+  works_again (makes A Good Bad Comes apart sure next) here = absurd here
+
+  pub again_works : (course : Course V) → May told (ReadsAgainHere told file name did) course → May told (WorksHere told did) course
+  again_works course may =
+      (some_place told (ReadsAgainHere told file name did) (λ (x : Unit {0}). WorksHere told did) works_again course may).1
 
 -- ---- a status says why
 

@@ -9,23 +9,18 @@ use Rattle.vw_course.specs.Follows.{May, Answer, IsDoneBy, Does, IsAgain, Breaks
 use Rattle.vw_course.specs.Endings.{SeenCall, Ends, IsCallOf}
 use Rattle.vw_course.specs.Places.{IsOneOf, Files, StandsAt, IsHeldAgain, IsToWork, IsToRefuse, IsToMiss}
 use Rattle.vw_course.specs.Statuses.{NothingDone, DidSome, NoWork, IsDone, IsRefusedFor, IsReadStop, IsWriteStop, IsMemoryStop, IsStopped, IsCarriedOut}
-use Rattle.vw_course.proofs.Inductions.{its_text, no_text, stands}
+use Rattle.vw_course.proofs.Inductions.{its_text, no_text, not_untold, stands}
 use Rattle.vw_course.proofs.CallLaws.{nothing_done, shelf_alone}
 
 -- ---- a file that is read again and is held
 
-abbrev IsUntold : Told → Type 0
-IsUntold untold = Unit {0}
-IsUntold absent = ⊥
-IsUntold (held text) = ⊥
+pub held_work : {Word : Type 0} (one : Told) (text : List ℕ) (Allowed : Work Word → Type 0) (work did : Work Word) → one ≡ held text → IsDoneBy Allowed one work did → did ≡ work
+held_work one text Allowed work did is does = subst (λ (t : Told). IsDoneBy Allowed t work did) is does
 
 module _ (V : Vocabulary) (told : List ℕ → Told) (files : Files V) where
-  done_held : (one : Told) (text : List ℕ) (Allowed : Work V.Word → Type 0) (work did : Work V.Word) → one ≡ held text → IsDoneBy Allowed one work did → did ≡ work
-  done_held one text Allowed work did is does = subst (λ (t : Told). IsDoneBy Allowed t work did) is does
-
   does_all : (over : Again V) (work did : Work V.Word) → IsHeldAgain told files over → Does over work told did → did ≡ work
   does_all once work did is does = does
-  does_all (again file name Broken Allowed) work did (one, text, is) does = done_held (told name) text Allowed work did is does
+  does_all (again file name Broken Allowed) work did (one, text, is) does = held_work (told name) text Allowed work did is does
 
   done_work : (one : Told) (text : List ℕ) (Allowed : Work V.Word → Type 0) (work : Work V.Word) → one ≡ held text → IsDoneBy Allowed one work work
   done_work one text Allowed work is = subst (λ (t : Told). IsDoneBy Allowed t work work) (sym is) refl
@@ -36,8 +31,7 @@ module _ (V : Vocabulary) (told : List ℕ → Told) (files : Files V) where
 
   none_broken : (over : Again V) (reason : V.Reason) → IsHeldAgain told files over → BreaksOff over told reason → ⊥
   none_broken once reason is breaks = breaks
-  none_broken (again file name Broken Allowed) reason (one, text, is) breaks =
-      subst (λ (t : Told). IsUntold t) is (subst (λ (t : Told). IsUntold t) (sym breaks.0) tt)
+  none_broken (again file name Broken Allowed) reason (one, text, is) breaks = not_untold (told name) text is breaks.0
 
 -- ---- how a call ends
 

@@ -4,9 +4,9 @@ use Rattle.std.proofs.lemmas.Bool.{cond-true, cond-false, lt-ltb, le-ltb}
 use Rattle.std.proofs.lemmas.List.{length-replicate}
 use Rattle.vw_outside.specs.Told.{Told, absent, held, OfText}
 use Rattle.vw_outside.proofs.TextsTold.{OfText-from_cases}
-use Rattle.vw_rows.specs.declared.stimulus.StimFault.{StimFault}
-use Rattle.vw_rows.specs.declared.stimulus.StimFault.TheVariants.{TooLarge}
-use Rattle.vw_rows.specs.declared.streamed.Stimulus.{Stimulus}
+use Rattle.vw_rows.specs.declared.fault.StimFault.{StimFault}
+use Rattle.vw_rows.specs.declared.fault.StimFault.TheVariants.{TooLarge}
+use Rattle.vw_rows.specs.declared.stimulus.Stimulus.{Stimulus}
 use Rattle.vw_rows.specs.Stimulus.{behind, stimulus_rows}
 use Rattle.vw_rows.specs.Steps.Counting.{rows_in, HasRows, HasFault}
 use Rattle.vw_rows.specs.Standing.{StandsIn}

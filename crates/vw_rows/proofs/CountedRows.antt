@@ -3,7 +3,7 @@ use Rattle.std.proofs.Common.{◌≡◌, ◌<◌, ◌+◌, ◌^◌, ℕ, Bool, L
 use Rattle.std.proofs.lemmas.List.{append_assoc, append-nil, length-append, take-append-drop, take_at}
 use Rattle.vw_text.specs.Physical.{text_lines}
 use Rattle.vw_text.proofs.FirstLine.{line_first}
-use Rattle.vw_rows.specs.declared.stimulus.StimFault.{StimFault}
+use Rattle.vw_rows.specs.declared.fault.StimFault.{StimFault}
 use Rattle.vw_rows.specs.declared.line_so_far.LineSoFar.{LineSoFar}
 use Rattle.vw_rows.specs.declared.scan.Adds.{Adds}
 use Rattle.vw_rows.specs.declared.scan.Scan.{Scan}

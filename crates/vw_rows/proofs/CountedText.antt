@@ -7,7 +7,7 @@ use Rattle.vw_outside.specs.Reads.{SeenShelf, Fills}
 use Rattle.vw_outside.proofs.Fronts.{front_further, whole_front}
 use Rattle.vw_outside.proofs.TextsTold.{OfText-from_cases}
 use Rattle.vw_text.specs.Physical.{text_lines}
-use Rattle.vw_rows.specs.declared.stimulus.StimFault.{StimFault}
+use Rattle.vw_rows.specs.declared.fault.StimFault.{StimFault}
 use Rattle.vw_rows.specs.declared.scan.Adds.{Adds}
 use Rattle.vw_rows.specs.declared.scan.Scan.{Scan}
 use Rattle.vw_rows.specs.Stimulus.{line_words, rows_added, last_row, within_run, behind, rows_of_lines}

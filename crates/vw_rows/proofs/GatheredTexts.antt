@@ -5,7 +5,7 @@ use Rattle.std.proofs.lemmas.Bool.{cond-true, lt-ltb, ltb-true}
 use Rattle.vw_outside.specs.Told.{Told, held}
 use Rattle.vw_outside.specs.Reads.{Fills}
 use Rattle.vw_text.specs.Physical.{text_lines}
-use Rattle.vw_rows.specs.declared.stimulus.StimFault.{StimFault}
+use Rattle.vw_rows.specs.declared.fault.StimFault.{StimFault}
 use Rattle.vw_rows.specs.declared.batch.Batch.{Batch}
 use Rattle.vw_rows.specs.Stimulus.{last_row, behind}
 use Rattle.vw_rows.specs.Steps.Batches.{all_rows, IsGathered, GathersFurther, GathersFront, FailsWith, IsAtLine, EndsTextOf, GathersOf}

@@ -1,11 +1,7 @@
-pub mod HeldRows
-pub mod FoundWords
-pub mod RowsLeft
 pub mod PlainRows
 pub mod SaidWords
 pub mod LineFronts
 pub mod LastRows
-pub mod GatheredRows
 pub mod ScannedLines
 pub mod CountedRows
 pub mod CountedText

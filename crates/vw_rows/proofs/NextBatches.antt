@@ -6,11 +6,11 @@ use Rattle.std.proofs.lemmas.List.{append_assoc, length-append, length-replicate
 use Rattle.std.proofs.lemmas.List.Elements.{All-replicate}
 use Rattle.vw_outside.specs.Told.{Told, held}
 use Rattle.vw_text.specs.Physical.{text_lines}
-use Rattle.vw_rows.specs.declared.stimulus.StimFault.{StimFault}
-use Rattle.vw_rows.specs.declared.stimulus.StimFault.TheVariants.{TooLarge}
+use Rattle.vw_rows.specs.declared.fault.StimFault.{StimFault}
+use Rattle.vw_rows.specs.declared.fault.StimFault.TheVariants.{TooLarge}
 use Rattle.vw_rows.specs.declared.scan.Scan.{Scan}
 use Rattle.vw_rows.specs.declared.batch.Batch.{Batch}
-use Rattle.vw_rows.specs.declared.streamed.Stimulus.{Stimulus}
+use Rattle.vw_rows.specs.declared.stimulus.Stimulus.{Stimulus}
 use Rattle.vw_rows.specs.Stimulus.{last_row, behind, rows_of_lines, stimulus_rows, is_text_fault}
 use Rattle.vw_rows.specs.Standing.{StandsIn}
 use Rattle.vw_rows.specs.Steps.Lines.{IsLine}

@@ -6,8 +6,8 @@ use Rattle.std.proofs.lemmas.List.{append-nil, length-replicate}
 use Rattle.vw_text.specs.Physical.{text_lines}
 use Rattle.vw_text.specs.WordLines.{words_of}
 use Rattle.vw_text.proofs.FirstLine.{line_first, line_alone}
-use Rattle.vw_rows.specs.declared.stimulus.StimFault.{StimFault}
-use Rattle.vw_rows.specs.declared.stimulus.StimFault.TheVariants.{BadLine, TooManyClocks}
+use Rattle.vw_rows.specs.declared.fault.StimFault.{StimFault}
+use Rattle.vw_rows.specs.declared.fault.StimFault.TheVariants.{BadLine, TooManyClocks}
 use Rattle.vw_rows.specs.declared.line_so_far.LineSoFar.{LineSoFar}
 use Rattle.vw_rows.specs.declared.said.Said.TheVariants.{Letters}
 use Rattle.vw_rows.specs.declared.scan.Adds.{Adds}

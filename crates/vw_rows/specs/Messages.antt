@@ -1,8 +1,8 @@
 -- The message line of each fault of a stimulus, with the end of the line.
 use Rattle.std.specs.Prelude.{ℕ, List, [], ◌∷◌, ◌++◌, codes}
 use Rattle.std.specs.Fmt.{decimal}
-use Rattle.vw_rows.specs.declared.stimulus.StimFault.{StimFault}
-use Rattle.vw_rows.specs.declared.stimulus.StimFault.TheVariants.{TooLarge, BadLine, WrongWidth, TooManyClocks, ReadFault, NoMemory}
+use Rattle.vw_rows.specs.declared.fault.StimFault.{StimFault}
+use Rattle.vw_rows.specs.declared.fault.StimFault.TheVariants.{TooLarge, BadLine, WrongWidth, TooManyClocks, ReadFault, NoMemory}
 
 abbrev pub fault_text : StimFault → List ℕ
 fault_text TooLarge = codes "stimulus 1: text longer than 1073741824 bytes" ++ 10 ∷ []

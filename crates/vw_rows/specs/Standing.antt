@@ -1,8 +1,8 @@
 -- A checked stimulus, and how far it was given.
 use Rattle.std.specs.Prelude.{◌≡◌, ◌≤◌, ℕ, ◌+◌, Bool, false, List, ◌++◌, length, replicate, drop, Result, Ok, Err}
 use Rattle.vw_text.specs.Physical.{text_lines}
-use Rattle.vw_rows.specs.declared.stimulus.StimFault.{StimFault}
-use Rattle.vw_rows.specs.declared.streamed.Stimulus.{Stimulus}
+use Rattle.vw_rows.specs.declared.fault.StimFault.{StimFault}
+use Rattle.vw_rows.specs.declared.stimulus.Stimulus.{Stimulus}
 use Rattle.vw_rows.specs.Stimulus.{behind, rows_of_lines, stimulus_rows}
 
 -- a stimulus stands in a text: these are the rows of the text, and from those that were given on they are the copies that are still owed and the rows of the lines from its place on

@@ -1,9 +1,6 @@
 -- What functions of this crate compute, step by step. No public clause cites it.
-pub mod Reading
-pub mod Runs
 pub mod Saying
 pub mod Lines
-pub mod Gathered
 pub mod Scans
 pub mod Counting
 pub mod Batches

@@ -7,8 +7,8 @@ use Rattle.vw_text.specs.Bare.{without_comment}
 use Rattle.vw_text.specs.Number.{spelled_number}
 use Rattle.vw_text.specs.Physical.{text_lines}
 use Rattle.vw_text.specs.WordLines.{words_of}
-use Rattle.vw_rows.specs.declared.stimulus.StimFault.{StimFault}
-use Rattle.vw_rows.specs.declared.stimulus.StimFault.TheVariants.{TooLarge, BadLine, WrongWidth, TooManyClocks, ReadFault, NoMemory}
+use Rattle.vw_rows.specs.declared.fault.StimFault.{StimFault}
+use Rattle.vw_rows.specs.declared.fault.StimFault.TheVariants.{TooLarge, BadLine, WrongWidth, TooManyClocks, ReadFault, NoMemory}
 
 -- ---- words
 

@@ -5,9 +5,9 @@ ghost use Rattle.vw_rows.specs.Steps.Batches.{IsPaid, IsFit, GivesCopies, AddsTo
 ghost use Rattle.vw_outside.specs.Told.{held};
 ghost use Rattle.vw_outside.specs.Reads.{CountsFault};
 
+use crate::fault::StimFault;
 use crate::pieces::{PIECE, read_piece};
 use crate::scan::{Adds, Scan};
-use crate::stimulus::StimFault;
 use std::alloc::{AllocError, Global};
 use vw_net::Bits;
 use vw_outside::{Name, Shelf};

@@ -5,9 +5,9 @@ ghost use Rattle.vw_outside.specs.Reads.{CountsFault};
 ghost use Rattle.vw_rows.specs.Stimulus.{is_of_text};
 ghost use Rattle.vw_rows.specs.Steps.Counting.{CountsLine, CountsPiece, CountsRows};
 
+use crate::fault::StimFault;
 use crate::pieces::{PIECE, read_piece};
 use crate::scan::Scan;
-use crate::stimulus::StimFault;
 use std::alloc::Global;
 use vw_outside::{Name, Shelf};
 

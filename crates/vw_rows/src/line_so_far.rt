@@ -3,8 +3,8 @@ ghost use Rattle.std.specs.Prelude.{◌≡◌, ◌≢◌, ◌≤◌, ◌<◌, �
 ghost use Rattle.std.specs.List.{list_all};
 ghost use Rattle.vw_rows.specs.Steps.Lines.{bits_said, bits_kept, IsUnended, IsEndOf, EndsBehind, IsLine, GoesOnByFront, TakesBytes, TakesFront, TakesLine};
 
+use crate::fault::StimFault;
 use crate::said::{Said, is_bit, with_byte};
-use crate::stimulus::StimFault;
 use bstr::ByteSlice;
 use std::alloc::{AllocError, Global};
 

@@ -3,7 +3,7 @@ ghost use Rattle.std.specs.Prelude.{◌≡◌, ◌≢◌, ◌≤◌, ◌<◌, �
 ghost use Rattle.vw_outside.specs.Told.{absent, held};
 ghost use Rattle.vw_outside.specs.Reads.{Fills, CountsFault};
 
-use crate::stimulus::StimFault;
+use crate::fault::StimFault;
 use vw_outside::{Name, Shelf};
 
 /// The most bytes that a stimulus text has.

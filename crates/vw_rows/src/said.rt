@@ -3,8 +3,10 @@ ghost use Rattle.std.specs.Prelude.{◌≡◌, ◌==◌, ◌||◌, ◌-◌, Some
 ghost use Rattle.vw_text.specs.Number.{is_digit};
 ghost use Rattle.vw_rows.specs.Steps.Saying.{GoesOn, EndsWord, TakesByte};
 
-use crate::line::CLOCKS_LIMIT;
 use vw_text::is_blank;
+
+/// The most clocks of a run.
+pub const CLOCKS_LIMIT: u64 = 4_294_967_295;
 
 /// What the words of a line say so far, as long as some line begins with them.
 #[derive(Clone, Copy)]

@@ -3,10 +3,9 @@ ghost use Rattle.std.specs.Prelude.{◌≡◌, ◌≢◌, ◌≤◌, ◌<◌, �
 ghost use Rattle.vw_rows.specs.Steps.Lines.{IsLine};
 ghost use Rattle.vw_rows.specs.Steps.Scans.{count_of, AddsLine, EndsLine};
 
-use crate::line::CLOCKS_LIMIT;
+use crate::fault::StimFault;
 use crate::line_so_far::LineSoFar;
-use crate::said::{Said, ends_word};
-use crate::stimulus::StimFault;
+use crate::said::{CLOCKS_LIMIT, Said, ends_word};
 use std::alloc::Global;
 
 /// What a line adds.

@@ -4,3 +4,4 @@ pub mod PlanLaws
 pub mod CheckLaws
 pub mod FlatTraces
 pub mod UsageLaws
+pub mod StreamedTraces

@@ -1,5 +1,6 @@
 -- The course of each command.
-use Rattle.std.specs.Prelude.{◌++◌, ℕ, Bool, List, [], ◌∷◌, length, codes}
+use Rattle.std.specs.Prelude.{◌≡◌, ◌++◌, ℕ, Bool, List, [], ◌∷◌, length, codes}
+use Rattle.std.specs.List.{All}
 use Rattle.std.specs.Fmt.{decimal}
 use Rattle.vw_net.specs.declared.ordered.Ordered.{Ordered}
 use Rattle.vw_design.specs.declared.design.Design.{Design}
@@ -7,7 +8,7 @@ use Rattle.vw_design.specs.Preorder.{latches}
 use Rattle.vw_design.specs.NetReads.{root_outputs}
 use Rattle.vw_design.specs.Clocks.{columns}
 use Rattle.vw_design.specs.PathHistory.{path_history}
-use Rattle.vw_course.specs.Course.{Course, writes, refuses, judges, made, stage}
+use Rattle.vw_course.specs.Course.{again, Course, works, refuses, writing, writes, judges, made, stage}
 use Rattle.vw_plan.specs.declared.board.Board.{Board}
 use Rattle.vw_plan.specs.declared.plan.Plan.{Plan}
 use Rattle.vw_plan.specs.PlannedBoard.{planned_board}
@@ -15,11 +16,12 @@ use Rattle.vw_plan.specs.HopCounts.{hop_count}
 use Rattle.vw_plantext.specs.Content.{content_of}
 use Rattle.vw_plantext.specs.Grammar.{spelling}
 use Rattle.vw_rows.specs.Trace.{trace_text}
+use Rattle.vw_top.specs.declared.vocabulary.File.TheVariants as files
 use Rattle.vw_top.specs.declared.vocabulary.Reason.TheVariants.{Usage}
 use Rattle.vw_top.specs.Words.{Spelled}
 use Rattle.vw_top.specs.Words as words
-use Rattle.vw_top.specs.Messages.{vocabulary}
-use Rattle.vw_top.specs.Kinds.{design_kind, netlist_kind, rows_kind, board_kind, plan_kind, soundness, planning}
+use Rattle.vw_top.specs.Messages.{vocabulary, CallWork}
+use Rattle.vw_top.specs.Kinds.{design_kind, netlist_kind, rows_kind, IsBadAgain, board_kind, plan_kind, soundness, planning}
 
 -- ---- sim
 
@@ -28,10 +30,21 @@ abbrev pub trace_of : Bool → Design → List (List Bool) → List ℕ
 trace_of unknown design rows =
     trace_text (length (root_outputs design)) (length (latches design)) (path_history design unknown rows)
 
--- the stimulus is read, and the trace over its rows is written
+-- the trace of a design over some rows for its columns
+abbrev pub IsSomeTrace : Bool → Design → CallWork → Type 0
+IsSomeTrace unknown design did =
+    (rows : List (List Bool)) × All (λ row. length row ≡ length (columns design)) rows
+    × (did ≡ writing (trace_of unknown design rows))
+
+-- the trace over the rows of the stimulus is written, while it is read again
+abbrev pub trace_course : List ℕ → Bool → Design → List (List Bool) → Course vocabulary
+trace_course stimulus unknown design rows =
+    works (again files.Stimulus stimulus IsBadAgain (IsSomeTrace unknown design)) (writing (trace_of unknown design rows))
+
+-- the stimulus is read before
 abbrev pub rows_course : List ℕ → Bool → Design → Course vocabulary
 rows_course stimulus unknown design =
-    stage (rows_kind (length (columns design))) stimulus (λ rows. writes (trace_of unknown design rows))
+    stage (rows_kind (length (columns design))) stimulus (trace_course stimulus unknown design)
 
 -- the design first
 abbrev pub sim_course : List ℕ → List ℕ → Bool → Course vocabulary

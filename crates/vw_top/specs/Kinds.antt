@@ -1,5 +1,5 @@
 -- What is good and bad of the files of commands, and of what is made of them.
-use Rattle.std.specs.Prelude.{◌≡◌, ◌<◌, ◌≤◌, ◌*◌, ℕ, Bool, List, length, Some, IsTrue, Result, Ok, Err}
+use Rattle.std.specs.Prelude.{◌≡◌, ◌<◌, ◌≤◌, ◌*◌, ℕ, Bool, true, List, length, Some, IsTrue, Result, Ok, Err}
 use Rattle.std.proofs.Common.{sym, ap, subst, ◌∙◌}
 use Rattle.std.proofs.Math.Nat.{not-le_of_lt}
 use Rattle.std.proofs.lemmas.Option.{none-some}
@@ -22,8 +22,8 @@ use Rattle.vw_plantext.proofs.OnePlan.{spelled_unrefused as plan_unrefused}
 use Rattle.vw_check.specs.declared.fault.PlanFault.{PlanFault}
 use Rattle.vw_check.specs.Faults.{plan_fault}
 use Rattle.vw_check.proofs.SoundPlans.{faultless}
-use Rattle.vw_rows.specs.declared.stimulus.StimFault.{StimFault}
-use Rattle.vw_rows.specs.Stimulus.{stimulus_rows}
+use Rattle.vw_rows.specs.declared.fault.StimFault.{StimFault}
+use Rattle.vw_rows.specs.Stimulus.{stimulus_rows, is_text_fault}
 use Rattle.vw_run.specs.declared.fault.CompileFault.TheVariants.{TooManyCells}
 use Rattle.vw_run.proofs.Fits.{sound_plans_fit}
 use Rattle.vw_top.specs.declared.vocabulary.File.TheVariants as files
@@ -96,6 +96,11 @@ rows_kind width = record {
     its_status = λ reason bad. ap reason_status bad.1;
   };
 }
+
+-- why a stimulus that was accepted may be refused when it is read again: it has another text then, of which nothing is
+-- told
+abbrev pub IsBadAgain : Reason → Type 0
+IsBadAgain reason = (fault : StimFault) × (reason ≡ reasons.Stimulus fault) × (is_text_fault fault ≡ true)
 
 -- ---- the board
 

@@ -4,9 +4,9 @@ use Rattle.vw_design.specs.declared.design.Design.{Design}
 use Rattle.vw_design.specs.Clocks.{columns}
 use Rattle.vw_course.specs.Course.{writing}
 use Rattle.vw_course.specs.Places.{Files}
-use Rattle.vw_course.specs.Statuses.{NoWork, IsDone, IsRefusedFor, IsReadStop, IsWriteStop, IsMemoryStop, IsStopped, IsCarriedOut, Holds, IsAbsent, IsUnworked, CompletesAt, LeavesPart}
+use Rattle.vw_course.specs.Statuses.{IsDone, IsRefusedFor, IsReadStop, IsWriteStop, IsMemoryStop, IsStopped, IsCarriedOut, Holds, IsAbsent, IsUnworked, CompletesAt, LeavesPart}
 use Rattle.vw_front.specs.Designs.{IsDesignOf, IsNoDesign}
-use Rattle.vw_rows.specs.declared.stimulus.StimFault.{StimFault}
+use Rattle.vw_rows.specs.declared.fault.StimFault.{StimFault}
 use Rattle.vw_rows.specs.Stimulus.{stimulus_rows}
 use Rattle.vw_top.specs.declared.vocabulary.File.TheVariants as files
 use Rattle.vw_top.specs.declared.vocabulary.Reason.{Reason}
@@ -29,6 +29,10 @@ pub record IsTrace (unknown : Bool) (d s : List ℕ) (did : CallWork) : Type 0 w
   pub rows : List (List Bool)
   pub are : AreSpelled d s spelled rows
   pub text : did ≡ writing (trace_of unknown spelled rows)
+
+-- the trace of some design over some rows was written
+abbrev pub IsAnyTrace : Bool → CallWork → Type 0
+IsAnyTrace unknown did = (design : Design) × (rows : List (List Bool)) × (did ≡ writing (trace_of unknown design rows))
 
 -- a stimulus text has no rows for the columns of the design of the other text
 abbrev pub IsBadRows : List ℕ → List ℕ → Reason → Type 0
@@ -61,8 +65,11 @@ module _ (design stimulus : List ℕ) (unknown : Bool) where
     pub no_rows_comes : (d s : List ℕ) (spelled : Design) (fault : StimFault) → HoldTexts call d s
         → IsDesignOf d spelled → HasRowFault s spelled fault
         → IsRefusedFor vocabulary (IsBadRows d s) call ⊎ IsStopped vocabulary its_files call
-    -- 7: a fault was counted at one of the two files, over every shelf, and out is as it was
-    pub read_fault : call.status ≡ 7 → IsReadStop vocabulary NoWork its_files call
+    -- 7: a fault was counted at one of the two files, over every shelf; out has a part of some trace at most, and where
+    -- both texts are held, of the trace
+    pub read_fault : call.status ≡ 7 → IsReadStop vocabulary (IsAnyTrace unknown) its_files call
+    pub read_fault_held : (d s : List ℕ) → HoldTexts call d s → call.status ≡ 7
+        → IsReadStop vocabulary (IsTrace unknown d s) its_files call
     -- 8: a fault was counted at out, which has a part of the trace
     pub write_fault : (d s : List ℕ) → HoldTexts call d s → call.status ≡ 8 → IsWriteStop (IsTrace unknown d s) call
     -- 9: out has a part of the trace at most

@@ -1,11 +1,11 @@
 //! The files of commands, each read and judged at its own stage.
-ghost use Rattle.std.specs.Prelude.{◌≡◌, length, IfOk};
-ghost use Rattle.std.specs.List.{All};
+ghost use Rattle.std.specs.Prelude.{IfOk};
 ghost use Rattle.vw_board.specs.BoardText.{Spells as SpellsBoard};
 ghost use Rattle.vw_course.specs.Stages.{EndsJudging, EndsStage};
 ghost use Rattle.vw_front.specs.Designs.{IsNetlistOf};
 ghost use Rattle.vw_plantext.specs.PlanText.{Spells as SpellsPlan};
-ghost use Rattle.vw_top.specs.Kinds.{IsBadDesign, IsBadBoard, IsBadPlanText, IsRowsOf, IsBadStimulus};
+ghost use Rattle.vw_rows.specs.Standing.{IsAtStart, StandsIn};
+ghost use Rattle.vw_top.specs.Kinds.{IsBadDesign, IsBadBoard, IsBadPlanText, IsBadStimulus};
 
 use crate::vocabulary::{File, Reason, Unfinished};
 use std::alloc::Global;
@@ -16,7 +16,7 @@ use vw_net::Ordered;
 use vw_outside::{Name, Shelf, TextRefused, read_text};
 use vw_plan::{Board, Plan};
 use vw_plantext::PlanTextFault;
-use vw_rows::{RowRuns, StimFault, read_all};
+use vw_rows::{StimFault, Stimulus};
 
 /// The most bytes that a design text has.
 const DESIGN_LIMIT: u64 = 16_777_216;
@@ -113,20 +113,22 @@ pub fn read_plan<S: Shelf>(alloc: Global, shelf: &mut S, name: &Name) -> Result<
     }
 }
 
-/// Reads the rows of the stimulus, each with a bit for each input of a netlist.
-pub fn read_rows<S: Shelf>(
+/// Reads the stimulus once, and checks that each of its rows has a bit for each input of a netlist. Its rows come when it
+/// is read again.
+pub fn check_rows<S: Shelf>(
     alloc: Global,
     shelf: &mut S,
     name: &Name,
     ordered: &Ordered,
-) -> Result<RowRuns, Unfinished>
+) -> Result<Stimulus, Unfinished>
     ensures judges { let width = ordered.now.flat.inputs in
-        EndsStage File.Stimulus name.now (IsRowsOf width) (IsBadStimulus width)
+        EndsStage File.Stimulus name.now
+        (λ text stimulus. StandsIn stimulus text) (IsBadStimulus width)
         (S.seen shelf.old) (S.seen shelf.new) result }
-    ensures width { IfOk result (All (λ row. length row ≡ ordered.now.flat.inputs)) }
+    ensures starts { IfOk result (IsAtStart name.now ordered.now.flat.inputs) }
 {
-    match read_all(alloc, shelf, name, ordered.flat().inputs()) {
-        Ok(rows) => Ok(rows),
+    match Stimulus::check(alloc, shelf, name, ordered.flat().inputs()) {
+        Ok(stimulus) => Ok(stimulus),
         Err(StimFault::ReadFault) => Err(Unfinished::ReadFault(File::Stimulus)),
         Err(StimFault::NoMemory) => Err(Unfinished::NoMemory),
         Err(fault) => Err(Unfinished::Refused(Reason::Stimulus(fault))),

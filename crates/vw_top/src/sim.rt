@@ -5,16 +5,30 @@ ghost use Rattle.vw_design.specs.declared.design.Design.{Design};
 ghost use Rattle.vw_design.specs.Flattened.{IsFlatOf};
 ghost use Rattle.vw_top.specs.Commands.{rows_course, sim_course};
 ghost use Rattle.vw_top.specs.Messages.{vocabulary};
+ghost use Rattle.vw_top.specs.Steps.Stages.{run_answer};
 
-use crate::files::{read_design, read_rows};
-use crate::vocabulary::Unfinished;
+use crate::files::{check_rows, read_design};
+use crate::vocabulary::{File, Reason, Unfinished};
 use std::alloc::Global;
-use vw_course::{Outside, answer_of};
+use vw_course::Outside;
 use vw_net::Ordered;
 use vw_outside::{Name, Shelf, Sink};
-use vw_trace::write_trace;
+use vw_trace::{RunFault, write_trace};
 
-/// Reads the stimulus, runs a netlist over it, and writes the trace.
+/// The answer of a command that ran over its stimulus, or that stopped while it did.
+fn run_answer(written: Result<(), RunFault>) -> Result<(), Unfinished>
+    ensures { result ≡ run_answer written }
+{
+    match written {
+        Ok(()) => Ok(()),
+        Err(RunFault::ReadFault) => Err(Unfinished::ReadFault(File::Stimulus)),
+        Err(RunFault::WriteFault) => Err(Unfinished::WriteFault),
+        Err(RunFault::Stimulus(fault)) => Err(Unfinished::Refused(Reason::Stimulus(fault))),
+        Err(RunFault::NoMemory) => Err(Unfinished::NoMemory),
+    }
+}
+
+/// Checks the stimulus, runs a netlist over it as it is read again, and writes the trace.
 fn sim_netlist<S: Shelf, O: Sink>(
     alloc: Global,
     ordered: Ordered,
@@ -27,10 +41,17 @@ fn sim_netlist<S: Shelf, O: Sink>(
         outside.new
         result }
 {
-    let rows = read_rows(alloc, outside.shelf, stimulus, &ordered)?;
-    let written = write_trace(alloc, &ordered, unknown, &rows, outside.out);
+    let mut rows = check_rows(alloc, outside.shelf, stimulus, &ordered)?;
+    let written = write_trace(
+        alloc,
+        &ordered,
+        unknown,
+        &mut rows,
+        outside.shelf,
+        outside.out,
+    );
     drop(ordered);
-    answer_of(written)
+    run_answer(written)
 }
 
 /// Runs a design over a stimulus, free latches starting at `unknown`, and writes its trace.

@@ -1,2 +1,4 @@
 pub mod Clocks
 pub mod TraceLines
+pub mod Streaming
+pub mod StreamedTraces

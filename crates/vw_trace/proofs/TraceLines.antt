@@ -9,6 +9,7 @@ use Rattle.vw_outside.specs.Writes.{SeenSink}
 use Rattle.vw_outside.proofs.PiecesWritten.{IsLeft, nothing_written}
 use Rattle.vw_rows.specs.Trace.{rows_text, clock_text, head_text, end_text}
 use Rattle.vw_trace.specs.FlatTrace.{trace_from}
+use Rattle.vw_trace.specs.Steps.StreamedClocks.{clock_lines}
 use Rattle.vw_net.proofs.Counts.{length-outputs_of, length-states_of}
 
 -- the lines of clocks, and then of others
@@ -21,10 +22,6 @@ rows_text-append first (row ∷ outputs) (state ∷ states) later_outputs later_
     ap (λ t. clock_text first row state ++ t) (rows_text-append (first + 1) outputs states later_outputs later_states (omega arith) ∙ ap (λ n. rows_text (first + 1) outputs states ++ rows_text n later_outputs later_states) count)
     ∙ sym (append_assoc (clock_text first row state) (rows_text (first + 1) outputs states) (rows_text (first + length (row ∷ outputs)) later_outputs later_states))
 
--- the lines of the clocks of some rows from a state on
-abbrev pub clock_lines : Flat → ℕ → List Bool → List (List Bool) → List ℕ
-clock_lines flat first state rows = rows_text first (outputs_of flat state rows) (states_of flat state rows)
-
 -- what histories one after the other say of a netlist
 abbrev pub HistoriesJoin : Flat → Type 0
 HistoriesJoin flat = (state : List Bool) (first second : List (List Bool)) → flat_history flat state (first ++ second) ≡ joined (flat_history flat state first) (flat_history flat (state_after flat state first) second)
@@ -35,66 +32,6 @@ clock_lines-append flat join first state rows later =
     let states : states_of flat state (rows ++ later) ≡ states_of flat state rows ++ states_of flat (state_after flat state rows) later = ap (λ history. history.states) (join state rows later) in
     rw (outputs, states) (rows_text-append first (outputs_of flat state rows) (states_of flat state rows) _ _ (length-outputs_of flat state rows ∙ sym (length-states_of flat state rows))
     ∙ ap (λ n. clock_lines flat first state rows ++ rows_text (first + n) (outputs_of flat (state_after flat state rows) later) (states_of flat (state_after flat state rows) later)) (length-outputs_of flat state rows))
-
--- the rows of a batch, and those behind it
-module _ (flat : Flat) (join : HistoriesJoin flat) (state : List Bool) (rows : List (List Bool)) (done end : ℕ) (forward : done ≤ end) (within : end ≤ length rows) where
-  pub batch_rows : drop done rows ≡ take (end - done) (drop done rows) ++ drop end rows
-  batch_rows =
-      sym (take-append-drop (end - done) (drop done rows))
-      ∙ ap (λ later. take (end - done) (drop done rows) ++ later) (drop-drop (end - done) done rows ∙ ap (λ n. drop n rows) (let e : done + (end - done) ≡ end = omega arith in e))
-
-  batch_size : length (take (end - done) (drop done rows)) ≡ end - done
-  batch_size = omega (arith, length-take (end - done) (drop done rows), length-drop done rows)
-
-  -- their lines
-  pub batch_lines : clock_lines flat done state (drop done rows) ≡ clock_lines flat done state (take (end - done) (drop done rows)) ++ clock_lines flat end (state_after flat state (take (end - done) (drop done rows))) (drop end rows)
-  batch_lines =
-      ap (clock_lines flat done state) batch_rows ∙ clock_lines-append flat join done state (take (end - done) (drop done rows)) (drop end rows)
-      ∙ ap (λ n. clock_lines flat done state (take (end - done) (drop done rows)) ++ clock_lines flat n (state_after flat state (take (end - done) (drop done rows))) (drop end rows)) (let e : done + length (take (end - done) (drop done rows)) ≡ end = omega (arith, batch_size) in e)
-
-  -- and the state after all of them
-  pub batch_state : state_after flat state (drop done rows) ≡ state_after flat (state_after flat state (take (end - done) (drop done rows))) (drop end rows)
-  batch_state = ap (state_after flat state) batch_rows ∙ ap (λ history. history.last) (join state (take (end - done) (drop done rows)) (drop end rows))
-
--- the next rows, as many as a batch has or as are left
-pub record IsBatch (rows next : List (List Bool)) (done end : ℕ) : Type 0 where
-  pub forward : done ≤ end
-  pub within : end ≤ length rows
-  pub same : next ≡ take (end - done) (drop done rows)
-  pub left : drop 256 (drop done rows) ≡ drop end rows
-
-pub batch_is : (rows next : List (List Bool)) (done end : ℕ) → done ≤ length rows → next ≡ take 256 (drop done rows) → end ≡ done + length next → IsBatch rows next done end
-batch_is rows next done end within is ends = ⊎_elim few full (cases_lt (length (drop done rows)) 256) where
-  few : length (drop done rows) < 256 → IsBatch rows next done end
-  few short =
-      let all : next ≡ drop done rows = is ∙ take_all 256 (drop done rows) (omega (arith, short)) in
-      let long : length next ≡ length (drop done rows) = ap (λ (list : List (List Bool)). length list) all in
-      let size = length-drop done rows in
-      record {
-        forward = omega (arith, ends);
-        within = omega (arith, ends, long, size, within);
-        same = all ∙ sym (take_all (end - done) (drop done rows) (omega (arith, ends, long)));
-        left = drop_all 256 (drop done rows) (omega (arith, short)) ∙ sym (drop_all end rows (omega (arith, ends, long, size, within)));
-      }
-
-  full : 256 ≤ length (drop done rows) → IsBatch rows next done end
-  full enough =
-      let long : length next ≡ 256 = ap (λ (list : List (List Bool)). length list) is ∙ omega (arith, length-take 256 (drop done rows), enough) in
-      let size = length-drop done rows in
-      let count : 256 ≡ end - done = omega (arith, ends, long) in
-      record {
-        forward = omega (arith, ends);
-        within = omega (arith, ends, long, size, within, enough);
-        same = is ∙ ap (λ (n : ℕ). take n (drop done rows)) count;
-        left = drop-drop 256 done rows ∙ ap (λ (n : ℕ). drop n rows) (let e : done + 256 ≡ end = omega (arith, ends, long) in e);
-      }
-
--- the lines of such a batch, and what is left behind it
-pub batch_split : (flat : Flat) → HistoriesJoin flat → (state : List Bool) (rows next : List (List Bool)) (done end : ℕ) → IsBatch rows next done end
-    → clock_lines flat done state (drop done rows) ≡ clock_lines flat done state next ++ clock_lines flat end (state_after flat state next) (drop end rows)
-batch_split flat join state rows next done end batch =
-    subst (λ (now : List (List Bool)). clock_lines flat done state (drop done rows) ≡ clock_lines flat done state now ++ clock_lines flat end (state_after flat state now) (drop end rows)) (sym batch.same)
-    (batch_lines flat join state rows done end batch.forward batch.within)
 
 -- the parts of a trace
 pub trace_parts : (state : List Bool) (flat : Flat) (rows : List (List Bool)) → trace_from state flat rows ≡ head_text (length flat.outputs) (latch_count flat.cells) ++ (clock_lines flat 0 state rows ++ end_text (length rows) (state_after flat state rows))

@@ -1,1 +1,4 @@
 pub mod FlatTrace
+pub mod RunFaults
+pub mod Streamed
+pub mod Steps

@@ -2,6 +2,8 @@
 #![tactic(auto)]
 
 mod batch;
+mod fault;
 mod trace;
 
+pub use fault::RunFault;
 pub use trace::write_trace;

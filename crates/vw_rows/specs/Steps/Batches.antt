@@ -3,7 +3,7 @@ use Rattle.std.specs.Prelude.{◌≡◌, ◌<◌, ◌≤◌, ℕ, ◌+◌, ◌^�
 use Rattle.std.specs.List.{All}
 use Rattle.vw_outside.specs.Told.{Told, held}
 use Rattle.vw_text.specs.Physical.{text_lines}
-use Rattle.vw_rows.specs.declared.stimulus.StimFault.{StimFault}
+use Rattle.vw_rows.specs.declared.fault.StimFault.{StimFault}
 use Rattle.vw_rows.specs.declared.scan.Adds.{Adds}
 use Rattle.vw_rows.specs.declared.batch.Batch.{Batch}
 use Rattle.vw_rows.specs.Stimulus.{line_words, rows_added, last_row, within_run, behind, rows_of_lines, is_text_fault}

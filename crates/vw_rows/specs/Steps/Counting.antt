@@ -1,7 +1,7 @@
 -- Rows that are counted, piece by piece.
 use Rattle.std.specs.Prelude.{◌≡◌, ◌<◌, ◌≤◌, ℕ, ◌+◌, ◌^◌, Bool, true, false, List, ◌++◌, length, replicate, take, Result, Ok, Err}
 use Rattle.vw_text.specs.Physical.{text_lines}
-use Rattle.vw_rows.specs.declared.stimulus.StimFault.{StimFault}
+use Rattle.vw_rows.specs.declared.fault.StimFault.{StimFault}
 use Rattle.vw_rows.specs.declared.scan.Scan.{Scan}
 use Rattle.vw_rows.specs.Stimulus.{rows_of_lines, is_text_fault}
 use Rattle.vw_rows.specs.Steps.Scans.{IsReadSoFar}

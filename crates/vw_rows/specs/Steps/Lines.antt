@@ -4,8 +4,8 @@ use Rattle.std.specs.List.{All}
 use Rattle.vw_text.specs.Bare.{without_comment}
 use Rattle.vw_text.specs.Physical.{text_lines}
 use Rattle.vw_text.specs.WordLines.{words_of}
-use Rattle.vw_rows.specs.declared.stimulus.StimFault.{StimFault}
-use Rattle.vw_rows.specs.declared.stimulus.StimFault.TheVariants.{BadLine}
+use Rattle.vw_rows.specs.declared.fault.StimFault.{StimFault}
+use Rattle.vw_rows.specs.declared.fault.StimFault.TheVariants.{BadLine}
 use Rattle.vw_rows.specs.declared.said.Said.{Said}
 use Rattle.vw_rows.specs.declared.said.Said.TheVariants.{Nothing, Bits}
 use Rattle.vw_rows.specs.declared.line_so_far.LineSoFar.{LineSoFar}

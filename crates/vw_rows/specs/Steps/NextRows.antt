@@ -2,9 +2,9 @@
 use Rattle.std.specs.Prelude.{◌≡◌, ℕ, ◌+◌, Bool, true, List, length, replicate, drop, Result, Ok, Err}
 use Rattle.vw_outside.specs.Told.{Told, held}
 use Rattle.vw_text.specs.Physical.{text_lines}
-use Rattle.vw_rows.specs.declared.stimulus.StimFault.{StimFault}
+use Rattle.vw_rows.specs.declared.fault.StimFault.{StimFault}
 use Rattle.vw_rows.specs.declared.batch.Batch.{Batch}
-use Rattle.vw_rows.specs.declared.streamed.Stimulus.{Stimulus}
+use Rattle.vw_rows.specs.declared.stimulus.Stimulus.{Stimulus}
 use Rattle.vw_rows.specs.Stimulus.{behind, rows_of_lines, is_text_fault}
 use Rattle.vw_rows.specs.Steps.Batches.{IsFit, HasItsRows, IsAtLine}
 

@@ -5,7 +5,7 @@ use Rattle.std.specs.Str.{bytes_eq}
 use Rattle.vw_text.specs.Bare.{is_blank}
 use Rattle.vw_text.specs.Number.{is_number, value_from}
 use Rattle.vw_text.specs.WordLines.{words_of}
-use Rattle.vw_rows.specs.declared.stimulus.StimFault.TheVariants.{BadLine}
+use Rattle.vw_rows.specs.declared.fault.StimFault.TheVariants.{BadLine}
 use Rattle.vw_rows.specs.declared.said.Said.{Said}
 use Rattle.vw_rows.specs.declared.said.Said.TheVariants.{Nothing, Bits, Dash, Row, Letters, Hold, Number, Times}
 use Rattle.vw_rows.specs.Stimulus.{is_bits, bits_of, held_times, rows_added}

@@ -1,7 +1,7 @@
 -- The lines of a stimulus text, as it is read piece by piece.
 use Rattle.std.specs.Prelude.{◌≡◌, ◌<◌, ◌≤◌, ℕ, ◌+◌, ◌^◌, Bool, List, [], ◌∷◌, ◌++◌, length, replicate, Result, Ok, Err}
 use Rattle.vw_text.specs.Physical.{text_lines}
-use Rattle.vw_rows.specs.declared.stimulus.StimFault.{StimFault}
+use Rattle.vw_rows.specs.declared.fault.StimFault.{StimFault}
 use Rattle.vw_rows.specs.declared.scan.Adds.{Adds}
 use Rattle.vw_rows.specs.declared.scan.Adds.TheVariants.{Nothing, Row, Copies}
 use Rattle.vw_rows.specs.declared.scan.Scan.{Scan}

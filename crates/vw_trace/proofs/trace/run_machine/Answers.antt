@@ -1,12 +1,24 @@
 use Rattle.std.proofs.Common.{◌≡◌, ◌∙◌, List, Bool, length, ap, subst}
+use Rattle.std.proofs.lemmas.Result.{err_from_is_err_and}
 use Rattle.vw_net.specs.declared.flat.Flat.{Flat}
 use Rattle.vw_net.specs.Cells.{start_values}
 use Rattle.vw_net.proofs.Counts.{length-start_values}
-use Rattle.vw_trace.specs.FlatTrace.{trace_from}
-use Rattle.vw_outside.specs.Writes.{WritesOut}
+use Rattle.vw_trace.specs.FlatTrace.{trace_from, flat_trace}
+use Rattle.vw_trace.specs.Streamed.{Streams}
+use Rattle.vw_trace.proofs.StreamedTraces.{nothing_streamed}
 use Rattle.vw_trace.proofs.trace.run_machine.Given.{Over}
 use Rattle.vw_trace.proofs.trace.run_machine.Goals as goal
 use Rattle.vw_trace.proofs.trace.run_machine.Goals.{In_ok-state}
+
+pub returns-in_err-state : goal.returns-in_err-state
+returns-in_err-state g c =
+    let p = err_from_is_err_and c.from_residual.result c.from_residual.ensures.1 in
+    rw (p.1, p.2) (nothing_streamed c.args.stimulus.now (flat_trace c.args.unknown c.args.machine.now.flat) (g.S.Shelf.seen c.args.shelf.now) (g.O.Sink.seen c.args.out.now) c.requires.stands)
+
+pub returns-in_err-values : goal.returns-in_err-values
+returns-in_err-values g c =
+    let p = err_from_is_err_and c.from_residual-in_err-values.result c.from_residual-in_err-values.ensures.1 in
+    rw (p.1, p.2) (nothing_streamed c.args.stimulus.now (flat_trace c.args.unknown c.args.machine.now.flat) (g.S.Shelf.seen c.args.shelf.now) (g.O.Sink.seen c.args.out.now) c.requires.stands)
 
 -- the state starts with the start values, one for each latch
 starts : (g : Over) (c : In_ok-state g) → c.in_ok-state.state ≡ start_values c.args.unknown c.args.machine.now.flat.cells
@@ -20,6 +32,6 @@ write_lines-requires-clause-latches g c =
 pub returns : goal.returns
 returns g c =
     let at = goal.at.returns g c in
-    let before = g.O.Sink.seen c.args.out.now in
-    let after = g.O.Sink.seen c.write_lines.new.out in
-    subst (λ (state : List Bool). WritesOut (trace_from state c.args.machine.now.flat c.args.rows.now) before after c.write_lines.result) (starts g at.In_ok-state) c.write_lines.ensures
+    let stimulus = c.args.stimulus.now in
+    subst (λ (state : List Bool). Streams stimulus.name stimulus.width (trace_from state c.args.machine.now.flat) (g.S.Shelf.seen c.args.shelf.now) (g.O.Sink.seen c.args.out.now)
+    (g.S.Shelf.seen c.write_lines.new.shelf) (g.O.Sink.seen c.write_lines.new.out) c.write_lines.result) (starts g at.In_ok-state) c.write_lines.ensures

@@ -1,68 +1,92 @@
-use Rattle.std.proofs.Common.{◌≡◌, ◌+◌, ◌++◌, ℕ, List, Bool, length, take, drop, arith, sym, ◌∙◌, ap, subst}
+use Rattle.std.proofs.Common.{◌≡◌, ◌≢◌, ◌<◌, ◌∙◌, ℕ, List, Bool, false, length, take, drop, Ok, Err, sym, ap, subst, arith}
 use Rattle.std.specs.List.{All}
-use Rattle.std.proofs.lemmas.List.Elements.{All-take, All-drop}
 use Rattle.std.proofs.lemmas.Result.{err_from_is_err_and}
 use Rattle.vw_net.specs.History.{state_after}
-use Rattle.vw_outside.proofs.PiecesWritten.{IsLeft, part_written, written_further, unwritten_in_piece}
-use Rattle.vw_net.proofs.Counts.{length-state_after}
-use Rattle.vw_trace.proofs.TraceLines.{clock_lines, IsBatch, batch_is, batch_split, batch_state}
+use Rattle.vw_outside.specs.Told.{held}
+use Rattle.vw_outside.specs.Writes.{appended, WritesOut}
+use Rattle.vw_rows.specs.declared.fault.StimFault.{StimFault}
+use Rattle.vw_rows.specs.Standing.{GaveMore}
+use Rattle.vw_rows.specs.Stimulus.{stimulus_rows}
+use Rattle.vw_trace.specs.Steps.StreamedClocks.{clock_lines}
+use Rattle.vw_trace.proofs.Streaming.{IsUnderway, begins, stands_then, unread, unwritten_lines, further, all_given}
 use Rattle.vw_trace.proofs.trace.write_clocks.Given.{Over}
 use Rattle.vw_trace.proofs.trace.write_clocks.Goals as goal
-use Rattle.vw_trace.proofs.trace.write_clocks.Goals.{After-write_batch}
+use Rattle.vw_trace.proofs.trace.write_clocks.Goals.{After-as_slice}
 
-pub returns-in_err-next-clause-writes : goal.returns-in_err-next-clause-writes
-returns-in_err-next-clause-writes g c =
+pub loop-alloc-init : goal.loop-alloc-init
+loop-alloc-init g c =
+    begins c.args.stimulus.now c.args.machine.now.flat c.args.state.now c.args.values.now (g.S.Shelf.seen c.args.shelf.now) (g.O.Sink.seen c.args.out.now) c.requires.fresh c.requires.stands c.requires.latches c.requires.nets
+
+pub next_batch-requires-clause-stands : goal.next_batch-requires-clause-stands
+next_batch-requires-clause-stands g c =
+    stands_then c.args.stimulus.now c.args.machine.now.flat (c.histories_join.ensures c.args.machine.now.flat) c.args.state.now (g.S.Shelf.seen c.args.shelf.now) (g.O.Sink.seen c.args.out.now)
+    c.loop-alloc.stimulus c.loop-alloc.state c.loop-alloc.values (g.S.Shelf.seen c.loop-alloc.shelf) (g.O.Sink.seen c.loop-alloc.out) c.loop-alloc.invariant
+
+pub returns-in_err-rows : goal.returns-in_err-rows
+returns-in_err-rows g c =
     let p = err_from_is_err_and c.from_residual.result c.from_residual.ensures.1 in
-    rw (p.1, p.2) (part_written _ _ _ _ c.loop-done.invariant.left)
+    let e = c.in_err-rows.ensures in
+    rw (p.1, p.2)
+    (unread c.args.stimulus.now c.args.machine.now.flat (c.histories_join.ensures c.args.machine.now.flat) c.args.state.now (g.S.Shelf.seen c.args.shelf.now) (g.O.Sink.seen c.args.out.now)
+    c.loop-alloc.stimulus c.loop-alloc.state c.loop-alloc.values (g.S.Shelf.seen c.loop-alloc.shelf) (g.O.Sink.seen c.loop-alloc.out) c.loop-alloc.invariant
+    c.in_err-rows.field-0.0 c.loop-alloc.state (g.S.Shelf.seen c.next_batch.new.shelf) (λ same. e.fault (ap (λ (fault : StimFault). Err fault) same)) (λ differs. e.kept (λ same. differs (let is = same in cc))) e.sure)
 
--- the rows of a batch are rows of the stimulus
+-- what is known of the rows of a batch
+record IsNext (g : Over) (c : After-as_slice g) : Type 0 where
+  wide : All (λ row. length row ≡ c.loop-alloc.stimulus.width) c.as_slice.result.now
+  same : g.S.Shelf.seen c.next_batch.new.shelf ≡ g.S.Shelf.seen c.loop-alloc.shelf
+  are : (text : List ℕ) (all : List (List Bool)) → (g.S.Shelf.seen c.loop-alloc.shelf).told c.loop-alloc.stimulus.name ≡ held text → stimulus_rows c.loop-alloc.stimulus.width text ≡ Ok all
+      → c.as_slice.result.now ≡ take 256 (drop c.loop-alloc.stimulus.done all)
+
+is_next : (g : Over) (c : After-as_slice g) → IsNext g c
+is_next g c = record {
+  wide = subst (λ (rows : List (List Bool)). All (λ row. length row ≡ c.loop-alloc.stimulus.width) rows) (sym c.as_slice.ensures) c.in_ok-rows.ensures.width;
+  same = c.in_ok-rows.ensures.kept (λ wrong. let is = wrong in cc);
+  are = λ text all is said. c.as_slice.ensures ∙ c.in_ok-rows.ensures.rows text all is said;
+}
+
 pub write_batch-requires-clause-columns : goal.write_batch-requires-clause-columns
 write_batch-requires-clause-columns g c =
-    let width = c.args.machine.now.flat.inputs in
-    let next : c.as_slice.result.now ≡ take 256 (drop c.loop-done.done c.args.rows) = c.as_slice.ensures ∙ c.in_ok-next.ensures.batch ∙ ap (take 256) c.loop-done.invariant.rest in
-    subst (All (λ (row : List Bool). length row ≡ width)) (sym next) (All-take (λ (row : List Bool). length row ≡ width) 256 (drop c.loop-done.done c.args.rows) (All-drop (λ (row : List Bool). length row ≡ width) c.loop-done.done c.args.rows c.requires.columns))
+    let width = c.loop-alloc.invariant.width ∙ c.requires.columns in
+    subst (λ (n : ℕ). All (λ row. length row ≡ n) c.as_slice.result.now) width (is_next g (goal.at.write_batch-requires-clause-columns g c).After-as_slice).wide
 
--- the next rows are a batch
-next_is : (g : Over) (c : After-write_batch g) → IsBatch c.args.rows c.as_slice.result.now c.loop-done.done (c.loop-done.done + c.len.result)
-next_is g c =
-    let next : c.as_slice.result.now ≡ take 256 (drop c.loop-done.done c.args.rows) = c.as_slice.ensures ∙ c.in_ok-next.ensures.batch ∙ ap (take 256) c.loop-done.invariant.rest in
-    let count : c.len.result ≡ length c.as_slice.result.now = c.len.ensures ∙ ap (λ (rows : List (List Bool)). length rows) (sym c.as_slice.ensures) in
-    batch_is c.args.rows c.as_slice.result.now c.loop-done.done (c.loop-done.done + c.len.result) c.loop-done.invariant.within next (omega (arith, count))
+pub write_batch-requires-clause-latches : goal.write_batch-requires-clause-latches
+write_batch-requires-clause-latches g c = c.loop-alloc.invariant.latches
 
--- the lines of the batch are left, and then those of the rows behind it
-batch_left : (g : Over) (c : After-write_batch g)
-    → IsLeft (g.O.Sink.seen c.args.out.now) (clock_lines c.args.machine.now.flat 0 c.args.state.now c.args.rows) (g.O.Sink.seen c.loop-done.out)
-    (clock_lines c.args.machine.now.flat c.loop-done.done c.loop-done.state c.as_slice.result.now
-    ++ clock_lines c.args.machine.now.flat (c.loop-done.done + c.len.result) (state_after c.args.machine.now.flat c.loop-done.state c.as_slice.result.now) (drop (c.loop-done.done + c.len.result) c.args.rows))
-batch_left g c =
-    let flat = c.args.machine.now.flat in
-    let rows = c.args.rows in
-    let done = c.loop-done.done in
-    let split = batch_split flat (c.histories_join.ensures flat) c.loop-done.state rows c.as_slice.result.now done (done + c.len.result) (next_is g c) in
-    subst (λ (rest : List ℕ). IsLeft (g.O.Sink.seen c.args.out.now) (clock_lines flat 0 c.args.state.now rows) (g.O.Sink.seen c.loop-done.out) rest) split c.loop-done.invariant.left
+pub write_batch-requires-clause-nets : goal.write_batch-requires-clause-nets
+write_batch-requires-clause-nets g c = c.loop-alloc.invariant.nets
 
-pub returns-in_err-write_batch-clause-writes : goal.returns-in_err-write_batch-clause-writes
-returns-in_err-write_batch-clause-writes g c =
-    let at = goal.at.returns-in_err-write_batch-clause-writes g c in
+pub returns-in_err-write_batch : goal.returns-in_err-write_batch
+returns-in_err-write_batch g c =
+    let at = goal.at.returns-in_err-write_batch g c in
+    let next = is_next g at.After-as_slice in
+    let rows = c.as_slice.result.now in
     let p = err_from_is_err_and c.from_residual-in_err-write_batch.result c.from_residual-in_err-write_batch.ensures.1 in
-    rw (p.1, p.2) (unwritten_in_piece _ _ _ _ _ _ c.in_err-write_batch.field-0.0 (batch_left g at.After-write_batch) c.in_err-write_batch.ensures.writes)
+    rw (p.1, p.2)
+    (unwritten_lines c.args.stimulus.now c.args.machine.now.flat (c.histories_join.ensures c.args.machine.now.flat) c.args.state.now (g.S.Shelf.seen c.args.shelf.now) (g.O.Sink.seen c.args.out.now)
+    c.loop-alloc.stimulus c.loop-alloc.state c.loop-alloc.values (g.S.Shelf.seen c.loop-alloc.shelf) (g.O.Sink.seen c.loop-alloc.out) c.loop-alloc.invariant
+    rows (g.S.Shelf.seen c.next_batch.new.shelf) (g.O.Sink.seen c.write_batch.new.out) next.wide next.same next.are c.in_err-write_batch.field-0.0 c.write_batch.new.state
+    (subst (λ (done : ℕ). WritesOut (clock_lines c.args.machine.now.flat done c.loop-alloc.state rows) (g.O.Sink.seen c.loop-alloc.out) (g.O.Sink.seen c.write_batch.new.out) (Err c.in_err-write_batch.field-0.0)) c.done-done.ensures c.in_err-write_batch.ensures.writes))
 
-pub loop-done-preserved : goal.loop-done-preserved
-loop-done-preserved g c =
-    let flat = c.args.machine.now.flat in
-    let rows = c.args.rows in
-    let done = c.loop-done.done in
-    let end = c.loop-done.done + c.len.result in
-    let state = c.loop-done.state in
-    let at = goal.at.loop-done-preserved g c in
-    let batch = next_is g at.After-write_batch in
-    let next = c.in_ok-write_batch.ensures.state ∙ ap (state_after flat state) batch.same in
-    let left = written_further _ _ _ _ _ _ (batch_left g at.After-write_batch) c.in_ok-write_batch.ensures.writes in
-    record {
-      within = batch.within;
-      rest = c.in_ok-next.ensures.left ∙ ap (drop 256) c.loop-done.invariant.rest ∙ batch.left;
-      left = subst (λ (s : List Bool). IsLeft (g.O.Sink.seen c.args.out.now) (clock_lines flat 0 c.args.state.now rows) (g.O.Sink.seen c.write_batch.new.out) (clock_lines flat end s (drop end rows))) (sym c.in_ok-write_batch.ensures.state) left;
-      state = ap (λ (s : List Bool). state_after flat s (drop end rows)) next ∙ sym (batch_state flat (c.histories_join.ensures flat) state rows done end batch.forward batch.within) ∙ c.loop-done.invariant.state;
-      latches = ap (λ (s : List Bool). length s) c.in_ok-write_batch.ensures.state ∙ length-state_after flat state c.as_slice.result.now c.loop-done.invariant.latches;
-      nets = c.in_ok-write_batch.ensures.nets ∙ c.loop-done.invariant.nets;
-    }
+pub loop-alloc-smaller : goal.loop-alloc-smaller
+loop-alloc-smaller g c =
+    let gave = c.in_ok-rows.ensures.gave in
+    omega (arith, gave.clocks, gave.done, c.in_ok-rows.ensures.count, c.loop-alloc-test.true, c.done.ensures, c.clocks.ensures)
+
+pub loop-alloc-preserved : goal.loop-alloc-preserved
+loop-alloc-preserved g c =
+    let at = goal.at.loop-alloc-preserved g c in
+    let next = is_next g at.After-as_slice in
+    let rows = c.as_slice.result.now in
+    let count : length c.in_ok-rows.rows ≡ length rows = ap (λ (list : List (List Bool)). length list) (sym c.as_slice.ensures) in
+    further c.args.stimulus.now c.args.machine.now.flat (c.histories_join.ensures c.args.machine.now.flat) c.args.state.now (g.S.Shelf.seen c.args.shelf.now) (g.O.Sink.seen c.args.out.now)
+    c.loop-alloc.stimulus c.loop-alloc.state c.loop-alloc.values (g.S.Shelf.seen c.loop-alloc.shelf) (g.O.Sink.seen c.loop-alloc.out) c.loop-alloc.invariant
+    rows (g.S.Shelf.seen c.next_batch.new.shelf) (g.O.Sink.seen c.write_batch.new.out) next.wide next.same next.are c.next_batch.new.self c.write_batch.new.state c.write_batch.new.values
+    (subst (λ (n : ℕ). GaveMore n c.loop-alloc.stimulus c.next_batch.new.self) count c.in_ok-rows.ensures.gave) c.in_ok-rows.ensures.stands c.in_ok-write_batch.ensures.state c.in_ok-write_batch.ensures.nets
+    (subst (λ (done : ℕ). g.O.Sink.seen c.write_batch.new.out ≡ appended (g.O.Sink.seen c.loop-alloc.out) (clock_lines c.args.machine.now.flat done c.loop-alloc.state rows)) c.done-done.ensures c.in_ok-write_batch.ensures.writes)
+
+pub returns : goal.returns
+returns g c =
+    all_given c.args.stimulus.now c.args.machine.now.flat (c.histories_join.ensures c.args.machine.now.flat) c.args.state.now (g.S.Shelf.seen c.args.shelf.now) (g.O.Sink.seen c.args.out.now)
+    c.loop-alloc.stimulus c.loop-alloc.state c.loop-alloc.values (g.S.Shelf.seen c.loop-alloc.shelf) (g.O.Sink.seen c.loop-alloc.out) c.loop-alloc.invariant
+    (omega (arith, c.loop-alloc.stimulus.some_left, c.loop-alloc-test.false, c.done.ensures, c.clocks.ensures))

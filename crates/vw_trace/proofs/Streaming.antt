@@ -1,0 +1,286 @@
+-- The lines of clocks, written while a checked stimulus is read again.
+use Rattle.std.proofs.Common.{◌≡◌, ◌≢◌, ◌<◌, ◌≤◌, ◌+◌, ℕ, Bool, true, false, true≢false, List, [], ◌∷◌, ◌++◌, length, take, drop, Result, Ok, Err, refl, sym, ◌∙◌, ap, ap₂, subst, arith, append_assoc, append-nil, length-append}
+use Rattle.std.specs.List.{All}
+use Rattle.std.proofs.Math.Seq.{take-add}
+use Rattle.std.proofs.lemmas.List.{take-append-drop, take_at, take_all}
+use Rattle.std.proofs.lemmas.List.Elements.{All-append, All-nil}
+use Rattle.vw_net.specs.declared.flat.Flat.{Flat}
+use Rattle.vw_net.specs.Cells.{latch_count}
+use Rattle.vw_net.specs.History.{outputs_of, states_of, state_after}
+use Rattle.vw_net.proofs.Counts.{length-state_after}
+use Rattle.vw_outside.specs.declared.unwritten.Unwritten.{Unwritten}
+use Rattle.vw_outside.specs.declared.unwritten.Unwritten.TheVariants as unwritten
+use Rattle.vw_outside.specs.Told.{Told, untold, absent, held, IsTextOf}
+use Rattle.vw_outside.specs.Reads.{SeenShelf, CountsFault}
+use Rattle.vw_outside.specs.Writes.{SeenSink, appended, WrotePart, FailedAfterPart, WritesOut}
+use Rattle.vw_outside.proofs.PiecesWritten.{IsLeft, part_written, unwritten_in_piece, appended-appended, appended-nil}
+use Rattle.vw_rows.specs.declared.fault.StimFault.{StimFault}
+use Rattle.vw_rows.specs.declared.fault.StimFault.TheVariants as rows_faults
+use Rattle.vw_rows.specs.declared.stimulus.Stimulus.{Stimulus}
+use Rattle.vw_rows.specs.Stimulus.{stimulus_rows, is_text_fault}
+use Rattle.vw_rows.specs.Standing.{StandsIn, GaveMore}
+use Rattle.vw_trace.specs.declared.fault.RunFault.{RunFault}
+use Rattle.vw_trace.specs.RunFaults.{run_fault_of, run_fault_of_rows}
+use Rattle.vw_trace.specs.Streamed.{IsNotHeld, MayBeRows, EndsStreaming}
+use Rattle.vw_trace.specs.Steps.StreamedClocks.{clock_lines, StreamsClocks}
+use Rattle.vw_trace.proofs.TraceLines.{HistoriesJoin, clock_lines-append}
+
+-- ---- what is told of the stimulus
+
+-- where a text is held, it has rows
+abbrev pub HasRows : Told → ℕ → Type 0
+HasRows told width = (text : List ℕ) → told ≡ held text → (all : List (List Bool)) × (stimulus_rows width text ≡ Ok all)
+
+-- so many rows of the text were read; where none is held, as many rows of the width
+pub record IsFrontOfRows (told : Told) (width : ℕ) (rows : List (List Bool)) : Type 0 where
+  pub wide : All (λ row. length row ≡ width) rows
+  pub same : (text : List ℕ) (all : List (List Bool)) → told ≡ held text → stimulus_rows width text ≡ Ok all → rows ≡ take (length rows) all
+
+-- rows that may be those of the stimulus, of which these are the first
+pub record BeginWith (told : Told) (width : ℕ) (rows : List (List Bool)) : Type 0 where
+  pub whole : List (List Bool)
+  pub more : List (List Bool)
+  pub split : whole ≡ rows ++ more
+  pub are : MayBeRows told width whole
+
+same_text : (told : Told) (text other : List ℕ) → told ≡ held text → told ≡ held other → text ≡ other
+same_text told text other is its = subst (λ (t : Told). IsTextOf t text) its (subst (λ (t : Told). IsTextOf t text) (sym is) refl)
+
+same_rows : (told : Told) (width : ℕ) (text other : List ℕ) (all others : List (List Bool)) → told ≡ held text → told ≡ held other → stimulus_rows width text ≡ Ok all → stimulus_rows width other ≡ Ok others → all ≡ others
+same_rows told width text other all others is its said so =
+    let same : Ok all ≡ Ok others = sym said ∙ ap (stimulus_rows width) (same_text told text other is its) ∙ so in cc
+
+abbrev IsHeldText : Told → Type 0
+IsHeldText untold = ⊥
+IsHeldText absent = ⊥
+IsHeldText (held text) = Unit {0}
+
+pub begin_with : (told : Told) (width : ℕ) (rows : List (List Bool)) → HasRows told width → IsFrontOfRows told width rows → BeginWith told width rows
+begin_with told width rows has front = by told refl where
+  -- nothing is held, so the rows so far may be all
+  alone : IsNotHeld told → BeginWith told width rows
+  alone none = record {
+    whole = rows;
+    more = [];
+    split = sym (append-nil rows);
+    are = record { same = λ text all is said. absurd (none text is); wide = λ so. front.wide };
+  }
+
+  by : (one : Told) → told ≡ one → BeginWith told width rows
+  by untold is = alone (λ text its. subst (λ (t : Told). IsHeldText t) (sym its ∙ is) tt)
+  by absent is = alone (λ text its. subst (λ (t : Told). IsHeldText t) (sym its ∙ is) tt)
+  by (held text) is =
+      let all = has text is in
+      record {
+        whole = all.0;
+        more = drop (length rows) all.0;
+        split = sym (take-append-drop (length rows) all.0) ∙ ap (λ (r : List (List Bool)). r ++ drop (length rows) all.0) (sym (front.same text all.0 is all.1));
+        are = record {
+          same = λ other others its said. same_rows told width text other all.0 others is its all.1 said;
+          wide = λ none. absurd (none text is);
+        };
+      }
+
+-- a batch of rows more
+front_of_front : (k : ℕ) (xs next : List (List Bool)) → next ≡ take k xs → next ≡ take (length next) xs
+front_of_front k xs next is =
+    let whole : next ++ drop k xs ≡ xs = ap (λ (r : List (List Bool)). r ++ drop k xs) is ∙ take-append-drop k xs in
+    sym (take_at next (drop k xs) (length next) refl) ∙ ap (take (length next)) whole
+
+pub front_further : (told : Told) (width : ℕ) (rows next : List (List Bool)) → IsFrontOfRows told width rows → All (λ row. length row ≡ width) next
+    → ((text : List ℕ) (all : List (List Bool)) → told ≡ held text → stimulus_rows width text ≡ Ok all → next ≡ take 256 (drop (length rows) all)) → IsFrontOfRows told width (rows ++ next)
+front_further told width rows next front wide same = record {
+  wide = All-append (λ row. length row ≡ width) rows next front.wide wide;
+  same = λ text all is said.
+      ap₂ (λ (a b : List (List Bool)). a ++ b) (front.same text all is said) (front_of_front 256 (drop (length rows) all) next (same text all is said))
+      ∙ sym (take-add (length rows) (length next) all) ∙ ap (λ (n : ℕ). take n all) (sym (length-append rows next));
+}
+
+-- ---- what is written
+
+-- the lines of these rows were written, and the state is the one after them
+pub record WroteLines (flat : Flat) (start : List Bool) (before : SeenSink) (rows : List (List Bool)) (done : ℕ) (state : List Bool) (out : SeenSink) : Type 0 where
+  pub count : length rows ≡ done
+  pub state_is : state ≡ state_after flat start rows
+  pub wrote : out ≡ appended before (clock_lines flat 0 start rows)
+
+-- nothing was written yet
+pub no_lines : (flat : Flat) (start : List Bool) (before : SeenSink) → WroteLines flat start before [] 0 start before
+no_lines flat start before = record { count = refl; state_is = refl; wrote = sym (appended-nil before) }
+
+module _ (flat : Flat) (join : HistoriesJoin flat) (start : List Bool) (before : SeenSink) where
+  module _ (rows : List (List Bool)) (done : ℕ) (state : List Bool) (out : SeenSink) (so_far : WroteLines flat start before rows done state out) where
+    -- the lines of these rows and of further ones
+    lines_more : (more : List (List Bool)) → clock_lines flat 0 start (rows ++ more) ≡ clock_lines flat 0 start rows ++ clock_lines flat done state more
+    lines_more more =
+        let place : 0 + length rows ≡ done = omega (arith, so_far.count) in
+        clock_lines-append flat join 0 start rows more
+        ∙ ap₂ (λ (n : ℕ) (s : List Bool). clock_lines flat 0 start rows ++ clock_lines flat n s more) place (sym so_far.state_is)
+
+    pub lines_left : (whole more : List (List Bool)) → whole ≡ rows ++ more → IsLeft before (clock_lines flat 0 start whole) out (clock_lines flat done state more)
+    lines_left whole more split = record {
+      so_far = clock_lines flat 0 start rows;
+      seen = so_far.wrote;
+      whole = sym (lines_more more) ∙ ap (clock_lines flat 0 start) (sym split);
+    }
+
+    pub batch_left : (next whole more : List (List Bool)) → whole ≡ (rows ++ next) ++ more
+        → IsLeft before (clock_lines flat 0 start whole) out (clock_lines flat done state next ++ clock_lines flat (done + length next) (state_after flat state next) more)
+    batch_left next whole more split =
+        subst (λ (rest : List ℕ). IsLeft before (clock_lines flat 0 start whole) out rest) (clock_lines-append flat join done state next more)
+        (lines_left whole (next ++ more) (split ∙ append_assoc rows next more))
+
+    pub lines_further : (next : List (List Bool)) (end : ℕ) (new : List Bool) (after : SeenSink) → end ≡ done + length next → new ≡ state_after flat state next → after ≡ appended out (clock_lines flat done state next)
+        → WroteLines flat start before (rows ++ next) end new after
+    lines_further next end new after ends state_new more = record {
+      count = length-append rows next ∙ omega (arith, so_far.count, ends);
+      state_is = state_new ∙ ap (λ (s : List Bool). state_after flat s next) so_far.state_is ∙ sym (ap (λ history. history.last) (join start rows next));
+      wrote = more ∙ ap (λ (sink : SeenSink). appended sink (clock_lines flat done state next)) so_far.wrote
+          ∙ appended-appended before (clock_lines flat 0 start rows) (clock_lines flat done state next) ∙ ap (appended before) (sym (lines_more next));
+    }
+
+-- ---- how it ends
+
+module _ (name text : List ℕ) (shelf : SeenShelf) (out : SeenSink) (shelf_after : SeenShelf) (out_after : SeenSink) where
+  -- the text wasn't written whole
+  pub ends_unwritten : (why : Unwritten) → shelf_after ≡ shelf → WritesOut text out out_after (Err why) → EndsStreaming name text shelf out shelf_after out_after (Err (run_fault_of why))
+  ends_unwritten unwritten.WriteFault same failed = (same, failed)
+  ends_unwritten unwritten.NoMemory same part = (same, part)
+
+  -- rows weren't read
+  pub ends_unread : (fault : StimFault) → WrotePart text out out_after → (fault ≡ rows_faults.ReadFault → CountsFault name shelf shelf_after) → (fault ≢ rows_faults.ReadFault → shelf_after ≡ shelf)
+      → ((its : List ℕ) → shelf.told name ≡ held its → is_text_fault fault ≡ false) → EndsStreaming name text shelf out shelf_after out_after (Err (run_fault_of_rows fault))
+  ends_unread rows_faults.TooLarge part counts kept sure = (λ its is. true≢false (sure its is), refl, kept (λ is. true≢false (ap is_text_fault is)), part)
+  ends_unread (rows_faults.BadLine line) part counts kept sure = (λ its is. true≢false (sure its is), refl, kept (λ is. true≢false (ap is_text_fault is)), part)
+  ends_unread (rows_faults.WrongWidth line found wanted) part counts kept sure = (λ its is. true≢false (sure its is), refl, kept (λ is. true≢false (ap is_text_fault is)), part)
+  ends_unread (rows_faults.TooManyClocks count) part counts kept sure = (λ its is. true≢false (sure its is), refl, kept (λ is. true≢false (ap is_text_fault is)), part)
+  ends_unread rows_faults.ReadFault part counts kept sure = (counts refl, part)
+  ends_unread rows_faults.NoMemory part counts kept sure = (kept (λ is. no_memory_read is), part) where
+    no_memory_read : rows_faults.NoMemory ≡ rows_faults.ReadFault → ⊥
+    no_memory_read is = cc
+
+-- ---- underway
+
+-- so many rows were read and their lines written; where a text is held, the stimulus stands in it; all else is as it was
+pub record IsUnderway (stimulus : Stimulus) (flat : Flat) (start : List Bool) (shelf : SeenShelf) (out : SeenSink)
+    (now : Stimulus) (state values : List Bool) (shelf_now : SeenShelf) (out_now : SeenSink) : Type 0 where
+  pub rows : List (List Bool)
+  pub front : IsFrontOfRows (shelf.told stimulus.name) stimulus.width rows
+  pub wrote : WroteLines flat start out rows now.done state out_now
+  pub name : now.name ≡ stimulus.name
+  pub width : now.width ≡ stimulus.width
+  pub clocks : now.clocks ≡ stimulus.clocks
+  pub shelf_is : shelf_now ≡ shelf
+  pub stands : (text : List ℕ) → shelf.told stimulus.name ≡ held text → StandsIn now text
+  pub latches : length state ≡ latch_count flat.cells
+  pub nets : length values ≡ flat.inputs + length flat.cells
+
+-- before the first batch
+pub begins : (stimulus : Stimulus) (flat : Flat) (start values : List Bool) (shelf : SeenShelf) (out : SeenSink) → stimulus.done ≡ 0 → ((text : List ℕ) → shelf.told stimulus.name ≡ held text → StandsIn stimulus text)
+    → length start ≡ latch_count flat.cells → length values ≡ flat.inputs + length flat.cells → IsUnderway stimulus flat start shelf out stimulus start values shelf out
+begins stimulus flat start values shelf out fresh stands latches nets = record {
+  rows = [];
+  front = record { wide = All-nil (λ row. length row ≡ stimulus.width); same = λ text all is said. refl };
+  wrote = subst (λ (n : ℕ). WroteLines flat start out [] n start out) (sym fresh) (no_lines flat start out);
+  name = refl;
+  width = refl;
+  clocks = refl;
+  shelf_is = refl;
+  stands = stands;
+  latches = latches;
+  nets = nets;
+}
+
+module _ (stimulus : Stimulus) (flat : Flat) (join : HistoriesJoin flat) (start : List Bool) (shelf : SeenShelf) (out : SeenSink) (now : Stimulus) (state values : List Bool) (shelf_now : SeenShelf) (out_now : SeenSink)
+    (underway : IsUnderway stimulus flat start shelf out now state values shelf_now out_now) where
+  abbrev told : Told
+  told = shelf.told stimulus.name
+
+  abbrev rows_then : List (List Bool)
+  rows_then = underway.rows
+
+  -- what is told of the stimulus is what was told before
+  told_then : shelf_now.told now.name ≡ told
+  told_then = ap₂ (λ (s : SeenShelf) (name : List ℕ). s.told name) underway.shelf_is underway.name
+
+  has : HasRows told stimulus.width
+  has = λ text is.
+      let stands = underway.stands text is in
+      (stands.rows, ap (λ (n : ℕ). stimulus_rows n text) (sym underway.width) ∙ stands.accepted)
+
+  -- the stimulus stands in each text that is held
+  pub stands_then : (text : List ℕ) → shelf_now.told now.name ≡ held text → StandsIn now text
+  stands_then text is = underway.stands text (sym told_then ∙ is)
+
+  -- rows weren't read
+  pub unread : (fault : StimFault) (last : List Bool) (shelf_after : SeenShelf) → (fault ≡ rows_faults.ReadFault → CountsFault now.name shelf_now shelf_after) → (fault ≢ rows_faults.ReadFault → shelf_after ≡ shelf_now)
+      → ((text : List ℕ) → shelf_now.told now.name ≡ held text → is_text_fault fault ≡ false) → StreamsClocks stimulus flat start last shelf out shelf_after out_now (Err (run_fault_of_rows fault))
+  unread fault last shelf_after counts kept sure =
+      let begun = begin_with told stimulus.width rows_then has underway.front in
+      let left = lines_left flat join start out rows_then now.done state out_now underway.wrote begun.whole begun.more begun.split in
+      let counted : fault ≡ rows_faults.ReadFault → CountsFault stimulus.name shelf shelf_after =
+      λ is. subst (λ (s : SeenShelf). CountsFault stimulus.name s shelf_after) underway.shelf_is (subst (λ (name : List ℕ). CountsFault name shelf_now shelf_after) underway.name (counts is)) in
+      record {
+        rows = begun.whole;
+        are = begun.are;
+        ends = ends_unread stimulus.name (clock_lines flat 0 start begun.whole) shelf out shelf_after out_now fault
+            (part_written out (clock_lines flat 0 start begun.whole) out_now (clock_lines flat now.done state begun.more) left)
+            counted (λ is. kept is ∙ underway.shelf_is) (λ text is. sure text (told_then ∙ is));
+        all = tt;
+      }
+
+  module _ (next : List (List Bool)) (shelf_after : SeenShelf) (out_after : SeenSink) (wide : All (λ row. length row ≡ now.width) next) (same : shelf_after ≡ shelf_now)
+      (are_next : (text : List ℕ) (all : List (List Bool)) → shelf_now.told now.name ≡ held text → stimulus_rows now.width text ≡ Ok all → next ≡ take 256 (drop now.done all)) where
+    front_then : IsFrontOfRows told stimulus.width (rows_then ++ next)
+    front_then = front_further told stimulus.width rows_then next underway.front
+        (subst (λ (n : ℕ). All (λ row. length row ≡ n) next) underway.width wide)
+        (λ text all is said. are_next text all (told_then ∙ is) (ap (λ (n : ℕ). stimulus_rows n text) underway.width ∙ said)
+        ∙ ap (λ (n : ℕ). take 256 (drop n all)) (sym underway.wrote.count))
+
+    -- the lines of a batch weren't written whole
+    pub unwritten_lines : (why : Unwritten) (last : List Bool) → WritesOut (clock_lines flat now.done state next) out_now out_after (Err why)
+        → StreamsClocks stimulus flat start last shelf out shelf_after out_after (Err (run_fault_of why))
+    unwritten_lines why last failed =
+        let begun = begin_with told stimulus.width (rows_then ++ next) has front_then in
+        let left = batch_left flat join start out rows_then now.done state out_now underway.wrote next begun.whole begun.more begun.split in
+        record {
+          rows = begun.whole;
+          are = begun.are;
+          ends = ends_unwritten stimulus.name (clock_lines flat 0 start begun.whole) shelf out shelf_after out_after why (same ∙ underway.shelf_is)
+              (unwritten_in_piece out (clock_lines flat 0 start begun.whole) out_now out_after (clock_lines flat now.done state next)
+              (clock_lines flat (now.done + length next) (state_after flat state next) begun.more) why left failed);
+          all = tt;
+        }
+
+    -- one batch more
+    pub further : (new : Stimulus) (state_new values_new : List Bool) → GaveMore (length next) now new → ((text : List ℕ) → shelf_now.told now.name ≡ held text → StandsIn new text)
+        → state_new ≡ state_after flat state next → length values_new ≡ length values → out_after ≡ appended out_now (clock_lines flat now.done state next)
+        → IsUnderway stimulus flat start shelf out new state_new values_new shelf_after out_after
+    further new state_new values_new gave stands state_is nets wrote = record {
+      rows = rows_then ++ next;
+      front = front_then;
+      wrote = lines_further flat join start out rows_then now.done state out_now underway.wrote next new.done state_new out_after gave.done state_is wrote;
+      name = gave.name ∙ underway.name;
+      width = gave.width ∙ underway.width;
+      clocks = gave.clocks ∙ underway.clocks;
+      shelf_is = same ∙ underway.shelf_is;
+      stands = λ text is. stands text (told_then ∙ is);
+      latches = ap (λ (s : List Bool). length s) state_is ∙ length-state_after flat state next underway.latches;
+      nets = nets ∙ underway.nets;
+    }
+
+  -- all rows were given
+  pub all_given : now.done ≡ now.clocks → StreamsClocks stimulus flat start state shelf out shelf_now out_now (Ok tt)
+  all_given all_done = record {
+    rows = rows_then;
+    are = record {
+      same = λ text all is said.
+          let stands = underway.stands text is in
+          let same = same_rows told stimulus.width text text stands.rows all is is (ap (λ (n : ℕ). stimulus_rows n text) (sym underway.width) ∙ stands.accepted) said in
+          let long : length rows_then ≡ length all = underway.wrote.count ∙ all_done ∙ sym stands.clocks ∙ ap (λ (r : List (List Bool)). length r) same in
+          underway.front.same text all is said ∙ take_all (length rows_then) all (omega (arith, long));
+      wide = λ none. underway.front.wide;
+    };
+    ends = (underway.shelf_is, underway.wrote.wrote);
+    all = (underway.wrote.count ∙ all_done ∙ underway.clocks, underway.wrote.state_is);
+  }

@@ -1,0 +1,36 @@
+-- A text that is written while a checked stimulus is read again.
+use Rattle.std.specs.Prelude.{◌≡◌, ℕ, Bool, true, List, length, Result, Ok, Err}
+use Rattle.std.specs.List.{All}
+use Rattle.vw_outside.specs.Told.{Told, held}
+use Rattle.vw_outside.specs.Reads.{SeenShelf, CountsFault}
+use Rattle.vw_outside.specs.Writes.{SeenSink, appended, WrotePart, FailedAfterPart}
+use Rattle.vw_rows.specs.declared.fault.StimFault.{StimFault}
+use Rattle.vw_rows.specs.Stimulus.{stimulus_rows, is_text_fault}
+use Rattle.vw_trace.specs.declared.fault.RunFault.{RunFault}
+use Rattle.vw_trace.specs.declared.fault.RunFault.TheVariants.{ReadFault, WriteFault, Stimulus, NoMemory}
+
+-- no text is held
+abbrev pub IsNotHeld : Told → Type 0
+IsNotHeld told = (text : List ℕ) → told ≡ held text → ⊥
+
+-- rows that may be those of a text of which this is told, as it is read again: where the text is held, they are its rows,
+-- and else each has the width
+pub record MayBeRows (told : Told) (width : ℕ) (rows : List (List Bool)) : Type 0 where
+  pub same : (text : List ℕ) (all : List (List Bool)) → told ≡ held text → stimulus_rows width text ≡ Ok all → rows ≡ all
+  pub wide : IsNotHeld told → All (λ row. length row ≡ width) rows
+
+-- what such a run leaves of the shelf, and of a sink to which this text is written
+abbrev pub EndsStreaming : List ℕ → List ℕ → SeenShelf → SeenSink → SeenShelf → SeenSink → Result (Unit {0}) RunFault → Type 0
+EndsStreaming name text shelf out shelf_after out_after (Ok done) = (shelf_after ≡ shelf) × (out_after ≡ appended out text)
+EndsStreaming name text shelf out shelf_after out_after (Err WriteFault) = (shelf_after ≡ shelf) × FailedAfterPart text out out_after
+EndsStreaming name text shelf out shelf_after out_after (Err NoMemory) = (shelf_after ≡ shelf) × WrotePart text out out_after
+EndsStreaming name text shelf out shelf_after out_after (Err ReadFault) = CountsFault name shelf shelf_after × WrotePart text out out_after
+EndsStreaming name text shelf out shelf_after out_after (Err (Stimulus fault)) =
+    IsNotHeld (shelf.told name) × (is_text_fault fault ≡ true) × (shelf_after ≡ shelf) × WrotePart text out out_after
+
+-- the text that belongs to such rows was written, or a part of it
+pub record Streams (name : List ℕ) (width : ℕ) (Text : List (List Bool) → List ℕ) (shelf : SeenShelf) (out : SeenSink)
+    (shelf_after : SeenShelf) (out_after : SeenSink) (answer : Result (Unit {0}) RunFault) : Type 0 where
+  pub rows : List (List Bool)
+  pub are : MayBeRows (shelf.told name) width rows
+  pub ends : EndsStreaming name (Text rows) shelf out shelf_after out_after answer
