@@ -74,6 +74,13 @@ clocks() {
   awk -v count="$1" -v width="$2" 'BEGIN { x = 3
     for (n = 0; n < count; n++) { row = ""; for (k = 0; k < width; k++) { x = (75 * x + 74) % 65537; row = row x % 2 } print row } }'
 }
+# columns COUNT: a design with so many inputs, of which a table reads two
+columns() {
+  awk -v count="$1" 'BEGIN { printf ".model m\n.inputs"; for (n = 0; n < count; n++) printf " i%d", n
+    printf "\n.outputs y\n.names i0 i1 y\n11 1\n.end\n" }'
+}
+# again COUNT FILE: the text of a file so many times
+again() { for ((n = 0; n < $1; n++)); do cat "$2"; done; }
 # crowd: 32,768 latches, and as many tables of 32 latches each, so that the tables of each of 32 chips read every latch
 crowd() {
   awk 'BEGIN {
@@ -291,6 +298,15 @@ expect() {
   [ "$status" = "$1" ] && [ "$(head -c ${#2} err)" = "$2" ] || echo "expected status $1 and '$2'" >&2
 }
 
+# stimulus_row NAME DESIGN STIMULUS: one line of the table of stimuli, with md5sum of the stimulus twice beside it
+stimulus_row() {
+  local start end sums
+  start=$(date +%s%N); md5sum "$3" >/dev/null; md5sum "$3" >/dev/null; end=$(date +%s%N)
+  sums=$(awk -v a="$start" -v b="$end" 'BEGIN { printf "%.2f", (b - a) / 1e9 }')
+  measured sim "$2" "$3"
+  echo "| $1 | $(($(stat -c %s "$3") / 1000000)) | $(($(stat -c %s out) / 1000000)) | $status | $seconds | $sums | $peak |"
+}
+
 echo "| design | text, kB | status | message | seconds | peak, MB | million tables a second |"
 echo "|---|---|---|---|---|---|---|"
 : > none.stim
@@ -314,6 +330,33 @@ row "4,000 gates over 10,000 clocks" 40000000 sim gates.blif gates.stim
 gates 65000 > gates.blif
 clocks 500 8 > gates.stim
 row "65,000 gates over 500 clocks" 32500000 sim gates.blif gates.stim
+
+echo
+echo "| stimulus | text, MB | trace, MB | status | seconds | md5sum twice | peak, MB |"
+echo "|---|---|---|---|---|---|---|"
+columns 8 > eight.blif
+clocks 100000 8 > part.stim
+again 222 part.stim > long.stim
+stimulus_row "22,200,000 rows of 8 bits" eight.blif long.stim
+rm long.stim
+echo "hold 20000000" > hold.stim
+stimulus_row "a line that holds 20,000,000 clocks" eight.blif hold.stim
+awk 'BEGIN { for (n = 0; n < 2000000; n++) print (n % 2) ? "hold 3" : "10101010" }' > holds.stim
+stimulus_row "2,000,000 lines, half of which hold" eight.blif holds.stim
+columns 4096 > wide.blif
+clocks 1000 4096 > part.stim
+again 49 part.stim > long.stim
+stimulus_row "49,000 rows of 4,096 bits" wide.blif long.stim
+rm -f long.stim out
+{ printf '#'; head -c 200000000 /dev/zero | tr '\0' 'x'; printf '\n10101010\n'; } > comment.stim
+stimulus_row "a comment of 200 MB, and a row" eight.blif comment.stim
+{ head -c 200000000 /dev/zero | tr '\0' '1'; printf '\n'; } > row.stim
+stimulus_row "a row of 200,000,000 bits, refused" eight.blif row.stim
+expect 5 'stimulus 3: line 1: found 200000000 bits, wanted 8'
+rm -f comment.stim row.stim
+echo
+echo "| design | text, kB | status | message | seconds | peak, MB | million tables a second |"
+echo "|---|---|---|---|---|---|---|"
 clocks 4 1 > short.stim
 placed_outputs 1000000 60000 > wide.blif
 row "a million unbound outputs, placed 60,000 times" 0 sim wide.blif short.stim

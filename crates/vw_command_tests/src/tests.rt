@@ -17,6 +17,7 @@ mod limits;
 mod loops;
 mod plans;
 mod refusals;
+mod streamed;
 mod words;
 
 /// The design and the stimulus of the program's stored run.
