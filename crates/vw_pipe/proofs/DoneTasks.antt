@@ -1,5 +1,5 @@
 -- Which tasks are done.
-use Rattle.std.proofs.Common.{◌≡◌, ◌<◌, ◌≤◌, ◌+◌, ◌-◌, ◌∙◌, ◌||◌, ℕ, zero, suc, Bool, true, false, List, length, eqb, slice_get, slice_index, Some, ap, refl, sym, subst, ⊎_elim, true≢false, arith, eqb-true, eq-eqb}
+use Rattle.std.proofs.Common.{◌≡◌, ◌<◌, ◌≤◌, ◌+◌, ◌-◌, ◌∙◌, ◌||◌, ℕ, zero, suc, Bool, true, false, List, length, eqb, ap, refl, sym, subst, ⊎_elim, true≢false, arith, eqb-true, eq-eqb}
 use Rattle.std.proofs.lemmas.Bool.{and_from, and_parts, cases_Bool, cases_order, or_cases, or_left}
 use Rattle.std.proofs.lemmas.List.Folds.{list_any_more}
 use Rattle.vw_net.specs.declared.ordered.Ordered.{Ordered}
@@ -63,13 +63,6 @@ module _ (ordered : Ordered) (turns : List ℕ) (routes : List Route) (tasks : L
   -- what a task is for
   pub kind_at : (at : ℕ) (sends : Bool) → at < length tasks → (task_at tasks at).sends ≡ sends → IsOfKind ordered turns routes sends (task_at tasks at)
   kind_at at sends within is = subst (λ (kind : Bool). IsOfKind ordered turns routes kind (task_at tasks at)) is (are.kinds at within)
-
-  -- the turn of a route whose hops are sent
-  pub done_route : (count number : ℕ) (route : Route) → count ≤ length tasks → slice_get routes number ≡ Some route → is_passed tasks count true number ≡ true → (at : ℕ) × (at < count) × ((task_at tasks at).turn ≡ slice_index turns route.net)
-  done_route count number route within is done =
-      let found = done_at tasks count true number within done in
-      let kind = kind_at found.0 true (omega (arith, found.1, within)) found.2 in
-      (found.0, found.1, kind.1 route (ap (slice_get routes) found.3 ∙ is))
 
   pub at_most : (one other : ℕ) → one < other → other < length tasks → IsAtMost (task_at tasks one) (task_at tasks other)
   at_most one other before within = are.rising one other no_task before within

@@ -12,7 +12,7 @@ use Rattle.vw_net.specs.Order.{gate_inputs, is_among, is_gate, is_latch, is_read
 use Rattle.vw_net.proofs.ReadyNets.{order_within}
 use Rattle.vw_plan.specs.Nets.{driving_cell}
 use Rattle.vw_plan.proofs.AlongOrder.{All-gate_reads}
-use Rattle.vw_pipe.specs.Steps.Turns.{AreTurns, IsBehindReads}
+use Rattle.vw_pipe.specs.Steps.Turns.{AreTurns}
 use Rattle.vw_pipe.proofs.LeadWorked.{gate_in_order, one_place}
 
 among_take : (count : ℕ) (numbers : List ℕ) (number : ℕ) → is_among (take count numbers) number ≡ true → (place : ℕ) × (place < length numbers) × (place < count) × (get_or numbers place 0 ≡ number)
@@ -98,7 +98,3 @@ module _ (ordered : Ordered) where
       let is_done = is_ready ordered.flat.inputs ordered.flat.cells (take place ordered.order) in
       let ready : All (λ net. is_done net ≡ true) (gate_inputs cell) = All-gate_reads (λ net. is_done net ≡ true) cell (AllPass-from_list_all is_done (read_nets_at cell) (ordered.is_order.after place within)) in
       λ turn default inside. omega (arith, ready_sooner place turns within has (get_or (gate_inputs cell) turn default) (ready turn default inside), has.gates place within within)
-
-  -- turns in which each gate so far comes behind what it reads
-  pub all_behind : (turns : List ℕ) (count : ℕ) → length ordered.order ≤ count → ((place : ℕ) → place < count → IsBehindReads ordered turns place) → AreTurns ordered turns
-  all_behind turns count whole each place within = each place (omega (arith, whole, within))

@@ -1,5 +1,5 @@
 -- The greatest number of what a gate reads.
-use Rattle.std.proofs.Common.{◌≡◌, ◌<◌, ◌≤◌, ℕ, zero, suc, true, List, [], ◌∷◌, length, map, max, get_or, eqb, ap, refl, sym, ⊎_elim, true≢false, eqb-true, Option, Some, None, All, arith}
+use Rattle.std.proofs.Common.{◌≡◌, ◌≤◌, ℕ, true, List, [], ◌∷◌, map, max, eqb, ap, refl, sym, ⊎_elim, true≢false, eqb-true, Option, Some, None, All, arith}
 use Rattle.std.proofs.lemmas.Bool.{or_cases}
 use Rattle.vw_net.specs.declared.cell.Cell.{Cell}
 use Rattle.vw_net.specs.declared.cell.Cell.TheVariants.{Gate, Latch}
@@ -26,16 +26,6 @@ pub greatest_read-least : (f : ℕ → ℕ) (cell : Option Cell) (net : ℕ) →
 greatest_read-least f None net among = absurd (true≢false (sym among))
 greatest_read-least f (Some (Gate ins cover)) net among = among_greatest f ins net among
 greatest_read-least f (Some (Latch d init)) net among = absurd (true≢false (sym among))
-
-greatest_at : (f : ℕ → ℕ) (nets : List ℕ) (place default : ℕ) → place < length nets → f (get_or nets place default) ≤ greatest (map f nets)
-greatest_at f [] place default within = absurd (omega (arith, within))
-greatest_at f (net ∷ nets) zero default within = omega arith
-greatest_at f (net ∷ nets) (suc place) default within = omega (arith, greatest_at f nets place default (omega (arith, within)))
-
-pub greatest_read-at : (f : ℕ → ℕ) (cell : Option Cell) (place default : ℕ) → place < length (gate_inputs cell) → f (get_or (gate_inputs cell) place default) ≤ greatest_read f cell
-greatest_read-at f None place default within = absurd (omega (arith, within))
-greatest_read-at f (Some (Gate ins cover)) place default within = greatest_at f ins place default within
-greatest_read-at f (Some (Latch d init)) place default within = absurd (omega (arith, within))
 
 -- where each of some numbers is small, the greatest is
 greatest_small : (f : ℕ → ℕ) (most : ℕ) → ((net : ℕ) → f net ≤ most) → (nets : List ℕ) → greatest (map f nets) ≤ most
