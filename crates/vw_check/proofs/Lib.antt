@@ -8,9 +8,7 @@ pub mod LawWires
 pub mod SoundPlans
 pub mod LinkWidths
 pub mod Clashes
-pub mod WiresBrought
 pub mod ChipRange
-pub mod HomeLeads
 pub mod ListSearches
 pub mod WireTables
 pub mod NeededNets

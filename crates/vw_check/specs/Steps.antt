@@ -3,4 +3,3 @@ pub mod Tables
 pub mod Wires
 pub mod Rules
 pub mod Clashes
-pub mod LeadTables

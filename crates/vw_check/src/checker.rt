@@ -3,19 +3,18 @@ ghost use Rattle.std.specs.Prelude.{◌≡◌, IfOk, IfErr};
 ghost use Rattle.vw_plan.specs.PlannedBoard.{planned_board};
 ghost use Rattle.vw_check.specs.Faults.{cell_fault, hop_fault, moment_fault, plan_fault};
 ghost use Rattle.vw_check.specs.Answers.{IsAcceptedPlan, IsRefusedPlan};
-ghost use Rattle.vw_check.specs.Steps.LeadTables.{planned_in};
+ghost use Rattle.vw_leads.specs.LeadTables.{planned_in};
 
 use crate::cells::{bad_chip, overfull, wrong_cells, zero_period};
 use crate::clash::pin_clash;
 use crate::fault::PlanFault;
 use crate::hops::{Rule, broken_route, first_breaking};
 use crate::laws::{faultless_plans_are_sound, faults_break_points};
-use crate::moments::{arrivals_of, home_leads, late_latch, too_early};
+use crate::moments::{late_latch, too_early};
 use crate::refused::CheckRefused;
-use crate::wired::Wired;
-use crate::wires::{wire_fault, wire_table};
+use crate::wires::wire_fault;
 use std::alloc::{AllocError, Global};
-use vw_leads::{LeadTable, LinkTable};
+use vw_leads::{LinkTable, LeadTable, Wired, arrivals_of, home_leads, wire_table};
 use vw_net::{Flat, Ordered};
 use vw_plan::{Board, Checked, Plan};
 

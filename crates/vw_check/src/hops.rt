@@ -2,13 +2,12 @@
 ghost use Rattle.std.specs.Prelude.{◌≡◌, ◌≤◌, ◌<◌, ◌+◌, ◌^◌, length};
 ghost use Rattle.std.specs.List.{All};
 ghost use Rattle.vw_check.specs.HopFaults.{begins_at, broken_wire, broken_route, fits_route, is_later};
-ghost use Rattle.vw_check.specs.Steps.LeadTables.{planned_in};
+ghost use Rattle.vw_leads.specs.LeadTables.{planned_in};
 ghost use Rattle.vw_check.specs.Steps.Rules.{first_breaking, first_in_wire, keeps, rule_fault};
 
 use crate::fault::PlanFault;
 use crate::links::width_between;
-use crate::wired::Wired;
-use vw_leads::LinkTable;
+use vw_leads::{LinkTable, Wired};
 use vw_plan::{Hop, Wire, node_of};
 
 /// What is asked of each hop.

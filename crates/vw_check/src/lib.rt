@@ -10,7 +10,6 @@ mod laws;
 mod links;
 mod moments;
 mod refused;
-mod wired;
 mod wires;
 
 pub use checker::check;

@@ -2,7 +2,8 @@
 ghost use Rattle.std.specs.Prelude.{◌≡◌, ◌≤◌, length, IfOk};
 ghost use Rattle.std.specs.List.{All};
 ghost use Rattle.vw_leads.specs.Pairs.{HasPairs};
-ghost use Rattle.vw_check.specs.Steps.Tables.{need_pairs, wire_pairs};
+ghost use Rattle.vw_check.specs.Steps.Tables.{need_pairs};
+ghost use Rattle.vw_leads.specs.Wires.{wire_pairs};
 ghost use Rattle.vw_check.specs.Steps.Wires.{first_missing, first_extra, is_extra};
 ghost use Rattle.vw_check.specs.Faults.{wire_fault};
 
@@ -12,17 +13,6 @@ use vw_leads::PairTable;
 use vw_net::Ordered;
 use vw_plan::{Need, Plan, Wire, needed_pairs_are_needed};
 use vw_wires::needed;
-
-/// The first wire that brings each net to each node.
-pub fn wire_table(alloc: Global, plan: &Plan) -> Result<PairTable, AllocError>
-    ensures { IfOk result (λ table. HasPairs (wire_pairs plan.now.wires) table.places) }
-{
-    let mut pairs = Vec::with_capacity(alloc, plan.wires().len())?;
-    for wire in plan.wires() {
-        pairs.push((wire.net(), wire.to()))?;
-    }
-    PairTable::of(alloc, &pairs)
-}
 
 /// The place of each needed pair.
 fn need_table(alloc: Global, needs: &[Need]) -> Result<PairTable, AllocError>

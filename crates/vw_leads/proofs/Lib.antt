@@ -4,3 +4,5 @@ pub mod PushedElements
 pub mod LinkNumbers
 pub mod LinkPlaces
 pub mod LastHops
+pub mod WiresBrought
+pub mod HomeLeads

@@ -2,11 +2,15 @@
 //! net.
 #![tactic(auto)]
 
+mod home;
 mod lead_table;
 mod leads;
 mod links;
 mod pairs;
+mod wired;
 
-pub use lead_table::LeadTable;
+pub use home::{arrivals_of, home_leads, wire_table};
 pub use links::LinkTable;
+pub use lead_table::LeadTable;
 pub use pairs::PairTable;
+pub use wired::Wired;

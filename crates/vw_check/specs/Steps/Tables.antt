@@ -3,13 +3,9 @@ use Rattle.std.specs.Prelude.{◌≡◌, ◌==◌, ℕ, Bool, ◌&&◌, List, ma
 use Rattle.std.specs.HashMap as hash
 use Rattle.vw_plan.specs.declared.need.Need.{Need}
 use Rattle.vw_plan.specs.declared.wire.Hop.{Hop}
-use Rattle.vw_plan.specs.declared.wire.Wire.{Wire}
 use Rattle.vw_check.specs.HopFaults.{PlacedHop, first_sharing}
 
 -- ---- what the pairs are
-
-abbrev pub wire_pairs : List Wire → List (ℕ × ℕ)
-wire_pairs wires = map (λ wire. (wire.net, wire.to)) wires
 
 abbrev pub need_pairs : List Need → List (ℕ × ℕ)
 need_pairs needs = map (λ need. (need.net, need.to)) needs

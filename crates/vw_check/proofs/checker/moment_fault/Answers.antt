@@ -6,13 +6,13 @@ use Rattle.vw_plan.specs.PlannedBoard.{PlannedBoard}
 use Rattle.vw_check.specs.declared.fault.PlanFault.{PlanFault}
 use Rattle.vw_check.specs.Faults.{moment_fault}
 use Rattle.vw_check.specs.MomentFaults.{late_latch, too_early}
-use Rattle.vw_check.specs.Steps.LeadTables.{AreArrivals, AreLeads, planned_in}
+use Rattle.vw_leads.specs.LeadTables.{AreArrivals, AreLeads, planned_in}
 use Rattle.vw_plan.specs.Lead.{usable}
 use Rattle.vw_plan.proofs.LeadLevels.{lead-by_driver}
 use Rattle.vw_leads.specs.Leads.{arrival_by, usable_by}
-use Rattle.vw_check.specs.declared.wired.Wired.{Wired}
-use Rattle.vw_check.proofs.HomeLeads.{moments_right}
-use Rattle.vw_check.proofs.WiresBrought.{brought_by}
+use Rattle.vw_leads.specs.declared.wired.Wired.{Wired}
+use Rattle.vw_leads.proofs.HomeLeads.{moments_right}
+use Rattle.vw_leads.proofs.WiresBrought.{brought_by}
 use Rattle.vw_check.proofs.checker.moment_fault.Goals as goal
 
 early_or_late : (planned : PlannedBoard) (early late : Option PlanFault) → early ≡ too_early planned → late ≡ late_latch planned → option_or early late ≡ moment_fault planned

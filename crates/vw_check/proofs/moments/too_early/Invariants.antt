@@ -1,6 +1,6 @@
 -- the first wire that is sent too early is the first of the rest
 use Rattle.std.proofs.Common.{◌≡◌, drop}
-use Rattle.vw_check.specs.Steps.LeadTables.{planned_in}
+use Rattle.vw_leads.specs.LeadTables.{planned_in}
 use Rattle.vw_check.specs.FirstFound.{first_at}
 use Rattle.vw_check.specs.MomentFaults.{early_wire, too_early}
 use Rattle.vw_check.proofs.moments.too_early.Given as goal

@@ -1,0 +1,5 @@
+pub mod SortedLists
+pub mod EntryOrder
+pub mod LeadsInTime
+pub mod DealtPrograms
+pub mod NeededWires

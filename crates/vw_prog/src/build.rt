@@ -1,0 +1,224 @@
+//! The timetable of a board, and the programs that it is dealt to.
+ghost use Rattle.std.specs.Prelude.{◌≡◌, ◌≤◌, ◌<◌, ◌^◌, ◌++◌, ℕ, [], length, map, IfOk, OnOk};
+ghost use Rattle.std.specs.List.{All};
+ghost use Rattle.vw_plan.specs.PlannedBoard.{planned_board};
+ghost use Rattle.vw_plan.specs.Sound.{IsSound};
+ghost use Rattle.vw_leads.specs.LeadTables.{AreLeads, planned_in};
+ghost use Rattle.vw_prog.specs.Actions.{action_of};
+ghost use Rattle.vw_prog.specs.Steps.{AreDealt, AreEnded, gate_entry_of, lists_of, with_step};
+ghost use Rattle.vw_prog.specs.Timetable.{entries, gate_entries, hop_entries, link_place, sent_entry, taken_entry, timetable, wire_entries};
+
+use crate::action::Action;
+use crate::entry::Entry;
+use crate::laws::leads_end_in_time;
+use std::alloc::{AllocError, Global};
+use vw_leads::{LinkTable, Wired, arrivals_of, home_leads, wire_table};
+use vw_plan::{Checked, Hop, Wire, needed_nets_are_nets, node_of};
+
+/// The entry of the gate at a place of the order, of which this is the lead.
+fn gate_entry(wired: &Wired, lead: u64, place: usize, number: u32) -> Entry
+    requires number { number < length wired.now.ordered.now.flat.cells }
+    requires lead { lead ≤ 2 ^ 62 }
+    requires place { place < 2 ^ 32 }
+    ensures { result ≡ gate_entry_of (planned_in wired.now) lead place number }
+{
+    let flat = wired.ordered.flat();
+    let net = flat.inputs() + number;
+    Entry {
+        moment: 3 * lead,
+        link: 0,
+        place: place as u32,
+        node: node_of(flat, wired.plan.chip_of(), net),
+        net,
+    }
+}
+
+/// Lists the entry of each gate.
+fn list_gates(wired: &Wired, leads: &[u64], entries: &mut Vec<Entry>) -> Result<(), AllocError>
+    requires leads { AreLeads (planned_in wired.now) leads.now }
+    requires low { All (λ lead. lead ≤ 2 ^ 62) leads.now }
+    ensures { OnOk result (entries.new.items ≡ entries.old.items
+        ++ gate_entries (planned_in wired.now) 0 wired.now.ordered.now.order) }
+{
+    let inputs = wired.ordered.flat().inputs() as usize;
+    for (place, number) in wired.ordered.order().iter().enumerate() {
+        let lead = leads[inputs + *number as usize];
+        entries.push(gate_entry(wired, lead, place, *number))?;
+    }
+    Ok(())
+}
+
+/// The number of the link over which a hop goes.
+fn link_place(links: &LinkTable, hop: &Hop) -> u32
+    ensures { result ≡ link_place links.now hop.now }
+{
+    match links.number(hop.from(), hop.to()) {
+        Some(number) => number,
+        None => 0,
+    }
+}
+
+/// The entry of the node that a hop leaves.
+fn sent_entry(links: &LinkTable, net: u32, hop: &Hop) -> Entry
+    requires { hop.now.at ≤ 2 ^ 62 }
+    ensures { result ≡ sent_entry links.now net hop.now }
+{
+    Entry {
+        moment: 3 * hop.at() + 1,
+        link: link_place(links, hop),
+        place: hop.pin(),
+        node: hop.from(),
+        net,
+    }
+}
+
+/// The entry of the node that a hop reaches.
+fn taken_entry(links: &LinkTable, net: u32, hop: &Hop) -> Entry
+    requires { hop.now.at ≤ 2 ^ 62 }
+    ensures { result ≡ taken_entry links.now net hop.now }
+{
+    Entry {
+        moment: 3 * links.arrival(hop) + 2,
+        link: link_place(links, hop),
+        place: hop.pin(),
+        node: hop.to(),
+        net,
+    }
+}
+
+/// Lists the two entries of each hop of a wire of a net.
+fn list_hops(
+    links: &LinkTable,
+    net: u32,
+    hops: &[Hop],
+    entries: &mut Vec<Entry>,
+) -> Result<(), AllocError>
+    requires { All (λ hop. hop.at ≤ 2 ^ 62) hops.now }
+    ensures { OnOk result (entries.new.items
+        ≡ entries.old.items ++ hop_entries links.now net hops.now) }
+{
+    for hop in hops {
+        entries.push(sent_entry(links, net, hop))?;
+        entries.push(taken_entry(links, net, hop))?;
+    }
+    Ok(())
+}
+
+/// Lists the entries of the hops of each wire.
+fn list_wires(links: &LinkTable, wires: &[Wire], entries: &mut Vec<Entry>) -> Result<(), AllocError>
+    requires { All (λ wire. All (λ hop. hop.at ≤ 2 ^ 62) wire.hops) wires.now }
+    ensures { OnOk result (entries.new.items
+        ≡ entries.old.items ++ wire_entries links.now wires.now) }
+{
+    for wire in wires {
+        list_hops(links, wire.net(), wire.hops(), entries)?;
+    }
+    Ok(())
+}
+
+/// All entries, gates first.
+fn entries(alloc: Global, wired: &Wired) -> Result<Vec<Entry>, AllocError>
+    requires { IsSound (planned_in wired.now) }
+    ensures { IfOk result (λ list. list.items ≡ entries (planned_in wired.now)) }
+{
+    leads_end_in_time();
+    let arrivals = arrivals_of(alloc, wired)?;
+    let leads = home_leads(alloc, wired, arrivals.as_slice())?;
+    let mut list = Vec::new(alloc);
+    list_gates(wired, leads.as_slice(), &mut list)?;
+    list_wires(wired.links, wired.plan.wires(), &mut list)?;
+    Ok(list)
+}
+
+/// The entries of all nodes, in order.
+pub fn timetable(alloc: Global, checked: &Checked) -> Result<Vec<Entry>, AllocError>
+    ensures { IfOk result (λ list. list.items ≡ timetable
+        (planned_board checked.now.ordered checked.now.board checked.now.plan)) }
+{
+    needed_nets_are_nets();
+    let wires = wire_table(alloc, checked.plan())?;
+    let links = LinkTable::of(alloc, checked.board())?;
+    let wired = Wired {
+        ordered: checked.ordered(),
+        board: checked.board(),
+        plan: checked.plan(),
+        wires: &wires,
+        links: &links,
+    };
+    let mut list = entries(alloc, &wired)?;
+    list.sort()?;
+    Ok(list)
+}
+
+/// The action of an entry, in a netlist with so many inputs.
+fn action_of(inputs: u32, entry: &Entry) -> Action
+    ensures { result ≡ action_of inputs entry.now }
+{
+    match entry.moment % 3 {
+        0 => Action::Evaluate(entry.net.saturating_sub(inputs)),
+        1 => Action::Send {
+            link: entry.link,
+            pin: entry.place,
+            net: entry.net,
+        },
+        _ => Action::Take {
+            link: entry.link,
+            pin: entry.place,
+            net: entry.net,
+        },
+    }
+}
+
+/// So many programs without actions.
+fn no_actions(alloc: Global, nodes: u32) -> Result<Vec<Vec<Action>>, AllocError>
+    ensures { IfOk result (λ lists. (inputs : ℕ) → AreDealt nodes inputs [] (lists_of lists.items)) }
+{
+    let mut lists = Vec::new(alloc);
+    for _ in 0..nodes {
+        lists.push(Vec::new(alloc))?;
+    }
+    Ok(lists)
+}
+
+/// Gives each node the actions of its entries.
+fn deal_entries(
+    inputs: u32,
+    entries: &[Entry],
+    lists: &mut Vec<Vec<Action>>,
+) -> Result<(), AllocError>
+    ensures { OnOk result ((nodes : ℕ) → AreDealt nodes inputs [] (lists_of lists.old.items)
+        → AreDealt nodes inputs entries.now (lists_of lists.new.items)) }
+{
+    for entry in entries {
+        let node = entry.node as usize;
+        if node < lists.len() {
+            lists[node].push(action_of(inputs, entry))?;
+        }
+    }
+    Ok(())
+}
+
+/// Ends each program with a step.
+fn end_programs(lists: &mut Vec<Vec<Action>>) -> Result<(), AllocError>
+    ensures { OnOk result (lists_of lists.new.items ≡ map with_step (lists_of lists.old.items)) }
+{
+    for node in 0..lists.len() {
+        lists[node].push(Action::Step)?;
+    }
+    Ok(())
+}
+
+/// The program of each node: the actions of its entries, and then a step.
+pub fn deal(
+    alloc: Global,
+    nodes: u32,
+    inputs: u32,
+    entries: &[Entry],
+) -> Result<Vec<Vec<Action>>, AllocError>
+    ensures { IfOk result (λ lists. AreEnded nodes inputs entries.now (lists_of lists.items)) }
+{
+    let mut lists = no_actions(alloc, nodes)?;
+    deal_entries(inputs, entries, &mut lists)?;
+    end_programs(&mut lists)?;
+    Ok(lists)
+}

@@ -1,0 +1,21 @@
+//! What each node of a board does in one clock of the design, which words go over which link, and the traits of the ends of
+//! links.
+#![tactic(auto)]
+
+mod action;
+mod answer;
+mod build;
+mod ends;
+mod entry;
+mod job;
+mod laws;
+mod programs;
+mod word;
+
+pub use action::Action;
+pub use answer::Answer;
+pub use ends::{Ends, Fabric, PutEnd, TakeEnd};
+pub use job::{Job, Share};
+pub use laws::leads_end_in_time;
+pub use programs::Programs;
+pub use word::Word;
