@@ -14,7 +14,7 @@ use crate::moments::{late_latch, too_early};
 use crate::refused::CheckRefused;
 use crate::wires::wire_fault;
 use std::alloc::{AllocError, Global};
-use vw_leads::{LinkTable, LeadTable, Wired, arrivals_of, home_leads, wire_table};
+use vw_leads::{LeadTable, LinkTable, Wired, arrivals_of, home_leads, wire_table};
 use vw_net::{Flat, Ordered};
 use vw_plan::{Board, Checked, Plan};
 

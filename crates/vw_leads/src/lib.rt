@@ -10,7 +10,7 @@ mod pairs;
 mod wired;
 
 pub use home::{arrivals_of, home_leads, wire_table};
-pub use links::LinkTable;
 pub use lead_table::LeadTable;
+pub use links::LinkTable;
 pub use pairs::PairTable;
 pub use wired::Wired;
