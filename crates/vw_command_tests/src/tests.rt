@@ -512,7 +512,8 @@ fn designs_do_what_they_say(rt: HostRuntime) -> Result<(), Fail> {
     designs_run(&rt, rt.alloc(), TABLE)
 }
 
-/// The reads of the design are the first 11, of at most 8 bytes each, and those of the stimulus the next two.
+/// The reads of the design are the first 11, of at most 8 bytes each. Of those of the stimulus, the first asks for a byte past
+/// the limit, two check the text, and one reads its rows again, when the first line of the trace is written.
 #[test]
 fn each_read_may_fail(rt: HostRuntime) -> Result<(), Fail> {
     const TABLE: &[(u32, Fault, u8, &str, &str)] = &[
@@ -529,7 +530,15 @@ fn each_read_may_fail(rt: HostRuntime) -> Result<(), Fail> {
         (8, Fault::Read(11), 7, "", "read fault: design\n"),
         (8, Fault::Read(12), 7, "", "read fault: stimulus\n"),
         (8, Fault::Read(13), 7, "", "read fault: stimulus\n"),
-        (8, Fault::Read(14), 0, TOGGLE_TRACE, ""),
+        (8, Fault::Read(14), 7, "", "read fault: stimulus\n"),
+        (
+            8,
+            Fault::Read(15),
+            7,
+            "trace 1 1 1\n",
+            "read fault: stimulus\n",
+        ),
+        (8, Fault::Read(16), 0, TOGGLE_TRACE, ""),
     ];
     faults_end(&rt, rt.alloc(), SIM, TOGGLE_RUN, TABLE)
 }
