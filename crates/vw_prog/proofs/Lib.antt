@@ -3,3 +3,7 @@ pub mod EntryOrder
 pub mod LeadsInTime
 pub mod DealtPrograms
 pub mod NeededWires
+pub mod ListParts
+pub mod Givers
+pub mod DueReads
+pub mod LinkPasses

@@ -1,6 +1,6 @@
 -- The timetable of a board: what its nodes do in one clock, in order. A microcycle m has three moments: at 3 * m gates are
 -- evaluated, at 3 * m + 1 words are sent, and at 3 * m + 2 words are taken. Source: this project.
-use Rattle.std.specs.Prelude.{◌+◌, ◌*◌, ◌%◌, ◌==◌, ◌&&◌, ℕ, suc, Bool, List, [], ◌∷◌, ◌++◌, Option, Some, None, unwrap_or}
+use Rattle.std.specs.Prelude.{◌+◌, ◌-◌, ◌*◌, ◌%◌, ◌==◌, ◌&&◌, ℕ, suc, Bool, List, [], ◌∷◌, ◌++◌, unwrap_or}
 use Rattle.std.specs.List.{filter, flat_map}
 use Rattle.std.specs.Ordering.{is_lt, nat_cmp, ordering_then}
 use Rattle.std.specs.declared.cmp.Ordering.{Ordering}
@@ -93,3 +93,7 @@ is_taken link entry = is_taking entry && entry.link == link
 -- what is sent over a link in one clock, in order
 abbrev pub passes : PlannedBoard → ℕ → List Entry
 passes planned link = filter (is_sent link) (timetable planned)
+
+-- the entry that takes what an entry sends over a link
+abbrev pub taken_from : Link → Entry → Entry
+taken_from link entry = record { moment = entry.moment + 1 + 3 * (link.delay - 1); link = entry.link; place = entry.place; node = link.to; net = entry.net }

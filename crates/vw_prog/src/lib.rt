@@ -16,6 +16,6 @@ pub use action::Action;
 pub use answer::Answer;
 pub use ends::{Ends, Fabric, PutEnd, TakeEnd};
 pub use job::{Job, Share};
-pub use laws::leads_end_in_time;
+pub use laws::{leads_end_in_time, passes_have_two_ends, reads_are_due};
 pub use programs::Programs;
 pub use word::Word;
