@@ -40,7 +40,7 @@ filter_filter test part (x ∷ xs) all =
     ]) in whole in
     ⊎_elim if_passes if_not (cases_Bool (test x))
 
-found_link : (hop : Hop) (links : List Link) → list_any (λ (link : Link). carries hop link && nat_lt hop.pin link.width) links ≡ true → find (carries hop) links ≡ None → ⊥
+pub found_link : (hop : Hop) (links : List Link) → list_any (λ (link : Link). carries hop link && nat_lt hop.pin link.width) links ≡ true → find (carries hop) links ≡ None → ⊥
 found_link hop [] any none = true≢false (sym any)
 found_link hop (link ∷ links) any none =
     let if_carries = λ (is : carries hop link ≡ true). let first : Some link ≡ None = ap (λ (own : Bool). if own then Some link else find (carries hop) links) (sym is) ∙ none in let no : ⊥ = cc first in no in
@@ -63,7 +63,7 @@ place_carries links hop link pin is = by (link_number links hop.from hop.to) (li
   by None leads there = absurd (found_link hop links pin leads)
   by (Some place) leads there = find_passes (carries hop) links link (sym leads.1 ∙ there)
 
-turn_of : (rest own number : ℕ) → rest ≡ own → own ≢ number → eqb rest number ≡ false
+pub turn_of : (rest own number : ℕ) → rest ≡ own → own ≢ number → eqb rest number ≡ false
 turn_of rest own number is apart = ne_eqb rest number (λ same. apart (sym is ∙ same))
 
 -- ---- the order of entries that all come so much later, at another node

@@ -2,7 +2,6 @@ use Rattle.std.proofs.Common.{◌≡◌, ◌<◌, ◌+◌, ◌++◌, ◌∙◌, 
 use Rattle.std.specs.Global.{Vec}
 use Rattle.std.proofs.lemmas.List.{length-append, length-drop, length-map, length-take}
 use Rattle.vw_prog.specs.declared.action.Action.{Action}
-use Rattle.vw_prog.specs.declared.action.Action.TheVariants.{Step}
 use Rattle.vw_prog.specs.Steps.{lists_of, with_step}
 use Rattle.vw_prog.proofs.DealtPrograms.{one_more_ended, pushed}
 use Rattle.vw_prog.proofs.build.end_programs.Goals as goal
@@ -18,5 +17,5 @@ loop-node-preserved c =
     let start = lists_of c.args.lists.now.items in
     let many : length lists ≡ length c.args.lists.now.items = omega (arith, as_many start (lists_of lists) node c.loop-node.invariant, length-map lists (λ (one : Vec Action). one.items), length-map c.args.lists.now.items (λ (one : Vec Action). one.items)) in
     let inside : node < length lists = omega (arith, many, c.loop-node-test.true, c.len-node-end.ensures, c.args.lists.now.ok) in
-    let new = pushed lists node c.index_mut.result.now c.push.new.self Step inside c.index_mut.ensures.value c.in_ok-push.ensures.items in
+    let new = pushed lists node c.index_mut.result.now c.push.new.self _ inside c.index_mut.ensures.value c.in_ok-push.ensures.items in
     one_more_ended start node (lists_of lists) _ (omega (arith, inside, many, length-map c.args.lists.now.items (λ (one : Vec Action). one.items))) c.loop-node.invariant new
