@@ -22,7 +22,7 @@ pub record AreArrivals (planned : PlannedBoard) (arrivals : List ℕ) : Type 0 w
 
 -- the lead of a net at a node, from leads at their own nodes
 abbrev pub lead_from_homes : PlannedBoard → List ℕ → ℕ → ℕ → ℕ
-lead_from_homes planned leads node net = by_table.lead_from_homes planned.ordered.flat planned.plan.chip_of (λ net node. brought_at planned node net) leads node net
+lead_from_homes planned leads node net = by_table.lead_by planned.ordered.flat planned.plan.chip_of (λ net node. brought_at planned node net) leads node net
 
 -- for each net its lead at its own node
 pub record AreLeads (planned : PlannedBoard) (leads : List ℕ) : Type 0 where

@@ -7,4 +7,5 @@ pub mod UsageStatuses
 pub mod OnBoards
 pub mod PlanStatuses
 pub mod CheckStatuses
+pub mod PlannedStatuses
 pub mod Steps

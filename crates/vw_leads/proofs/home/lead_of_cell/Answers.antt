@@ -13,4 +13,4 @@ returns-clause-value c =
     let flat = planned.ordered.flat in
     let brought = brought_by planned wired.wires.now.places c.args.arrivals.now wired.has_wires c.requires.arrivals.are in
     c.lead_of_cell.ensures.value
-    ∙ ap₂ (λ (chips : List ℕ) (arrived : ℕ → ℕ → ℕ). greatest_read (by_table.lead_from_homes flat chips arrived c.args.leads.now (slice_index chips c.args.number)) (slice_get flat.cells c.args.number)) c.chip_of.ensures brought
+    ∙ ap₂ (λ (chips : List ℕ) (arrived : ℕ → ℕ → ℕ). greatest_read (by_table.lead_by flat chips arrived c.args.leads.now (slice_index chips c.args.number)) (slice_get flat.cells c.args.number)) c.chip_of.ensures brought
