@@ -1,9 +1,9 @@
 -- Entries dealt to the programs of their nodes.
-use Rattle.std.proofs.Common.{◌≡◌, ◌≢◌, ◌<◌, ◌≤◌, ◌+◌, ◌++◌, ℕ, suc, Bool, true, false, List, [], ◌∷◌, length, map, take, drop, get_or, set, cond, eqb, ap, ap₂, refl, sym, ◌∙◌, subst, ⊎_elim, eqb-true, ne_eqb, eq-eqb, append_assoc, arith}
+use Rattle.std.proofs.Common.{◌≡◌, ◌≢◌, ◌<◌, ◌≤◌, ◌+◌, ◌++◌, ℕ, Bool, true, false, List, [], ◌∷◌, length, map, take, drop, get_or, set, cond, ap, ap₂, refl, sym, ◌∙◌, ⊎_elim, ne_eqb, eq-eqb, append_assoc, arith}
 use Rattle.std.specs.Global.{Vec}
 use Rattle.std.specs.List.{filter}
 use Rattle.std.proofs.lemmas.Bool.{cases_eq, cases_lt}
-use Rattle.std.proofs.lemmas.List.{append-nil, drop_more, get_or_append_left, get_or_at, length-take-le, map_more, set_at, get_or_push, get_or-map, get_or-set_other, get_or-set_same, length-map, length-set, length_push, map-append, map-set, map_push}
+use Rattle.std.proofs.lemmas.List.{append-nil, drop_more, get_or_append_left, get_or_at, length-take-le, map_more, set_at, get_or_push, get_or-map, get_or-set_other, get_or-set_same, length-map, length-set, length_push, map-append, map-set}
 use Rattle.std.proofs.lemmas.List.Elements.{filter_more}
 use Rattle.vw_prog.specs.declared.action.Action.{Action}
 use Rattle.vw_prog.specs.declared.entry.Entry.{Entry}

@@ -1,16 +1,16 @@
 -- Each entry of a sound plan finds what it reads due, and so does the step of each node.
-use Rattle.std.proofs.Common.{◌≡◌, ◌≢◌, ◌<◌, ◌≤◌, ◌+◌, ◌-◌, ◌*◌, ◌%◌, ◌&&◌, ◌||◌, ◌++◌, ℕ, zero, suc, Bool, true, false, not, List, [], ◌∷◌, length, take, get_or, cond, eqb, nat_lt, slice_get, slice_index, Option, Some, None, if◌then◌else◌, inl, inr, ◌⊎◌, ap, ap₂, refl, sym, ◌∙◌, subst, ⊎_elim, true≢false, eqb-true, eq-eqb, le-ltb, min, All, arith}
-use Rattle.std.specs.List.{AllByRecursion, filter, list_any, list_all, range_with_len}
-use Rattle.std.proofs.lemmas.Bool.{and_from, and_parts, cases_Bool, cases_lt, ltb-false, ltb-true, ne_eqb, not-true, or_cases, or_left, or_right}
-use Rattle.std.proofs.lemmas.List.{get_or-take, length-take, take_all}
-use Rattle.std.proofs.lemmas.List.Elements.{All-from_recursion, All-get_or, filter_passes, recursion_from_All}
+use Rattle.std.proofs.Common.{◌≡◌, ◌≢◌, ◌<◌, ◌≤◌, ◌+◌, ◌-◌, ◌*◌, ◌%◌, ◌&&◌, ◌||◌, ℕ, zero, suc, Bool, true, false, not, List, [], ◌∷◌, length, take, get_or, eqb, nat_lt, slice_get, slice_index, Option, Some, None, if◌then◌else◌, inl, inr, ◌⊎◌, ap, ap₂, refl, sym, ◌∙◌, subst, ⊎_elim, true≢false, eqb-true, eq-eqb, le-ltb, All, arith}
+use Rattle.std.specs.List.{AllByRecursion, list_any, list_all, range_with_len}
+use Rattle.std.proofs.lemmas.Bool.{and_from, and_parts, cases_Bool, cases_lt, ltb-false, ne_eqb, or_cases, or_left, or_right}
+use Rattle.std.proofs.lemmas.List.{get_or-take, length-take}
+use Rattle.std.proofs.lemmas.List.Elements.{filter_passes, recursion_from_All}
 use Rattle.std.proofs.lemmas.List.Sums.{AllPass-from_list_all}
 use Rattle.std.proofs.lemmas.Option.{get_or_from_slice_get, slice_get-get_or, slice_get_within}
 use Rattle.vw_net.specs.declared.cell.Cell.{Cell}
 use Rattle.vw_net.specs.declared.cell.Cell.TheVariants.{Gate, Latch}
 use Rattle.vw_net.specs.declared.cell.Init.{Init}
 use Rattle.vw_net.specs.Cells.{IsWellFormed, read_nets}
-use Rattle.vw_net.specs.Order.{gate_inputs, is_among, is_gate, is_latch, is_ready, read_nets_at}
+use Rattle.vw_net.specs.Order.{gate_inputs, is_among, is_latch, is_ready, read_nets_at}
 use Rattle.vw_net.proofs.Orders.{among_at, among_below, at_among}
 use Rattle.vw_net.proofs.ReadyNets.{order_within}
 use Rattle.vw_plan.specs.declared.wire.Hop.{Hop}
@@ -22,13 +22,12 @@ use Rattle.vw_plan.specs.Sound.{IsSound}
 use Rattle.vw_plan.proofs.GreatestReads.{greatest_read-least}
 use Rattle.vw_plan.proofs.HopsOfWires.{begins, goes_on}
 use Rattle.vw_plan.proofs.LeadLevels.{lead-by_driver}
-use Rattle.vw_plan.proofs.NeededNets.{needed_net}
 use Rattle.vw_plan.proofs.ReadNets.{read_needed}
 use Rattle.vw_prog.specs.declared.entry.Entry.{Entry}
-use Rattle.vw_prog.specs.Due.{FindsEnds, FindsReads, gives, is_due, is_source, own_latches, reads, recorded}
-use Rattle.vw_prog.specs.Timetable.{comes_before, entries, entries_at, gate_entries, gate_entry, hop_entries, is_at, is_evaluating, is_sending, sent_entry, taken_entry, timetable, wire_entries}
+use Rattle.vw_prog.specs.Due.{FindsEnds, FindsReads, gives, is_due, is_source, own_latches, reads}
+use Rattle.vw_prog.specs.Timetable.{comes_before, entries, entries_at, gate_entries, gate_entry, hop_entries, is_at, is_sending, sent_entry, taken_entry, timetable, wire_entries}
 use Rattle.vw_prog.proofs.EntryOrder.{by_moment, by_place, is_order}
-use Rattle.vw_prog.proofs.Givers.{Giver, IsEntry, evaluating_gives, gate_is_entry, needed_gives, own_given, taken_is_entry, taking_gives}
+use Rattle.vw_prog.proofs.Givers.{Giver, evaluating_gives, gate_is_entry, needed_gives, own_given, taken_is_entry, taking_gives}
 use Rattle.vw_prog.proofs.ListParts.{all_append, all_at, all_flat_map, any_part, any_weaker}
 use Rattle.vw_prog.proofs.NeededWires.{wires_fine}
 use Rattle.vw_prog.proofs.SortedLists.{Rises, all_filter, all_sorted, any_sorted, part_rises, stands_before}

@@ -1,12 +1,11 @@
 -- Which entries give a net its value at a node: the net's own gate, or the last hop of the wire that brings it there.
-use Rattle.std.proofs.Common.{◌≡◌, ◌≢◌, ◌<◌, ◌≤◌, ◌+◌, ◌-◌, ◌*◌, ◌%◌, ◌&&◌, ◌||◌, ◌++◌, ℕ, zero, suc, Bool, true, false, not, List, [], ◌∷◌, length, take, get_or, cond, eqb, nat_lt, slice_get, slice_index, Option, Some, None, if◌then◌else◌, inl, inr, ◌⊎◌, ap, ap₂, refl, sym, ◌∙◌, subst, ⊎_elim, true≢false, eqb-true, eq-eqb, le-ltb, arith}
-use Rattle.std.specs.List.{AllByRecursion, count_by, find, list_any}
+use Rattle.std.proofs.Common.{◌≡◌, ◌<◌, ◌≤◌, ◌+◌, ◌-◌, ◌*◌, ◌%◌, ◌&&◌, ◌||◌, ℕ, zero, suc, Bool, true, false, not, List, [], ◌∷◌, length, get_or, cond, eqb, nat_lt, slice_get, Option, Some, None, if◌then◌else◌, inl, inr, ◌⊎◌, ap, ap₂, refl, sym, ◌∙◌, subst, ⊎_elim, eqb-true, eq-eqb, arith}
+use Rattle.std.specs.List.{count_by, find, list_any}
 use Rattle.std.specs.Option.{option_map_or}
-use Rattle.std.proofs.lemmas.Bool.{and_from, and_parts, cases_Bool, ltb-true, ltb-false, not-true, or_cases, or_left, or_right}
+use Rattle.std.proofs.lemmas.Bool.{and_from, and_parts, cases_Bool, ltb-false, not-true, or_cases, or_left, or_right}
 use Rattle.std.proofs.lemmas.List.Folds.{list_any-append}
 use Rattle.std.proofs.lemmas.Option.{get_or_from_slice_get, slice_get-get_or, slice_get_within}
 use Rattle.vw_net.specs.Steps.Bits.{one_if}
-use Rattle.vw_net.specs.declared.cell.Cell.{Cell}
 use Rattle.vw_net.specs.Order.{is_among, is_gate, is_latch}
 use Rattle.vw_net.proofs.Orders.{among_at, gate_or_latch}
 use Rattle.vw_plan.specs.declared.link.Link.{Link}
@@ -21,7 +20,7 @@ use Rattle.vw_plan.proofs.LeadLevels.{lead-by_driver}
 use Rattle.vw_plan.proofs.NeededPairs.{count_cons}
 use Rattle.vw_prog.specs.declared.entry.Entry.{Entry}
 use Rattle.vw_prog.specs.Due.{gives, is_source}
-use Rattle.vw_prog.specs.Timetable.{entries, gate_entries, gate_entry, hop_entries, is_sending, sent_entry, taken_entry, wire_entries}
+use Rattle.vw_prog.specs.Timetable.{entries, gate_entries, gate_entry, hop_entries, sent_entry, taken_entry, wire_entries}
 use Rattle.vw_prog.proofs.ListParts.{any_flat_map}
 
 -- ---- entries that are there

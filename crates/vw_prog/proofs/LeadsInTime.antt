@@ -1,8 +1,7 @@
 -- No lead is after the period of a sound plan.
-use Rattle.std.proofs.Common.{◌≡◌, ◌<◌, ◌≤◌, ◌+◌, ◌-◌, ℕ, zero, suc, true, false, List, [], ◌∷◌, length, eqb, slice_get, Some, None, if◌then◌else◌, ap, sym, ◌∙◌, subst, ⊎_elim, All, arith}
+use Rattle.std.proofs.Common.{◌<◌, ◌≤◌, ◌+◌, ℕ, zero, suc, true, false, List, [], ◌∷◌, length, eqb, Some, if◌then◌else◌, All, arith}
 use Rattle.std.specs.List.{find}
 use Rattle.std.specs.Option.{option_map_or}
-use Rattle.std.proofs.lemmas.Bool.{cases_Bool}
 use Rattle.std.proofs.lemmas.List.Elements.{All-head, All-tail}
 use Rattle.vw_plan.specs.declared.link.Link.{Link}
 use Rattle.vw_plan.specs.declared.wire.Hop.{Hop}

@@ -7,4 +7,4 @@ pub mod ListParts
 pub mod Givers
 pub mod DueReads
 pub mod LinkPasses
-pub mod EntryLinks
+pub mod EntryParts

@@ -1,21 +1,21 @@
 -- What a node sends over a link, and what it takes from one, is what passes over the link, in order.
-use Rattle.std.proofs.Common.{◌≡◌, ◌≢◌, ◌<◌, ◌≤◌, ◌+◌, ◌-◌, ◌*◌, ◌%◌, ◌&&◌, ◌||◌, ◌++◌, ℕ, zero, suc, Bool, true, false, List, [], ◌∷◌, length, map, cond, eqb, nat_lt, slice_get, get_or, Option, Some, None, if◌then◌else◌, ap, ap₂, refl, sym, ◌∙◌, subst, ⊎_elim, true≢false, eqb-true, eq-eqb, arith}
+use Rattle.std.proofs.Common.{◌≡◌, ◌≢◌, ◌≤◌, ◌+◌, ◌-◌, ◌*◌, ◌%◌, ◌&&◌, ◌||◌, ◌++◌, ℕ, suc, Bool, true, false, List, [], ◌∷◌, map, cond, eqb, nat_lt, slice_get, Option, Some, None, if◌then◌else◌, ap, ap₂, refl, sym, ◌∙◌, subst, ⊎_elim, true≢false, eqb-true, eq-eqb, arith}
 use Rattle.std.specs.List.{AllByRecursion, filter, find, flat_map, list_any}
 use Rattle.std.specs.declared.cmp.Ordering.{Ordering}
 use Rattle.std.specs.declared.cmp.Ordering.TheVariants.{Less, Equal, Greater}
 use Rattle.std.proofs.lemmas.Cmp.{nat_cmp_total, tied_itself}
 use Rattle.std.proofs.lemmas.Grind.{common_steps}
 use Rattle.std.specs.Prelude.{unwrap_or}
-use Rattle.std.proofs.lemmas.Bool.{and_from, and_parts, cases_Bool, ne_eqb}
+use Rattle.std.proofs.lemmas.Bool.{and_parts, cases_Bool, ne_eqb}
 use Rattle.std.proofs.lemmas.List.{map-append}
-use Rattle.std.proofs.lemmas.List.Elements.{filter-append, recursion_from_All}
-use Rattle.std.proofs.lemmas.Option.{get_or_from_slice_get, slice_get-get_or, slice_get_within}
+use Rattle.std.proofs.lemmas.List.Elements.{filter-append}
+use Rattle.std.proofs.lemmas.Option.{get_or_from_slice_get, slice_get_within}
 use Rattle.std.specs.Ordering.{is_lt, nat_cmp, ordering_then}
 use Rattle.vw_plan.specs.declared.link.Link.{Link}
 use Rattle.vw_plan.specs.declared.wire.Hop.{Hop}
 use Rattle.vw_plan.specs.declared.wire.Wire.{Wire}
-use Rattle.vw_plan.specs.Lead.{arrival, carries, lead}
-use Rattle.vw_plan.specs.PlannedBoard.{PlannedBoard, home}
+use Rattle.vw_plan.specs.Lead.{arrival, carries}
+use Rattle.vw_plan.specs.PlannedBoard.{PlannedBoard}
 use Rattle.vw_plan.specs.Sound.{IsRouted, IsSound, has_pin}
 use Rattle.vw_plan.proofs.LinkDelays.{arrives}
 use Rattle.vw_leads.specs.Links.{joins, link_number}
@@ -23,10 +23,10 @@ use Rattle.vw_leads.proofs.FirstPlaces.{LeadsTo}
 use Rattle.vw_leads.proofs.LinkPlaces.{link_leads}
 use Rattle.vw_prog.specs.declared.entry.Entry.{Entry}
 use Rattle.vw_prog.specs.Sorting.{sorted}
-use Rattle.vw_prog.specs.Timetable.{comes_before, entries, entries_at, entry_cmp, gate_entries, gate_entry, hop_entries, is_at, is_sending, is_sent, is_taken, is_taking, link_place, passes, sent_entry, taken_entry, taken_from, timetable, wire_entries}
+use Rattle.vw_prog.specs.Timetable.{comes_before, entries, entries_at, gate_entries, gate_entry, hop_entries, is_at, is_sending, is_sent, is_taken, is_taking, link_place, passes, sent_entry, taken_entry, taken_from, timetable, wire_entries}
 use Rattle.vw_prog.proofs.EntryOrder.{is_order}
 use Rattle.vw_prog.proofs.ListParts.{all_append, all_flat_map}
-use Rattle.vw_prog.proofs.SortedLists.{all_filter, all_sorted, filter_sorted, sorted_map}
+use Rattle.vw_prog.proofs.SortedLists.{all_sorted, filter_sorted, sorted_map}
 
 filter_filter : {X : Type 0} (test part : X → Bool) (xs : List X) → AllByRecursion (λ x. test x ≡ true → part x ≡ true) xs → filter test (filter part xs) ≡ filter test xs
 filter_filter test part [] all = refl

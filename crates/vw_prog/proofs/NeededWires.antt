@@ -1,5 +1,5 @@
 -- The wires of a sound plan bring nets of the netlist to nodes where they are needed.
-use Rattle.std.proofs.Common.{◌≡◌, ◌<◌, ◌≤◌, ◌+◌, ◌&&◌, ℕ, zero, suc, Bool, true, false, List, [], ◌∷◌, length, get_or, cond, eqb, ap, refl, sym, ◌∙◌, ⊎_elim, eq-eqb, All, arith}
+use Rattle.std.proofs.Common.{◌≡◌, ◌<◌, ◌≤◌, ◌+◌, ℕ, zero, suc, Bool, true, false, List, [], ◌∷◌, length, get_or, cond, eqb, ap, refl, ◌∙◌, ⊎_elim, eq-eqb, All, arith}
 use Rattle.std.specs.List.{count_by}
 use Rattle.std.proofs.lemmas.Bool.{and_from, cases_Bool}
 use Rattle.vw_net.specs.Steps.Bits.{one_if}

@@ -1,5 +1,5 @@
 -- The actions of a node for one clock: its entries of the timetable, and then a step. Source: this project.
-use Rattle.std.specs.Prelude.{◌≡◌, ◌<◌, ◌==◌, ◌-◌, ◌%◌, ℕ, suc, List, [], ◌∷◌, ◌++◌, length, map, slice_index_or, if◌then◌else◌}
+use Rattle.std.specs.Prelude.{◌≡◌, ◌<◌, ◌-◌, ℕ, suc, List, [], ◌∷◌, ◌++◌, length, map, slice_index_or, if◌then◌else◌}
 use Rattle.vw_plan.specs.PlannedBoard.{PlannedBoard}
 use Rattle.vw_prog.specs.declared.action.Action.{Action}
 use Rattle.vw_prog.specs.declared.action.Action.TheVariants.{Evaluate, Send, Step, Take}

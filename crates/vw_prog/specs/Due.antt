@@ -1,5 +1,5 @@
 -- Which nets of a node have their values of a clock, after some of its actions. Source: this project.
-use Rattle.std.specs.Prelude.{◌≡◌, ◌==◌, ◌<◌, ◌+◌, ℕ, Bool, not, ◌&&◌, ◌||◌, List, [], ◌∷◌, length, take, slice_get, nat_lt, Some, IsTrue, if◌then◌else◌}
+use Rattle.std.specs.Prelude.{◌≡◌, ◌==◌, ℕ, Bool, not, ◌&&◌, ◌||◌, List, [], ◌∷◌, length, take, slice_get, nat_lt, Some, IsTrue, if◌then◌else◌}
 use Rattle.std.specs.List.{All, filter, list_any, range_with_len}
 use Rattle.vw_net.specs.Order.{gate_inputs, is_latch}
 use Rattle.vw_net.specs.declared.cell.Cell.TheVariants.{Latch}

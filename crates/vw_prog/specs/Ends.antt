@@ -1,6 +1,5 @@
 -- The ends of the links of a node, as contracts see them, and what a put and a take do. Source: this project.
-use Rattle.std.specs.Prelude.{◌≡◌, ◌<◌, ◌≤◌, ◌-◌, ◌+◌, ◌^◌, ◌==◌, ℕ, Bool, true, false, List, length, min, slice_get, nat_lt, Option, Some, None, if◌then◌else◌}
-use Rattle.std.specs.Option.{ForSome}
+use Rattle.std.specs.Prelude.{◌≡◌, ◌<◌, ◌≤◌, ◌-◌, ◌+◌, ◌^◌, ◌==◌, ℕ, Bool, true, length, min, slice_get, nat_lt, Option, Some, None, if◌then◌else◌}
 use Rattle.vw_plan.specs.declared.link.Link.{Link}
 use Rattle.vw_prog.specs.declared.job.Job.{Job}
 use Rattle.vw_prog.specs.declared.word.Word.{Word}

@@ -1,5 +1,5 @@
 -- The two ends of one link, and what lays links, as contracts see them. Source: this project.
-use Rattle.std.specs.Prelude.{◌≡◌, ◌<◌, ◌≤◌, ◌*◌, ◌+◌, ◌==◌, ℕ, Bool, true, List, [], ◌++◌, length, take, slice_get, Option, Some, None, option_map, if◌then◌else◌, ◌⊎◌}
+use Rattle.std.specs.Prelude.{◌≡◌, ◌≤◌, ◌*◌, ◌+◌, ◌==◌, ℕ, Bool, true, List, ◌++◌, take, slice_get, Option, Some, None, option_map, if◌then◌else◌, ◌⊎◌}
 use Rattle.vw_plan.specs.declared.link.Link.{Link}
 use Rattle.vw_prog.specs.declared.job.Job.{Job}
 use Rattle.vw_prog.specs.declared.word.Word.{Word}

@@ -1,5 +1,5 @@
 -- The words of a job: for each clock in order, what is sent over a link, with the values that the netlist has in that clock.
-use Rattle.std.specs.Prelude.{◌+◌, ◌-◌, ℕ, zero, suc, Bool, List, [], ◌++◌, length, map, take, slice_index_or}
+use Rattle.std.specs.Prelude.{◌+◌, ℕ, zero, suc, Bool, List, [], ◌++◌, length, map, take, slice_index_or}
 use Rattle.vw_net.specs.History.{state_after}
 use Rattle.vw_net.specs.Value.{net_value}
 use Rattle.vw_plan.specs.PlannedBoard.{PlannedBoard, planned_board}

@@ -1,7 +1,6 @@
-use Rattle.std.proofs.Common.{◌≡◌, ◌≤◌, ◌<◌, ◌+◌, ◌++◌, ◌∙◌, List, [], ◌∷◌, length, take, get_or, set, ap, ap₂, subst, sym, refl, ℕ, arith}
+use Rattle.std.proofs.Common.{◌≡◌, ◌≤◌, ◌<◌, ◌+◌, ◌++◌, ◌∙◌, List, [], ◌∷◌, length, take, get_or, ap, subst, sym, arith}
 use Rattle.std.specs.Global.{Vec}
-use Rattle.std.specs.Vec.{with_item}
-use Rattle.std.proofs.lemmas.List.{get_or_default, get_or-map, length-map, map-set, take_all}
+use Rattle.std.proofs.lemmas.List.{get_or_default, length-map, take_all}
 use Rattle.vw_prog.specs.declared.action.Action.{Action}
 use Rattle.vw_prog.specs.declared.entry.Entry.{Entry}
 use Rattle.vw_prog.specs.Actions.{action_of}

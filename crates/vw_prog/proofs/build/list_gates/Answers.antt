@@ -1,5 +1,5 @@
-use Rattle.std.proofs.Common.{◌≡◌, ◌<◌, ◌≤◌, ◌+◌, ◌^◌, ◌++◌, ◌∙◌, ℕ, suc, List, ◌∷◌, [], length, drop, get_or, ap, ap₂, sym, All, arith}
-use Rattle.std.proofs.lemmas.List.{append_assoc, drop_more, get_or_default}
+use Rattle.std.proofs.Common.{◌≡◌, ◌<◌, ◌+◌, ◌^◌, ◌++◌, ◌∙◌, ℕ, suc, List, ◌∷◌, [], length, drop, get_or, ap, ap₂, sym, arith}
+use Rattle.std.proofs.lemmas.List.{append_assoc, drop_more}
 use Rattle.vw_net.proofs.ReadyNets.{order_within}
 use Rattle.vw_net.proofs.Orders.{length-order}
 use Rattle.vw_plan.specs.PlannedBoard.{PlannedBoard, home}
@@ -8,7 +8,7 @@ use Rattle.vw_plan.specs.Lead.{lead}
 use Rattle.vw_leads.specs.LeadTables.{AreLeads, planned_in}
 use Rattle.vw_prog.specs.declared.entry.Entry.{Entry}
 use Rattle.vw_prog.specs.Steps.{gate_entry_of}
-use Rattle.vw_prog.specs.Timetable.{gate_entries, gate_entry}
+use Rattle.vw_prog.specs.Timetable.{gate_entries}
 use Rattle.vw_prog.proofs.build.list_gates.Goals as goal
 
 -- what is known of the gate at a place of the order

@@ -1,15 +1,13 @@
-use Rattle.std.proofs.Common.{◌≡◌, ◌<◌, ◌+◌, ◌∙◌, ℕ, List, length, ap, sym, subst, All}
+use Rattle.std.proofs.Common.{◌≡◌, ◌<◌, ◌+◌, ◌∙◌, length, ap, sym, subst, All}
 use Rattle.vw_net.specs.declared.ordered.Ordered.{Ordered}
 use Rattle.vw_plan.specs.declared.board.Board.{Board}
 use Rattle.vw_plan.specs.declared.checked.Checked.{Checked}
-use Rattle.vw_plan.specs.declared.link.Link.{Link}
 use Rattle.vw_plan.specs.declared.plan.Plan.{Plan}
 use Rattle.vw_plan.specs.declared.wire.Wire.{Wire}
 use Rattle.vw_plan.specs.PlannedBoard.{PlannedBoard, planned_board}
 use Rattle.vw_plan.specs.Sound.{IsSound}
 use Rattle.vw_leads.specs.Pairs.{HasPairs}
 use Rattle.vw_leads.specs.Wires.{wire_pairs}
-use Rattle.vw_prog.specs.declared.entry.Entry.{Entry}
 use Rattle.vw_prog.specs.Sorting.{sorted}
 use Rattle.vw_prog.specs.Timetable.{comes_before, entries, timetable}
 use Rattle.vw_prog.proofs.EntryOrder.{is_order, same_entry}

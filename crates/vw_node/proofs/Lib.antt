@@ -1,0 +1,9 @@
+pub mod Clocks
+pub mod Values
+pub mod Held
+pub mod Words
+pub mod EntryKinds
+pub mod NodeSteps
+pub mod StepAnswers
+pub mod ClockEnds
+pub mod StartLists

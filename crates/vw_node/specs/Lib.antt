@@ -1,0 +1,9 @@
+pub mod Lists
+pub mod States
+pub mod Holding
+pub mod Positions
+pub mod Fits
+pub mod Slots
+pub mod Starts
+pub mod Made
+pub mod Moves

@@ -1,0 +1,16 @@
+//! The nodes of a board, each of which makes its actions one after the other.
+#![tactic(auto)]
+
+mod gates;
+mod laws;
+mod making;
+mod node;
+mod rows;
+mod slots;
+mod starting;
+mod step;
+mod stepping;
+
+pub use laws::values_are_held;
+pub use node::Node;
+pub use step::Step;

@@ -1,0 +1,12 @@
+/// What a step of a node came to.
+#[derive(Clone, Copy, Debug, PartialEq, Eq)]
+pub enum Step {
+    /// It made its next action.
+    Moved,
+    /// Its next action is a send over this link, which was full.
+    Full(u32),
+    /// Its next action is a take from this link, which was empty.
+    Empty(u32),
+    /// All actions of all clocks are made.
+    Done,
+}
