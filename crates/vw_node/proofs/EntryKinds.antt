@@ -16,7 +16,7 @@ use Rattle.vw_node.proofs.Words.{get_append_left, get_append_right, get_map}
 pub other_turn : (entry : Entry) (own other : ℕ) → eqb (entry.moment % 3) own ≡ true → own ≢ other → eqb (entry.moment % 3) other ≡ false
 other_turn entry own other is apart = turn_of (entry.moment % 3) own other (eqb-true (entry.moment % 3) own is) apart
 
-last_turn : (rest : ℕ) → rest < 3 → eqb rest 0 ≡ false → eqb rest 1 ≡ false → eqb rest 2 ≡ true
+pub last_turn : (rest : ℕ) → rest < 3 → eqb rest 0 ≡ false → eqb rest 1 ≡ false → eqb rest 2 ≡ true
 last_turn zero low none one = absurd (true≢false none)
 last_turn (suc zero) low none one = absurd (true≢false one)
 last_turn (suc (suc zero)) low none one = refl

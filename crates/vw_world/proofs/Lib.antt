@@ -1,0 +1,5 @@
+pub mod KeptWorlds
+pub mod MomentCounts
+pub mod Spans
+pub mod LinkSpans
+pub mod NeverStuck
