@@ -27,6 +27,8 @@ mod plan_text;
 #[cfg(test)]
 mod plans;
 #[cfg(test)]
+mod programs;
+#[cfg(test)]
 mod route;
 #[cfg(test)]
 mod same;
