@@ -7,3 +7,4 @@ pub mod NodeSteps
 pub mod StepAnswers
 pub mod ClockEnds
 pub mod StartLists
+pub mod MovesOn

@@ -7,3 +7,4 @@ pub mod Slots
 pub mod Starts
 pub mod Made
 pub mod Moves
+pub mod Left

@@ -1,5 +1,5 @@
--- What one step of a node does, of itself and of the ends of its links. Source: this project.
-use Rattle.std.specs.Prelude.{◌≡◌, ℕ, true, false, Some, None}
+-- What one step of a node does, and many, of itself and of the ends of its links. Source: this project.
+use Rattle.std.specs.Prelude.{◌≡◌, ℕ, zero, suc, Bool, true, false, Some, None}
 use Rattle.vw_prog.specs.declared.action.Action.{Action}
 use Rattle.vw_prog.specs.declared.action.Action.TheVariants as action
 use Rattle.vw_prog.specs.declared.job.Job.{Job}
@@ -24,3 +24,23 @@ Steps job node old new before after Moved = (next : Action) × (next_action job 
 Steps job node old new before after (Full link) = (pin net : ℕ) × (next_action job node old ≡ Some (action.Send link pin net)) × (new ≡ old) × Puts link before after false
 Steps job node old new before after (Empty link) = (pin net : ℕ) × (next_action job node old ≡ Some (action.Take link pin net)) × (new ≡ old) × Takes link before after None
 Steps job node old new before after Done = (next_action job node old ≡ None) × (new ≡ old) × (after ≡ before)
+
+abbrev pub is_moved : Step → Bool
+is_moved Moved = true
+is_moved (Full link) = false
+is_moved (Empty link) = false
+is_moved Done = false
+
+-- so many actions were made, one after the other
+abbrev pub GoesOn : Job → ℕ → NodeState → NodeState → SeenEnds → SeenEnds → ℕ → Type 0
+GoesOn job node old new before after zero = (new ≡ old) × (after ≡ before)
+GoesOn job node old new before after (suc count) = (between : NodeState) × (ends : SeenEnds) × GoesOn job node old between before ends count × Steps job node between new ends after Moved
+
+-- a node made actions until one was refused or none was left
+pub record Goes (job : Job) (node : ℕ) (old new : NodeState) (before after : SeenEnds) (answer : Step) : Type 0 where
+  pub count : ℕ
+  pub between : NodeState
+  pub ends : SeenEnds
+  pub moves : GoesOn job node old between before ends count
+  pub last : Steps job node between new ends after answer
+  pub stops : is_moved answer ≡ false

@@ -2,6 +2,7 @@
 #![tactic(auto)]
 
 mod gates;
+mod going;
 mod laws;
 mod making;
 mod node;

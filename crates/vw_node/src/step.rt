@@ -1,3 +1,6 @@
+ghost use Rattle.std.specs.Prelude.{◌≡◌};
+ghost use Rattle.vw_node.specs.Moves.{is_moved};
+
 /// What a step of a node came to.
 #[derive(Clone, Copy, Debug, PartialEq, Eq)]
 pub enum Step {
@@ -9,4 +12,18 @@ pub enum Step {
     Empty(u32),
     /// All actions of all clocks are made.
     Done,
+}
+
+impl Step {
+    /// Whether an action was made.
+    pub fn is_moved(self) -> bool
+        ensures { result ≡ is_moved self }
+    {
+        match self {
+            Step::Moved => true,
+            Step::Full(_) => false,
+            Step::Empty(_) => false,
+            Step::Done => false,
+        }
+    }
 }

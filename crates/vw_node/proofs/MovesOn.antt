@@ -1,0 +1,175 @@
+-- Many actions of a node, and how many it has to come.
+use Rattle.std.proofs.Common.{◌≡◌, ◌<◌, ◌≤◌, ◌+◌, ◌-◌, ◌*◌, ◌∷◌, ℕ, suc, Bool, true, false, List, [], length, map, nat_lt, slice_get, if◌then◌else◌, ap, ap₂, refl, sym, subst, ◌∙◌, ⊎_elim, true≢false, ltb-true, Some, None, arith}
+use Rattle.std.proofs.lemmas.List.{length-append, length-map}
+use Rattle.std.proofs.lemmas.Option.{slice_get_within}
+use Rattle.vw_prog.specs.declared.action.Action.{Action}
+use Rattle.vw_prog.specs.declared.action.Action.TheVariants as action
+use Rattle.vw_prog.specs.declared.entry.Entry.{Entry}
+use Rattle.vw_prog.specs.declared.job.Job.{Job}
+use Rattle.vw_prog.specs.declared.job.Share.{Share}
+use Rattle.vw_prog.specs.Actions.{action_of, actions}
+use Rattle.vw_prog.specs.Ends.{SeenEnds}
+use Rattle.vw_prog.specs.Scripts.{planned_of}
+use Rattle.vw_prog.specs.Timetable.{entries_at, is_evaluating, is_sending, timetable}
+use Rattle.vw_node.specs.declared.node.Node.{Node}
+use Rattle.vw_node.specs.declared.step.Step.{Step}
+use Rattle.vw_node.specs.declared.step.Step.TheVariants.{Done, Empty, Full, Moved}
+use Rattle.vw_node.specs.Fits.{IsFit, state_of}
+use Rattle.vw_node.specs.Holding.{HoldsValues}
+use Rattle.vw_node.specs.Left.{left}
+use Rattle.vw_node.specs.Moves.{GoesOn, Goes, Makes, Steps, is_moved}
+use Rattle.vw_node.specs.Positions.{Agrees}
+use Rattle.vw_node.specs.States.{NodeState, next_action}
+use Rattle.vw_node.proofs.EntryKinds.{next_entry}
+
+-- the ends are still those of the same job
+pub job_stays : (job : Job) (node : ℕ) (old new : NodeState) (before after : SeenEnds) (answer : Step) → Steps job node old new before after answer → after.job ≡ before.job
+job_stays job node old new before after Moved (next, is, made) = by next made where
+  by : (one : Action) → Makes job node old new before after one → after.job ≡ before.job
+  by (action.Evaluate gate) does = ap (λ (ends : SeenEnds). ends.job) does.1
+  by (action.Send link pin net) does = ap (λ (ends : SeenEnds). ends.job) does.1.ends
+  by (action.Take link pin net) (word, is, took) = ap (λ (ends : SeenEnds). ends.job) took.0
+  by action.Step does = ap (λ (ends : SeenEnds). ends.job) does.1
+job_stays job node old new before after (Full link) (pin, net, is, same, puts) = ap (λ (ends : SeenEnds). ends.job) puts.ends
+job_stays job node old new before after (Empty link) (pin, net, is, same, took) = ap (λ (ends : SeenEnds). ends.job) took.0
+job_stays job node old new before after Done (is, same, stay) = ap (λ (ends : SeenEnds). ends.job) stay
+
+-- ---- how many are to come
+
+module _ (job : Job) (node : ℕ) (old : NodeState) where
+  abbrev own : List Entry
+  own = entries_at node (timetable (planned_of job))
+
+  abbrev many : ℕ
+  many = length (actions (planned_of job) node)
+
+  many_are : many ≡ length own + 1
+  many_are = omega (arith, length-append (map (action_of job.checked.ordered.flat.inputs) own) (action.Step ∷ []), length-map own (action_of job.checked.ordered.flat.inputs))
+
+  -- a clock that isn't over has an action to come
+  next_there : (next : Action) → next_action job node old ≡ Some next → (old.clock < length job.rows) × (slice_get (actions (planned_of job) node) old.made ≡ Some next)
+  next_there next is = by (nat_lt old.clock (length job.rows)) refl is where
+    by : (more : Bool) → nat_lt old.clock (length job.rows) ≡ more → (if more then slice_get (actions (planned_of job) node) old.made else None) ≡ Some next → (old.clock < length job.rows) × (slice_get (actions (planned_of job) node) old.made ≡ Some next)
+    by true at there = (ltb-true old.clock (length job.rows) at, there)
+    by false at there = cc
+
+  one_less : (clocks count made : ℕ) → made < count → suc (suc clocks * count - (made + 1)) ≡ suc clocks * count - made
+  one_less clocks count made within = let opened : suc clocks * count ≡ count + clocks * count = grind arith in omega (arith, opened, within)
+
+  last_less : (clocks count made : ℕ) → count ≡ made + 1 → suc (clocks * count - 0) ≡ suc clocks * count - made
+  last_less clocks count made last = let opened : suc clocks * count ≡ count + clocks * count = grind arith in omega (arith, opened, last)
+
+  -- an action that was made is one less to come
+  pub less_left : (new : NodeState) (before after : SeenEnds) → Steps job node old new before after Moved → HoldsValues job node old → suc (left job node new) ≡ left job node old
+  less_left new before after (next, is, made) holds =
+      let there = next_there next is in
+      let within : old.made < many = slice_get_within (actions (planned_of job) node) old.made next there.1 in
+      let clocks : length job.rows - old.clock ≡ suc (length job.rows - (old.clock + 1)) = omega (arith, there.0) in
+      let stays = λ (clock : new.clock ≡ old.clock) (count : new.made ≡ old.made + 1).
+      ap₂ (λ (one two : ℕ). suc ((length job.rows - one) * many - two)) clock count
+      ∙ ap (λ (some : ℕ). suc (some * many - (old.made + 1))) clocks
+      ∙ one_less (length job.rows - (old.clock + 1)) many old.made within
+      ∙ ap (λ (some : ℕ). some * many - old.made) (sym clocks) in
+      let ends = λ (clock : new.clock ≡ old.clock + 1) (count : new.made ≡ 0) (last : many ≡ old.made + 1).
+      ap₂ (λ (one two : ℕ). suc ((length job.rows - one) * many - two)) clock count
+      ∙ last_less (length job.rows - (old.clock + 1)) many old.made last
+      ∙ ap (λ (some : ℕ). some * many - old.made) (sym clocks) in
+      by next there.1 made stays ends where
+        no_step : (gate net link pin : ℕ) (first second : Bool) → action.Step ≡ (if first then action.Evaluate gate else (if second then action.Send link pin net else action.Take link pin net)) → ⊥
+        no_step gate net link pin true second same = cc
+        no_step gate net link pin false true same = cc
+        no_step gate net link pin false false same = cc
+
+        by : (one : Action) → slice_get (actions (planned_of job) node) old.made ≡ Some one → Makes job node old new before after one
+            → ((new.clock ≡ old.clock) → (new.made ≡ old.made + 1) → suc (left job node new) ≡ left job node old)
+            → ((new.clock ≡ old.clock + 1) → (new.made ≡ 0) → many ≡ old.made + 1 → suc (left job node new) ≡ left job node old)
+            → suc (left job node new) ≡ left job node old
+        by (action.Evaluate gate) at does stays ends = stays (ap (λ (state : NodeState). state.clock) does.0) (ap (λ (state : NodeState). state.made) does.0)
+        by (action.Send link pin net) at does stays ends = stays (ap (λ (state : NodeState). state.clock) does.0) (ap (λ (state : NodeState). state.made) does.0)
+        by (action.Take link pin net) at (word, is, took) stays ends = stays (ap (λ (state : NodeState). state.clock) is) (ap (λ (state : NodeState). state.made) is)
+        by action.Step at does stays ends =
+            let all : old.made ≡ length own = ⊎_elim (λ found. absurd (no_step (found.0.net - job.checked.ordered.flat.inputs) found.0.net found.0.link found.0.place (is_evaluating found.0) (is_sending found.0) found.1.1)) (λ last. last.0) (next_entry (planned_of job) node old.made holds.under action.Step at) in
+            ends (ap (λ (state : NodeState). state.clock) does.0) (ap (λ (state : NodeState). state.made) does.0) (omega (arith, many_are, all))
+
+-- ---- many actions
+
+-- a node that made actions, and whose last step came to an answer
+pub record IsUnderway (start : Node) (before : SeenEnds) (now : Node) (ends : SeenEnds) (answer : Step) : Type 0 where
+  pub fits : IsFit before.job now
+  pub agrees : Agrees before.job start.share.node (state_of now) ends
+  pub share : now.share ≡ start.share
+  pub count : ℕ
+  pub between : NodeState
+  pub ends_there : SeenEnds
+  pub moves : GoesOn before.job start.share.node (state_of start) between before ends_there count
+  pub last : Steps before.job start.share.node between (state_of now) ends_there ends answer
+
+-- how many steps are left until one isn't made, and one more
+abbrev pub tries_left : Job → ℕ → NodeState → Step → ℕ
+tries_left job node state answer = if is_moved answer then suc (left job node state) else 0
+
+module _ (start : Node) (before : SeenEnds) (fits : IsFit before.job start) (agrees : Agrees before.job start.share.node (state_of start) before) where
+  pub first_step : (now : Node) (ends : SeenEnds) (answer : Step) → IsFit ends.job now → Agrees ends.job now.share.node (state_of now) ends → now.share ≡ start.share → Steps before.job start.share.node (state_of start) (state_of now) before ends answer → IsUnderway start before now ends answer
+  first_step now ends answer fit agree share steps =
+      let job : ends.job ≡ before.job = job_stays before.job start.share.node (state_of start) (state_of now) before ends answer steps in
+      record {
+        fits = subst (λ (one : Job). IsFit one now) job fit;
+        agrees = subst (λ (one : Job). Agrees one start.share.node (state_of now) ends) job (subst (λ (own : Share). Agrees ends.job own.node (state_of now) ends) share agree);
+        share = share;
+        count = 0;
+        between = state_of start;
+        ends_there = before;
+        moves = (refl, refl);
+        last = steps;
+      }
+
+  module _ (now : Node) (ends : SeenEnds) (answer : Step) (underway : IsUnderway start before now ends answer) where
+    same_job : ends.job ≡ before.job
+    same_job = underway.agrees.same_job
+
+    pub fits_now : IsFit ends.job now
+    fits_now = subst (λ (one : Job). IsFit one now) (sym same_job) underway.fits
+
+    pub agrees_now : Agrees ends.job now.share.node (state_of now) ends
+    agrees_now = subst (λ (one : Job). Agrees one now.share.node (state_of now) ends) (sym same_job) (subst (λ (own : Share). Agrees before.job own.node (state_of now) ends) (sym underway.share) underway.agrees)
+
+    pub goes_so : is_moved answer ≡ false → Goes before.job start.share.node (state_of start) (state_of now) before ends answer
+    goes_so stops = record { count = underway.count; between = underway.between; ends = underway.ends_there; moves = underway.moves; last = underway.last; stops = stops }
+
+    module _ (moved : is_moved answer ≡ true) (new : Node) (after : SeenEnds) (next : Step) (fit : IsFit after.job new) (agree : Agrees after.job new.share.node (state_of new) after) (share : new.share ≡ now.share)
+        (steps : Steps ends.job now.share.node (state_of now) (state_of new) ends after next) where
+      steps_here : Steps before.job start.share.node (state_of now) (state_of new) ends after next
+      steps_here = subst (λ (one : Job). Steps one start.share.node (state_of now) (state_of new) ends after next) same_job (subst (λ (own : Share). Steps ends.job own.node (state_of now) (state_of new) ends after next) underway.share steps)
+
+      moved_last : Steps before.job start.share.node underway.between (state_of now) underway.ends_there ends Moved
+      moved_last = by answer moved underway.last where
+        by : (one : Step) → is_moved one ≡ true → Steps before.job start.share.node underway.between (state_of now) underway.ends_there ends one → Steps before.job start.share.node underway.between (state_of now) underway.ends_there ends Moved
+        by Moved is last = last
+        by (Full link) is last = absurd (true≢false (sym is))
+        by (Empty link) is last = absurd (true≢false (sym is))
+        by Done is last = absurd (true≢false (sym is))
+
+      pub step_more : IsUnderway start before new after next
+      step_more =
+          let job : after.job ≡ before.job = job_stays ends.job now.share.node (state_of now) (state_of new) ends after next steps ∙ same_job in
+          let shares : new.share ≡ start.share = share ∙ underway.share in
+          record {
+            fits = subst (λ (one : Job). IsFit one new) job fit;
+            agrees = subst (λ (one : Job). Agrees one start.share.node (state_of new) after) job (subst (λ (own : Share). Agrees after.job own.node (state_of new) after) shares agree);
+            share = shares;
+            count = suc underway.count;
+            between = state_of now;
+            ends_there = ends;
+            moves = (underway.between, underway.ends_there, underway.moves, moved_last);
+            last = steps_here;
+          }
+
+      pub fewer_tries : tries_left before.job start.share.node (state_of new) next < tries_left before.job start.share.node (state_of now) answer
+      fewer_tries =
+          let old : tries_left before.job start.share.node (state_of now) answer ≡ suc (left before.job start.share.node (state_of now)) = ap (λ (is : Bool). if is then suc (left before.job start.share.node (state_of now)) else 0) moved in
+          omega (arith, old, by next steps_here) where
+            by : (one : Step) → Steps before.job start.share.node (state_of now) (state_of new) ends after one → tries_left before.job start.share.node (state_of new) one ≤ left before.job start.share.node (state_of now)
+            by Moved made = let less = less_left before.job start.share.node (state_of now) (state_of new) ends after made underway.agrees.holds in omega (arith, less)
+            by (Full link) made = omega arith
+            by (Empty link) made = omega arith
+            by Done made = omega arith
