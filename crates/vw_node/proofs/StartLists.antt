@@ -45,7 +45,7 @@ module _ (test : ℕ → Bool) (all net : ℕ) (made whole : List ℕ) (within :
 
 -- ---- latches so far
 
-count_next : (cells : List Cell) (number : ℕ) → latch_count (take (suc number) cells) ≡ latch_count (take number cells) + one_if (is_latch (slice_get cells number))
+pub count_next : (cells : List Cell) (number : ℕ) → latch_count (take (suc number) cells) ≡ latch_count (take number cells) + one_if (is_latch (slice_get cells number))
 count_next [] zero = omega arith
 count_next [] (suc number) = omega arith
 count_next (Gate ins cover ∷ cells) zero = omega arith

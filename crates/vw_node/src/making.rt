@@ -42,6 +42,20 @@ impl<'a> Node<'a> {
         self.rows.as_slice()
     }
 
+    /// The nets that it records: the host the outputs, a chip its latches. It takes no memory.
+    pub fn recorded(&self) -> &[u32]
+        ensures { result.now ≡ self.now.recorded.items }
+    {
+        self.recorded.as_slice()
+    }
+
+    /// What it has recorded, given up. It takes no memory.
+    pub fn into_rows(self) -> Vec<Bits>
+        ensures { result.items ≡ self.entry.rows.items }
+    {
+        self.rows
+    }
+
     /// The bit of a net. It takes no memory.
     pub fn bit(&self, net: u32) -> bool
         requires { net < length self.now.slots.items }

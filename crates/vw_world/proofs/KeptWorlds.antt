@@ -27,14 +27,14 @@ use Rattle.vw_world.specs.Worlds.{WorldState, acts, capacity, happens, link_at, 
 
 -- ---- parts of a list from a number to another
 
-between_more : {A : Type 0} (xs : List A) (from to : ℕ) (x : A) → from ≤ to → slice_get xs to ≡ Some x → drop from (take (to + 1) xs) ≡ drop from (take to xs) ++ x ∷ []
+pub between_more : {A : Type 0} (xs : List A) (from to : ℕ) (x : A) → from ≤ to → slice_get xs to ≡ Some x → drop from (take (to + 1) xs) ≡ drop from (take to xs) ++ x ∷ []
 between_more xs from to x order is =
     let within = slice_get_within xs to x is in
     let here : get_or xs to x ≡ x = get_or_from_slice_get xs to x x is in
     let fits : from ≤ length (take to xs) = omega (arith, length-take to xs) in
     ap (drop from) (take_more xs to x within ∙ ap (λ (one : _). take to xs ++ one ∷ []) here) ∙ drop-append-le from (take to xs) (x ∷ []) fits
 
-between_front : {A : Type 0} (xs : List A) (from to : ℕ) (x : A) (rest : List A) → x ∷ rest ≡ drop from (take to xs) → (from < to) × ((slice_get xs from ≡ Some x) × (rest ≡ drop (from + 1) (take to xs)))
+pub between_front : {A : Type 0} (xs : List A) (from to : ℕ) (x : A) (rest : List A) → x ∷ rest ≡ drop from (take to xs) → (from < to) × ((slice_get xs from ≡ Some x) × (rest ≡ drop (from + 1) (take to xs)))
 between_front xs from to x rest is =
     let part = take to xs in
     let long : suc (length rest) ≡ length part - from = ap (λ (list : List _). length list) is ∙ length-drop from part in
@@ -273,6 +273,20 @@ module _ (job : Job) where
   first_state : (node : ℕ) → node ≤ job.checked.board.chips → node_at (start_world job) node ≡ start_state job node
   first_state node within = get_or-tabulate (start_state job) (suc job.checked.board.chips) node (record { clock = 0; made = 0; slots = []; rows = [] }) (omega (arith, within))
 
+  link_ends : (number : ℕ) → number < length job.checked.board.links → ((link_at job number).from ≤ job.checked.board.chips) × ((link_at job number).to ≤ job.checked.board.chips)
+  link_ends number low =
+      let link = link_at job number in
+      let at : get_or job.checked.board.links number link ≡ link = get_or_from_slice_get job.checked.board.links number link link (there_is number low) in
+      let ends_low = job.checked.board.linked.separate.ends number link low in
+      (omega (arith, ends_low.0, ap (λ (one : Link). one.from) at), omega (arith, ends_low.1, ap (λ (one : Link). one.to) at))
+
+  -- nothing was sent or taken
+  pub start_sent : (number : ℕ) → number < length job.checked.board.links → sent_at job (start_world job) number ≡ 0
+  start_sent number low = ap (sent_by job number (link_at job number).from) (first_state (link_at job number).from (link_ends number low).0)
+
+  pub start_taken : (number : ℕ) → number < length job.checked.board.links → taken_at job (start_world job) number ≡ 0
+  start_taken number low = ap (taken_by job number (link_at job number).to) (first_state (link_at job number).to (link_ends number low).1)
+
   pub start_kept : IsKept job (start_world job)
   start_kept = record {
     count = length-tabulate (start_state job) (suc job.checked.board.chips);
@@ -280,14 +294,8 @@ module _ (job : Job) where
     nodes = λ node within. subst (HoldsValues job node) (sym (first_state node (omega (arith, within, length-tabulate (start_state job) (suc job.checked.board.chips))))) (start_holds job node);
     links = λ number within.
         let low : number < length job.checked.board.links = omega (arith, within, length-tabulate {A = List Word} (λ link. []) (length job.checked.board.links)) in
-        let there = there_is number low in
-        let link = link_at job number in
-        let at : get_or job.checked.board.links number link ≡ link = get_or_from_slice_get job.checked.board.links number link link there in
-        let ends_low = job.checked.board.linked.separate.ends number link low in
-        let from_low : link.from ≤ job.checked.board.chips = omega (arith, ends_low.0, ap (λ (one : Link). one.from) at) in
-        let to_low : link.to ≤ job.checked.board.chips = omega (arith, ends_low.1, ap (λ (one : Link). one.to) at) in
-        let sent : sent_at job (start_world job) number ≡ 0 = ap (sent_by job number link.from) (first_state link.from from_low) in
-        let taken : taken_at job (start_world job) number ≡ 0 = ap (taken_by job number link.to) (first_state link.to to_low) in
+        let sent = start_sent number low in
+        let taken = start_taken number low in
         let words : words_at (start_world job) number ≡ [] = get_or-tabulate (λ one. []) (length job.checked.board.links) number [] low in
         record {
           order = omega (arith, sent, taken);

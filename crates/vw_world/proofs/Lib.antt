@@ -3,3 +3,14 @@ pub mod MomentCounts
 pub mod Spans
 pub mod LinkSpans
 pub mod NeverStuck
+pub mod Turns
+pub mod ShortScripts
+pub mod LaneSets
+pub mod LaneAnswers
+pub mod Goings
+pub mod BoardSteps
+pub mod Rounds
+pub mod FirstBoards
+pub mod LatchRows
+pub mod DoneBoards
+pub mod LatchCounts

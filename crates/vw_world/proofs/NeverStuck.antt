@@ -120,10 +120,10 @@ module _ (job : Job) where
   planned = planned_of job
 
   -- the words of one clock more, and of later clocks
-  more_words : (link clock : ℕ) → length (script_before job link (suc clock)) ≡ length (script_before job link clock) + length (passes planned link)
+  pub more_words : (link clock : ℕ) → length (script_before job link (suc clock)) ≡ length (script_before job link clock) + length (passes planned link)
   more_words link clock = length-append (script_before job link clock) (map (word_at job clock) (passes planned link)) ∙ ap (λ (many : ℕ). length (script_before job link clock) + many) (length-map (passes planned link) (word_at job clock))
 
-  later_words : (link clock other : ℕ) → clock ≤ other → length (script_before job link clock) ≤ length (script_before job link other)
+  pub later_words : (link clock other : ℕ) → clock ≤ other → length (script_before job link clock) ≤ length (script_before job link other)
   later_words link clock zero upto = let same : clock ≡ 0 = omega (arith, upto) in omega (arith, ap (λ (one : ℕ). length (script_before job link one)) same)
   later_words link clock (suc other) upto =
       let if_less = λ (less : clock < suc other). let whole : length (script_before job link clock) ≤ length (script_before job link (suc other)) = omega (arith, later_words link clock other (omega (arith, less)), more_words link other) in whole in

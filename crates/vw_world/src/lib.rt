@@ -1,6 +1,13 @@
 //! The board itself, in a pure core: the nodes of a job and the words on its links, over every order of events.
 #![tactic(auto)]
 
+mod answering;
+mod board;
+mod lane;
+mod lanes;
 mod laws;
+mod making;
+mod world;
 
 pub use laws::{events_keep_worlds, worlds_are_never_stuck};
+pub use world::World;

@@ -1,0 +1,303 @@
+-- A board that is done: what its nodes have recorded makes up the rows of the netlist's history.
+use Rattle.std.proofs.Common.{◌≡◌, ◌<◌, ◌≤◌, ◌+◌, ◌-◌, ◌∷◌, ◌&&◌, ◌||◌, ◌⊎◌, ℕ, zero, suc, Bool, true, false, List, [], length, map, take, get_or, set, eqb, nat_lt, slice_get, if◌then◌else◌, ap, ap₂, refl, sym, subst, ◌∙◌, ⊎_elim, inl, inr, eqb-true, eq-eqb, true≢false, lt-ltb, Some, None, arith}
+use Rattle.std.specs.List.{All, filter, range_with_len}
+use Rattle.std.proofs.lemmas.Bool.{and_from, and_parts, cases_eq, cases_lt, le-ltb, ne_eqb}
+use Rattle.std.proofs.lemmas.List.{get_or-map, get_or-set_other, get_or-set_same, get_or_default, length-map, length-set, take_all}
+use Rattle.std.proofs.lemmas.List.FromFn.{get_or-range_with_len, length-range_with_len}
+use Rattle.std.proofs.lemmas.List.Folds.{list_any_at}
+use Rattle.std.proofs.lemmas.Map.Views.{any-filter_same}
+use Rattle.std.proofs.lemmas.Option.{get_or_from_slice_get, slice_get-get_or, slice_get_within}
+use Rattle.vw_net.specs.declared.flat.Flat.{Flat}
+use Rattle.vw_net.specs.Cells.{latch_count}
+use Rattle.vw_net.specs.History.{next_state, outputs_of, state_after, states_of}
+use Rattle.vw_net.specs.Order.{is_among, is_latch}
+use Rattle.vw_net.specs.Value.{net_value}
+use Rattle.vw_net.proofs.Counts.{length-outputs_of, length-state_after, length-states_of}
+use Rattle.vw_plan.specs.Nets.{driving_cell}
+use Rattle.vw_plan.specs.PlannedBoard.{PlannedBoard, home}
+use Rattle.vw_prog.specs.declared.job.Job.{Job}
+use Rattle.vw_prog.specs.Due.{is_source, own_latches, recorded}
+use Rattle.vw_prog.specs.Scripts.{planned_of, state_at, value_at}
+use Rattle.vw_node.specs.declared.node.Node.{Node}
+use Rattle.vw_node.specs.Fits.{state_of}
+use Rattle.vw_node.specs.Holding.{HoldsValues}
+use Rattle.vw_node.specs.Lists.{tabulate}
+use Rattle.vw_node.specs.States.{NodeState, latch_number, slot}
+use Rattle.vw_node.proofs.Clocks.{value-latch}
+use Rattle.vw_node.proofs.Held.{latch_is, latch_within}
+use Rattle.vw_node.proofs.Values.{get_or-tabulate, length-tabulate}
+use Rattle.vw_world.specs.Answers.{AreNumbers, HasLast, HaveLatches, IsDoneBoard, IsDoneNode, number_in, with_latches}
+use Rattle.vw_world.specs.Boards.{IsBoard, world_of}
+use Rattle.vw_world.specs.Lanes.{SeenLanes}
+use Rattle.vw_world.specs.Worlds.{node_at}
+use Rattle.vw_world.proofs.BoardSteps.{same_lists}
+use Rattle.vw_world.proofs.LatchRows.{driven_at, latch_with, number_once, number_within, put_right, same_width}
+
+-- ---- histories, clock by clock
+
+states_at : (flat : Flat) (state : List Bool) (rows : List (List Bool)) (clock : ℕ) → clock < length rows → get_or (states_of flat state rows) clock [] ≡ state_after flat state (take clock rows)
+states_at flat state [] clock within = absurd (omega (arith, within))
+states_at flat state (row ∷ rows) zero within = refl
+states_at flat state (row ∷ rows) (suc clock) within = states_at flat (next_state flat row state) rows clock (omega (arith, within))
+
+outputs_are : (flat : Flat) (state : List Bool) (rows : List (List Bool)) (clock : ℕ) → clock < length rows → get_or (outputs_of flat state rows) clock [] ≡ map (net_value flat (get_or rows clock []) (state_after flat state (take clock rows))) flat.outputs
+outputs_are flat state [] clock within = absurd (omega (arith, within))
+outputs_are flat state (row ∷ rows) zero within = refl
+outputs_are flat state (row ∷ rows) (suc clock) within = outputs_are flat (next_state flat row state) rows clock (omega (arith, within))
+
+module _ (job : Job) where
+  abbrev flat : Flat
+  flat = job.checked.ordered.flat
+
+  abbrev planned : PlannedBoard
+  planned = planned_of job
+
+  abbrev IsLatch : ℕ → Type 0
+  IsLatch net = is_latch (driving_cell flat net) ≡ true
+
+  latch_net : (net : ℕ) → IsLatch net → (flat.inputs ≤ net) × (net < flat.inputs + length flat.cells)
+  latch_net net latch =
+      let cell = latch_is job 0 (driving_cell flat net) latch in
+      let within = latch_within job 0 net cell.0 cell.1.0 cell.1.1 in
+      let if_input = λ (input : net < flat.inputs).
+      let none : is_latch (driving_cell flat net) ≡ false = ap (λ (is : Bool). is_latch (if is then None else slice_get flat.cells (net - flat.inputs))) (lt-ltb net flat.inputs input) in
+      let no : ⊥ = true≢false (sym latch ∙ none) in
+      let whole : (flat.inputs ≤ net) × (net < flat.inputs + length flat.cells) = absurd no in whole in
+      let if_cell = λ (past : flat.inputs ≤ net). let whole : (flat.inputs ≤ net) × (net < flat.inputs + length flat.cells) = (past, within) in whole in
+      ⊎_elim if_input if_cell (cases_lt net flat.inputs)
+
+  -- a latch is on a chip
+  pub latch_home : (net : ℕ) → IsLatch net → (1 ≤ home planned net) × (home planned net ≤ job.checked.board.chips)
+  latch_home net latch =
+      let within = latch_net net latch in
+      let place : net - flat.inputs < length job.checked.plan.chip_of = omega (arith, within.0, within.1, job.checked.sound.one_chip_each.each) in
+      let chip = job.checked.sound.one_chip_each.chips (net - flat.inputs) 0 place in
+      let its : home planned net ≡ get_or job.checked.plan.chip_of (net - flat.inputs) 0 = ap (λ (input : Bool). if input then 0 else get_or job.checked.plan.chip_of (net - flat.inputs) 0) (le-ltb net flat.inputs within.0) in
+      (omega (arith, chip.0, its), omega (arith, chip.1, its))
+
+  -- the latches of a node
+
+  among_range : (first count net : ℕ) → first ≤ net → net < first + count → is_among (range_with_len first count) net ≡ true
+  among_range first count net low high =
+      let place : net - first < length (range_with_len first count) = omega (arith, low, high, length-range_with_len first count) in
+      let at : get_or (range_with_len first count) (net - first) 0 ≡ net = get_or-range_with_len first count (net - first) 0 (omega (arith, low, high)) ∙ (let same : first + (net - first) ≡ net = omega (arith, low) in same) in
+      list_any_at (λ (other : ℕ). eqb other net) (range_with_len first count) (net - first) 0 place (eq-eqb (get_or (range_with_len first count) (net - first) 0) net at)
+
+  among_filter : (test : ℕ → Bool) (nets : List ℕ) (net : ℕ) → is_among (filter test nets) net ≡ (test net && is_among nets net)
+  among_filter test nets net = any-filter_same (λ (other : ℕ). eqb other net) test (test net) (λ other is. ap test (eqb-true other net is)) nets
+
+  pub own_among : (node net : ℕ) → IsLatch net → home planned net ≡ node → is_among (own_latches planned node) net ≡ true
+  own_among node net latch its =
+      let within = latch_net net latch in
+      among_filter (λ net. is_latch (driving_cell flat net) && eqb (home planned net) node) (range_with_len flat.inputs (length flat.cells)) net
+      ∙ and_from (is_latch (driving_cell flat net) && eqb (home planned net) node) (is_among (range_with_len flat.inputs (length flat.cells)) net)
+      (and_from (is_latch (driving_cell flat net)) (eqb (home planned net) node) latch (eq-eqb (home planned net) node its)) (among_range flat.inputs (length flat.cells) net within.0 within.1)
+
+  pub own_are : (node net : ℕ) → is_among (own_latches planned node) net ≡ true → IsLatch net
+  own_are node net among =
+      let both : ((is_latch (driving_cell flat net) && eqb (home planned net) node) && is_among (range_with_len flat.inputs (length flat.cells)) net) ≡ true =
+      sym (among_filter (λ net. is_latch (driving_cell flat net) && eqb (home planned net) node) (range_with_len flat.inputs (length flat.cells)) net) ∙ among in
+      (and_parts (is_latch (driving_cell flat net)) (eqb (home planned net) node) (and_parts (is_latch (driving_cell flat net) && eqb (home planned net) node) (is_among (range_with_len flat.inputs (length flat.cells)) net) both).0).0
+
+  -- ---- a row of all latches
+
+  -- the value of a latch in a clock is in the state before it
+  pub state_bit : (clock net : ℕ) → IsLatch net → value_at job clock net ≡ get_or (state_at job clock) (latch_number job net) false
+  state_bit clock net latch = let cell = latch_is job 0 (driving_cell flat net) latch in value-latch job clock net cell.0 cell.1.0 cell.1.1
+
+  pub state_width : (clock : ℕ) → length (state_at job clock) ≡ latch_count flat.cells
+  state_width clock = length-state_after flat job.start (take clock job.rows) job.all_latches
+
+  -- a row that is right at each latch is the state
+  pub row_is : (clock : ℕ) (row : List Bool) → length row ≡ latch_count flat.cells → ((net : ℕ) → IsLatch net → get_or row (latch_number job net) false ≡ value_at job clock net) → row ≡ state_at job clock
+  row_is clock row wide right = same_lists row (state_at job clock) false (wide ∙ sym (state_width clock)) (λ place below.
+      let found = latch_with job place (omega (arith, below, wide)) in
+      ap (λ (one : ℕ). get_or row one false) (sym found.1.1) ∙ right found.0 found.1.0 ∙ state_bit clock found.0 found.1.0 ∙ ap (λ (one : ℕ). get_or (state_at job clock) one false) found.1.1)
+
+  -- ---- what the nodes of a board that is done have
+
+  pub done_board : (nodes : List Node) (all : SeenLanes) → IsBoard job nodes all → ((node : ℕ) → node < length (map state_of nodes) → (node_at (world_of nodes all) node).clock ≡ length job.rows) → IsDoneBoard job nodes
+  done_board nodes all board done = (sym (length-map nodes state_of) ∙ board.kept.count, λ node there is. each node there is) where
+    each : (node : ℕ) (there : Node) → slice_get nodes node ≡ Some there → IsDoneNode job node there
+    each node there is =
+        let within : node < length nodes = slice_get_within nodes node there is in
+        let inside : node < length (map state_of nodes) = omega (arith, within, length-map nodes state_of) in
+        let state : node_at (world_of nodes all) node ≡ state_of there = get_or-map state_of nodes node there _ within ∙ ap state_of (get_or_from_slice_get nodes node there there is) in
+        let clock : there.clock ≡ length job.rows = sym (ap (λ (one : NodeState). one.clock) state) ∙ done node inside in
+        let holds : HoldsValues job node (state_of there) = subst (HoldsValues job node) state (board.kept.nodes node inside) in
+        record {
+          nets = (board.fits node there is).records ∙ ap (recorded planned) (board.numbers node there is);
+          rows = holds.told ∙ ap (tabulate (λ clock. map (value_at job clock) (recorded planned node))) clock;
+          size = holds.size;
+          last = λ net latch its.
+              let own : is_source planned node net ≡ true = and_from (eqb (home planned net) node) (nat_lt net flat.inputs || is_latch (driving_cell flat net)) (eq-eqb (home planned net) node its) (or_second (nat_lt net flat.inputs) (is_latch (driving_cell flat net)) latch) in
+              holds.latched net (latch_net net latch).0 own ∙ ap (λ (one : ℕ). value_at job one net) clock;
+        } where
+          or_second : (first second : Bool) → second ≡ true → (first || second) ≡ true
+          or_second true second is = refl
+          or_second false second is = is
+
+  -- what a chip has recorded
+  pub chip_nets : (node : ℕ) → 1 ≤ node → recorded planned node ≡ own_latches planned node
+  chip_nets node chip = ap (λ (host : Bool). if host then flat.outputs else own_latches planned node) (ne_eqb node 0 (λ same. absurd (omega (arith, chip, same))))
+
+  module _ (node : ℕ) (there : Node) (is_done : IsDoneNode job node there) where
+    pub row_at_clock : (clock : ℕ) → clock < length job.rows → get_or there.rows.items clock [] ≡ map (value_at job clock) there.recorded.items
+    row_at_clock clock within =
+        ap (λ (rows : List (List Bool)). get_or rows clock []) is_done.rows
+        ∙ get_or-tabulate (λ clock. map (value_at job clock) (recorded planned node)) (length job.rows) clock [] within
+        ∙ ap (map (value_at job clock)) (sym is_done.nets)
+
+    pub rows_count : length there.rows.items ≡ length job.rows
+    rows_count = ap (λ (rows : List (List Bool)). length rows) is_done.rows ∙ length-tabulate (λ clock. map (value_at job clock) (recorded planned node)) (length job.rows)
+
+  -- ---- the outputs
+
+  pub outputs_told : (there : Node) → IsDoneNode job 0 there → there.rows.items ≡ outputs_of flat job.start job.rows
+  unfolding value_at
+  outputs_told there is_done = same_lists there.rows.items (outputs_of flat job.start job.rows) [] (rows_count 0 there is_done ∙ sym (length-outputs_of flat job.start job.rows)) (λ clock below.
+      let within : clock < length job.rows = omega (arith, below, rows_count 0 there is_done) in
+      row_at_clock 0 there is_done clock within ∙ ap (map (value_at job clock)) is_done.nets ∙ sym (outputs_are flat job.start job.rows clock within))
+
+  -- ---- the latches
+
+  pub no_latches : (rows : List (List Bool)) → length rows ≡ length job.rows → All (λ row. length row ≡ latch_count flat.cells) rows → HaveLatches job 1 rows
+  no_latches rows count wide = record {
+    count = count;
+    each = λ clock within. record {
+      wide = wide clock [] within;
+      right = λ net latch below. absurd (omega (arith, (latch_home net latch).0, below));
+    };
+  }
+
+  pub all_latches : (rows : List (List Bool)) (done : ℕ) → HaveLatches job done rows → suc job.checked.board.chips ≤ done → rows ≡ states_of flat job.start job.rows
+  all_latches rows done have over = same_lists rows (states_of flat job.start job.rows) [] (have.count ∙ sym (length-states_of flat job.start job.rows)) (λ clock below.
+      let within : clock < length job.rows = omega (arith, below, have.count) in
+      let row = have.each clock below in
+      row_is clock (get_or rows clock []) row.wide (λ net latch. row.right net latch (omega (arith, (latch_home net latch).1, over))) ∙ sym (states_at flat job.start job.rows clock within))
+
+  -- one chip more
+  pub chip_more : (numbers : List ℕ) → AreNumbers flat numbers → (node : ℕ) (there : Node) → 1 ≤ node → IsDoneNode job node there → (rows new : List (List Bool)) → HaveLatches job node rows → length new ≡ length rows
+      → ((clock : ℕ) → clock < length new → get_or new clock [] ≡ with_latches (number_in numbers flat.inputs) there.recorded.items (get_or there.rows.items clock []) (get_or rows clock [])) → HaveLatches job (node + 1) new
+  chip_more numbers are node there chip is_done rows new have count each = record {
+    count = count ∙ have.count;
+    each = λ clock within.
+        let low : clock < length rows = omega (arith, within, count) in
+        let early : clock < length job.rows = omega (arith, low, have.count) in
+        let row = have.each clock low in
+        let nets : there.recorded.items ≡ own_latches planned node = is_done.nets ∙ chip_nets node chip in
+        let bits : get_or there.rows.items clock [] ≡ map (value_at job clock) (own_latches planned node) = row_at_clock node there is_done clock early ∙ ap (map (value_at job clock)) nets in
+        let made : get_or new clock [] ≡ with_latches (number_in numbers flat.inputs) (own_latches planned node) (map (value_at job clock) (own_latches planned node)) (get_or rows clock []) =
+        each clock within ∙ ap₂ (λ (own : List ℕ) (values : List Bool). with_latches (number_in numbers flat.inputs) own values (get_or rows clock [])) nets bits in
+        let is_there : (net : ℕ) → IsLatch net → number_in numbers flat.inputs net ≡ latch_number job net = λ net latch. let net_is = latch_net net latch in are.1 (net - flat.inputs) (omega (arith, net_is.0, net_is.1)) in
+        record {
+          wide = ap (λ (row : List Bool). length row) made ∙ same_width job (number_in numbers flat.inputs) (value_at job clock) is_there (own_latches planned node) (map (value_at job clock) (own_latches planned node)) (get_or rows clock []) ∙ row.wide;
+          right = λ net latch below.
+              let right : (is_among (own_latches planned node) net ≡ true) ⊎ (get_or (get_or rows clock []) (latch_number job net) false ≡ value_at job clock net) =
+              ⊎_elim (λ (before : home planned net < node). inr (row.right net latch before)) (λ (past : node ≤ home planned net). inl (own_among node net latch (omega (arith, past, below)))) (cases_lt (home planned net) node) in
+              ap (λ (row : List Bool). get_or row (latch_number job net) false) made
+              ∙ put_right job (number_in numbers flat.inputs) (value_at job clock) is_there (own_latches planned node) (get_or rows clock []) net (own_are node) latch (omega (arith, row.wide)) right;
+        };
+  }
+
+  -- ---- the latches after the last clock
+
+  pub last_none : (row : List Bool) → length row ≡ latch_count flat.cells → HasLast job 0 row
+  last_none row wide = record { wide = wide; right = λ net latch below. absurd (omega (arith, (latch_net net latch).0, below)) }
+
+  pub last_all : (row : List Bool) (done : ℕ) → HasLast job done row → length flat.cells ≤ done → row ≡ state_after flat job.start job.rows
+  last_all row done has over =
+      row_is (length job.rows) row has.wide (λ net latch. has.right net latch (omega (arith, (latch_net net latch).1, over))) ∙ ap (λ (rows : List (List Bool)). state_after flat job.start rows) (take_all (length job.rows) job.rows (omega arith))
+
+  pub last_more : (row new : List Bool) (done : ℕ) (bit : Bool) → HasLast job done row → IsLatch (flat.inputs + done) → bit ≡ value_at job (length job.rows) (flat.inputs + done) → new ≡ set row (latch_number job (flat.inputs + done)) bit → HasLast job (done + 1) new
+  last_more row new done bit has latch bit_is new_is = subst (HasLast job (done + 1)) (sym new_is) (record {
+    wide = length-set row (latch_number job (flat.inputs + done)) bit ∙ has.wide;
+    right = λ net one below.
+        let own = flat.inputs + done in
+        let if_same = λ (same : net ≡ own).
+        ap (λ (any : ℕ). get_or (set row (latch_number job own) bit) (latch_number job any) false) same ∙ get_or-set_same row (latch_number job own) bit false (omega (arith, number_within job own latch, has.wide)) ∙ bit_is ∙ ap (value_at job (length job.rows)) (sym same) in
+        let if_other = λ (apart : net ≡ own → ⊥).
+        get_or-set_other row (latch_number job own) (latch_number job net) bit false (λ same. apart (number_once job net own one latch same)) ∙ has.right net one (omega (arith, below, apart)) in
+        ⊎_elim if_same if_other (cases_eq net own);
+  })
+
+  pub last_passed : (row : List Bool) (done : ℕ) → HasLast job done row → (IsLatch (flat.inputs + done) → ⊥) → HasLast job (done + 1) row
+  last_passed row done has none = record {
+    wide = has.wide;
+    right = λ net latch below.
+        let if_same = λ (same : net ≡ flat.inputs + done). absurd (none (subst IsLatch same latch)) in
+        let if_other = λ (apart : net ≡ flat.inputs + done → ⊥). has.right net latch (omega (arith, below, apart)) in
+        ⊎_elim if_same if_other (cases_eq net (flat.inputs + done));
+  }
+
+  -- ---- one latch after the last clock
+
+  module _ (nodes : List Node) (done : IsDoneBoard job nodes) (number : ℕ) (latch : is_latch (slice_get flat.cells number) ≡ true) where
+    abbrev net : ℕ
+    net = flat.inputs + number
+
+    pub net_latch : IsLatch net
+    net_latch = ap is_latch (driven_at job number) ∙ latch
+
+    net_cell : (flat.inputs ≤ net) × (net < flat.inputs + length flat.cells)
+    net_cell = latch_net net net_latch
+
+    pub cell_within : number < length flat.cells
+    cell_within = omega (arith, net_cell.1)
+
+    pub chip_within : number < length job.checked.plan.chip_of
+    chip_within = omega (arith, cell_within, job.checked.sound.one_chip_each.each)
+
+    chip_is : home planned net ≡ get_or job.checked.plan.chip_of number 0
+    chip_is =
+        let back : flat.inputs + number - flat.inputs ≡ number = omega arith in
+        ap (λ (input : Bool). if input then 0 else get_or job.checked.plan.chip_of (flat.inputs + number - flat.inputs) 0) (le-ltb net flat.inputs (omega arith)) ∙ ap (λ (place : ℕ). get_or job.checked.plan.chip_of place 0) back
+
+    pub node_within : get_or job.checked.plan.chip_of number 0 < length nodes
+    node_within = omega (arith, (latch_home net net_latch).1, chip_is, done.0)
+
+    module _ (default : Node) where
+      abbrev there : Node
+      there = get_or nodes (get_or job.checked.plan.chip_of number 0) default
+
+      its : IsDoneNode job (home planned net) there
+      its = done.1 (home planned net) there (ap (slice_get nodes) chip_is ∙ slice_get-get_or nodes (get_or job.checked.plan.chip_of number 0) default node_within)
+
+      pub slot_within : net < length (state_of there).slots
+      slot_within = omega (arith, its.size, net_cell.1)
+
+      pub bit_is : slot (state_of there) net ≡ value_at job (length job.rows) net
+      bit_is = its.last net net_latch refl
+
+  -- ---- the nets of a chip, in the table of numbers
+
+  among_at_place : (nets : List ℕ) (place default : ℕ) → place < length nets → is_among nets (get_or nets place default) ≡ true
+  among_at_place nets place default within = list_any_at (λ (other : ℕ). eqb other (get_or nets place default)) nets place default within (eq-eqb (get_or nets place default) (get_or nets place default) refl)
+
+  module _ (numbers : List ℕ) (are : AreNumbers flat numbers) (node : ℕ) (chip : 1 ≤ node) (there : Node) (is_done : IsDoneNode job node there) where
+    own_nets : there.recorded.items ≡ own_latches planned node
+    own_nets = is_done.nets ∙ chip_nets node chip
+
+    each_latch : (place default : ℕ) → place < length there.recorded.items → IsLatch (get_or there.recorded.items place default)
+    each_latch place default within =
+        own_are node (get_or there.recorded.items place default)
+        (ap (λ (nets : List ℕ). is_among nets (get_or there.recorded.items place default)) (sym own_nets) ∙ among_at_place there.recorded.items place default within)
+
+    pub nets_within : (inputs : ℕ) → inputs ≡ flat.inputs → All (λ net. (inputs ≤ net) × (net - inputs < length numbers)) there.recorded.items
+    nets_within inputs same place default within =
+        let net = latch_net (get_or there.recorded.items place default) (each_latch place default within) in
+        (omega (arith, same, net.0), omega (arith, same, net.0, net.1, are.0))
+
+    pub numbers_within : (inputs : ℕ) → inputs ≡ flat.inputs → (rows : List (List Bool)) → HaveLatches job node rows → All (λ row. All (λ net. number_in numbers inputs net < length row) there.recorded.items) rows
+    numbers_within inputs same rows have clock none below place default within =
+        let net = get_or there.recorded.items place default in
+        let latch = each_latch place default within in
+        let is = latch_net net latch in
+        let row : get_or rows clock none ≡ get_or rows clock [] = get_or_default rows clock none [] below in
+        let number : number_in numbers inputs net ≡ latch_number job net = ap (λ (first : ℕ). get_or numbers (net - first) 0) same ∙ are.1 (net - flat.inputs) (omega (arith, is.0, is.1)) in
+        omega (arith, number, number_within job net latch, (have.each clock below).wide, ap (λ (bits : List Bool). length bits) row)
+
+    pub bits_wide : All (λ bits. length bits ≡ length there.recorded.items) there.rows.items
+    bits_wide clock none below =
+        let early : clock < length job.rows = omega (arith, below, rows_count node there is_done) in
+        ap (λ (bits : List Bool). length bits) (get_or_default there.rows.items clock none [] below ∙ row_at_clock node there is_done clock early) ∙ length-map there.recorded.items (value_at job clock)

@@ -1,0 +1,5 @@
+use Rattle.vw_world.specs.Answers.{HaveLatches}
+use Rattle.vw_world.proofs.answering.put_chips.Given as goal
+
+abbrev pub invariant-loop-node : goal.invariant-loop-node
+invariant-loop-node l = HaveLatches l.fn.job l.node l.latches
