@@ -6,8 +6,8 @@ use Rattle.vw_trace.proofs.trace.write_batch.Goals as goal
 
 pub trace_rows-lines-requires : goal.trace_rows-lines-requires
 trace_rows-lines-requires g c =
-    let rows = c.args.rows.now in
-    let flat = c.args.machine.now.flat in
+    let rows = c.args.rows in
+    let flat = g.E.Engine.netlist c.args.engine.now in
     let outputs = ap (λ (rows : List (List Bool)). length rows) c.in_ok-batch.ensures.outputs in
     let states = ap (λ (rows : List (List Bool)). length rows) c.in_ok-batch.ensures.states in
     omega (arith, outputs, states, length-outputs_of flat c.args.state.now rows, length-states_of flat c.args.state.now rows)
