@@ -1,9 +1,10 @@
 //! What works out the clocks of a netlist, so that one writer of traces serves all that do.
-ghost use Rattle.std.specs.Prelude.{◌≡◌, ◌<◌, ◌+◌, ◌^◌, length, IfOk, OnOk};
+ghost use Rattle.std.specs.Prelude.{◌≡◌, ◌<◌, ◌+◌, ◌^◌, ℕ, length, Option, IfOk, OnOk};
 ghost use Rattle.std.specs.List.{All};
 ghost use Rattle.vw_net.specs.declared.flat.Flat.{Flat};
 ghost use Rattle.vw_net.specs.Cells.{latch_count};
 ghost use Rattle.vw_net.specs.History.{outputs_of, states_of, state_after};
+ghost use Rattle.vw_trace.specs.Engines.{IsCount};
 
 use std::alloc::{AllocError, Global};
 use vw_net::{Bits, Flat, Rows};
@@ -19,6 +20,9 @@ pub struct Batch {
 pub trait Engine {
     /// The netlist.
     ghost netlist: { Self → Flat };
+
+    /// How many clocks of its run are done, where it numbers its clocks.
+    ghost done: { Self → Option ℕ };
 
     /// The netlist.
     fn flat(&self) -> &Flat
@@ -39,6 +43,7 @@ pub trait Engine {
         requires latches { length state.old ≡ latch_count (netlist self.old).cells }
         requires few { first + length rows < 2 ^ 32 }
         ensures netlist { netlist self.new ≡ netlist self.old }
+        ensures done { OnOk result (IsCount (done self.new) (first + length rows)) }
         ensures outputs { IfOk result (λ batch. batch.outputs
             ≡ outputs_of (netlist self.old) state.old rows) }
         ensures states { IfOk result (λ batch. batch.states

@@ -10,8 +10,8 @@ use vw_sim::Machine;
 /// A machine, with a value for each net of its netlist.
 #[derive(Drop)]
 pub struct Simulation<'a> {
-    machine: Machine<'a>,
-    values: Bits,
+    pub machine: Machine<'a>,
+    pub values: Bits,
     ghost nets: { length values ≡ machine.flat.inputs + length machine.flat.cells },
 }
 
@@ -35,7 +35,11 @@ impl<'a> Simulation<'a> {
 }
 
 impl Engine for Simulation<'_> {
+    ghost use Rattle.std.specs.Prelude.{None};
+
     ghost netlist = { λ simulation. simulation.machine.flat };
+
+    ghost done = { λ _. None };
 
     fn flat(&self) -> &Flat {
         self.machine.flat()

@@ -7,6 +7,7 @@ ghost use Rattle.vw_outside.specs.Told.{held};
 ghost use Rattle.vw_outside.specs.Writes.{WritesOut};
 ghost use Rattle.vw_rows.specs.Standing.{StandsIn};
 ghost use Rattle.vw_rows.specs.Trace.{head_text, rows_text, end_text};
+ghost use Rattle.vw_trace.specs.Engines.{IsCount};
 ghost use Rattle.vw_trace.specs.FlatTrace.{trace_from, flat_trace};
 ghost use Rattle.vw_trace.specs.Streamed.{Streams};
 ghost use Rattle.vw_trace.specs.Steps.StreamedClocks.{StreamsClocks};
@@ -35,6 +36,7 @@ fn write_batch<E: Engine, O: Sink>(
     requires latches { length state.old ≡ latch_count (E.netlist engine.old).cells }
     requires few { done + length rows < 2 ^ 32 }
     ensures netlist { E.netlist engine.new ≡ E.netlist engine.old }
+    ensures done { OnOk result (IsCount (E.done engine.new) (done + length rows)) }
     ensures writes { let flat = E.netlist engine.old in WritesOut
         (rows_text done (outputs_of flat state.old rows) (states_of flat state.old rows))
         (O.seen out.old) (O.seen out.new) result }
@@ -59,10 +61,12 @@ fn write_clocks<E: Engine, S: Shelf, O: Sink>(
     requires stands { (text : List ℕ) → (S.seen shelf.old).told stimulus.old.name ≡ held text
         → StandsIn stimulus.old text }
     requires latches { length state.old ≡ latch_count (E.netlist engine.old).cells }
+    requires unstarted { IsCount (E.done engine.old) 0 }
     ensures streams { StreamsClocks stimulus.old (E.netlist engine.old) state.old state.new
         (S.seen shelf.old) (O.seen out.old) (S.seen shelf.new) (O.seen out.new)
         result }
     ensures done { OnOk result (stimulus.new.done ≡ stimulus.old.clocks) }
+    ensures all { OnOk result (IsCount (E.done engine.new) stimulus.old.clocks) }
 {
     histories_join();
     while stimulus.done() < stimulus.clocks() {
@@ -110,10 +114,12 @@ fn write_lines<E: Engine, S: Shelf, O: Sink>(
     requires stands { (text : List ℕ) → (S.seen shelf.old).told stimulus.old.name ≡ held text
         → StandsIn stimulus.old text }
     requires latches { length state.old ≡ latch_count (E.netlist engine.old).cells }
+    requires unstarted { IsCount (E.done engine.old) 0 }
     ensures streams { Streams stimulus.old.name stimulus.old.width
         (trace_from state.old (E.netlist engine.old)) (S.seen shelf.old) (O.seen out.old)
         (S.seen shelf.new) (O.seen out.new) result }
     ensures done { OnOk result (stimulus.new.done ≡ stimulus.old.clocks) }
+    ensures all { OnOk result (IsCount (E.done engine.new) stimulus.old.clocks) }
 {
     let clocks = stimulus.clocks();
     write_head(alloc, engine.flat(), state, out)?;
@@ -126,7 +132,8 @@ fn write_lines<E: Engine, S: Shelf, O: Sink>(
 /// netlist. Free latches start at `unknown`. The stimulus is read again in batches of 256 clocks, and memory is taken for
 /// one batch at a time: all but that of its lines before its first clock. Where a read or a write fails or memory runs
 /// out, a front of the trace was appended. Where nothing is told of the text of the stimulus, it may have changed since it
-/// was checked: then it may be found at fault, or the trace is that of other rows with the same width.
+/// was checked: then it may be found at fault, or the trace is that of other rows with the same width. An engine that
+/// numbers its clocks begins with the first, and has done them all after a success.
 pub fn write_trace_by<E: Engine, S: Shelf, O: Sink>(
     alloc: Global,
     engine: &mut E,
@@ -139,10 +146,12 @@ pub fn write_trace_by<E: Engine, S: Shelf, O: Sink>(
     requires fresh { stimulus.old.done ≡ 0 }
     requires stands { (text : List ℕ) → (S.seen shelf.old).told stimulus.old.name ≡ held text
         → StandsIn stimulus.old text }
+    requires unstarted { IsCount (E.done engine.old) 0 }
     ensures streams { Streams stimulus.old.name stimulus.old.width
         (flat_trace unknown (E.netlist engine.old)) (S.seen shelf.old) (O.seen out.old)
         (S.seen shelf.new) (O.seen out.new) result }
     ensures done { OnOk result (stimulus.new.done ≡ stimulus.old.clocks) }
+    ensures all { OnOk result (IsCount (E.done engine.new) stimulus.old.clocks) }
 {
     let mut state = engine.flat().start(alloc, unknown)?;
     write_lines(alloc, engine, stimulus, &mut state, shelf, out)

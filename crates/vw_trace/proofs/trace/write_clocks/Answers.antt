@@ -1,4 +1,4 @@
-use Rattle.std.proofs.Common.{◌≡◌, ◌∙◌, ℕ, List, Bool, length, take, drop, Ok, Err, sym, ap, ap₂, subst, refl, arith}
+use Rattle.std.proofs.Common.{◌≡◌, ◌+◌, ◌∙◌, ℕ, List, Bool, length, take, drop, Ok, Err, sym, ap, ap₂, subst, refl, arith}
 use Rattle.std.specs.List.{All}
 use Rattle.std.proofs.lemmas.Result.{err_from_is_err_and}
 use Rattle.vw_net.specs.declared.flat.Flat.{Flat}
@@ -8,14 +8,16 @@ use Rattle.vw_outside.specs.Told.{held}
 use Rattle.vw_outside.specs.Writes.{appended, WritesOut}
 use Rattle.vw_rows.specs.declared.fault.StimFault.{StimFault}
 use Rattle.vw_rows.specs.Stimulus.{stimulus_rows}
+use Rattle.vw_trace.specs.Engines.{IsCount}
 use Rattle.vw_trace.specs.Steps.StreamedClocks.{clock_lines}
 use Rattle.vw_trace.proofs.Streaming.{begins, stands_then, unread, unwritten_lines, further, all_given}
 use Rattle.vw_trace.proofs.trace.write_clocks.Given.{Over}
 use Rattle.vw_trace.proofs.trace.write_clocks.Goals as goal
-use Rattle.vw_trace.proofs.trace.write_clocks.Goals.{In_ok-rows}
+use Rattle.vw_trace.proofs.trace.write_clocks.Goals.{In_ok-rows, After-loop-alloc}
 
 pub loop-alloc-init : goal.loop-alloc-init
 loop-alloc-init g c = record {
+  done = subst (λ (count : ℕ). IsCount (g.E.Engine.done c.args.engine.now) count) (sym c.requires.fresh) c.requires.unstarted;
   netlist = refl;
   underway = begins c.args.stimulus.now (g.E.Engine.netlist c.args.engine.now) c.args.state.now (g.S.Shelf.seen c.args.shelf.now) (g.O.Sink.seen c.args.out.now) c.requires.fresh c.requires.stands c.requires.latches;
 }
@@ -92,7 +94,9 @@ loop-alloc-preserved g c =
     let next = is_next g at.In_ok-rows in
     let rows = c.in_ok-rows.rows in
     let same = c.loop-alloc.invariant.netlist in
+    let count : c.done-done.result + length rows ≡ c.next_batch.new.self.done = omega (arith, c.in_ok-rows.ensures.gave.done, c.done-done.ensures) in
     record {
+      done = subst (λ (n : ℕ). IsCount (g.E.Engine.done c.write_batch.new.engine) n) count c.in_ok-write_batch.ensures.done;
       netlist = c.in_ok-write_batch.ensures.netlist ∙ same;
       underway = further c.args.stimulus.now flat (c.histories_join.ensures flat) c.args.state.now (g.S.Shelf.seen c.args.shelf.now) (g.O.Sink.seen c.args.out.now)
           c.loop-alloc.stimulus c.loop-alloc.state (g.S.Shelf.seen c.loop-alloc.shelf) (g.O.Sink.seen c.loop-alloc.out) c.loop-alloc.invariant.underway
@@ -100,6 +104,11 @@ loop-alloc-preserved g c =
           c.in_ok-rows.ensures.gave c.in_ok-rows.ensures.stands (c.in_ok-write_batch.ensures.state ∙ ap (λ (one : Flat). state_after one c.loop-alloc.state rows) same)
           (c.in_ok-write_batch.ensures.writes ∙ ap₂ (λ (one : Flat) (done : ℕ). appended (g.O.Sink.seen c.loop-alloc.out) (clock_lines one done c.loop-alloc.state rows)) same c.done-done.ensures);
     }
+
+-- as many clocks are done as there are
+all_done : (g : Over) (c : After-loop-alloc g) → c.loop-alloc.stimulus.done ≡ c.args.stimulus.now.clocks
+all_done g c =
+    omega (arith, c.loop-alloc.stimulus.some_left, c.loop-alloc-test.false, c.done.ensures, c.clocks.ensures, c.loop-alloc.invariant.underway.clocks)
 
 pub returns-clause-streams : goal.returns-clause-streams
 returns-clause-streams g c =
@@ -109,5 +118,8 @@ returns-clause-streams g c =
     (omega (arith, c.loop-alloc.stimulus.some_left, c.loop-alloc-test.false, c.done.ensures, c.clocks.ensures))
 
 pub returns-clause-done : goal.returns-clause-done
-returns-clause-done g c =
-    omega (arith, c.loop-alloc.stimulus.some_left, c.loop-alloc-test.false, c.done.ensures, c.clocks.ensures, c.loop-alloc.invariant.underway.clocks)
+returns-clause-done g c = all_done g (goal.at.returns-clause-done g c).After-loop-alloc
+
+pub returns-clause-all : goal.returns-clause-all
+returns-clause-all g c =
+    subst (λ (n : ℕ). IsCount (g.E.Engine.done c.loop-alloc.engine) n) (all_done g (goal.at.returns-clause-all g c).After-loop-alloc) c.loop-alloc.invariant.done
