@@ -39,6 +39,21 @@ impl Job {
         }
     }
 
+    /// Makes it the job of other rows, of the same design on the same board. It takes no memory.
+    pub fn renew(&mut self, first: u64, start: Bits, rows: Rows)
+        requires all_latches { length start ≡ latch_count self.old.checked.ordered.flat.cells }
+        requires even { All (λ row. length row ≡ self.old.checked.ordered.flat.inputs) rows }
+        requires short { first + length rows < 2 ^ 32 }
+        ensures checked { self.new.checked ≡ self.old.checked }
+        ensures first { self.new.first ≡ first }
+        ensures start { self.new.start ≡ start }
+        ensures rows { self.new.rows ≡ rows }
+    {
+        self.first = first;
+        self.start = start;
+        self.rows = rows;
+    }
+
     /// The design on its board, the start bits and the rows. It takes no memory.
     pub fn into_parts(self) -> (Checked, Bits, Rows)
         ensures checked { result.0 ≡ self.checked }

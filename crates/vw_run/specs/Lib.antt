@@ -1,3 +1,4 @@
 pub mod Shortest
 pub mod Compiled
 pub mod Messages
+pub mod Runs

@@ -1,10 +1,14 @@
 //! Plans of a design on a board.
 #![tactic(auto)]
 
+mod alone;
 mod compiler;
 mod fault;
 mod routes;
+mod running_board;
 
+pub use alone::run_alone;
 pub use compiler::compile;
 pub use fault::{CompileFault, CompileRefused};
 pub use routes::routes_of;
+pub use vw_trace::RunFault;

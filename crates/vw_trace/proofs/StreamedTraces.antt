@@ -1,9 +1,8 @@
 -- A trace, written while a checked stimulus is read again.
-use Rattle.std.proofs.Common.{◌≡◌, ◌++◌, ℕ, Bool, List, [], length, take, Result, Ok, Err, refl, sym, ◌∙◌, ap, ap₂, subst, append-nil, arith}
+use Rattle.std.proofs.Common.{◌≡◌, ◌++◌, ℕ, Bool, List, [], length, Result, Ok, Err, refl, sym, ap₂, subst, append-nil, arith}
 use Rattle.std.proofs.lemmas.List.Elements.{All-nil}
 use Rattle.vw_net.specs.declared.flat.Flat.{Flat}
 use Rattle.vw_net.specs.Cells.{latch_count}
-use Rattle.vw_net.specs.History.{state_after}
 use Rattle.vw_outside.specs.declared.unwritten.Unwritten.{Unwritten}
 use Rattle.vw_outside.specs.Told.{Told, held}
 use Rattle.vw_outside.specs.Reads.{SeenShelf}
@@ -16,10 +15,10 @@ use Rattle.vw_trace.specs.declared.fault.RunFault.{RunFault}
 use Rattle.vw_trace.specs.declared.fault.RunFault.TheVariants.{ReadFault, WriteFault, Stimulus as BadRows, NoMemory}
 use Rattle.vw_trace.specs.RunFaults.{run_fault_of}
 use Rattle.vw_trace.specs.FlatTrace.{trace_from}
-use Rattle.vw_trace.specs.Streamed.{MayBeRows, EndsStreaming, Streams}
+use Rattle.vw_trace.specs.Streamed.{EndsStreaming, Streams}
 use Rattle.vw_trace.specs.Steps.StreamedClocks.{clock_lines, StreamsClocks}
 use Rattle.vw_trace.proofs.TraceLines.{last_line, head_left}
-use Rattle.vw_trace.proofs.Streaming.{HasRows, IsFrontOfRows, BeginWith, begin_with, ends_unwritten}
+use Rattle.vw_trace.proofs.Streaming.{BeginWith, begin_with, ends_unwritten}
 
 -- what stops a piece of a text stops the text
 module _ (name text : List ℕ) (shelf : SeenShelf) (out mid : SeenSink) (shelf_after : SeenShelf) (after : SeenSink) (piece rest : List ℕ) (left : IsLeft out text mid (piece ++ rest)) where

@@ -1,25 +1,24 @@
 -- The lines of clocks, written while a checked stimulus is read again.
-use Rattle.std.proofs.Common.{◌≡◌, ◌≢◌, ◌<◌, ◌≤◌, ◌+◌, ℕ, Bool, true, false, true≢false, List, [], ◌∷◌, ◌++◌, length, take, drop, Result, Ok, Err, refl, sym, ◌∙◌, ap, ap₂, subst, arith, append_assoc, append-nil, length-append}
+use Rattle.std.proofs.Common.{◌≡◌, ◌≢◌, ◌+◌, ℕ, Bool, false, true≢false, List, [], ◌++◌, length, take, drop, Ok, Err, refl, sym, ◌∙◌, ap, ap₂, subst, arith, append_assoc, append-nil, length-append}
 use Rattle.std.specs.List.{All}
 use Rattle.std.proofs.Math.Seq.{take-add}
 use Rattle.std.proofs.lemmas.List.{take-append-drop, take_at, take_all}
 use Rattle.std.proofs.lemmas.List.Elements.{All-append, All-nil}
 use Rattle.vw_net.specs.declared.flat.Flat.{Flat}
 use Rattle.vw_net.specs.Cells.{latch_count}
-use Rattle.vw_net.specs.History.{outputs_of, states_of, state_after}
+use Rattle.vw_net.specs.History.{state_after}
 use Rattle.vw_net.proofs.Counts.{length-state_after}
 use Rattle.vw_outside.specs.declared.unwritten.Unwritten.{Unwritten}
 use Rattle.vw_outside.specs.declared.unwritten.Unwritten.TheVariants as unwritten
 use Rattle.vw_outside.specs.Told.{Told, untold, absent, held, IsTextOf}
 use Rattle.vw_outside.specs.Reads.{SeenShelf, CountsFault}
-use Rattle.vw_outside.specs.Writes.{SeenSink, appended, WrotePart, FailedAfterPart, WritesOut}
+use Rattle.vw_outside.specs.Writes.{SeenSink, appended, WrotePart, WritesOut}
 use Rattle.vw_outside.proofs.PiecesWritten.{IsLeft, part_written, unwritten_in_piece, appended-appended, appended-nil}
 use Rattle.vw_rows.specs.declared.fault.StimFault.{StimFault}
 use Rattle.vw_rows.specs.declared.fault.StimFault.TheVariants as rows_faults
 use Rattle.vw_rows.specs.declared.stimulus.Stimulus.{Stimulus}
 use Rattle.vw_rows.specs.Stimulus.{stimulus_rows, is_text_fault}
 use Rattle.vw_rows.specs.Standing.{StandsIn, GaveMore}
-use Rattle.vw_trace.specs.declared.fault.RunFault.{RunFault}
 use Rattle.vw_trace.specs.RunFaults.{run_fault_of, run_fault_of_rows}
 use Rattle.vw_trace.specs.Streamed.{IsNotHeld, MayBeRows, EndsStreaming}
 use Rattle.vw_trace.specs.Steps.StreamedClocks.{clock_lines, StreamsClocks}
@@ -163,7 +162,7 @@ module _ (name text : List ℕ) (shelf : SeenShelf) (out : SeenSink) (shelf_afte
 
 -- so many rows were read and their lines written; where a text is held, the stimulus stands in it; all else is as it was
 pub record IsUnderway (stimulus : Stimulus) (flat : Flat) (start : List Bool) (shelf : SeenShelf) (out : SeenSink)
-    (now : Stimulus) (state values : List Bool) (shelf_now : SeenShelf) (out_now : SeenSink) : Type 0 where
+    (now : Stimulus) (state : List Bool) (shelf_now : SeenShelf) (out_now : SeenSink) : Type 0 where
   pub rows : List (List Bool)
   pub front : IsFrontOfRows (shelf.told stimulus.name) stimulus.width rows
   pub wrote : WroteLines flat start out rows now.done state out_now
@@ -173,12 +172,11 @@ pub record IsUnderway (stimulus : Stimulus) (flat : Flat) (start : List Bool) (s
   pub shelf_is : shelf_now ≡ shelf
   pub stands : (text : List ℕ) → shelf.told stimulus.name ≡ held text → StandsIn now text
   pub latches : length state ≡ latch_count flat.cells
-  pub nets : length values ≡ flat.inputs + length flat.cells
 
 -- before the first batch
-pub begins : (stimulus : Stimulus) (flat : Flat) (start values : List Bool) (shelf : SeenShelf) (out : SeenSink) → stimulus.done ≡ 0 → ((text : List ℕ) → shelf.told stimulus.name ≡ held text → StandsIn stimulus text)
-    → length start ≡ latch_count flat.cells → length values ≡ flat.inputs + length flat.cells → IsUnderway stimulus flat start shelf out stimulus start values shelf out
-begins stimulus flat start values shelf out fresh stands latches nets = record {
+pub begins : (stimulus : Stimulus) (flat : Flat) (start : List Bool) (shelf : SeenShelf) (out : SeenSink) → stimulus.done ≡ 0 → ((text : List ℕ) → shelf.told stimulus.name ≡ held text → StandsIn stimulus text)
+    → length start ≡ latch_count flat.cells → IsUnderway stimulus flat start shelf out stimulus start shelf out
+begins stimulus flat start shelf out fresh stands latches = record {
   rows = [];
   front = record { wide = All-nil (λ row. length row ≡ stimulus.width); same = λ text all is said. refl };
   wrote = subst (λ (n : ℕ). WroteLines flat start out [] n start out) (sym fresh) (no_lines flat start out);
@@ -188,11 +186,10 @@ begins stimulus flat start values shelf out fresh stands latches nets = record {
   shelf_is = refl;
   stands = stands;
   latches = latches;
-  nets = nets;
 }
 
-module _ (stimulus : Stimulus) (flat : Flat) (join : HistoriesJoin flat) (start : List Bool) (shelf : SeenShelf) (out : SeenSink) (now : Stimulus) (state values : List Bool) (shelf_now : SeenShelf) (out_now : SeenSink)
-    (underway : IsUnderway stimulus flat start shelf out now state values shelf_now out_now) where
+module _ (stimulus : Stimulus) (flat : Flat) (join : HistoriesJoin flat) (start : List Bool) (shelf : SeenShelf) (out : SeenSink) (now : Stimulus) (state : List Bool) (shelf_now : SeenShelf) (out_now : SeenSink)
+    (underway : IsUnderway stimulus flat start shelf out now state shelf_now out_now) where
   abbrev told : Told
   told = shelf.told stimulus.name
 
@@ -253,10 +250,10 @@ module _ (stimulus : Stimulus) (flat : Flat) (join : HistoriesJoin flat) (start 
         }
 
     -- one batch more
-    pub further : (new : Stimulus) (state_new values_new : List Bool) → GaveMore (length next) now new → ((text : List ℕ) → shelf_now.told now.name ≡ held text → StandsIn new text)
-        → state_new ≡ state_after flat state next → length values_new ≡ length values → out_after ≡ appended out_now (clock_lines flat now.done state next)
-        → IsUnderway stimulus flat start shelf out new state_new values_new shelf_after out_after
-    further new state_new values_new gave stands state_is nets wrote = record {
+    pub further : (new : Stimulus) (state_new : List Bool) → GaveMore (length next) now new → ((text : List ℕ) → shelf_now.told now.name ≡ held text → StandsIn new text)
+        → state_new ≡ state_after flat state next → out_after ≡ appended out_now (clock_lines flat now.done state next)
+        → IsUnderway stimulus flat start shelf out new state_new shelf_after out_after
+    further new state_new gave stands state_is wrote = record {
       rows = rows_then ++ next;
       front = front_then;
       wrote = lines_further flat join start out rows_then now.done state out_now underway.wrote next new.done state_new out_after gave.done state_is wrote;
@@ -266,7 +263,6 @@ module _ (stimulus : Stimulus) (flat : Flat) (join : HistoriesJoin flat) (start 
       shelf_is = same ∙ underway.shelf_is;
       stands = λ text is. stands text (told_then ∙ is);
       latches = ap (λ (s : List Bool). length s) state_is ∙ length-state_after flat state next underway.latches;
-      nets = nets ∙ underway.nets;
     }
 
   -- all rows were given

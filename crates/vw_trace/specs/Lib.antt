@@ -1,4 +1,5 @@
 pub mod FlatTrace
+pub mod Engines
 pub mod RunFaults
 pub mod Streamed
 pub mod Steps

@@ -4,7 +4,6 @@ use Rattle.std.specs.List.{All}
 use Rattle.vw_outside.specs.Told.{Told, held}
 use Rattle.vw_outside.specs.Reads.{SeenShelf, CountsFault}
 use Rattle.vw_outside.specs.Writes.{SeenSink, appended, WrotePart, FailedAfterPart}
-use Rattle.vw_rows.specs.declared.fault.StimFault.{StimFault}
 use Rattle.vw_rows.specs.Stimulus.{stimulus_rows, is_text_fault}
 use Rattle.vw_trace.specs.declared.fault.RunFault.{RunFault}
 use Rattle.vw_trace.specs.declared.fault.RunFault.TheVariants.{ReadFault, WriteFault, Stimulus, NoMemory}

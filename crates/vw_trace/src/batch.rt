@@ -4,16 +4,10 @@ ghost use Rattle.std.specs.List.{All};
 ghost use Rattle.vw_net.specs.Cells.{latch_count};
 ghost use Rattle.vw_net.specs.History.{outputs_at, next_state, outputs_of, states_of, state_after};
 
+use crate::engine::Batch;
 use std::alloc::{AllocError, Global};
 use vw_net::{Bits, Rows};
 use vw_sim::Machine;
-
-/// What a netlist did in a number of clocks: the outputs of each, and the latch values before its step.
-#[derive(Drop)]
-pub struct Batch {
-    pub outputs: Rows,
-    pub states: Rows,
-}
 
 /// Rows of this many bits.
 fn blank_rows(alloc: Global, count: usize, width: usize) -> Result<Vec<Bits>, AllocError>

@@ -2,8 +2,11 @@
 #![tactic(auto)]
 
 mod batch;
+mod engine;
 mod fault;
+mod simulation;
 mod trace;
 
+pub use engine::{Batch, Engine};
 pub use fault::RunFault;
-pub use trace::write_trace;
+pub use trace::{write_trace, write_trace_by};

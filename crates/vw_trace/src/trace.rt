@@ -1,5 +1,5 @@
-//! Runs a netlist over rows, and writes its trace piece by piece.
-ghost use Rattle.std.specs.Prelude.{◌≡◌, ℕ, ◌+◌, List, length, IfOk, OnOk};
+//! Works out the clocks of a netlist, and writes its trace piece by piece.
+ghost use Rattle.std.specs.Prelude.{◌≡◌, ◌<◌, ℕ, ◌+◌, ◌^◌, List, length, OnOk};
 ghost use Rattle.std.specs.List.{All};
 ghost use Rattle.vw_net.specs.Cells.{latch_count};
 ghost use Rattle.vw_net.specs.History.{outputs_of, states_of, state_after};
@@ -7,70 +7,72 @@ ghost use Rattle.vw_outside.specs.Told.{held};
 ghost use Rattle.vw_outside.specs.Writes.{WritesOut};
 ghost use Rattle.vw_rows.specs.Standing.{StandsIn};
 ghost use Rattle.vw_rows.specs.Trace.{head_text, rows_text, end_text};
+ghost use Rattle.vw_trace.specs.Engines.{IsCount};
 ghost use Rattle.vw_trace.specs.FlatTrace.{trace_from, flat_trace};
 ghost use Rattle.vw_trace.specs.Streamed.{Streams};
 ghost use Rattle.vw_trace.specs.Steps.StreamedClocks.{StreamsClocks};
 
-use crate::batch::run_batch;
+use crate::engine::Engine;
 use crate::fault::RunFault;
-use std::alloc::{AllocError, Global};
-use vw_net::{Bits, Flat, Ordered, histories_join};
+use crate::simulation::Simulation;
+use std::alloc::Global;
+use vw_net::{Bits, Flat, Ordered, Rows, histories_join};
 use vw_outside::{Shelf, Sink, Unwritten, put_text};
 use vw_rows::{Stimulus, trace_end, trace_head, trace_rows};
-use vw_sim::Machine;
 
 /// How many clocks are worked out before their lines are written.
 const BATCH: u32 = 256;
 
-/// Runs the clocks of some rows from a state on, where so many are done, and writes their lines.
-fn write_batch<O: Sink>(
+/// Works out the clocks of some rows from a state on, where so many are done, and writes their lines.
+fn write_batch<E: Engine, O: Sink>(
     alloc: Global,
-    machine: &Machine,
-    rows: &[Bits],
+    engine: &mut E,
     done: u64,
+    rows: Rows,
     state: &mut Bits,
-    values: &mut Bits,
     out: &mut O,
 ) -> Result<(), Unwritten>
-    requires columns { All (λ row. length row ≡ machine.now.flat.inputs) rows.now }
-    requires latches { length state.old ≡ latch_count machine.now.flat.cells }
-    requires nets { length values.old ≡ machine.now.flat.inputs + length machine.now.flat.cells }
-    ensures writes { let flat = machine.now.flat in WritesOut
-        (rows_text done (outputs_of flat state.old rows.now) (states_of flat state.old rows.now))
+    requires columns { All (λ row. length row ≡ (E.netlist engine.old).inputs) rows }
+    requires latches { length state.old ≡ latch_count (E.netlist engine.old).cells }
+    requires few { done + length rows < 2 ^ 32 }
+    ensures netlist { E.netlist engine.new ≡ E.netlist engine.old }
+    ensures done { OnOk result (IsCount (E.done engine.new) (done + length rows)) }
+    ensures writes { let flat = E.netlist engine.old in WritesOut
+        (rows_text done (outputs_of flat state.old rows) (states_of flat state.old rows))
         (O.seen out.old) (O.seen out.new) result }
-    ensures state { OnOk result (state.new ≡ state_after machine.now.flat state.old rows.now) }
-    ensures nets { OnOk result (length values.new ≡ length values.old) }
+    ensures state { OnOk result (state.new ≡ state_after (E.netlist engine.old) state.old rows) }
 {
-    let batch = run_batch(alloc, machine, rows, state, values)?;
+    let batch = engine.run(alloc, done, rows, state)?;
     let lines = trace_rows(alloc, done, &batch.outputs, &batch.states);
     put_text(lines, out)
 }
 
-/// Runs the clocks of a stimulus, of which nothing was given, from a state on, and writes their lines.
-fn write_clocks<S: Shelf, O: Sink>(
+/// Works out the clocks of a stimulus, of which nothing was given, from a state on, and writes their lines.
+fn write_clocks<E: Engine, S: Shelf, O: Sink>(
     alloc: Global,
-    machine: &Machine,
+    engine: &mut E,
     stimulus: &mut Stimulus,
     state: &mut Bits,
-    values: &mut Bits,
     shelf: &mut S,
     out: &mut O,
 ) -> Result<(), RunFault>
-    requires columns { stimulus.old.width ≡ machine.now.flat.inputs }
+    requires columns { stimulus.old.width ≡ (E.netlist engine.old).inputs }
     requires fresh { stimulus.old.done ≡ 0 }
     requires stands { (text : List ℕ) → (S.seen shelf.old).told stimulus.old.name ≡ held text
         → StandsIn stimulus.old text }
-    requires latches { length state.old ≡ latch_count machine.now.flat.cells }
-    requires nets { length values.old ≡ machine.now.flat.inputs + length machine.now.flat.cells }
-    ensures { StreamsClocks stimulus.old machine.now.flat state.old state.new
+    requires latches { length state.old ≡ latch_count (E.netlist engine.old).cells }
+    requires unstarted { IsCount (E.done engine.old) 0 }
+    ensures streams { StreamsClocks stimulus.old (E.netlist engine.old) state.old state.new
         (S.seen shelf.old) (O.seen out.old) (S.seen shelf.new) (O.seen out.new)
         result }
+    ensures done { OnOk result (stimulus.new.done ≡ stimulus.old.clocks) }
+    ensures all { OnOk result (IsCount (E.done engine.new) stimulus.old.clocks) }
 {
     histories_join();
     while stimulus.done() < stimulus.clocks() {
         let done = stimulus.done();
         let rows = stimulus.next_batch(alloc, shelf, BATCH)?;
-        write_batch(alloc, machine, rows.as_slice(), done, state, values, out)?;
+        write_batch(alloc, engine, done, rows, state, out)?;
     }
     Ok(())
 }
@@ -98,70 +100,61 @@ fn write_end<O: Sink>(alloc: Global, clocks: u64, last: &Bits, out: &mut O) -> R
     put_text(end, out)
 }
 
-/// Runs a machine over a stimulus, of which nothing was given, from a state on, and writes its trace.
-fn write_lines<S: Shelf, O: Sink>(
+/// Works out the clocks of a stimulus, of which nothing was given, from a state on, and writes the trace.
+fn write_lines<E: Engine, S: Shelf, O: Sink>(
     alloc: Global,
-    machine: &Machine,
+    engine: &mut E,
     stimulus: &mut Stimulus,
     state: &mut Bits,
-    values: &mut Bits,
     shelf: &mut S,
     out: &mut O,
 ) -> Result<(), RunFault>
-    requires columns { stimulus.old.width ≡ machine.now.flat.inputs }
+    requires columns { stimulus.old.width ≡ (E.netlist engine.old).inputs }
     requires fresh { stimulus.old.done ≡ 0 }
     requires stands { (text : List ℕ) → (S.seen shelf.old).told stimulus.old.name ≡ held text
         → StandsIn stimulus.old text }
-    requires latches { length state.old ≡ latch_count machine.now.flat.cells }
-    requires nets { length values.old ≡ machine.now.flat.inputs + length machine.now.flat.cells }
-    ensures { Streams stimulus.old.name stimulus.old.width (trace_from state.old machine.now.flat)
-        (S.seen shelf.old) (O.seen out.old) (S.seen shelf.new) (O.seen out.new)
-        result }
+    requires latches { length state.old ≡ latch_count (E.netlist engine.old).cells }
+    requires unstarted { IsCount (E.done engine.old) 0 }
+    ensures streams { Streams stimulus.old.name stimulus.old.width
+        (trace_from state.old (E.netlist engine.old)) (S.seen shelf.old) (O.seen out.old)
+        (S.seen shelf.new) (O.seen out.new) result }
+    ensures done { OnOk result (stimulus.new.done ≡ stimulus.old.clocks) }
+    ensures all { OnOk result (IsCount (E.done engine.new) stimulus.old.clocks) }
 {
     let clocks = stimulus.clocks();
-    write_head(alloc, machine.flat(), state, out)?;
-    write_clocks(alloc, machine, stimulus, state, values, shelf, out)?;
+    write_head(alloc, engine.flat(), state, out)?;
+    write_clocks(alloc, engine, stimulus, state, shelf, out)?;
     write_end(alloc, clocks, state, out)?;
     Ok(())
 }
 
-/// A value for each net of a netlist.
-fn blank_values(alloc: Global, flat: &Flat) -> Result<Bits, AllocError>
-    ensures { IfOk result (λ values. length values ≡ flat.now.inputs + length flat.now.cells) }
-{
-    let nets = flat.inputs() as usize + flat.cells().len();
-    Ok(Bits::of(vec![in alloc; false; nets]?))
-}
-
-/// Runs a machine over a stimulus from the start values on, and writes its trace.
-fn run_machine<S: Shelf, O: Sink>(
+/// Has an engine work out the clocks of a checked stimulus, of which nothing was given, and appends the trace of its
+/// netlist. Free latches start at `unknown`. The stimulus is read again in batches of 256 clocks, and memory is taken for
+/// one batch at a time: all but that of its lines before its first clock. Where a read or a write fails or memory runs
+/// out, a front of the trace was appended. Where nothing is told of the text of the stimulus, it may have changed since it
+/// was checked: then it may be found at fault, or the trace is that of other rows with the same width. An engine that
+/// numbers its clocks begins with the first, and has done them all after a success.
+pub fn write_trace_by<E: Engine, S: Shelf, O: Sink>(
     alloc: Global,
-    machine: &Machine,
+    engine: &mut E,
     unknown: bool,
     stimulus: &mut Stimulus,
     shelf: &mut S,
     out: &mut O,
 ) -> Result<(), RunFault>
-    requires columns { stimulus.old.width ≡ machine.now.flat.inputs }
+    requires columns { stimulus.old.width ≡ (E.netlist engine.old).inputs }
     requires fresh { stimulus.old.done ≡ 0 }
     requires stands { (text : List ℕ) → (S.seen shelf.old).told stimulus.old.name ≡ held text
         → StandsIn stimulus.old text }
-    ensures { Streams stimulus.old.name stimulus.old.width (flat_trace unknown machine.now.flat)
-        (S.seen shelf.old) (O.seen out.old) (S.seen shelf.new) (O.seen out.new)
-        result }
+    requires unstarted { IsCount (E.done engine.old) 0 }
+    ensures streams { Streams stimulus.old.name stimulus.old.width
+        (flat_trace unknown (E.netlist engine.old)) (S.seen shelf.old) (O.seen out.old)
+        (S.seen shelf.new) (O.seen out.new) result }
+    ensures done { OnOk result (stimulus.new.done ≡ stimulus.old.clocks) }
+    ensures all { OnOk result (IsCount (E.done engine.new) stimulus.old.clocks) }
 {
-    let flat = machine.flat();
-    let mut state = flat.start(alloc, unknown)?;
-    let mut values = blank_values(alloc, flat)?;
-    write_lines(
-        alloc,
-        machine,
-        stimulus,
-        &mut state,
-        &mut values,
-        shelf,
-        out,
-    )
+    let mut state = engine.flat().start(alloc, unknown)?;
+    write_lines(alloc, engine, stimulus, &mut state, shelf, out)
 }
 
 /// Runs a netlist over a checked stimulus, of which nothing was given, and appends its trace. Free latches start at
@@ -181,10 +174,11 @@ pub fn write_trace<S: Shelf, O: Sink>(
     requires fresh { stimulus.old.done ≡ 0 }
     requires stands { (text : List ℕ) → (S.seen shelf.old).told stimulus.old.name ≡ held text
         → StandsIn stimulus.old text }
-    ensures { Streams stimulus.old.name stimulus.old.width (flat_trace unknown ordered.now.flat)
-        (S.seen shelf.old) (O.seen out.old) (S.seen shelf.new) (O.seen out.new)
-        result }
+    ensures streams { Streams stimulus.old.name stimulus.old.width
+        (flat_trace unknown ordered.now.flat) (S.seen shelf.old) (O.seen out.old)
+        (S.seen shelf.new) (O.seen out.new) result }
+    ensures done { OnOk result (stimulus.new.done ≡ stimulus.old.clocks) }
 {
-    let machine = Machine::make(alloc, ordered)?;
-    run_machine(alloc, &machine, unknown, stimulus, shelf, out)
+    let mut simulation = Simulation::make(alloc, ordered)?;
+    write_trace_by(alloc, &mut simulation, unknown, stimulus, shelf, out)
 }

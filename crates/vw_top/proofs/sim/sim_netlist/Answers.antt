@@ -66,7 +66,7 @@ returns g c = λ design is.
     let judged = for_columns name c.args.ordered.flat.inputs width shelf checked (Ok rows) is.inputs c.in_ok-rows.ensures.judges in
     let streams : Streams name width (flat_trace unknown c.args.ordered.flat) checked out shelf_after out_after written =
     subst (λ (n : ℕ). Streams name n (flat_trace unknown c.args.ordered.flat) checked out shelf_after out_after written) its_width
-    (subst (λ (n : List ℕ). Streams n rows.width (flat_trace unknown c.args.ordered.flat) checked out shelf_after out_after written) starts.its_name c.write_trace-written.ensures) in
+    (subst (λ (n : List ℕ). Streams n rows.width (flat_trace unknown c.args.ordered.flat) checked out shelf_after out_after written) starts.its_name c.write_trace-written.ensures.streams) in
     goes_past g.S.Shelf.seen g.O.Sink.seen vocabulary (rows_kind width) name (λ text one. IsTextOf (shelf.told name) text × Stands text one) (trace_course name unknown design) c.args.outside.now mid (record { shelf = refl; out = refl }) refl
     _ c.run_answer.result rows (with_text files.Stimulus name Stands (IsBadStimulus width) shelf checked rows judged)
     (λ text made.
