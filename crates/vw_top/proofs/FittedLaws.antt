@@ -1,6 +1,6 @@
 -- What each status says of the design and the board of a command that begins with these, and then makes a good plan,
 -- whatever comes behind.
-use Rattle.std.proofs.Common.{◌≡◌, ◌≢◌, ◌<◌, ◌*◌, ◌⊎◌, ℕ, List, [], ◌∷◌, length, refl, sym, ◌∙◌, ap, subst, inl, inr, ⊎_elim, lit<, arith}
+use Rattle.std.proofs.Common.{◌≡◌, ◌≢◌, ◌*◌, ℕ, List, [], ◌∷◌, length, refl, sym, ap, subst, inl, inr, ⊎_elim, lit<, arith}
 use Rattle.vw_net.specs.declared.ordered.Ordered.{Ordered}
 use Rattle.vw_outside.specs.Told.{Told, held, IsTextOf}
 use Rattle.vw_course.specs.Course.{Course, made, stage}

@@ -1,5 +1,5 @@
 -- What each status of `plan` says of its files.
-use Rattle.std.proofs.Common.{◌≡◌, ◌≢◌, ◌<◌, ℕ, List, refl, inl, inr, lit<, arith}
+use Rattle.std.proofs.Common.{◌≢◌, ◌<◌, ℕ, List, refl, inl, inr, lit<, arith}
 use Rattle.vw_net.specs.declared.ordered.Ordered.{Ordered}
 use Rattle.vw_course.specs.Course.{Course, writes}
 use Rattle.vw_course.specs.Endings.{IsCallOf}

@@ -1,5 +1,5 @@
 -- What each status of `run` says of its files, where it makes its plan itself.
-use Rattle.std.proofs.Common.{◌≡◌, ◌≢◌, ◌<◌, ℕ, Bool, List, [], ◌∷◌, None, refl, sym, ap, inl, inr, lit<, arith}
+use Rattle.std.proofs.Common.{◌≢◌, ◌<◌, ℕ, Bool, List, [], ◌∷◌, None, refl, inl, inr, lit<, arith}
 use Rattle.vw_net.specs.declared.ordered.Ordered.{Ordered}
 use Rattle.vw_outside.specs.Told.{Told}
 use Rattle.vw_course.specs.Course.{Course}

@@ -1,5 +1,5 @@
 -- What each status of `sim` says of its files.
-use Rattle.std.proofs.Common.{◌≡◌, ◌≢◌, ◌<◌, ◌⊎◌, ℕ, Bool, List, [], ◌∷◌, length, refl, sym, ap, subst, inl, inr, ⊎_elim, lit<, arith}
+use Rattle.std.proofs.Common.{◌≡◌, ◌≢◌, ◌<◌, ℕ, Bool, List, [], ◌∷◌, length, refl, subst, inl, inr, ⊎_elim, lit<, arith}
 use Rattle.vw_design.specs.declared.design.Design.{Design}
 use Rattle.vw_design.specs.Clocks.{columns}
 use Rattle.vw_outside.specs.Told.{Told, held}

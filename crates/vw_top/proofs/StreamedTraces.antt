@@ -1,9 +1,8 @@
 -- The trace that is written while the stimulus is read again, as the end of a course.
-use Rattle.std.proofs.Common.{◌≡◌, ℕ, Bool, List, length, Result, Ok, Err, refl, sym, ◌∙◌, ap, ap₂, subst}
+use Rattle.std.proofs.Common.{◌≡◌, ℕ, Bool, List, Result, Ok, Err, refl, sym, ◌∙◌, ap, ap₂, subst}
 use Rattle.std.proofs.Math.Path.{fun_ext}
 use Rattle.vw_net.specs.declared.ordered.Ordered.{Ordered}
 use Rattle.vw_design.specs.declared.design.Design.{Design}
-use Rattle.vw_design.specs.Clocks.{columns}
 use Rattle.vw_design.specs.Flattened.{IsFlatOf}
 use Rattle.vw_outside.specs.Told.{Told, untold, absent, held, IsTextOf}
 use Rattle.vw_outside.specs.Reads.{SeenShelf}

@@ -1,5 +1,5 @@
 -- What each status says of the design, the stimulus and the trace of a command that runs a design over a stimulus.
-use Rattle.std.proofs.Common.{◌≡◌, ◌≢◌, ◌<◌, ◌⊎◌, ℕ, Bool, List, [], ◌∷◌, length, Result, Ok, Err, refl, sym, ◌∙◌, ap, ap₂, subst, inl, inr, lit<, arith}
+use Rattle.std.proofs.Common.{◌≡◌, ◌≢◌, ◌⊎◌, ℕ, Bool, List, length, Ok, refl, sym, ◌∙◌, ap, subst, inl, inr, lit<}
 use Rattle.vw_design.specs.declared.design.Design.{Design}
 use Rattle.vw_design.specs.Clocks.{columns}
 use Rattle.vw_outside.specs.Told.{Told, untold, absent, held, IsTextOf}
@@ -15,7 +15,7 @@ use Rattle.vw_course.proofs.EveryPlace.{Every, ReadsOnly, IsUnbroken, IsNever, I
 use Rattle.vw_course.proofs.StageLaws.{IsBehind, past, at_bad, work_past, refused_past, again_works, works_behind, again_behind, refusal_behind, refused_for}
 use Rattle.vw_course.proofs.BarredLaws.{IsBarred, barred_here}
 use Rattle.vw_course.proofs.CarriedOut.{completes, text_part, done_as, write_as, memory_as}
-use Rattle.vw_front.specs.Designs.{IsDesignOf, spells_once}
+use Rattle.vw_front.specs.Designs.{IsDesignOf}
 use Rattle.vw_rows.specs.Stimulus.{stimulus_rows}
 use Rattle.vw_top.specs.declared.vocabulary.File.{File}
 use Rattle.vw_top.specs.declared.vocabulary.File.TheVariants as kinds
@@ -83,9 +83,9 @@ module _ (stimulus : List ℕ) (width : ℕ) (trace : List (List Bool) → List 
         to_trace : (rows : List (List Bool)) → IsRowsOf width s rows → StandsAt told files (IsToWork told files (λ did. did ≡ writing (trace rows))) its_rows
         to_trace rows are = past told files (IsToWork told files (λ did. did ≡ writing (trace rows))) (rows_kind width) stimulus written s one held_s (rows, are)
             (λ these those. ((one, s, held_s), ap (λ (so : List (List Bool)). writing (trace so)) (same_rows these those))) where
-          same_rows : (these : List (List Bool)) → stimulus_rows width s ≡ Ok these → these ≡ rows
-          same_rows these those =
-              let said : Ok these ≡ stimulus_rows width s = sym those in let also : stimulus_rows width s ≡ Ok rows = are in cc
+              same_rows : (these : List (List Bool)) → stimulus_rows width s ≡ Ok these → these ≡ rows
+              same_rows these those =
+                  let said : Ok these ≡ stimulus_rows width s = sym those in let also : stimulus_rows width s ≡ Ok rows = are in cc
 
         to_bad_rows : (Why : Reason → Type 0) (reason : Reason) → IsBadStimulus width s reason → ((other : Reason) → IsBadStimulus width s other → Why other) → StandsAt told files (IsToRefuse Why) its_rows
         to_bad_rows Why reason bad why = at_bad told files (rows_kind width) stimulus written s Why one held_s why (reason, bad)

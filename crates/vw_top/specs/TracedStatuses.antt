@@ -1,6 +1,6 @@
 -- What each status says of the design, the stimulus and the trace of a command that runs a design over a stimulus,
 -- whatever it reads and makes between the two.
-use Rattle.std.specs.Prelude.{◌≡◌, ◌⊎◌, ℕ, Bool, List, length, Ok, Err}
+use Rattle.std.specs.Prelude.{◌≡◌, ◌⊎◌, ℕ, Bool, List, length, Err}
 use Rattle.vw_design.specs.declared.design.Design.{Design}
 use Rattle.vw_design.specs.Clocks.{columns}
 use Rattle.vw_course.specs.Course.{writing}

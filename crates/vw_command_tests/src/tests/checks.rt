@@ -13,7 +13,8 @@ const ONE_CHIP: &str = "board 1\nchips 1\ncells 1\nsettle 0\npins 2\nlink 0 1 1\
 /// A latch that is turned round at each clock, on chip 2 of a chain of two chips.
 pub(super) const FLIP: &str = ".model m\n.outputs q\n.names q d\n0 1\n.latch d q 0\n.end\n";
 
-pub(super) const FLIP_PLAN: &str = "plan 1 2 1 2\nchips 2 2\nwire 1 0 2\nhop 2 1 0 0\nhop 1 0 0 1\nend\n";
+pub(super) const FLIP_PLAN: &str =
+    "plan 1 2 1 2\nchips 2 2\nwire 1 0 2\nhop 2 1 0 0\nhop 1 0 0 1\nend\n";
 
 /// A chain of two chips behind the host, with two cells a chip.
 pub(super) const CHAIN: &str =

@@ -44,7 +44,12 @@ fn a_run_has_the_trace_of_the_design_by_any_plan(rt: HostRuntime) -> Result<(), 
 fn a_latch_that_is_sent_over_two_links_is_seen_at_its_own_clock(
     rt: HostRuntime,
 ) -> Result<(), Fail> {
-    const TEXTS: &[(&str, &str)] = &[("d", FLIP), ("b", CHAIN), ("p", FLIP_PLAN), ("s", "hold 4\n")];
+    const TEXTS: &[(&str, &str)] = &[
+        ("d", FLIP),
+        ("b", CHAIN),
+        ("p", FLIP_PLAN),
+        ("s", "hold 4\n"),
+    ];
     const TRACE: &str = "trace 1 1 1\n0 0 0\n1 1 1\n2 0 0\n3 1 1\nend 4 0\n";
     const TABLE: &[(&[&str], u8, &str, &str)] = &[(RUN, 0, TRACE, ""), (RUN_GIVEN, 0, TRACE, "")];
     words_end(&rt, rt.alloc(), TEXTS, TABLE)
@@ -106,7 +111,12 @@ fn wrong_words_of_a_run_are_named_by_their_place(rt: HostRuntime) -> Result<(), 
         (&["run"], 2, "", "usage: word 2\n"),
         (&["run", "d"], 2, "", "usage: word 3\n"),
         (&["run", "d", "b"], 2, "", "usage: word 4\n"),
-        (&["run", "", "b", "s", "workers=1"], 2, "", "usage: word 2\n"),
+        (
+            &["run", "", "b", "s", "workers=1"],
+            2,
+            "",
+            "usage: word 2\n",
+        ),
         // without workers, a word is missing behind the last one
         (&["run", "d", "b", "s"], 2, "", "usage: word 5\n"),
         (&["run", "d", "b", "workers=1"], 2, "", "usage: word 5\n"),
@@ -118,11 +128,36 @@ fn wrong_words_of_a_run_are_named_by_their_place(rt: HostRuntime) -> Result<(), 
             "usage: word 7\n",
         ),
         // no other number of workers so far
-        (&["run", "d", "b", "s", "workers=0"], 2, "", "usage: word 5\n"),
-        (&["run", "d", "b", "s", "workers=2"], 2, "", "usage: word 5\n"),
-        (&["run", "d", "b", "s", "workers=64"], 2, "", "usage: word 5\n"),
-        (&["run", "d", "b", "s", "workers=01"], 2, "", "usage: word 5\n"),
-        (&["run", "d", "b", "s", "workers="], 2, "", "usage: word 5\n"),
+        (
+            &["run", "d", "b", "s", "workers=0"],
+            2,
+            "",
+            "usage: word 5\n",
+        ),
+        (
+            &["run", "d", "b", "s", "workers=2"],
+            2,
+            "",
+            "usage: word 5\n",
+        ),
+        (
+            &["run", "d", "b", "s", "workers=64"],
+            2,
+            "",
+            "usage: word 5\n",
+        ),
+        (
+            &["run", "d", "b", "s", "workers=01"],
+            2,
+            "",
+            "usage: word 5\n",
+        ),
+        (
+            &["run", "d", "b", "s", "workers="],
+            2,
+            "",
+            "usage: word 5\n",
+        ),
         (&["run", "d", "b", "s", "workers"], 2, "", "usage: word 5\n"),
         (
             &["run", "d", "b", "s", "plan=p", "workers=2"],
@@ -169,12 +204,7 @@ fn wrong_words_of_a_run_are_named_by_their_place(rt: HostRuntime) -> Result<(), 
             "usage: word 6\n",
         ),
         // the other commands have no such settings
-        (
-            &["sim", "d", "s", "workers=1"],
-            2,
-            "",
-            "usage: word 4\n",
-        ),
+        (&["sim", "d", "s", "workers=1"], 2, "", "usage: word 4\n"),
         (&["plan", "d", "b", "plan=p"], 2, "", "usage: word 4\n"),
     ];
     words_end(&rt, rt.alloc(), TOGGLE_TEXTS, TABLE)
@@ -241,9 +271,13 @@ fn runs_end(
 }
 
 const NO_DESIGN: Ending = (1, "", "design 2: line 0: no model\n");
+
 const NO_BOARD: Ending = (3, "", "board 2: line 1: bad line\n");
+
 const NO_PLAN: Ending = (4, "", "plan 2: line 11\n");
+
 const NO_ROWS: Ending = (5, "", "stimulus 3: line 1: found 2 bits, wanted 1\n");
+
 const DONE: Ending = (0, TOGGLE_TRACE, "");
 
 /// The plan of the toggle without its last line.

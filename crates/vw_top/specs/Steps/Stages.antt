@@ -1,5 +1,5 @@
 -- What the stages of commands make.
-use Rattle.std.specs.Prelude.{◌≡◌, ℕ, IsTrue, Result, Ok, Err}
+use Rattle.std.specs.Prelude.{◌≡◌, IsTrue, Result, Ok, Err}
 use Rattle.vw_check.specs.declared.fault.PlanFault.{PlanFault}
 use Rattle.vw_check.specs.Answers.{is_plan_fault}
 use Rattle.vw_course.specs.declared.unfinished.Unfinished.{Unfinished}
