@@ -17,6 +17,7 @@ mod limits;
 mod loops;
 mod plans;
 mod refusals;
+mod runs;
 mod streamed;
 mod words;
 

@@ -70,6 +70,56 @@ module _ {V : Vocabulary} (told : List ℕ → Told) where
     refused_behind reason differs (inr (text, of, inl bad)) = absurd (differs (sym ((kind.judged text).its_status reason bad)))
     refused_behind reason differs (inr (text, of, inr (x, good, later))) = (text, of, x, good, later)
 
+-- ---- back past lines of whatever files, to where something holds
+
+-- this holds where no file is read, and where something is judged or made, only if that has this status
+pub record IsBehind {V : Vocabulary} (number : ℕ) (P : Course V → Type 0) : Type 1 where
+  pub at_file : (file : V.File) (name : List ℕ) (next : List ℕ → Course V) → P (reads file name next) → ⊥
+  pub at_judging : (A : Type 0) (its : ℕ) (judged : Judged V A its) (next : A → Course V) → its ≢ number → P (judges judged next) → ⊥
+  pub at_making : (A : Type 0) (its : ℕ) (making : Making V A its) (next : A → Course V) → its ≢ number → P (made making next) → ⊥
+
+-- so do the work, the work in which a file is read again, and a refusal with the status
+module _ {V : Vocabulary} (told : List ℕ → Told) (number : ℕ) where
+  pub works_behind : (did : Work V.Word) → IsBehind {V = V} number (WorksHere {V = V} told did)
+  works_behind did = record {
+    at_file = λ file name next here. here;
+    at_judging = λ A its judged next differs here. here;
+    at_making = λ A its making next differs here. here;
+  }
+
+  pub again_behind : (file : V.File) (name : List ℕ) (did : Work V.Word) → IsBehind {V = V} number (ReadsAgainHere {V = V} told file name did)
+  again_behind file name did = record {
+    at_file = λ other own next here. here;
+    at_judging = λ A its judged next differs here. here;
+    at_making = λ A its making next differs here. here;
+  }
+
+  pub refusal_behind : (reason : V.Reason) → V.status reason ≡ number → IsBehind {V = V} number (RefusesHere {V = V} reason)
+  refusal_behind reason same = record {
+    at_file = λ file name next here. here;
+    at_judging = λ A its judged next differs bad. differs (sym (judged.its_status reason bad) ∙ same);
+    at_making = λ A its making next differs bad. differs (sym (making.judged.its_status reason bad) ∙ same);
+  }
+
+module _ {V : Vocabulary} (told : List ℕ → Told) (number : ℕ) (P : Course V → Type 0) (behind : IsBehind number P) where
+  pub stage_behind : {A : Type 0} (kind : Kind V A) (name : List ℕ) (next : A → Course V) → kind.number ≢ number → May told P (stage kind name next)
+      → (text : List ℕ) × IsTextOf (told name) text × (x : A) × (kind.judged text).Good x × May told P (next x)
+  stage_behind {A = A} kind name next differs (inl here) =
+      absurd (behind.at_file kind.file name (λ text. judges (kind.judged text) next) here)
+  stage_behind {A = A} kind name next differs (inr (text, of, inl here)) =
+      absurd (behind.at_judging A kind.number (kind.judged text) next differs here)
+  stage_behind kind name next differs (inr (text, of, inr (x, good, later))) = (text, of, x, good, later)
+
+  pub judged_behind : {A : Type 0} {its : ℕ} (judged : Judged V A its) (next : A → Course V) → its ≢ number → May told P (judges judged next) → (x : A) × judged.Good x × May told P (next x)
+  judged_behind {A = A} {its = its} judged next differs (inl here) =
+      absurd (behind.at_judging A its judged next differs here)
+  judged_behind judged next differs (inr (x, good, later)) = (x, good, later)
+
+  pub made_behind : {A : Type 0} {its : ℕ} (making : Making V A its) (next : A → Course V) → its ≢ number → May told P (made making next) → (x : A) × making.judged.Good x × May told P (next x)
+  made_behind {A = A} {its = its} making next differs (inl here) =
+      absurd (behind.at_making A its making next differs here)
+  made_behind making next differs (inr (x, good, later)) = (x, good, later)
+
 -- work in which a file is read again is work that the course may do
 module _ {V : Vocabulary} (told : List ℕ → Told) (file : V.File) (name : List ℕ) (did : Work V.Word) where
   works_again : (place : Course V) → ReadsAgainHere told file name did place → Unit {0} × WorksHere told did place

@@ -1,5 +1,6 @@
 -- What each status of `check` says of its files.
 use Rattle.std.proofs.Common.{◌≡◌, ◌≢◌, ◌<◌, ℕ, List, refl, ap, inl, inr, lit<, arith}
+use Rattle.vw_net.specs.declared.ordered.Ordered.{Ordered}
 use Rattle.vw_course.specs.Course.{Course, writing, writes}
 use Rattle.vw_course.specs.Endings.{IsCallOf}
 use Rattle.vw_course.specs.Places.{Files, IsToWork}
@@ -11,8 +12,8 @@ use Rattle.vw_course.proofs.CarriedOut.{completes, text_part, done_as, write_as,
 use Rattle.vw_plan.specs.declared.plan.Plan.{Plan}
 use Rattle.vw_top.specs.Messages.{vocabulary, Call, CallWork}
 use Rattle.vw_top.specs.Commands.{sound_text, check_course}
-use Rattle.vw_top.specs.CheckStatuses.{IsSoundPlan, IsSize, HoldTexts, its_files, CheckStatuses}
-use Rattle.vw_top.specs.PlannedStatuses.{PlannedStatuses}
+use Rattle.vw_top.specs.PlannedStatuses.{IsSoundPlan, HoldTexts, its_files}
+use Rattle.vw_top.specs.CheckStatuses.{IsSize, CheckStatuses}
 use Rattle.vw_top.proofs.PlannedLaws.{reads_planned, once_planned, unbroken_planned, never_planned, work_planned, to_rest, planned_table}
 
 module _ (design board plan : List ℕ) (call : Call) where
@@ -20,18 +21,20 @@ module _ (design board plan : List ℕ) (call : Call) where
   course = check_course design board plan
 
   -- behind the sound plan its size is written
-  abbrev rest : Plan → Course vocabulary
-  rest its = writes (sound_text its)
+  abbrev rest : Ordered → Plan → Course vocabulary
+  rest ordered its = writes (sound_text its)
 
   abbrev all : Files vocabulary
   all = its_files design board plan
 
   not_status : IsCallOf course call → (number : ℕ) → 0 < number → number < 7 → 1 ≢ number → 3 ≢ number → 4 ≢ number → call.status ≢ number
   not_status is number some few no_one no_three no_four = never_status course call is number
-      (never_planned design board plan rest number (λ its. tt) no_one no_three no_four) (unbroken_planned design board plan rest number (λ its. tt)) some few
+      (never_planned design board plan rest number (λ ordered its. tt) no_one no_three no_four) (unbroken_planned design board plan rest number (λ ordered its. tt)) some few
 
   size_by : (d b p : List ℕ) → HoldTexts design board plan call d b p → (did : CallWork) → MayDo course call did → IsSize d b p did
-  size_by d b p hold did may = work_planned design board plan rest call d b p hold did may
+  size_by d b p hold did may =
+      let work = work_planned design board plan rest call d b p hold did may in
+      (work.1, work.2, work.3)
 
   works : IsCallOf course call → (d b p : List ℕ) → HoldTexts design board plan call d b p → (its : Plan) → IsSoundPlan d b p its
       → IsCarriedOut vocabulary (λ did. did ≡ writing (sound_text its)) all call
@@ -39,23 +42,16 @@ module _ (design board plan : List ℕ) (call : Call) where
       let What : CallWork → Type 0 = λ did. did ≡ writing (sound_text its) in
       call_works vocabulary all call What course is
       (to_rest design board plan rest call d b p hold all (inl refl) (inr (inl refl)) (inr (inr (inl refl))) (IsToWork call.before.shelf.told all What) its of
-      (λ that same. (tt, ap (λ (one : Plan). writing (sound_text one)) same)))
+      (λ ordered that netlist same. (tt, ap (λ (one : Plan). writing (sound_text one)) same)))
 
   pub check_table : IsCallOf course call → CheckStatuses design board plan call
   check_table is =
       let table : Statuses course call = call_table course call is in
-      let planned : PlannedStatuses design board plan call = planned_table design board plan rest call (λ number one its. tt) (λ number its. tt) is in
       record {
         done = λ d b p hold status. done_as (MayDo course call) (IsSize d b p) (size_by d b p hold) call (table.done status);
-        no_design = planned.no_design;
-        no_design_comes = planned.no_design_comes;
-        no_board = planned.no_board;
-        no_board_comes = planned.no_board_comes;
-        no_plan = planned.no_plan;
-        no_plan_text_comes = planned.no_plan_text_comes;
-        unsound_comes = planned.unsound_comes;
+        planned = planned_table design board plan rest call (λ number one ordered its. tt) (λ number one ordered its. tt) is;
         read_fault = fault_at course call is all
-            (reads_planned design board plan rest all (inl refl) (inr (inl refl)) (inr (inr (inl refl))) (λ its. tt)) (once_planned design board plan rest (λ its. tt));
+            (reads_planned design board plan rest all (inl refl) (inr (inl refl)) (inr (inr (inl refl))) (λ ordered its. tt)) (once_planned design board plan rest (λ ordered its. tt));
         write_fault = λ d b p hold status. write_as (MayDo course call) (IsSize d b p) (size_by d b p hold) call (table.write_fault status);
         want_of_memory = λ d b p hold status. memory_as (MayDo course call) (IsSize d b p) (size_by d b p hold) call (table.want_of_memory status);
         others = (
@@ -66,7 +62,4 @@ module _ (design board plan : List ℕ) (call : Call) where
         accepted = λ d b p its hold of. works is d b p hold its of;
         part = λ d b p its hold of. text_part vocabulary (sound_text its) call all (works is d b p hold its of);
         complete = λ d b p its hold of. completes vocabulary (λ did. did ≡ writing (sound_text its)) call all (works is d b p hold its of);
-        absent_design = planned.absent_design;
-        absent_board = planned.absent_board;
-        absent_plan = planned.absent_plan;
       }

@@ -1,8 +1,12 @@
-pub mod SimLaws
 pub mod OnBoards
+pub mod FlatTraces
+pub mod StreamedTraces
+pub mod TracedLaws
+pub mod SimLaws
+pub mod FittedLaws
 pub mod PlanLaws
 pub mod PlannedLaws
 pub mod CheckLaws
-pub mod FlatTraces
+pub mod RunLaws
+pub mod RunGivenLaws
 pub mod UsageLaws
-pub mod StreamedTraces

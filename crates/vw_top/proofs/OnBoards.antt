@@ -1,11 +1,11 @@
 -- Netlists and boards of texts are one, up to the order of the gates.
-use Rattle.std.proofs.Common.{◌≡◌, ◌<◌, ◌≤◌, ◌*◌, ℕ, List, length, sym, ap, subst}
+use Rattle.std.proofs.Common.{◌≡◌, ◌<◌, ◌≤◌, ◌*◌, ℕ, List, length, ap, subst}
 use Rattle.vw_net.specs.declared.flat.Flat.{Flat}
 use Rattle.vw_net.specs.declared.ordered.Ordered.{Ordered}
 use Rattle.vw_design.specs.declared.design.Design.{Design}
 use Rattle.vw_design.specs.Flattened.{IsFlatOf}
 use Rattle.vw_design.proofs.FlatOnce.{flat_once}
-use Rattle.vw_front.specs.Designs.{IsNetlistOf, spells_once}
+use Rattle.vw_front.specs.Designs.{IsDesignOf, IsNetlistOf, spells_once}
 use Rattle.vw_plan.specs.declared.board.Board.{Board}
 use Rattle.vw_board.proofs.OneBoard.{accepted_once}
 use Rattle.vw_top.specs.Kinds.{HasRoom}
@@ -16,6 +16,11 @@ pub netlist_same : (d : List ℕ) (one other : Ordered) → IsNetlistOf d one �
 netlist_same d one other is its =
     let same = spells_once d is.design its.design is.is.spelled its.is.spelled in
     flat_once its.design one.flat other.flat (subst (λ (design : Design). IsFlatOf design one.flat) same is.flat) its.flat
+
+-- and each is one of the design
+pub design_of_netlist : (d : List ℕ) (design : Design) (ordered : Ordered) → IsDesignOf d design → IsNetlistOf d ordered → IsFlatOf design ordered.flat
+design_of_netlist d design ordered is netlist =
+    subst (λ (one : Design). IsFlatOf one ordered.flat) (spells_once d netlist.design design netlist.is.spelled is.spelled) netlist.flat
 
 -- the numbers of cells and of room are those of the texts
 module _ (d b : List ℕ) (ordered other : Ordered) (board its_board : Board) (are : AreSpelledOn d b ordered board) (its : AreSpelledOn d b other its_board) where

@@ -1,5 +1,5 @@
 -- The course of each command.
-use Rattle.std.specs.Prelude.{◌≡◌, ◌++◌, ℕ, Bool, List, [], ◌∷◌, length, codes}
+use Rattle.std.specs.Prelude.{◌≡◌, ◌++◌, ℕ, Bool, List, [], ◌∷◌, length, codes, Option, Some, None}
 use Rattle.std.specs.List.{All}
 use Rattle.std.specs.Fmt.{decimal}
 use Rattle.vw_net.specs.declared.ordered.Ordered.{Ordered}
@@ -16,6 +16,7 @@ use Rattle.vw_plan.specs.HopCounts.{hop_count}
 use Rattle.vw_plantext.specs.Content.{content_of}
 use Rattle.vw_plantext.specs.Grammar.{spelling}
 use Rattle.vw_rows.specs.Trace.{trace_text}
+use Rattle.vw_trace.specs.FlatTrace.{flat_trace}
 use Rattle.vw_top.specs.declared.vocabulary.File.TheVariants as files
 use Rattle.vw_top.specs.declared.vocabulary.Reason.TheVariants.{Usage}
 use Rattle.vw_top.specs.Words.{Spelled}
@@ -23,32 +24,40 @@ use Rattle.vw_top.specs.Words as words
 use Rattle.vw_top.specs.Messages.{vocabulary, CallWork}
 use Rattle.vw_top.specs.Kinds.{design_kind, netlist_kind, rows_kind, IsBadAgain, board_kind, plan_kind, soundness, planning}
 
--- ---- sim
+-- ---- traces
 
 -- the trace of a design over rows, where free latches start at `unknown`
 abbrev pub trace_of : Bool → Design → List (List Bool) → List ℕ
 trace_of unknown design rows =
     trace_text (length (root_outputs design)) (length (latches design)) (path_history design unknown rows)
 
--- the trace of a design over some rows for its columns
-abbrev pub IsSomeTrace : Bool → Design → CallWork → Type 0
-IsSomeTrace unknown design did =
-    (rows : List (List Bool)) × All (λ row. length row ≡ length (columns design)) rows
-    × (did ≡ writing (trace_of unknown design rows))
+-- a trace over some rows of this width
+abbrev pub IsSomeTrace : ℕ → (List (List Bool) → List ℕ) → CallWork → Type 0
+IsSomeTrace width trace did =
+    (rows : List (List Bool)) × All (λ row. length row ≡ width) rows × (did ≡ writing (trace rows))
 
 -- the trace over the rows of the stimulus is written, while it is read again
-abbrev pub trace_course : List ℕ → Bool → Design → List (List Bool) → Course vocabulary
-trace_course stimulus unknown design rows =
-    works (again files.Stimulus stimulus IsBadAgain (IsSomeTrace unknown design)) (writing (trace_of unknown design rows))
+abbrev pub trace_course : List ℕ → ℕ → (List (List Bool) → List ℕ) → List (List Bool) → Course vocabulary
+trace_course stimulus width trace rows =
+    works (again files.Stimulus stimulus IsBadAgain (IsSomeTrace width trace)) (writing (trace rows))
 
--- the stimulus is read before
-abbrev pub rows_course : List ℕ → Bool → Design → Course vocabulary
-rows_course stimulus unknown design =
-    stage (rows_kind (length (columns design))) stimulus (trace_course stimulus unknown design)
+-- the stimulus is read before, which has rows of this width
+abbrev pub rows_course : List ℕ → ℕ → (List (List Bool) → List ℕ) → Course vocabulary
+rows_course stimulus width trace = stage (rows_kind width) stimulus (trace_course stimulus width trace)
+
+-- so for a design, and for a netlist
+abbrev pub design_course : List ℕ → Bool → Design → Course vocabulary
+design_course stimulus unknown design = rows_course stimulus (length (columns design)) (trace_of unknown design)
+
+abbrev pub netlist_course : List ℕ → Bool → Ordered → Course vocabulary
+netlist_course stimulus unknown ordered =
+    rows_course stimulus ordered.flat.inputs (flat_trace unknown ordered.flat)
+
+-- ---- sim
 
 -- the design first
 abbrev pub sim_course : List ℕ → List ℕ → Bool → Course vocabulary
-sim_course design stimulus unknown = stage design_kind design (rows_course stimulus unknown)
+sim_course design stimulus unknown = stage design_kind design (design_course stimulus unknown)
 
 -- ---- check
 
@@ -92,6 +101,39 @@ plan_board_course board ordered = stage board_kind board (good_course ordered)
 abbrev pub plan_course : List ℕ → List ℕ → Course vocabulary
 plan_course design board = stage netlist_kind design (plan_board_course board)
 
+-- ---- run
+
+-- the netlist is run on a good plan that is made: what is written is the trace of the netlist, which knows no plan
+abbrev pub run_made_course : List ℕ → Bool → Ordered → Board → Course vocabulary
+run_made_course stimulus unknown ordered board =
+    made (planning ordered board) (λ plan. netlist_course stimulus unknown ordered)
+
+-- or on a plan that is given, which is judged
+abbrev pub run_sound_course : List ℕ → Bool → Ordered → Board → Plan → Course vocabulary
+run_sound_course stimulus unknown ordered board plan =
+    judges (soundness (planned_board ordered board plan)) (λ done. netlist_course stimulus unknown ordered)
+
+-- and read before
+abbrev pub run_given_course : List ℕ → List ℕ → Bool → Ordered → Board → Course vocabulary
+run_given_course plan stimulus unknown ordered board =
+    stage plan_kind plan (run_sound_course stimulus unknown ordered board)
+
+-- whichever the words ask for
+abbrev pub run_on_board_course : Option (List ℕ) → List ℕ → Bool → Ordered → Board → Course vocabulary
+run_on_board_course None stimulus unknown ordered board = run_made_course stimulus unknown ordered board
+run_on_board_course (Some plan) stimulus unknown ordered board =
+    run_given_course plan stimulus unknown ordered board
+
+-- the board before it
+abbrev pub run_board_course : List ℕ → Option (List ℕ) → List ℕ → Bool → Ordered → Course vocabulary
+run_board_course board plan stimulus unknown ordered =
+    stage board_kind board (run_on_board_course plan stimulus unknown ordered)
+
+-- the design first
+abbrev pub run_course : List ℕ → List ℕ → Option (List ℕ) → List ℕ → Bool → Course vocabulary
+run_course design board plan stimulus unknown =
+    stage netlist_kind design (run_board_course board plan stimulus unknown)
+
 -- ---- all commands
 
 -- words that spell no command: the first wrong one is at this place
@@ -102,4 +144,5 @@ abbrev pub course_of : Spelled → Course vocabulary
 course_of (words.sim design stimulus unknown) = sim_course design stimulus unknown
 course_of (words.check design board plan) = check_course design board plan
 course_of (words.plan design board) = plan_course design board
+course_of (words.run design board stimulus given unknown) = run_course design board given stimulus unknown
 course_of (words.nothing place) = usage_course place

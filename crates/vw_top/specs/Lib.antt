@@ -2,10 +2,14 @@ pub mod Words
 pub mod Messages
 pub mod Kinds
 pub mod Commands
+pub mod TracedStatuses
 pub mod SimStatuses
 pub mod UsageStatuses
 pub mod OnBoards
+pub mod FittedStatuses
 pub mod PlanStatuses
-pub mod CheckStatuses
 pub mod PlannedStatuses
+pub mod CheckStatuses
+pub mod RunStatuses
+pub mod RunGivenStatuses
 pub mod Steps

@@ -1,42 +1,12 @@
 -- What each status of `sim` says of its files.
-use Rattle.std.specs.Prelude.{◌≡◌, ◌≢◌, ◌⊎◌, ℕ, Bool, List, [], ◌∷◌, length, Ok, Err}
-use Rattle.vw_design.specs.declared.design.Design.{Design}
-use Rattle.vw_design.specs.Clocks.{columns}
-use Rattle.vw_course.specs.Course.{writing}
+use Rattle.std.specs.Prelude.{◌≡◌, ◌≢◌, ◌⊎◌, ℕ, Bool, List, [], ◌∷◌}
 use Rattle.vw_course.specs.Places.{Files}
-use Rattle.vw_course.specs.Statuses.{IsDone, IsRefusedFor, IsReadStop, IsWriteStop, IsMemoryStop, IsStopped, IsCarriedOut, Holds, IsAbsent, IsUnworked, CompletesAt, LeavesPart}
-use Rattle.vw_front.specs.Designs.{IsDesignOf, IsNoDesign}
-use Rattle.vw_rows.specs.declared.fault.StimFault.{StimFault}
-use Rattle.vw_rows.specs.Stimulus.{stimulus_rows}
+use Rattle.vw_course.specs.Statuses.{IsRefusedFor, IsStopped, Holds, IsAbsent, IsUnworked}
+use Rattle.vw_front.specs.Designs.{IsNoDesign}
 use Rattle.vw_top.specs.declared.vocabulary.File.TheVariants as files
-use Rattle.vw_top.specs.declared.vocabulary.Reason.{Reason}
-use Rattle.vw_top.specs.Messages.{vocabulary, Call, CallWork}
-use Rattle.vw_top.specs.Kinds.{IsBadDesign, IsRowsOf, IsBadStimulus}
-use Rattle.vw_top.specs.Commands.{trace_of}
-
--- a stimulus text has this fault for the columns of a design
-abbrev pub HasRowFault : List ℕ → Design → StimFault → Type 0
-HasRowFault s spelled fault = stimulus_rows (length (columns spelled)) s ≡ Err fault
-
--- a design text stands for this design, and a stimulus text for these rows
-pub record AreSpelled (d s : List ℕ) (spelled : Design) (rows : List (List Bool)) : Type 0 where
-  pub design : IsDesignOf d spelled
-  pub rows_are : IsRowsOf (length (columns spelled)) s rows
-
--- the trace of the design of one text over the rows of the other was written
-pub record IsTrace (unknown : Bool) (d s : List ℕ) (did : CallWork) : Type 0 where
-  pub spelled : Design
-  pub rows : List (List Bool)
-  pub are : AreSpelled d s spelled rows
-  pub text : did ≡ writing (trace_of unknown spelled rows)
-
--- the trace of some design over some rows was written
-abbrev pub IsAnyTrace : Bool → CallWork → Type 0
-IsAnyTrace unknown did = (design : Design) × (rows : List (List Bool)) × (did ≡ writing (trace_of unknown design rows))
-
--- a stimulus text has no rows for the columns of the design of the other text
-abbrev pub IsBadRows : List ℕ → List ℕ → Reason → Type 0
-IsBadRows d s reason = (spelled : Design) × IsDesignOf d spelled × IsBadStimulus (length (columns spelled)) s reason
+use Rattle.vw_top.specs.Messages.{vocabulary, Call}
+use Rattle.vw_top.specs.Kinds.{IsBadDesign}
+use Rattle.vw_top.specs.TracedStatuses.{HoldTexts, TracedStatuses}
 
 module _ (design stimulus : List ℕ) (unknown : Bool) where
   -- the files of `sim`
@@ -46,47 +16,16 @@ module _ (design stimulus : List ℕ) (unknown : Bool) where
   abbrev pub its_files : Files vocabulary
   its_files = (files.Design, design) ∷ (files.Stimulus, stimulus) ∷ []
 
-  -- both texts are held
-  pub record HoldTexts (call : Call) (d s : List ℕ) : Type 0 where
-    pub design_held : Holds call design d
-    pub stimulus_held : Holds call stimulus s
-
   pub record SimStatuses (call : Call) : Type 0 where
-    -- 0: the trace of the design over the rows of the stimulus, and nothing else changed
-    pub done : (d s : List ℕ) → HoldTexts call d s → call.status ≡ 0 → IsDone (IsTrace unknown d s) call
     -- 1: exactly where the design text has a fault, or its design has one, or a loop
     pub no_design : (d : List ℕ) → Holds call design d → call.status ≡ 1
         → IsRefusedFor vocabulary (IsBadDesign d) call
     pub no_design_comes : (d : List ℕ) → Holds call design d → IsNoDesign d
         → IsRefusedFor vocabulary (IsBadDesign d) call ⊎ IsStopped vocabulary its_design call
-    -- 5: exactly where the stimulus text has a fault
-    pub no_rows : (d s : List ℕ) → HoldTexts call d s → call.status ≡ 5
-        → IsRefusedFor vocabulary (IsBadRows d s) call
-    pub no_rows_comes : (d s : List ℕ) (spelled : Design) (fault : StimFault) → HoldTexts call d s
-        → IsDesignOf d spelled → HasRowFault s spelled fault
-        → IsRefusedFor vocabulary (IsBadRows d s) call ⊎ IsStopped vocabulary its_files call
-    -- 7: a fault was counted at one of the two files, over every shelf; out has a part of some trace at most, and where
-    -- both texts are held, of the trace
-    pub read_fault : call.status ≡ 7 → IsReadStop vocabulary (IsAnyTrace unknown) its_files call
-    pub read_fault_held : (d s : List ℕ) → HoldTexts call d s → call.status ≡ 7
-        → IsReadStop vocabulary (IsTrace unknown d s) its_files call
-    -- 8: a fault was counted at out, which has a part of the trace
-    pub write_fault : (d s : List ℕ) → HoldTexts call d s → call.status ≡ 8 → IsWriteStop (IsTrace unknown d s) call
-    -- 9: out has a part of the trace at most
-    pub want_of_memory : (d s : List ℕ) → HoldTexts call d s → call.status ≡ 9
-        → IsMemoryStop (IsTrace unknown d s) call
+    -- 0, 5, 7, 8 and 9, and that it completes; nothing comes between the design and the stimulus
+    pub traced : TracedStatuses design stimulus unknown its_files (HoldTexts design stimulus unknown) call
     -- these aren't statuses of `sim`
     pub others : (call.status ≢ 2) × (call.status ≢ 3) × (call.status ≢ 4) × (call.status ≢ 6)
-    -- accepted texts are run, unless the outside stops the call; out has a part of the trace, whatever the status
-    pub accepted : (d s : List ℕ) (spelled : Design) (rows : List (List Bool)) → HoldTexts call d s
-        → AreSpelled d s spelled rows
-        → IsCarriedOut vocabulary (λ did. did ≡ writing (trace_of unknown spelled rows)) its_files call
-    pub part : (d s : List ℕ) (spelled : Design) (rows : List (List Bool)) → HoldTexts call d s
-        → AreSpelled d s spelled rows
-        → LeavesPart (trace_of unknown spelled rows) call.before.out call.after.out
-    -- and where no count rose, they are run, unless memory runs out
-    pub complete : (d s : List ℕ) (spelled : Design) (rows : List (List Bool)) → HoldTexts call d s
-        → AreSpelled d s spelled rows → CompletesAt vocabulary its_files call
     -- a file that is told to be absent is a read fault, unless memory runs out, or the design is refused before
     pub absent_design : IsAbsent call design → IsStopped vocabulary its_design call
     pub absent_stimulus : IsAbsent call stimulus → IsUnworked (1 ∷ []) call

@@ -1,15 +1,16 @@
 -- The words of commands: a keyword, names of files, and then settings.
-use Rattle.std.specs.Prelude.{ℕ, Bool, false, List, [], ◌∷◌, map, codes, Option, Some, None, option_and_then, unwrap_or}
+use Rattle.std.specs.Prelude.{ℕ, Bool, false, List, [], ◌∷◌, map, codes, Option, Some, None, option_map, option_and_then, unwrap_or}
 use Rattle.std.specs.List.{find}
-use Rattle.vw_words.specs.Forms.{Place, keyword, any, name, bit, Setting, Form}
+use Rattle.vw_words.specs.Forms.{Place, keyword, any, name, bit, number, Setting, Form}
 use Rattle.vw_words.specs.Matched.{has_form, first_wrong}
-use Rattle.vw_words.specs.Values.{bit_given}
+use Rattle.vw_words.specs.Values.{name_given, bit_given}
 
 -- a command with its files and settings; or none, and the number of the first word, from 1, that no command has there
 pub data Spelled : Type 0 where
   sim : (design stimulus : List ℕ) (unknown : Bool) → Spelled
   check : (design board plan : List ℕ) → Spelled
   plan : (design board : List ℕ) → Spelled
+  run : (design board stimulus : List ℕ) (given : Option (List ℕ)) (unknown : Bool) → Spelled
   nothing : (place : ℕ) → Spelled
 
 -- a command: the form of its words, and what words of this form spell
@@ -24,6 +25,14 @@ file = any name
 -- the value that free latches start at
 abbrev pub unknown_setting : Setting
 unknown_setting = record { name = codes "unknown"; value = bit; times = 1 }
+
+-- the plan to run on
+abbrev pub plan_setting : Setting
+plan_setting = record { name = codes "plan"; value = name; times = 1 }
+
+-- how many workers run the nodes of a board: one, and no other number so far
+abbrev pub workers_setting : Setting
+workers_setting = record { name = codes "workers"; value = number 1 1; times = 1 }
 
 -- sim DESIGN STIM [unknown=0|1]
 abbrev pub sim_of : List (List ℕ) → Option Spelled
@@ -49,9 +58,24 @@ plan_of words = None
 abbrev pub plan_words : CommandWords
 plan_words = record { form = record { places = keyword (codes "plan") ∷ file ∷ file ∷ []; settings = [] }; spells = plan_of }
 
+-- run DESIGN BOARD STIM [plan=FILE] workers=1 [unknown=0|1]. Without workers, a word is missing behind the last one
+abbrev pub run_of : List (List ℕ) → Option Spelled
+run_of (verb ∷ design ∷ board ∷ stimulus ∷ settings) =
+    option_map (λ workers. run design board stimulus (name_given plan_setting settings) (bit_given unknown_setting false settings)) (name_given workers_setting settings)
+run_of words = None
+
+abbrev pub run_words : CommandWords
+run_words = record {
+  form = record {
+    places = keyword (codes "run") ∷ file ∷ file ∷ file ∷ [];
+    settings = plan_setting ∷ workers_setting ∷ unknown_setting ∷ [];
+  };
+  spells = run_of;
+}
+
 -- all commands
 abbrev pub commands : List CommandWords
-commands = sim_words ∷ check_words ∷ plan_words ∷ []
+commands = sim_words ∷ check_words ∷ plan_words ∷ run_words ∷ []
 
 abbrev pub forms : List Form
 forms = map (λ command. command.form) commands

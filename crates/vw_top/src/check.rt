@@ -1,18 +1,14 @@
 //! The command `check`.
 ghost use Rattle.std.specs.Prelude.{◌≡◌, IfOk};
 ghost use Rattle.vw_course.specs.Goes.{Goes};
-ghost use Rattle.vw_course.specs.Stages.{EndsJudging};
 ghost use Rattle.vw_outside.specs.Writes.{WritesOut};
-ghost use Rattle.vw_plan.specs.PlannedBoard.{planned_board};
 ghost use Rattle.vw_top.specs.Commands.{check_board_course, check_course, check_plan_course, sound_course, sound_text};
-ghost use Rattle.vw_top.specs.Kinds.{IsBadPlan};
 ghost use Rattle.vw_top.specs.Messages.{vocabulary};
-ghost use Rattle.vw_top.specs.Steps.Stages.{EndsFault, IsCheckedPlan};
 
+use crate::checked::sound_plan;
 use crate::files::{read_board, read_design, read_plan};
-use crate::vocabulary::{Reason, Unfinished};
+use crate::vocabulary::Unfinished;
 use std::alloc::{AllocError, Global};
-use vw_check::{PlanFault, check as check_plan};
 use vw_course::{Outside, answer_of};
 use vw_net::Ordered;
 use vw_outside::{Name, Shelf, Sink, Unwritten, put_text};
@@ -36,36 +32,6 @@ fn write_sound<O: Sink>(alloc: Global, checked: Checked, out: &mut O) -> Result<
     let line = sound_line(alloc, checked.plan());
     drop(checked);
     put_text(line, out)
-}
-
-/// The end of a command whose plan has a fault.
-fn unsound(fault: PlanFault) -> Unfinished
-    ensures { EndsFault fault result }
-{
-    if fault == PlanFault::NoMemory {
-        return Unfinished::NoMemory;
-    }
-    Unfinished::Refused(Reason::Plan(fault))
-}
-
-/// The plan, if it is sound.
-fn sound_plan(
-    alloc: Global,
-    ordered: Ordered,
-    board: Board,
-    plan: Plan,
-) -> Result<Checked, Unfinished>
-    ensures { EndsJudging (IsCheckedPlan (planned_board ordered board plan))
-        (IsBadPlan (planned_board ordered board plan)) result }
-{
-    match check_plan(alloc, ordered, board, plan) {
-        Ok(checked) => Ok(checked),
-        Err(refused) => {
-            let fault = refused.fault;
-            drop(refused);
-            Err(unsound(fault))
-        }
-    }
 }
 
 /// Checks a plan of a netlist on a board, and writes its size where it is sound.

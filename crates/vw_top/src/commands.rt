@@ -6,6 +6,7 @@ ghost use Rattle.vw_top.specs.Words.{spelled_by};
 
 use crate::check::check;
 use crate::plan::plan;
+use crate::run::run;
 use crate::sim::sim;
 use crate::vocabulary::{Reason, Unfinished};
 use crate::words::{Command, command_of};
@@ -35,6 +36,13 @@ fn carry_out<S: Shelf, O: Sink>(
             plan,
         } => check(alloc, design, board, plan, outside),
         Command::Plan { design, board } => plan(alloc, design, board, outside),
+        Command::Run {
+            design,
+            board,
+            stimulus,
+            plan,
+            unknown,
+        } => run(alloc, design, board, plan, stimulus, unknown, outside),
         Command::Nothing(place) => Err(Unfinished::Refused(Reason::Usage(place))),
     }
 }
@@ -56,7 +64,8 @@ fn follow<S: Shelf, O: Sink>(
 
 /// Carries out the command that the words after the program's name spell, and gives the exit status. After each
 /// status but 0 one message line goes to `err`. What each status means, when it comes and what it leaves, the laws
-/// `call_statuses`, `sim_statuses`, `check_statuses`, `plan_statuses` and `usage_statuses` say.
+/// `call_statuses`, `sim_statuses`, `check_statuses`, `plan_statuses`, `run_statuses`, `run_given_statuses` and
+/// `usage_statuses` say.
 pub fn virtual_wires<S: Shelf, O: Sink, E: Sink>(
     alloc: Global,
     words: &[Name],

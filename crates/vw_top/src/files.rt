@@ -1,11 +1,12 @@
 //! The files of commands, each read and judged at its own stage.
-ghost use Rattle.std.specs.Prelude.{IfOk};
+ghost use Rattle.std.specs.Prelude.{◌≡◌, IfOk};
 ghost use Rattle.vw_board.specs.BoardText.{Spells as SpellsBoard};
 ghost use Rattle.vw_course.specs.Stages.{EndsJudging, EndsStage};
 ghost use Rattle.vw_front.specs.Designs.{IsNetlistOf};
 ghost use Rattle.vw_plantext.specs.PlanText.{Spells as SpellsPlan};
 ghost use Rattle.vw_rows.specs.Standing.{IsAtStart, StandsIn};
 ghost use Rattle.vw_top.specs.Kinds.{IsBadDesign, IsBadBoard, IsBadPlanText, IsBadStimulus};
+ghost use Rattle.vw_top.specs.Steps.Stages.{run_answer};
 
 use crate::vocabulary::{File, Reason, Unfinished};
 use std::alloc::Global;
@@ -17,6 +18,7 @@ use vw_outside::{Name, Shelf, TextRefused, read_text};
 use vw_plan::{Board, Plan};
 use vw_plantext::PlanTextFault;
 use vw_rows::{StimFault, Stimulus};
+use vw_trace::RunFault;
 
 /// The most bytes that a design text has.
 const DESIGN_LIMIT: u64 = 16_777_216;
@@ -113,6 +115,22 @@ pub fn read_plan<S: Shelf>(alloc: Global, shelf: &mut S, name: &Name) -> Result<
     }
 }
 
+/// Reads the plan with a name of these bytes, which a setting gives.
+pub fn read_given_plan<S: Shelf>(
+    alloc: Global,
+    shelf: &mut S,
+    name: &[u8],
+) -> Result<Plan, Unfinished>
+    ensures { EndsStage File.Plan name.now
+        SpellsPlan IsBadPlanText
+        (S.seen shelf.old) (S.seen shelf.new) result }
+{
+    match name.to_vec(alloc) {
+        Ok(bytes) => read_plan(alloc, shelf, &Name::of(bytes)),
+        Err(_) => Err(Unfinished::NoMemory),
+    }
+}
+
 /// Reads the stimulus once, and checks that each of its rows has a bit for each input of a netlist. Its rows come when it
 /// is read again.
 pub fn check_rows<S: Shelf>(
@@ -132,5 +150,18 @@ pub fn check_rows<S: Shelf>(
         Err(StimFault::ReadFault) => Err(Unfinished::ReadFault(File::Stimulus)),
         Err(StimFault::NoMemory) => Err(Unfinished::NoMemory),
         Err(fault) => Err(Unfinished::Refused(Reason::Stimulus(fault))),
+    }
+}
+
+/// The answer of a command that ran over its stimulus, or that stopped while it did.
+pub fn run_answer(written: Result<(), RunFault>) -> Result<(), Unfinished>
+    ensures { result ≡ run_answer written }
+{
+    match written {
+        Ok(()) => Ok(()),
+        Err(RunFault::ReadFault) => Err(Unfinished::ReadFault(File::Stimulus)),
+        Err(RunFault::WriteFault) => Err(Unfinished::WriteFault),
+        Err(RunFault::Stimulus(fault)) => Err(Unfinished::Refused(Reason::Stimulus(fault))),
+        Err(RunFault::NoMemory) => Err(Unfinished::NoMemory),
     }
 }

@@ -2,14 +2,19 @@
 #![tactic(auto)]
 
 mod check;
+mod checked;
 mod commands;
 mod files;
 mod plan;
+mod run;
 mod sim;
 mod statuses;
 mod vocabulary;
 mod words;
 
 pub use commands::virtual_wires;
-pub use statuses::{call_statuses, check_statuses, plan_statuses, sim_statuses, usage_statuses};
+pub use statuses::{
+    call_statuses, check_statuses, plan_statuses, run_given_statuses, run_statuses, sim_statuses,
+    usage_statuses,
+};
 pub use vocabulary::{File, Reason, Unfinished};

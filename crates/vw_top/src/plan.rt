@@ -1,22 +1,19 @@
 //! The command `plan`.
 ghost use Rattle.std.specs.Prelude.{◌≡◌};
 ghost use Rattle.vw_course.specs.Goes.{Goes};
-ghost use Rattle.vw_course.specs.Stages.{EndsJudging};
 ghost use Rattle.vw_outside.specs.Writes.{WritesOut};
-ghost use Rattle.vw_run.specs.Compiled.{IsCompiled};
 ghost use Rattle.vw_top.specs.Commands.{good_course, plan_board_course, plan_course, text_of_plan};
-ghost use Rattle.vw_top.specs.Kinds.{IsBadFit};
 ghost use Rattle.vw_top.specs.Messages.{vocabulary};
 
+use crate::checked::good_plan;
 use crate::files::{read_board, read_design};
-use crate::vocabulary::{Reason, Unfinished};
+use crate::vocabulary::Unfinished;
 use std::alloc::Global;
 use vw_course::{Outside, answer_of};
 use vw_net::Ordered;
 use vw_outside::{Name, Shelf, Sink, Unwritten, put_text};
 use vw_plan::{Board, Checked};
 use vw_plantext::print;
-use vw_run::{CompileFault, compile};
 
 /// Writes the text of a plan.
 fn write_plan<O: Sink>(alloc: Global, checked: Checked, out: &mut O) -> Result<(), Unwritten>
@@ -25,19 +22,6 @@ fn write_plan<O: Sink>(alloc: Global, checked: Checked, out: &mut O) -> Result<(
     let text = print(alloc, checked.plan());
     drop(checked);
     put_text(text, out)
-}
-
-/// A good plan, if the cells have room.
-fn good_plan(alloc: Global, ordered: Ordered, board: Board) -> Result<Checked, Unfinished>
-    ensures { EndsJudging (IsCompiled ordered board) (IsBadFit ordered board) result }
-{
-    match compile(alloc, ordered, board) {
-        Ok(checked) => Ok(checked),
-        Err(refused) => match refused.fault {
-            CompileFault::NoMemory => Err(Unfinished::NoMemory),
-            fault => Err(Unfinished::Refused(Reason::Fit(fault))),
-        },
-    }
 }
 
 /// Makes a plan of a netlist on a board, and writes it.

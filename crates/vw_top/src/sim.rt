@@ -1,32 +1,15 @@
 //! The command `sim`.
-ghost use Rattle.std.specs.Prelude.{◌≡◌};
 ghost use Rattle.vw_course.specs.Goes.{Goes};
-ghost use Rattle.vw_design.specs.declared.design.Design.{Design};
-ghost use Rattle.vw_design.specs.Flattened.{IsFlatOf};
-ghost use Rattle.vw_top.specs.Commands.{rows_course, sim_course};
+ghost use Rattle.vw_top.specs.Commands.{netlist_course, sim_course};
 ghost use Rattle.vw_top.specs.Messages.{vocabulary};
-ghost use Rattle.vw_top.specs.Steps.Stages.{run_answer};
 
-use crate::files::{check_rows, read_design};
-use crate::vocabulary::{File, Reason, Unfinished};
+use crate::files::{check_rows, read_design, run_answer};
+use crate::vocabulary::Unfinished;
 use std::alloc::Global;
 use vw_course::Outside;
 use vw_net::Ordered;
 use vw_outside::{Name, Shelf, Sink};
-use vw_trace::{RunFault, write_trace};
-
-/// The answer of a command that ran over its stimulus, or that stopped while it did.
-fn run_answer(written: Result<(), RunFault>) -> Result<(), Unfinished>
-    ensures { result ≡ run_answer written }
-{
-    match written {
-        Ok(()) => Ok(()),
-        Err(RunFault::ReadFault) => Err(Unfinished::ReadFault(File::Stimulus)),
-        Err(RunFault::WriteFault) => Err(Unfinished::WriteFault),
-        Err(RunFault::Stimulus(fault)) => Err(Unfinished::Refused(Reason::Stimulus(fault))),
-        Err(RunFault::NoMemory) => Err(Unfinished::NoMemory),
-    }
-}
+use vw_trace::write_trace;
 
 /// Checks the stimulus, runs a netlist over it as it is read again, and writes the trace.
 fn sim_netlist<S: Shelf, O: Sink>(
@@ -36,10 +19,8 @@ fn sim_netlist<S: Shelf, O: Sink>(
     unknown: bool,
     outside: &mut Outside<'_, '_, S, O>,
 ) -> Result<(), Unfinished>
-    ensures { (design : Design) → IsFlatOf design ordered.flat
-        → Goes S.seen O.seen vocabulary (rows_course stimulus.now unknown design) outside.old
-        outside.new
-        result }
+    ensures { Goes S.seen O.seen vocabulary (netlist_course stimulus.now unknown ordered)
+        outside.old outside.new result }
 {
     let mut rows = check_rows(alloc, outside.shelf, stimulus, &ordered)?;
     let written = write_trace(

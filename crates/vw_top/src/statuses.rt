@@ -1,14 +1,16 @@
 //! Laws of the commands, as contracts of functions that do nothing.
-ghost use Rattle.std.specs.Prelude.{ℕ, Bool, List};
+ghost use Rattle.std.specs.Prelude.{ℕ, Bool, List, Some, None};
 ghost use Rattle.vw_course.specs.Endings.{IsCallOf};
 ghost use Rattle.vw_course.specs.Statuses.{Statuses};
 ghost use Rattle.vw_top.specs.Words.{Spelled};
-ghost use Rattle.vw_top.specs.Commands.{check_course, course_of, plan_course, sim_course, usage_course};
+ghost use Rattle.vw_top.specs.Commands.{check_course, course_of, plan_course, run_course, sim_course, usage_course};
 ghost use Rattle.vw_top.specs.Messages.{Call};
 ghost use Rattle.vw_top.specs.UsageStatuses.{UsageStatuses};
 ghost use Rattle.vw_top.specs.SimStatuses.{SimStatuses};
 ghost use Rattle.vw_top.specs.CheckStatuses.{CheckStatuses};
 ghost use Rattle.vw_top.specs.PlanStatuses.{PlanStatuses};
+ghost use Rattle.vw_top.specs.RunStatuses.{RunStatuses};
+ghost use Rattle.vw_top.specs.RunGivenStatuses.{RunGivenStatuses};
 
 /// What each status of a call means, when it comes, what it leaves, and which message it has, whatever the words spell.
 pub fn call_statuses()
@@ -34,6 +36,22 @@ pub fn check_statuses()
 pub fn plan_statuses()
     ensures { (design board : List ℕ) (call : Call) → IsCallOf (plan_course design board) call
         → PlanStatuses design board call }
+{}
+
+/// What each status of `run` says of its files, where it makes its plan itself: after status 0, out has the trace of the
+/// unpartitioned design.
+pub fn run_statuses()
+    ensures { (design board stimulus : List ℕ) (unknown : Bool) (call : Call)
+        → IsCallOf (run_course design board None stimulus unknown) call
+        → RunStatuses design board stimulus unknown call }
+{}
+
+/// What each status of `run` says of its files, where it is given a plan: after status 0, the plan is sound, and out has
+/// the trace of the unpartitioned design.
+pub fn run_given_statuses()
+    ensures { (design board plan stimulus : List ℕ) (unknown : Bool) (call : Call)
+        → IsCallOf (run_course design board (Some plan) stimulus unknown) call
+        → RunGivenStatuses design board plan stimulus unknown call }
 {}
 
 /// What each status says of words that spell no command.

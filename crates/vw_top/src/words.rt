@@ -1,5 +1,5 @@
 ghost use Rattle.std.specs.Prelude.{◌≡◌, option_map};
-ghost use Rattle.vw_top.specs.Words.{spelled_by, sim_of, check_of, plan_of};
+ghost use Rattle.vw_top.specs.Words.{spelled_by, sim_of, check_of, plan_of, run_of};
 ghost use Rattle.vw_top.specs.Steps.Commands.{command_view, spelled_as};
 
 use vw_outside::Name;
@@ -25,6 +25,16 @@ pub enum Command<'a> {
         design: &'a Name,
         board: &'a Name,
     },
+    /// Runs a design on a board over a stimulus, and writes its trace. One worker runs all nodes.
+    Run {
+        design: &'a Name,
+        board: &'a Name,
+        stimulus: &'a Name,
+        /// The name of the plan, where one is given.
+        plan: Option<&'a [u8]>,
+        /// The value that free latches start at.
+        unknown: bool,
+    },
     /// No command; the number of the first wrong word, from 1.
     Nothing(u64),
 }
@@ -39,8 +49,22 @@ const UNKNOWN: Setting = Setting {
     times: 1,
 };
 
+/// The plan to run on.
+const PLAN: Setting = Setting {
+    name: b"plan",
+    value: Value::Name,
+    times: 1,
+};
+
+/// How many workers run the nodes of a board.
+const WORKERS: Setting = Setting {
+    name: b"workers",
+    value: Value::Number { least: 1, most: 1 },
+    times: 1,
+};
+
 /// The forms of the commands.
-const FORMS: [Form; 3] = [
+const FORMS: [Form; 4] = [
     Form {
         places: &[Place::Keyword(b"sim"), FILE, FILE],
         settings: &[UNKNOWN],
@@ -52,6 +76,10 @@ const FORMS: [Form; 3] = [
     Form {
         places: &[Place::Keyword(b"plan"), FILE, FILE],
         settings: &[],
+    },
+    Form {
+        places: &[Place::Keyword(b"run"), FILE, FILE, FILE],
+        settings: &[PLAN, WORKERS, UNKNOWN],
     },
 ];
 
@@ -93,6 +121,25 @@ fn plan_of(words: &[Name]) -> Option<Command<'_>>
     }
 }
 
+/// The command that words of the form of `run` spell: none without the number of workers, which has no default yet.
+fn run_of(words: &[Name]) -> Option<Command<'_>>
+    ensures { option_map command_view result ≡ run_of words.now }
+{
+    match words {
+        [_, design, board, stimulus, settings @ ..] => {
+            WORKERS.name(settings)?;
+            Some(Command::Run {
+                design,
+                board,
+                stimulus,
+                plan: PLAN.name(settings),
+                unknown: UNKNOWN.bit(settings, false),
+            })
+        }
+        _ => None,
+    }
+}
+
 /// The command that words spell which have the form with a number.
 fn spelled_as(number: Option<usize>, words: &[Name]) -> Option<Command<'_>>
     ensures { option_map command_view result ≡ spelled_as number words.now }
@@ -101,6 +148,7 @@ fn spelled_as(number: Option<usize>, words: &[Name]) -> Option<Command<'_>>
         0 => sim_of(words),
         1 => check_of(words),
         2 => plan_of(words),
+        3 => run_of(words),
         _ => None,
     }
 }

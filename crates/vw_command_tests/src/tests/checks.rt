@@ -11,23 +11,24 @@ const AND: &str = ".model m\n.inputs a b\n.outputs y\n.names a b y\n11 1\n.end\n
 const ONE_CHIP: &str = "board 1\nchips 1\ncells 1\nsettle 0\npins 2\nlink 0 1 1\nlink 1 0 1\n";
 
 /// A latch that is turned round at each clock, on chip 2 of a chain of two chips.
-const FLIP: &str = ".model m\n.outputs q\n.names q d\n0 1\n.latch d q 0\n.end\n";
+pub(super) const FLIP: &str = ".model m\n.outputs q\n.names q d\n0 1\n.latch d q 0\n.end\n";
 
-const FLIP_PLAN: &str = "plan 1 2 1 2\nchips 2 2\nwire 1 0 2\nhop 2 1 0 0\nhop 1 0 0 1\nend\n";
+pub(super) const FLIP_PLAN: &str =
+    "plan 1 2 1 2\nchips 2 2\nwire 1 0 2\nhop 2 1 0 0\nhop 1 0 0 1\nend\n";
 
 /// A chain of two chips behind the host, with two cells a chip.
-const CHAIN: &str =
+pub(super) const CHAIN: &str =
     "board 1\nchips 2\ncells 2\nsettle 0\npins 4\nlink 0 1 1\nlink 1 0 1\nlink 1 2 1\nlink 2 1 1\n";
 
 /// Such a chain whose gates take 3 to settle, and one of one cell a chip.
 const SLOW_CHAIN: &str =
     "board 1\nchips 2\ncells 2\nsettle 3\npins 4\nlink 0 1 1\nlink 1 0 1\nlink 1 2 1\nlink 2 1 1\n";
 
-const SMALL_CHAIN: &str =
+pub(super) const SMALL_CHAIN: &str =
     "board 1\nchips 2\ncells 1\nsettle 0\npins 4\nlink 0 1 1\nlink 1 0 1\nlink 1 2 1\nlink 2 1 1\n";
 
 /// The triangle, with gates that take 1 to settle.
-const SLOW_TRIANGLE: &str =
+pub(super) const SLOW_TRIANGLE: &str =
     "board 1\nchips 2\ncells 1\nsettle 1\npins 4\nlink 0 1 1\nlink 0 2 1\nlink 1 0 1\nlink 1 2 1\nlink 2 0 1\nlink 2 1 1\n";
 
 /// Asserts how a check of a design, a board and a plan ends.

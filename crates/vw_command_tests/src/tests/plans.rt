@@ -115,11 +115,11 @@ fn a_design_without_cells_has_an_empty_plan(rt: HostRuntime) -> Result<(), Fail>
 }
 
 /// Two chips of two cells each, and the host, each joined to each other.
-const FOUR_CELLS: &str =
+pub(super) const FOUR_CELLS: &str =
     "board 1\nchips 2\ncells 2\nsettle 0\npins 4\nlink 0 1 1\nlink 0 2 1\nlink 1 0 1\nlink 1 2 1\nlink 2 0 1\nlink 2 1 1\n";
 
 /// A chain of five gates behind an input, and one of four.
-const FIVE_GATES: &str =
+pub(super) const FIVE_GATES: &str =
     ".model m\n.inputs n0\n.outputs n5\n.names n0 n1\n1 1\n.names n1 n2\n1 1\n.names n2 n3\n1 1\n.names n3 n4\n1 1\n.names n4 n5\n1 1\n.end\n";
 
 const FOUR_GATES: &[Piece] = &[

@@ -11,15 +11,20 @@ fn lines_of(text: &[u8]) -> usize {
     text.iter().filter(|byte| **byte == b'\n').count()
 }
 
-#[test]
-fn a_batch_goes_on_where_the_one_before_ended(rt: HostRuntime) -> Result<(), Fail> {
+/// Asserts that a run of the toggle over two batches has each clock once.
+pub(super) fn batches_are_joined(
+    rt: &impl Abort,
+    alloc: Global,
+    words: &[&str],
+    texts: &[(&str, &str)],
+) -> Result<(), Fail> {
     let call = Call {
-        words: SIM,
-        texts: CLOCKS_257,
+        words,
+        texts,
         most: MOST,
         fault: Fault::None,
     };
-    let ran = carried_out(rt.alloc(), &call)?;
+    let ran = carried_out(alloc, &call)?;
     let out = ran.out.bytes();
     assert_eq!(rt; ran.status, 0);
     assert_eq!(rt; lines_of(out), 259);
@@ -27,11 +32,23 @@ fn a_batch_goes_on_where_the_one_before_ended(rt: HostRuntime) -> Result<(), Fai
     Ok(())
 }
 
-/// Asserts how a call ends whose read or write with this number fails; whether it was carried out.
-fn is_stopped(rt: &impl Abort, alloc: Global, fault: Fault, status: u8) -> Result<bool, Fail> {
+#[test]
+fn a_batch_goes_on_where_the_one_before_ended(rt: HostRuntime) -> Result<(), Fail> {
+    batches_are_joined(&rt, rt.alloc(), SIM, CLOCKS_257)
+}
+
+/// Asserts how a run of the toggle ends whose read or write with this number fails; whether it was carried out.
+pub(super) fn is_stopped(
+    rt: &impl Abort,
+    alloc: Global,
+    words: &[&str],
+    texts: &[(&str, &str)],
+    fault: Fault,
+    status: u8,
+) -> Result<bool, Fail> {
     let call = Call {
-        words: SIM,
-        texts: &[("d", TOGGLE), ("s", TOGGLE_ROWS)],
+        words,
+        texts,
         most: 5,
         fault,
     };
@@ -47,7 +64,7 @@ fn is_stopped(rt: &impl Abort, alloc: Global, fault: Fault, status: u8) -> Resul
 fn each_read_of_both_readings_may_fail(rt: HostRuntime) -> Result<(), Fail> {
     let mut stopped = 0u64;
     for number in 1u64..200 {
-        if is_stopped(&rt, rt.alloc(), Fault::Read(number), 7)? {
+        if is_stopped(&rt, rt.alloc(), SIM, TOGGLE_RUN, Fault::Read(number), 7)? {
             break;
         }
         stopped = number;
@@ -62,7 +79,7 @@ fn each_read_of_both_readings_may_fail(rt: HostRuntime) -> Result<(), Fail> {
 fn each_write_of_a_trace_may_fail(rt: HostRuntime) -> Result<(), Fail> {
     let mut stopped = 0u64;
     for number in 1u64..60 {
-        if is_stopped(&rt, rt.alloc(), Fault::Write(number), 8)? {
+        if is_stopped(&rt, rt.alloc(), SIM, TOGGLE_RUN, Fault::Write(number), 8)? {
             break;
         }
         stopped = number;

@@ -14,7 +14,8 @@ use Rattle.vw_top.specs.Words.{Spelled, spelled_by}
 use Rattle.vw_top.specs.Words as words
 use Rattle.vw_top.specs.Messages.{reason_line, Call, CallWork}
 use Rattle.vw_top.specs.Commands.{sim_course, course_of, trace_of}
-use Rattle.vw_top.specs.SimStatuses.{HoldTexts, SimStatuses}
+use Rattle.vw_top.specs.TracedStatuses.{HoldTexts}
+use Rattle.vw_top.specs.SimStatuses.{SimStatuses}
 use Rattle.vw_example.specs.SimulateStatuses.{IsSimulated, HasBadDesign, HasBadRows, SimulateStatuses}
 use Rattle.vw_example.proofs.simulate.Goals as goal
 
@@ -75,7 +76,7 @@ module _ (design stimulus out err : List ℕ) (call : Call) (hold : HoldTexts (c
 
   done : call.status ≡ 0 → IsSimulated design stimulus out err
   done is =
-      let done = table.done design stimulus hold is in
+      let done = table.traced.done design stimulus hold is in
       let trace = done.is in
       let told : Some err ≡ Some [] = ap (λ (sink : SeenSink). sink.told) (sym said ∙ done.silent ∙ unsaid) in
       record {
@@ -94,7 +95,7 @@ module _ (design stimulus out err : List ℕ) (call : Call) (hold : HoldTexts (c
 
   bad_rows : call.status ≡ 5 → HasBadRows design stimulus out err
   bad_rows is =
-      let refused = table.no_rows design stimulus hold is in
+      let refused = table.traced.no_rows design stimulus hold is in
       let bad = refused.why.2 in
       record {
         spelled = refused.why.0;
@@ -113,7 +114,7 @@ module _ (design stimulus out err : List ℕ) (call : Call) (hold : HoldTexts (c
     others = table.others;
     known = all.known;
     part = λ spelled rows is read.
-        front_of_text call.before.out call.after.out (trace_of false spelled rows) out none some (table.part design stimulus spelled rows hold (record { design = is; rows_are = read }));
+        front_of_text call.before.out call.after.out (trace_of false spelled rows) out none some (table.traced.part design stimulus spelled rows hold (record { design = is; rows_are = read }));
   }
 
 pub returns : goal.returns

@@ -1,7 +1,8 @@
 -- Commands of the code as those of the words.
 use Rattle.std.specs.Prelude.{ℕ, List, Option, option_and_then, slice_get}
+use Rattle.std.specs.Option.{option_copied}
 use Rattle.vw_top.specs.declared.words.Command.{Command}
-use Rattle.vw_top.specs.declared.words.Command.TheVariants.{Sim, Check, Plan, Nothing}
+use Rattle.vw_top.specs.declared.words.Command.TheVariants.{Sim, Check, Plan, Run, Nothing}
 use Rattle.vw_top.specs.Words.{Spelled, commands}
 use Rattle.vw_top.specs.Words as words
 
@@ -9,6 +10,8 @@ abbrev pub command_view : Command → Spelled
 command_view (Sim design stimulus unknown) = words.sim design.now stimulus.now unknown
 command_view (Check design board plan) = words.check design.now board.now plan.now
 command_view (Plan design board) = words.plan design.now board.now
+command_view (Run design board stimulus plan unknown) =
+    words.run design.now board.now stimulus.now (option_copied plan) unknown
 command_view (Nothing place) = words.nothing place
 
 -- what words spell that have the form of the command with a number

@@ -1,5 +1,5 @@
 -- What the stages of commands make.
-use Rattle.std.specs.Prelude.{◌≡◌, ℕ, IsTrue, Result, Ok, Err}
+use Rattle.std.specs.Prelude.{◌≡◌, IsTrue, Result, Ok, Err}
 use Rattle.vw_check.specs.declared.fault.PlanFault.{PlanFault}
 use Rattle.vw_check.specs.Answers.{is_plan_fault}
 use Rattle.vw_course.specs.declared.unfinished.Unfinished.{Unfinished}
@@ -14,9 +14,10 @@ use Rattle.vw_top.specs.declared.vocabulary.File.TheVariants as files
 use Rattle.vw_top.specs.declared.vocabulary.Reason.{Reason}
 use Rattle.vw_top.specs.declared.vocabulary.Reason.TheVariants as reasons
 
--- the plan of the planned, which is sound
+-- the design and the plan of the planned, which is sound
 pub record IsCheckedPlan (planned : PlannedBoard) (checked : Checked) : Type 0 where
   pub sound : IsSound planned
+  pub ordered : checked.ordered ≡ planned.ordered
   pub plan : checked.plan ≡ planned.plan
 
 -- the command refuses for the fault of the plan; for want of memory, and for nothing else, it is stopped

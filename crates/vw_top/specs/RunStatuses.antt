@@ -1,0 +1,30 @@
+-- What each status of `run` says of its files, where it makes its plan itself.
+use Rattle.std.specs.Prelude.{◌≢◌, ℕ, Bool, List, [], ◌∷◌}
+use Rattle.vw_course.specs.Places.{Files}
+use Rattle.vw_course.specs.Statuses.{Holds, IsAbsent, IsUnworked}
+use Rattle.vw_top.specs.declared.vocabulary.File.TheVariants as files
+use Rattle.vw_top.specs.Messages.{vocabulary, Call}
+use Rattle.vw_top.specs.FittedStatuses.{HaveRoom, HoldTexts, FittedStatuses}
+use Rattle.vw_top.specs.TracedStatuses.{TracedStatuses}
+
+module _ (design board stimulus : List ℕ) (unknown : Bool) where
+  -- the files of `run` without a plan
+  abbrev pub its_files : Files vocabulary
+  its_files = (files.Design, design) ∷ (files.Board, board) ∷ (files.Stimulus, stimulus) ∷ []
+
+  -- the three texts are held, and the cells of the design have room on the board
+  pub record IsReady (call : Call) (d s : List ℕ) : Type 0 where
+    pub b : List ℕ
+    pub fitted_held : HoldTexts design board call d b
+    pub stimulus_held : Holds call stimulus s
+    pub room : HaveRoom d b
+
+  pub record RunStatuses (call : Call) : Type 0 where
+    -- 1, 3 and 6, and a design or a board that is absent
+    pub fitted : FittedStatuses design board call
+    -- 0, 5, 7, 8 and 9, and that it completes: the trace is that of the design, whatever plan was made
+    pub traced : TracedStatuses design stimulus unknown its_files IsReady call
+    -- these aren't statuses of it
+    pub others : (call.status ≢ 2) × (call.status ≢ 4)
+    -- a stimulus that is told to be absent is a read fault, unless memory runs out, or another file is refused before
+    pub absent_stimulus : IsAbsent call stimulus → IsUnworked (1 ∷ 3 ∷ 6 ∷ []) call
