@@ -1,11 +1,12 @@
 -- The truth table of a cover, bit by bit.
 use mir.Val.{bool_byte}
-use Rattle.std.proofs.Common.{◌≡◌, ◌≤◌, ◌<◌, ◌+◌, ◌-◌, ◌*◌, ◌/◌, ◌%◌, ◌^◌, ◌&&◌, ◌||◌, not, ℕ, zero, suc, min, max, Bool, true, false, List, [], ◌∷◌, length, get_or, nat_le, nat_eq, bit_and, bit_or, if◌then◌else◌, w64, ap, sym, refl, ◌∙◌, ⊎_elim, All, le-leb, eqb-true, leb-true, subst, arith}
+use Rattle.std.proofs.Common.{◌≡◌, ◌≤◌, ◌<◌, ◌+◌, ◌-◌, ◌*◌, ◌/◌, ◌%◌, ◌^◌, ◌&&◌, ◌||◌, not, ℕ, zero, suc, min, max, Bool, true, false, List, [], ◌∷◌, ◌++◌, length, get_or, nat_le, nat_eq, bit_and, bit_or, if◌then◌else◌, w64, ap, ap₂, sym, refl, ◌∙◌, ⊎_elim, All, le-leb, eqb-true, leb-true, subst, arith}
 use Rattle.std.specs.List.{list_any}
 use Rattle.std.specs.Int.{bit_at}
 use Rattle.std.proofs.Math.Nat.{pow-suc}
 use Rattle.std.proofs.Math.Pow.{pow_mono}
 use Rattle.std.proofs.lemmas.Bool.{and_parts, cases_eq}
+use Rattle.std.proofs.lemmas.List.{append-nil, get_or_append_left, length-append}
 use Rattle.std.proofs.lemmas.List.Elements.{All-head, All-tail}
 use Rattle.std.proofs.lemmas.Nat.{and_le_l, or_lt}
 use Rattle.std.proofs.lemmas.Nat.Bits.{bit_at_lowest, bit_at-suc, bit_at-zero, bit_at_and, bit_at_or, bit_at_not, bit_at_ones, shr_and_one}
@@ -120,8 +121,8 @@ both : (places mark row before : ℕ) (matches rest : Bool) → before ≡ min p
 both places mark row before matches rest first its all = omega (arith, bit-and matches rest)
 
 module _ (bits : List Bool) (few : length bits ≤ 6) where
-  -- the places of a row have the place of some values where the row matches them
-  row_bit : (places input : ℕ) (marks : List Mark) (left : List Bool) → ((i : ℕ) → get_or left i false ≡ get_or bits (input + i) false) → length marks ≡ length left → input + length marks ≤ 6
+  -- the places of a row have the place of some values where the row matches the first of them
+  row_bit : (places input : ℕ) (marks : List Mark) (left : List Bool) → ((i : ℕ) → i < length left → get_or left i false ≡ get_or bits (input + i) false) → length marks ≡ length left → input + length marks ≤ 6
       → bit_at (row_places places input marks) (place_of bits) ≡ min (bit_at places (place_of bits)) (bit (row_matches marks left))
   row_bit places input [] left same even within = omega (arith, bit-le places (place_of bits))
   row_bit places input (mark ∷ marks) [] same even within = absurd (omega arith)
@@ -130,20 +131,11 @@ module _ (bits : List Bool) (few : length bits ≤ 6) where
       let input_table = get_or input_tables input 0 in
       let here : input < 6 = omega arith in
       let start : input + 0 ≡ input = omega arith in
-      let is : bit_at input_table place ≡ bit value = input_table_at bits input few here ∙ ap (λ (i : ℕ). bit (get_or bits i false)) (sym start) ∙ ap bit (sym (same 0)) in
+      let is : bit_at input_table place ≡ bit value = input_table_at bits input few here ∙ ap (λ (i : ℕ). bit (get_or bits i false)) (sym start) ∙ ap bit (sym (same 0 (omega arith))) in
       let its = mark_bit mark input_table place value (input_table_small input here) (place_of-below bits few) is in
-      let next = λ (i : ℕ). let further : input + suc i ≡ input + 1 + i = omega arith in same (suc i) ∙ ap (λ (at : ℕ). get_or bits at false) further in
+      let next = λ (i : ℕ) (inside : i < length left). let further : input + suc i ≡ input + 1 + i = omega arith in same (suc i) (omega (arith, inside)) ∙ ap (λ (at : ℕ). get_or bits at false) further in
       let all = row_bit (bit_and places (mark_places input_table mark)) (input + 1) marks left next (omega arith) (omega arith) in
       both (bit_at places place) (bit_at (mark_places input_table mark) place) _ (bit_at (bit_and places (mark_places input_table mark)) place) (mark_matches mark value) (row_matches marks left) (bit_at_and places (mark_places input_table mark) place) its all
-
-  whole_row : (marks : List Mark) → length marks ≡ length bits → bit_at (row_places (2 ^ 64 - 1) 0 marks) (place_of bits) ≡ bit (row_matches marks bits)
-  whole_row marks even =
-      let same = λ (i : ℕ). let none : i ≡ 0 + i = omega arith in ap (λ (at : ℕ). get_or bits at false) none in
-      let ones = bit_at_ones 64 (place_of bits) (place_of-below bits few) in
-      row_bit (2 ^ 64 - 1) 0 marks bits same even (omega arith) ∙ ap (λ (b : ℕ). min b (bit (row_matches marks bits))) ones ∙ at_most (row_matches marks bits) where
-        at_most : (value : Bool) → min 1 (bit value) ≡ bit value
-        at_most true = refl
-        at_most false = refl
 
   either : (places row rows before : ℕ) (matches rest : Bool) → before ≡ max places row → row ≡ bit matches → rows ≡ max before (bit rest) → rows ≡ max places (bit (matches || rest))
   either places row rows before true true first its all = omega arith
@@ -151,16 +143,26 @@ module _ (bits : List Bool) (few : length bits ≤ 6) where
   either places row rows before false true first its all = omega arith
   either places row rows before false false first its all = omega arith
 
-  -- the places of rows have it where some row matches
-  rows_bit : (places : ℕ) (rows : List Row) → All (λ row. length row.marks ≡ length bits) rows
-      → bit_at (rows_places places rows) (place_of bits) ≡ max (bit_at places (place_of bits)) (bit (list_any (λ row. row_matches row.marks bits) rows))
-  rows_bit places [] even = omega arith
-  rows_bit places (row ∷ rows) even =
-      let place = place_of bits in
-      let its = row_places (2 ^ 64 - 1) 0 row.marks in
-      let here = whole_row row.marks (All-head (λ (r : Row). length r.marks ≡ length bits) row rows even) in
-      let all = rows_bit (bit_or places its) rows (All-tail (λ (r : Row). length r.marks ≡ length bits) row rows even) in
-      either (bit_at places place) (bit_at its place) _ (bit_at (bit_or places its) place) (row_matches row.marks bits) (list_any (λ (r : Row). row_matches r.marks bits) rows) (bit_at_or places its place) here all
+  module _ (own more : List Bool) (are : bits ≡ own ++ more) where
+    whole_row : (marks : List Mark) → length marks ≡ length own → bit_at (row_places (2 ^ 64 - 1) 0 marks) (place_of bits) ≡ bit (row_matches marks own)
+    whole_row marks even =
+        let same = λ (i : ℕ) (inside : i < length own). let none : i ≡ 0 + i = omega arith in sym (get_or_append_left own more false i inside) ∙ ap₂ (λ (list : List Bool) (at : ℕ). get_or list at false) (sym are) none in
+        let ones = bit_at_ones 64 (place_of bits) (place_of-below bits few) in
+        row_bit (2 ^ 64 - 1) 0 marks own same even (omega (arith, few, ap (λ (list : List Bool). length list) are, length-append own more)) ∙ ap (λ (b : ℕ). min b (bit (row_matches marks own))) ones ∙ at_most (row_matches marks own) where
+          at_most : (value : Bool) → min 1 (bit value) ≡ bit value
+          at_most true = refl
+          at_most false = refl
+
+    -- the places of rows have it where some row matches
+    rows_bit : (places : ℕ) (rows : List Row) → All (λ row. length row.marks ≡ length own) rows
+        → bit_at (rows_places places rows) (place_of bits) ≡ max (bit_at places (place_of bits)) (bit (list_any (λ row. row_matches row.marks own) rows))
+    rows_bit places [] even = omega arith
+    rows_bit places (row ∷ rows) even =
+        let place = place_of bits in
+        let its = row_places (2 ^ 64 - 1) 0 row.marks in
+        let here = whole_row row.marks (All-head (λ (r : Row). length r.marks ≡ length own) row rows even) in
+        let all = rows_bit (bit_or places its) rows (All-tail (λ (r : Row). length r.marks ≡ length own) row rows even) in
+        either (bit_at places place) (bit_at its place) _ (bit_at (bit_or places its) place) (row_matches row.marks own) (list_any (λ (r : Row). row_matches r.marks own) rows) (bit_at_or places its place) here all
 
 -- ---- tables
 
@@ -188,28 +190,34 @@ at_least : (value : Bool) → max 0 (bit value) ≡ bit value
 at_least true = refl
 at_least false = refl
 
-table_bit : (inputs : ℕ) (on : Bool) (rows : List Row) (bits : List Bool) → inputs ≤ 6 → length bits ≡ inputs → All (λ row. length row.marks ≡ inputs) rows
-    → bit_at (truth_table_of inputs on rows) (place_of bits) ≡ bit (if list_any (λ row. row_matches row.marks bits) rows then on else not on)
-table_bit inputs on rows bits few size even = rw narrow (by on) where
+table_bit : (inputs : ℕ) (on : Bool) (rows : List Row) (own more : List Bool) → inputs ≤ 6 → length own ≡ inputs → length (own ++ more) ≤ 6 → All (λ row. length row.marks ≡ inputs) rows
+    → bit_at (truth_table_of inputs on rows) (place_of (own ++ more)) ≡ bit (if list_any (λ row. row_matches row.marks own) rows then on else not on)
+table_bit inputs on rows own more few size all_few even = rw narrow (by on) where
   narrow : nat_le inputs 6 ≡ true
   narrow = le-leb inputs 6 few
 
-  matched : bit_at (rows_places 0 rows) (place_of bits) ≡ bit (list_any (λ row. row_matches row.marks bits) rows)
+  matched : bit_at (rows_places 0 rows) (place_of (own ++ more)) ≡ bit (list_any (λ row. row_matches row.marks own) rows)
   matched =
-      let fits : All (λ (row : Row). length row.marks ≡ length bits) rows = subst (λ (n : ℕ). All (λ (row : Row). length row.marks ≡ n) rows) (sym size) even in
-      rows_bit bits (omega arith) 0 rows fits ∙ ap (λ (b : ℕ). max b (bit (list_any (λ (row : Row). row_matches row.marks bits) rows))) (bit_at-zero (place_of bits)) ∙ at_least (list_any (λ (row : Row). row_matches row.marks bits) rows)
+      let fits : All (λ (row : Row). length row.marks ≡ length own) rows = subst (λ (n : ℕ). All (λ (row : Row). length row.marks ≡ n) rows) (sym size) even in
+      rows_bit (own ++ more) all_few own more refl 0 rows fits ∙ ap (λ (b : ℕ). max b (bit (list_any (λ (row : Row). row_matches row.marks own) rows))) (bit_at-zero (place_of (own ++ more))) ∙ at_least (list_any (λ (row : Row). row_matches row.marks own) rows)
 
-  by : (value : Bool) → bit_at (if value then rows_places 0 rows else 2 ^ 64 - 1 - rows_places 0 rows) (place_of bits) ≡ bit (if list_any (λ row. row_matches row.marks bits) rows then value else not value)
-  by true = matched ∙ bit-on (list_any (λ (row : Row). row_matches row.marks bits) rows)
+  by : (value : Bool) → bit_at (if value then rows_places 0 rows else 2 ^ 64 - 1 - rows_places 0 rows) (place_of (own ++ more)) ≡ bit (if list_any (λ row. row_matches row.marks own) rows then value else not value)
+  by true = matched ∙ bit-on (list_any (λ (row : Row). row_matches row.marks own) rows)
   by false =
-      bit_at_not w64 (rows_places 0 rows) (place_of bits) (rows_places-lt 0 rows (omega arith)) (place_of-below bits (omega arith)) ∙ ap (λ (b : ℕ). 1 - b) matched ∙ bit-off (list_any (λ (row : Row). row_matches row.marks bits) rows)
+      bit_at_not w64 (rows_places 0 rows) (place_of (own ++ more)) (rows_places-lt 0 rows (omega arith)) (place_of-below (own ++ more) all_few) ∙ ap (λ (b : ℕ). 1 - b) matched ∙ bit-off (list_any (λ (row : Row). row_matches row.marks own) rows)
 
 test-bit : (value : Bool) → nat_eq (bit value) 1 ≡ value
 test-bit true = refl
 test-bit false = refl
 
--- the truth table of a cover of at most six inputs has the cover's value at the place of any values
+-- the truth table of a cover of at most six inputs has the cover's value at the place of any values, whatever values follow
+pub truth_table_repeats : (cover : Cover) (bits more : List Bool) → length bits ≡ cover.inputs → length (bits ++ more) ≤ 6 → bit_of cover.truth_table (place_of (bits ++ more)) ≡ cover_value cover bits
+truth_table_repeats cover bits more size all_few =
+    let few : cover.inputs ≤ 6 = omega (arith, size, all_few, length-append bits more) in
+    let its = table_bit cover.inputs cover.on cover.rows bits more few size all_few cover.even in
+    ap (λ (truth_table : ℕ). bit_of truth_table (place_of (bits ++ more))) cover.truth_table_is ∙ ap (λ (n : ℕ). nat_eq n 1) (shr_and_one (truth_table_of cover.inputs cover.on cover.rows) (place_of (bits ++ more)) ∙ its) ∙ test-bit (cover_value cover bits)
+
 pub truth_table_agrees : (cover : Cover) (bits : List Bool) → cover.inputs ≤ 6 → length bits ≡ cover.inputs → bit_of cover.truth_table (place_of bits) ≡ cover_value cover bits
 truth_table_agrees cover bits few size =
-    let its = table_bit cover.inputs cover.on cover.rows bits few size cover.even in
-    ap (λ (truth_table : ℕ). bit_of truth_table (place_of bits)) cover.truth_table_is ∙ ap (λ (n : ℕ). nat_eq n 1) (shr_and_one (truth_table_of cover.inputs cover.on cover.rows) (place_of bits) ∙ its) ∙ test-bit (cover_value cover bits)
+    let same : bits ++ [] ≡ bits = append-nil bits in
+    ap (λ (all : List Bool). bit_of cover.truth_table (place_of all)) (sym same) ∙ truth_table_repeats cover bits [] size (omega (arith, few, size, ap (λ (all : List Bool). length all) same))

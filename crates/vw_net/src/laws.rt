@@ -15,6 +15,14 @@ pub fn truth_tables_agree()
         → bit_of cover.truth_table (place_of bits) ≡ cover_value cover bits }
 {}
 
+/// It has this value at the place of these values and any further ones up to six in all: it repeats itself over inputs that
+/// there aren't.
+pub fn truth_tables_repeat()
+    ensures { (cover : Cover) (bits more : List Bool) → length bits ≡ cover.inputs
+        → length (bits ++ more) ≤ 6
+        → bit_of cover.truth_table (place_of (bits ++ more)) ≡ cover_value cover bits }
+{}
+
 /// Where there is an order, following more drivers in a row than there are cells changes no value.
 pub fn levels_settle()
     ensures { (ordered : Ordered) (row state : List Bool) (level net : ℕ)

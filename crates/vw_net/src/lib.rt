@@ -13,7 +13,9 @@ mod truth_table;
 pub use cell::{Cell, Init};
 pub use cover::{Cover, Mark, Row};
 pub use flat::Flat;
-pub use laws::{gates_settle, histories_join, levels_settle, truth_tables_agree};
+pub use laws::{
+    gates_settle, histories_join, levels_settle, truth_tables_agree, truth_tables_repeat,
+};
 pub use ordered::Ordered;
 pub use sequence::{Bits, Rows, Sequence};
 pub use truth_table::{TRUTH_TABLE_INPUTS, bit_of};
