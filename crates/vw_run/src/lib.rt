@@ -1,4 +1,4 @@
-//! Plans of a design on a board.
+//! Plans of a design on a board, and runs of the board by such a plan.
 #![tactic(auto)]
 
 mod alone;

@@ -1,4 +1,4 @@
-//! Runs a netlist over rows, and writes its trace.
+//! Traces of netlists, whatever works out their clocks: a simulator that lies here, or an engine above.
 #![tactic(auto)]
 
 mod batch;
