@@ -45,6 +45,13 @@ impl<'a> Lanes<'a> {
         })
     }
 
+    /// How many links there are.
+    pub fn len(&self) -> usize
+        ensures { result ≡ length self.now.lanes }
+    {
+        self.lanes.len()
+    }
+
     /// How many words are on a link.
     pub fn held(&self, link: u32) -> u32
         requires { link < length self.now.lanes }

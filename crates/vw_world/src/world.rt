@@ -113,6 +113,20 @@ impl<'a> World<'a> {
         answer_of(job, nodes, &numbers, latches, last)
     }
 
+    /// How many nodes there are: the host and each chip. It takes no memory.
+    pub fn nodes(&self) -> usize
+        ensures { result ≡ length self.now.state.nodes }
+    {
+        self.nodes.len()
+    }
+
+    /// How many links there are. It takes no memory.
+    pub fn links(&self) -> usize
+        ensures { result ≡ length self.now.state.links }
+    {
+        self.lanes.len()
+    }
+
     /// How many clocks a node has finished. It takes no memory.
     pub fn clock(&self, node: u32) -> u64
         requires { node < length self.now.state.nodes }
