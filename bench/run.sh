@@ -436,3 +436,37 @@ halves 16384 7919 >design.blif
 planned "halves of halves, 16,384 cells, mixed" 16384 4 8 8
 halves 65536 7919 >design.blif
 planned "halves of halves, 65,536 cells, mixed" 65536 4 8 8
+
+echo
+echo "| design | chips | clocks | hops a cell | period | sim, seconds | run, seconds | run : sim | run, peak MB |"
+echo "|---|---|---|---|---|---|---|---|---|"
+# ran NAME CELLS ROWS COLUMNS CLOCKS WIDTH: one line of the table of runs of design.blif on a mesh by a plan that was made before,
+# over so many clocks of so many columns; both write the same trace
+ran() {
+  local chips=$(($3 * $4)) hops period alone
+  mesh "$3" "$4" $((($2 * 103 + 100 * chips - 1) / (100 * chips))) 8 1 >mesh.board
+  clocks "$5" "$6" >rows.stim
+  measured plan design.blif mesh.board
+  expect 0 ""
+  mv out made.plan
+  measured check design.blif mesh.board made.plan
+  read -r _ _ hops period <out
+  measured sim design.blif rows.stim
+  expect 0 ""
+  alone=$seconds
+  mv out trace.sim
+  measured run design.blif mesh.board rows.stim plan=made.plan workers=1
+  expect 0 ""
+  cmp -s out trace.sim || echo "another trace: $1 on $chips chips" >&2
+  echo "| $1 | $chips | $5 | $(awk -v h="$hops" -v c="$2" 'BEGIN { printf "%.3f", h / c }') | $period | $alone | $seconds | $(awk -v r="$seconds" -v s="$alone" 'BEGIN { printf "%.1f", r / s }') | $peak |"
+}
+for chips in "2 2" "4 4"; do
+  grid 63 1 >design.blif
+  ran "grid of 63 by 63" 3969 $chips 10000 2
+  window 4000 64 >design.blif
+  ran "4,000 cells, window of 64" 4000 $chips 10000 1
+  grid 245 1 >design.blif
+  ran "grid of 245 by 245" 60025 $chips 1000 2
+  window 60000 400 >design.blif
+  ran "60,000 cells, window of 400" 60000 $chips 1000 1
+done
