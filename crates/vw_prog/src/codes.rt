@@ -93,10 +93,10 @@ fn record_slots(
 ) -> Result<Vec<u32>, AllocError>
     ensures { IfOk result (λ slots. slots.items ≡ record_slots flat.now node own.now table.now) }
 {
-    if node == 0 {
-        return slots_at(alloc, table, flat.outputs());
+    if node != 0 {
+        return latch_slots(alloc, table, own);
     }
-    latch_slots(alloc, table, own)
+    slots_at(alloc, table, flat.outputs())
 }
 
 /// The code of a node with these latches and actions. The table has no slots, before it and after it.
