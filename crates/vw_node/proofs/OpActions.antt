@@ -82,57 +82,63 @@ module _ (ends : SeenEnds) (node : ℕ) (code : Code) (is_code : IsCode (planned
 
   -- ---- gates
 
-  abbrev pub RunsOn : ℕ → List TableGate → Type 0
-  RunsOn made [] = made ≡ made
-  RunsOn made (gate ∷ gates) = (number : ℕ) × (slice_get program made ≡ Some (action.Evaluate number)) × IsTableGate flat nets number gate × RunsOn (made + 1) gates
+  abbrev pub RunsOn : ℕ → ℕ → List TableGate → Type 0
+  RunsOn made slot [] = made ≡ made
+  RunsOn made slot (gate ∷ gates) = (number : ℕ) × (slice_get program made ≡ Some (action.Evaluate number)) × IsTableGate flat nets number gate slot × RunsOn (made + 1) (slot + 1) gates
 
-  pub run_begins : (place first end : ℕ) → slice_get code.ops.items place ≡ Some (op.Run first end) → (number : ℕ) × (slice_get program place ≡ Some (action.Evaluate number)) × BeginsWith flat code (action.Evaluate number) (op.Run first end)
-  run_begins place first end is = let found = op_begins place (op.Run first end) is in by found.0 found.1.0 found.1.1 where
-    by : (next : Action) → slice_get program place ≡ Some next → BeginsWith flat code next (op.Run first end) → (number : ℕ) × (slice_get program place ≡ Some (action.Evaluate number)) × BeginsWith flat code (action.Evaluate number) (op.Run first end)
+  pub run_begins : (place first end slot : ℕ) → slice_get code.ops.items place ≡ Some (op.Run first end slot) → (number : ℕ) × (slice_get program place ≡ Some (action.Evaluate number)) × BeginsWith flat code (action.Evaluate number) (op.Run first end slot)
+  run_begins place first end slot is = let found = op_begins place (op.Run first end slot) is in by found.0 found.1.0 found.1.1 where
+    by : (next : Action) → slice_get program place ≡ Some next → BeginsWith flat code next (op.Run first end slot) → (number : ℕ) × (slice_get program place ≡ Some (action.Evaluate number)) × BeginsWith flat code (action.Evaluate number) (op.Run first end slot)
     by (action.Evaluate number) at begins = (number, at, begins)
     by (action.Send link pin net) at begins = absurd begins
     by (action.Take link pin net) at begins = absurd begins
     by action.Step at begins = absurd begins
 
   -- the gates of a part of a run
-  pub run_of : (count place first stop end : ℕ) → stop ≡ first + suc count → stop ≤ end → slice_get code.ops.items place ≡ Some (op.Run first end) → RunsOn place (slice_range code.gates.items first stop) × (stop ≤ length code.gates.items)
-  run_of zero place first stop end is within at =
-      let found = run_begins place first end at in
+  pub run_of : (count place first stop end slot : ℕ) → stop ≡ first + suc count → stop ≤ end → slice_get code.ops.items place ≡ Some (op.Run first end slot) → RunsOn place slot (slice_range code.gates.items first stop) × (stop ≤ length code.gates.items)
+  run_of zero place first stop end slot is within at =
+      let found = run_begins place first end slot at in
       let gate = found.2.1 in
       let last : stop ≡ first + 1 = omega (arith, is) in
       let one : slice_range code.gates.items first stop ≡ gate ∷ [] = range_more code.gates.items first stop gate found.2.2 (omega (arith, is)) ∙ ap (λ (stop : ℕ). gate ∷ slice_range code.gates.items (first + 1) stop) last ∙ ap (λ (gates : List TableGate). gate ∷ gates) (range_none code.gates.items (first + 1)) in
-      (subst (RunsOn place) (sym one) (found.0, found.1, found.2.3, refl), omega (arith, is, slice_get_within code.gates.items first gate found.2.2))
-  run_of (suc count) place first stop end is within at =
-      let found = run_begins place first end at in
+      (subst (RunsOn place slot) (sym one) (found.0, found.1, found.2.3, refl), omega (arith, is, slice_get_within code.gates.items first gate found.2.2))
+  run_of (suc count) place first stop end slot is within at =
+      let found = run_begins place first end slot at in
       let gate = found.2.1 in
       let more : slice_range code.gates.items first stop ≡ gate ∷ slice_range code.gates.items (first + 1) stop = range_more code.gates.items first stop gate found.2.2 (omega (arith, is)) in
-      let rest = run_of count (place + 1) (first + 1) stop end (omega (arith, is)) within (is_code.runs place first end at (omega (arith, is, within))) in
-      (subst (RunsOn place) (sym more) (found.0, found.1, found.2.3, rest.0), rest.1)
+      let rest = run_of count (place + 1) (first + 1) stop end (slot + 1) (omega (arith, is)) within (is_code.runs place first end slot at (omega (arith, is, within))) in
+      (subst (RunsOn place slot) (sym more) (found.0, found.1, found.2.3, rest.0), rest.1)
 
-  pub runs_inside : (made : ℕ) (gates : List TableGate) → RunsOn made gates → made ≤ length program → made + length gates ≤ length program
-  runs_inside made [] runs under = omega (arith, under)
-  runs_inside made (gate ∷ gates) (number, at, is, rest) under =
+  pub runs_inside : (made slot : ℕ) (gates : List TableGate) → RunsOn made slot gates → made ≤ length program → made + length gates ≤ length program
+  runs_inside made slot [] runs under = omega (arith, under)
+  runs_inside made slot (gate ∷ gates) (number, at, is, rest) under =
       let inside : made < length program = slice_get_within program made (action.Evaluate number) at in
-      omega (arith, runs_inside (made + 1) gates rest (omega (arith, inside)))
+      omega (arith, runs_inside (made + 1) (slot + 1) gates rest (omega (arith, inside)))
 
-  pub runs_within : (made : ℕ) (gates : List TableGate) → RunsOn made gates → AllByRecursion (IsWithin (length nets)) gates
-  runs_within made [] runs = tt
-  runs_within made (gate ∷ gates) (number, at, is, rest) = ((is.within, slot_within nets (flat.inputs + number) gate.target is.target), runs_within (made + 1) gates rest)
+  pub runs_within : (made slot : ℕ) (gates : List TableGate) → RunsOn made slot gates → AllByRecursion (IsWithin (length nets)) gates
+  runs_within made slot [] runs = tt
+  runs_within made slot (gate ∷ gates) (number, at, is, rest) = (is.within, runs_within (made + 1) (slot + 1) gates rest)
+
+  -- there are slots for all of them
+  pub runs_room : (made slot : ℕ) (gates : List TableGate) → RunsOn made slot gates → 0 < length gates → slot + length gates ≤ length nets
+  runs_room made slot [] runs some = absurd (omega (arith, some))
+  runs_room made slot (gate ∷ []) (number, at, is, rest) some = omega (arith, slot_within nets (flat.inputs + number) slot is.target)
+  runs_room made slot (gate ∷ second ∷ gates) (number, at, is, rest) some = omega (arith, runs_room (made + 1) (slot + 1) (second ∷ gates) rest (omega arith))
 
   -- what a gate reads are nets
   ins_within : (number : ℕ) (ins : List ℕ) (cover : Cover) → slice_get flat.cells number ≡ Some (Gate ins cover) → (length ins ≡ cover.inputs) × All (λ net. net < all_nets) ins
   ins_within number ins cover is = cell_fits all_nets flat.cells number (Gate ins cover) flat.cells_fit is
 
-  pub length-with_gates : (gates : List TableGate) (bits : List Bool) → length (with_gates gates bits) ≡ length bits
-  length-with_gates [] bits = refl
-  length-with_gates (gate ∷ gates) bits =
+  pub length-with_gates : (slot : ℕ) (gates : List TableGate) (bits : List Bool) → length (with_gates slot gates bits) ≡ length bits
+  length-with_gates slot [] bits = refl
+  length-with_gates slot (gate ∷ gates) bits =
       let bit = bit_of gate.truth_table (place_of (map (bit_in bits) gate.reads)) in
-      length-with_gates gates (set bits gate.target bit) ∙ length-set bits gate.target bit
+      length-with_gates (slot + 1) gates (set bits slot bit) ∙ length-set bits slot bit
 
   module _ (number : ℕ) (bits : List Bool) where
     -- a gate by its truth table has the value of its cover
-    pub table_bit : (gate : TableGate) → IsTableGate flat nets number gate → bit_of gate.truth_table (place_of (map (bit_in bits) gate.reads)) ≡ gate_bit (bit_by nets bits) (slice_get flat.cells number)
-    table_bit gate is =
+    pub table_bit : (gate : TableGate) (slot : ℕ) → IsTableGate flat nets number gate slot → bit_of gate.truth_table (place_of (map (bit_in bits) gate.reads)) ≡ gate_bit (bit_by nets bits) (slice_get flat.cells number)
+    table_bit gate slot is =
         let fits = ins_within number is.ins is.cover is.cell in
         let own_bits : map (bit_in bits) is.own ≡ map (bit_by nets bits) is.ins = bits_are nets bits is.ins is.own is.slots in
         let parts : map (bit_in bits) gate.reads ≡ map (bit_by nets bits) is.ins ++ map (bit_in bits) is.more =
@@ -203,20 +209,20 @@ module _ (ends : SeenEnds) (node : ℕ) (code : Code) (is_code : IsCode (planned
 
     -- ---- the gates of a run
 
-    abbrev pub HasGone : List TableGate → ℕ → ℕ → List Bool → Type 0
-    HasGone gates made last bits =
-        Agrees job node (known last (with_gates gates bits)) ends
-        × GoesOn job node (known made bits) (known last (with_gates gates bits)) ends ends (length gates)
-        × (left job node (known last (with_gates gates bits)) + length gates ≡ left job node (known made bits))
+    abbrev pub HasGone : ℕ → List TableGate → ℕ → ℕ → List Bool → Type 0
+    HasGone place gates made last bits =
+        Agrees job node (known last (with_gates place gates bits)) ends
+        × GoesOn job node (known made bits) (known last (with_gates place gates bits)) ends ends (length gates)
+        × (left job node (known last (with_gates place gates bits)) + length gates ≡ left job node (known made bits))
 
-    pub gates_go : (gates : List TableGate) (made last : ℕ) (bits : List Bool) → last ≡ made + length gates → length bits ≡ length nets → RunsOn made gates → Agrees job node (known made bits) ends → HasGone gates made last bits
-    gates_go [] made last bits is size runs agree =
+    pub gates_go : (gates : List TableGate) (place made last : ℕ) (bits : List Bool) → last ≡ made + length gates → length bits ≡ length nets → RunsOn made place gates → Agrees job node (known made bits) ends → HasGone place gates made last bits
+    gates_go [] place made last bits is size runs agree =
         let same : made ≡ last = omega (arith, is) in
         (subst (λ (at : ℕ). Agrees job node (known at bits) ends) same agree, (ap (λ (at : ℕ). known at bits) (sym same), refl), omega (arith, ap (λ (at : ℕ). left job node (known at bits)) same))
-    gates_go (gate ∷ gates) made last bits is size (number, at, table, rest) agree =
+    gates_go (gate ∷ gates) place made last bits is size (number, at, table, rest) agree =
         let bit = bit_of gate.truth_table (place_of (map (bit_in bits) gate.reads)) in
-        let right = table_bit number bits gate table in
-        let step = gate_steps made bits size agree number at gate.target bit table.target right in
-        let gone = gates_go gates (made + 1) last (set bits gate.target bit) (omega (arith, is)) (length-set bits gate.target bit ∙ size) rest (gate_agrees made bits size agree number at gate.target bit table.target right) in
-        let less = less_left job node (known made bits) (known (made + 1) (set bits gate.target bit)) ends ends step agree.holds in
-        (gone.0, goes_before job node (known made bits) (known (made + 1) (set bits gate.target bit)) (known last (with_gates gates (set bits gate.target bit))) ends ends ends (length gates) step gone.1, omega (arith, gone.2, less))
+        let right = table_bit number bits gate place table in
+        let step = gate_steps made bits size agree number at place bit table.target right in
+        let gone = gates_go gates (place + 1) (made + 1) last (set bits place bit) (omega (arith, is)) (length-set bits place bit ∙ size) rest (gate_agrees made bits size agree number at place bit table.target right) in
+        let less = less_left job node (known made bits) (known (made + 1) (set bits place bit)) ends ends step agree.holds in
+        (gone.0, goes_before job node (known made bits) (known (made + 1) (set bits place bit)) (known last (with_gates (place + 1) gates (set bits place bit))) ends ends ends (length gates) step gone.1, omega (arith, gone.2, less))

@@ -36,7 +36,7 @@ use Rattle.vw_node.specs.States.{NodeState, gate_bit, moved, slot, written}
 use Rattle.vw_node.proofs.EntryKinds.{next_entry, sends, takes}
 use Rattle.vw_node.proofs.MovesOn.{makes_many, makes_none, makes_one}
 use Rattle.vw_node.proofs.NodeSteps.{is_expected, next_of, sent_agrees, sent_net, sent_next, taken_agrees, taken_net}
-use Rattle.vw_node.proofs.OpActions.{HasGone, RunsOn, gate_agrees, gate_steps, gates_go, length-with_gates, op_begins, run_begins, run_of, runs_inside, runs_within, wide_arity, wide_is}
+use Rattle.vw_node.proofs.OpActions.{HasGone, RunsOn, gate_agrees, gate_steps, gates_go, length-with_gates, op_begins, run_begins, run_of, runs_inside, runs_room, runs_within, wide_arity, wide_is}
 use Rattle.vw_node.proofs.SlotBits.{known_written, slot_within, slots_within}
 use Rattle.vw_node.proofs.Values.{get_or-tabulate}
 
@@ -104,9 +104,9 @@ module _ (ends : SeenEnds) (old : Node) (fits : IsFit ends.job old) (agrees : Ag
 
   -- ---- gates
 
-  module _ (default : Op) (first end stop : ℕ) (whole : Bool) (is : get_or code.ops.items old.made default ≡ op.Run first end) (stop_is : stop ≡ (if whole then end else first + 1)) where
+  module _ (default : Op) (first end place stop : ℕ) (whole : Bool) (is : get_or code.ops.items old.made default ≡ op.Run first end place) (stop_is : stop ≡ (if whole then end else first + 1)) where
     begins : first < end
-    begins = (run_begins ends node code fits.code old.made first end (op_is default (op.Run first end) is)).2.0
+    begins = (run_begins ends node code fits.code old.made first end place (op_is default (op.Run first end place) is)).2.0
 
     pub run_some : first < stop
     run_some = by whole stop_is where
@@ -123,42 +123,45 @@ module _ (ends : SeenEnds) (old : Node) (fits : IsFit ends.job old) (agrees : Ag
     abbrev gates : List TableGate
     gates = slice_range code.gates.items first stop
 
-    runs : RunsOn ends node code fits.code old.made gates × (stop ≤ length code.gates.items)
-    runs = run_of ends node code fits.code (stop - first - 1) old.made first stop end (omega (arith, run_some)) run_ends (op_is default (op.Run first end) is)
+    runs : RunsOn ends node code fits.code old.made place gates × (stop ≤ length code.gates.items)
+    runs = run_of ends node code fits.code (stop - first - 1) old.made first stop end place (omega (arith, run_some)) run_ends (op_is default (op.Run first end place) is)
 
     pub run_last : stop ≤ length code.gates.items
     run_last = runs.1
 
     pub run_within : All (IsWithin (length old.slots.items)) gates
-    run_within = subst (λ (count : ℕ). All (IsWithin count) gates) (sym fits.slots) (All-from_recursion (IsWithin (length nets)) gates (runs_within ends node code fits.code old.made gates runs.0))
+    run_within = subst (λ (count : ℕ). All (IsWithin count) gates) (sym fits.slots) (All-from_recursion (IsWithin (length nets)) gates (runs_within ends node code fits.code old.made place gates runs.0))
 
     gates_long : length gates ≡ stop - first
     gates_long = omega (arith, run_last, length-take (stop - first) (drop first code.gates.items), length-drop first code.gates.items)
 
     pub run_made : old.made + (stop - first) ≤ length code.ops.items
-    run_made = omega (arith, gates_long, runs_inside ends node code fits.code old.made gates runs.0 (omega (arith, op_within, fits.code.count)), fits.code.count)
+    run_made = omega (arith, gates_long, runs_inside ends node code fits.code old.made place gates runs.0 (omega (arith, op_within, fits.code.count)), fits.code.count)
 
-    module _ (new : Node) (rest : new ≡ record old { made = old.made + (stop - first); slots = new.slots }) (wrote : new.slots.items ≡ with_gates gates old.slots.items) where
-      run_state : state_of new ≡ known_now (old.made + (stop - first)) (with_gates gates old.slots.items)
-      run_state = state_then new (old.made + (stop - first)) (with_gates gates old.slots.items) rest wrote
+    pub run_room : place + (stop - first) ≤ length old.slots.items
+    run_room = omega (arith, gates_long, fits.slots, runs_room ends node code fits.code old.made place gates runs.0 (omega (arith, gates_long, run_some)))
 
-      gone : HasGone ends node code fits.code old.clock many old.rows.items many_are unfinished gates old.made (old.made + (stop - first)) old.slots.items
-      gone = gates_go ends node code fits.code old.clock many old.rows.items many_are unfinished gates old.made (old.made + (stop - first)) old.slots.items (omega (arith, gates_long)) fits.slots runs.0 agrees
+    module _ (new : Node) (rest : new ≡ record old { made = old.made + (stop - first); slots = new.slots }) (wrote : new.slots.items ≡ with_gates place gates old.slots.items) where
+      run_state : state_of new ≡ known_now (old.made + (stop - first)) (with_gates place gates old.slots.items)
+      run_state = state_then new (old.made + (stop - first)) (with_gates place gates old.slots.items) rest wrote
+
+      gone : HasGone ends node code fits.code old.clock many old.rows.items many_are unfinished place gates old.made (old.made + (stop - first)) old.slots.items
+      gone = gates_go ends node code fits.code old.clock many old.rows.items many_are unfinished gates place old.made (old.made + (stop - first)) old.slots.items (omega (arith, gates_long)) fits.slots runs.0 agrees
 
       pub run_fits : IsFit job new
-      run_fits = fits_again new (old.made + (stop - first)) rest (ap (λ (bits : List Bool). length bits) wrote ∙ length-with_gates ends node code fits.code gates old.slots.items)
+      run_fits = fits_again new (old.made + (stop - first)) rest (ap (λ (bits : List Bool). length bits) wrote ∙ length-with_gates ends node code fits.code place gates old.slots.items)
 
       pub run_agrees : Agrees job new.share.node (state_of new) ends
-      run_agrees = moved_to new (known_now (old.made + (stop - first)) (with_gates gates old.slots.items)) ends (ap (λ (one : Node). one.share) rest) run_state gone.0
+      run_agrees = moved_to new (known_now (old.made + (stop - first)) (with_gates place gates old.slots.items)) ends (ap (λ (one : Node). one.share) rest) run_state gone.0
 
       pub run_makes : MakesSome job node state (state_of new) ends ends whole Moved
       run_makes =
           let single = λ (part : whole ≡ false). let one : stop ≡ first + 1 = stop_is ∙ ap (λ (all : Bool). if all then end else first + 1) part in let count : length gates ≡ 1 = omega (arith, gates_long, one) in count in
           subst (λ (one : NodeState). MakesSome job node state one ends ends whole Moved) (sym run_state)
-          (makes_many job node state (known_now (old.made + (stop - first)) (with_gates gates old.slots.items)) ends ends whole (length gates) (omega (arith, gates_long, run_some)) single gone.1 gone.2)
+          (makes_many job node state (known_now (old.made + (stop - first)) (with_gates place gates old.slots.items)) ends ends whole (length gates) (omega (arith, gates_long, run_some)) single gone.1 gone.2)
 
-  pub run_begins_first : (default : Op) (first end : ℕ) → get_or code.ops.items old.made default ≡ op.Run first end → first < end
-  run_begins_first default first end is = (run_begins ends node code fits.code old.made first end (op_is default (op.Run first end) is)).2.0
+  pub run_begins_first : (default : Op) (first end place : ℕ) → get_or code.ops.items old.made default ≡ op.Run first end place → first < end
+  run_begins_first default first end place is = (run_begins ends node code fits.code old.made first end place (op_is default (op.Run first end place) is)).2.0
 
   -- ---- a gate by its rows
 

@@ -1,5 +1,5 @@
 -- What functions of this crate make of slots, step by step. No public clause cites it.
-use Rattle.std.specs.Prelude.{◌≡◌, ◌<◌, ◌++◌, ℕ, Bool, false, List, [], ◌∷◌, drop, length, map, min, take, slice_get, slice_set, Option, Some, None, IsTrue, true}
+use Rattle.std.specs.Prelude.{◌≡◌, ◌<◌, ◌+◌, ◌++◌, ℕ, Bool, false, List, [], ◌∷◌, drop, length, map, min, take, slice_get, slice_set, Option, Some, None, IsTrue, true}
 use Rattle.std.specs.List.{All}
 use Rattle.std.specs.Option.{option_and_then}
 use Rattle.vw_net.specs.declared.cell.Cell.{Cell}
@@ -12,14 +12,14 @@ use Rattle.vw_node.specs.Fits.{bit_in}
 
 -- ---- gates
 
--- a gate reads and writes slots that there are
+-- a gate reads slots that there are
 abbrev pub IsWithin : ℕ → TableGate → Type 0
-IsWithin slots gate = (All (λ slot. slot < slots) gate.reads) × (gate.target < slots)
+IsWithin slots gate = All (λ slot. slot < slots) gate.reads
 
--- bits after gates were worked out, one after the other
-abbrev pub with_gates : List TableGate → List Bool → List Bool
-with_gates [] bits = bits
-with_gates (gate ∷ gates) bits = with_gates gates (slice_set bits gate.target (bit_of gate.truth_table (place_of (map (bit_in bits) gate.reads))))
+-- bits after gates were worked out, one after the other, into slots from one on
+abbrev pub with_gates : ℕ → List TableGate → List Bool → List Bool
+with_gates slot [] bits = bits
+with_gates slot (gate ∷ gates) bits = with_gates (slot + 1) gates (slice_set bits slot (bit_of gate.truth_table (place_of (map (bit_in bits) gate.reads))))
 
 -- a gate has as many reads as its cover has inputs
 abbrev pub HasArity : Option Cell → List ℕ → Type 0

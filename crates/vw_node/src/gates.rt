@@ -1,5 +1,5 @@
 //! The values of gates from slots.
-ghost use Rattle.std.specs.Prelude.{◌≡◌, ◌<◌, ◌≤◌, length, map, take, slice_get};
+ghost use Rattle.std.specs.Prelude.{◌≡◌, ◌<◌, ◌≤◌, ◌+◌, length, map, take, slice_get};
 ghost use Rattle.std.specs.List.{All};
 ghost use Rattle.vw_net.specs.Cover.{cover_value};
 ghost use Rattle.vw_net.specs.TruthTable.{place_of};
@@ -23,14 +23,15 @@ fn place_at(reads: &[u32], slots: &[bool]) -> u32
     place
 }
 
-/// Works out gates, one after the other.
-pub fn run_gates(gates: &[TableGate], slots: &mut [bool])
-    requires { All (IsWithin (length slots.old)) gates.now }
-    ensures { slots.new ≡ with_gates gates.now slots.old }
+/// Works out gates, one after the other, into slots from one on.
+pub fn run_gates(gates: &[TableGate], first: usize, slots: &mut [bool])
+    requires within { All (IsWithin (length slots.old)) gates.now }
+    requires room { first + length gates.now ≤ length slots.old }
+    ensures { slots.new ≡ with_gates first gates.now slots.old }
 {
-    for gate in gates {
+    for (i, gate) in gates.iter().enumerate() {
         let place = place_at(&gate.reads, slots);
-        slots[gate.target as usize] = bit_of(gate.truth_table, place);
+        slots[first + i] = bit_of(gate.truth_table, place);
     }
 }
 

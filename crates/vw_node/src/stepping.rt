@@ -44,21 +44,23 @@ impl<'a> Node<'a> {
         self.made += 1;
     }
 
-    /// Works out some of the gates of at most six inputs.
-    fn run(&mut self, first: usize, end: usize)
+    /// Works out some of the gates of at most six inputs, into slots from one on.
+    fn run(&mut self, first: usize, end: usize, slot: u32)
         requires order { first ≤ end }
         requires end { end ≤ length self.old.code.now.gates.items }
         requires within { All (IsWithin (length self.old.slots.items))
             (slice_range self.old.code.now.gates.items first end) }
+        requires room { slot + (end - first) ≤ length self.old.slots.items }
         requires made { self.old.made + (end - first) ≤ length self.old.code.now.ops.items }
         ensures rest { self.new
             ≡ record self.old { made = self.old.made + (end - first); slots = self.new.slots } }
         ensures slots { self.new.slots.items
-            ≡ with_gates (slice_range self.old.code.now.gates.items first end) self.old.slots.items }
+            ≡ with_gates slot (slice_range self.old.code.now.gates.items first end)
+            self.old.slots.items }
     {
         let code = self.code;
         let _count = code.ops.len();
-        run_gates(&code.gates[first..end], &mut self.slots);
+        run_gates(&code.gates[first..end], slot as usize, &mut self.slots);
         self.made += (end - first) as u64;
     }
 
@@ -171,8 +173,8 @@ impl<'a> Node<'a> {
         }
         let code = self.code;
         match code.ops[self.made as usize] {
-            Op::Run { first, end } => {
-                self.run(first, end_of(first, end, whole));
+            Op::Run { first, end, slot } => {
+                self.run(first, end_of(first, end, whole), slot);
                 Step::Moved
             }
             Op::Wide(place) => {

@@ -20,16 +20,16 @@ cell_there its cells number cell are within is = ap (λ (list : List Cell). slic
 pub none_there : (its cells : List Cell) (number : ℕ) → its ≡ cells → length its ≤ number → slice_get cells number ≡ None
 none_there its cells number are past = ap (λ (list : List Cell). slice_get list number) (sym are) ∙ slice_get_past its number past
 
-module _ (inputs : ℕ) (table : List ℕ) (number first place : ℕ) (cell : Option Cell) (ins : List ℕ) (cover : Cover) (is : cell ≡ Some (Gate ins cover)) where
+module _ (inputs : ℕ) (table : List ℕ) (number slot first place : ℕ) (cell : Option Cell) (ins : List ℕ) (cover : Cover) (is : cell ≡ Some (Gate ins cover)) where
   module _ (few : cover.inputs ≤ 6) where
     small : nat_le cover.inputs 6 ≡ true
     small = le-leb cover.inputs 6 few
 
-    pub small_op : Run first (first + 1) ≡ cell_op first place cell
-    small_op = sym (ap (cell_op first place) is ∙ ap (λ (one : Bool). if one then Run first (first + 1) else Wide place) small)
+    pub small_op : Run first (first + 1) slot ≡ cell_op slot first place cell
+    small_op = sym (ap (cell_op slot first place) is ∙ ap (λ (one : Bool). if one then Run first (first + 1) slot else Wide place) small)
 
-    pub small_gates : (gates new : List TableGate) → new ≡ gates ++ table_gate table (inputs + number) ins cover.truth_table ∷ [] → new ≡ gates ++ cell_gates inputs table number cell
-    small_gates gates new added = added ∙ sym (ap (λ (one : Option Cell). gates ++ cell_gates inputs table number one) is ∙ ap (λ (one : Bool). gates ++ (if one then table_gate table (inputs + number) ins cover.truth_table ∷ [] else [])) small)
+    pub small_gates : (gates new : List TableGate) → new ≡ gates ++ table_gate table ins cover.truth_table ∷ [] → new ≡ gates ++ cell_gates inputs table number cell
+    small_gates gates new added = added ∙ sym (ap (λ (one : Option Cell). gates ++ cell_gates inputs table number one) is ∙ ap (λ (one : Bool). gates ++ (if one then table_gate table ins cover.truth_table ∷ [] else [])) small)
 
     pub small_wide : (wide : List WideGate) → wide ≡ wide ++ cell_wide inputs table number cell
     small_wide wide = nothing_more wide ∙ sym (ap (λ (one : Option Cell). wide ++ cell_wide inputs table number one) is ∙ ap (λ (one : Bool). wide ++ (if one then [] else wide_gate table number (inputs + number) ins ∷ [])) small)
@@ -38,11 +38,11 @@ module _ (inputs : ℕ) (table : List ℕ) (number first place : ℕ) (cell : Op
     large : nat_le cover.inputs 6 ≡ false
     large = lt-leb cover.inputs 6 many
 
-    pub large_op : Wide place ≡ cell_op first place cell
-    large_op = sym (ap (cell_op first place) is ∙ ap (λ (one : Bool). if one then Run first (first + 1) else Wide place) large)
+    pub large_op : Wide place ≡ cell_op slot first place cell
+    large_op = sym (ap (cell_op slot first place) is ∙ ap (λ (one : Bool). if one then Run first (first + 1) slot else Wide place) large)
 
     pub large_gates : (gates : List TableGate) → gates ≡ gates ++ cell_gates inputs table number cell
-    large_gates gates = nothing_more gates ∙ sym (ap (λ (one : Option Cell). gates ++ cell_gates inputs table number one) is ∙ ap (λ (one : Bool). gates ++ (if one then table_gate table (inputs + number) ins cover.truth_table ∷ [] else [])) large)
+    large_gates gates = nothing_more gates ∙ sym (ap (λ (one : Option Cell). gates ++ cell_gates inputs table number one) is ∙ ap (λ (one : Bool). gates ++ (if one then table_gate table ins cover.truth_table ∷ [] else [])) large)
 
     pub large_wide : (wide new : List WideGate) → new ≡ wide ++ wide_gate table number (inputs + number) ins ∷ [] → new ≡ wide ++ cell_wide inputs table number cell
     large_wide wide new added = added ∙ sym (ap (λ (one : Option Cell). wide ++ cell_wide inputs table number one) is ∙ ap (λ (one : Bool). wide ++ (if one then [] else wide_gate table number (inputs + number) ins ∷ [])) large)

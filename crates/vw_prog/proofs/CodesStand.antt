@@ -250,15 +250,15 @@ module _ (planned : PlannedBoard) (sound : IsSound planned) (node : ℕ) where
     read_slot (net ∷ ins) all zero some = below nets net (slot_in table net) all.0
     read_slot (net ∷ ins) all (suc place) some = read_slot ins all.1 place some
 
-    six_slots : (ins : List ℕ) (net truth_table : ℕ) → length ins ≤ 6 → (more : List ℕ) × ((table_gate table net ins truth_table).reads ≡ map (slot_in table) ins ++ more)
-    six_slots [] net truth_table few = (0 ∷ 0 ∷ 0 ∷ 0 ∷ 0 ∷ 0 ∷ [], refl)
-    six_slots (a ∷ []) net truth_table few = (0 ∷ 0 ∷ 0 ∷ 0 ∷ 0 ∷ [], refl)
-    six_slots (a ∷ b ∷ []) net truth_table few = (0 ∷ 0 ∷ 0 ∷ 0 ∷ [], refl)
-    six_slots (a ∷ b ∷ c ∷ []) net truth_table few = (0 ∷ 0 ∷ 0 ∷ [], refl)
-    six_slots (a ∷ b ∷ c ∷ d ∷ []) net truth_table few = (0 ∷ 0 ∷ [], refl)
-    six_slots (a ∷ b ∷ c ∷ d ∷ e ∷ []) net truth_table few = (0 ∷ [], refl)
-    six_slots (a ∷ b ∷ c ∷ d ∷ e ∷ f ∷ []) net truth_table few = ([], refl)
-    six_slots (a ∷ b ∷ c ∷ d ∷ e ∷ f ∷ g ∷ more) net truth_table few = absurd (omega (arith, few))
+    six_slots : (ins : List ℕ) (truth_table : ℕ) → length ins ≤ 6 → (more : List ℕ) × ((table_gate table ins truth_table).reads ≡ map (slot_in table) ins ++ more)
+    six_slots [] truth_table few = (0 ∷ 0 ∷ 0 ∷ 0 ∷ 0 ∷ 0 ∷ [], refl)
+    six_slots (a ∷ []) truth_table few = (0 ∷ 0 ∷ 0 ∷ 0 ∷ 0 ∷ [], refl)
+    six_slots (a ∷ b ∷ []) truth_table few = (0 ∷ 0 ∷ 0 ∷ 0 ∷ [], refl)
+    six_slots (a ∷ b ∷ c ∷ []) truth_table few = (0 ∷ 0 ∷ 0 ∷ [], refl)
+    six_slots (a ∷ b ∷ c ∷ d ∷ []) truth_table few = (0 ∷ 0 ∷ [], refl)
+    six_slots (a ∷ b ∷ c ∷ d ∷ e ∷ []) truth_table few = (0 ∷ [], refl)
+    six_slots (a ∷ b ∷ c ∷ d ∷ e ∷ f ∷ []) truth_table few = ([], refl)
+    six_slots (a ∷ b ∷ c ∷ d ∷ e ∷ f ∷ g ∷ more) truth_table few = absurd (omega (arith, few))
 
     module _ (number : ℕ) (ins : List ℕ) (cover : Cover) (is : slice_get flat.cells number ≡ Some (Gate ins cover)) (all : AllByRecursion IsIn ins) (own_in : IsIn (inputs + number)) where
       fits : (length ins ≡ cover.inputs) × All (λ net. net < count) ins
@@ -268,11 +268,11 @@ module _ (planned : PlannedBoard) (sound : IsSound planned) (node : ℕ) where
       some_slot = let low = below nets (inputs + number) (slot_in table (inputs + number)) own_in in omega (arith, low)
 
       abbrev its_gate : TableGate
-      its_gate = table_gate table (inputs + number) ins cover.truth_table
+      its_gate = table_gate table ins cover.truth_table
 
-      is_table_gate : cover.inputs ≤ 6 → IsTableGate flat nets number its_gate
+      is_table_gate : cover.inputs ≤ 6 → IsTableGate flat nets number its_gate (slot_in table (inputs + number))
       is_table_gate few =
-          let six = six_slots ins (inputs + number) cover.truth_table (omega (arith, few, fits.0)) in
+          let six = six_slots ins cover.truth_table (omega (arith, few, fits.0)) in
           record {
             ins = ins;
             cover = cover;
@@ -349,20 +349,23 @@ module _ (planned : PlannedBoard) (sound : IsSound planned) (node : ℕ) where
           abbrev_kept : IsKept flat table program [] [] (all_ops flat table 0 0 program) place (action.Evaluate number)
           abbrev_kept = kept place (action.Evaluate number) at
 
+          net_low : slice_get flat.cells number ≡ Some (Gate ins cover) → min (inputs + number) (2 ^ 32 - 1) ≡ inputs + number
+          net_low there = let within = slice_get_within flat.cells number (Gate ins cover) there in omega (arith, within, flat.few_inputs, flat.few_cells)
+
           second : Op
           second = (two place (action.Evaluate number) at).0
 
           by : (few : Bool) → nat_le cover.inputs 6 ≡ few → BeginsWith flat code (action.Evaluate number) (two place (action.Evaluate number) at).0
           by true test =
-              let op_is : action_op flat table (kept place (action.Evaluate number) at).first (kept place (action.Evaluate number) at).wide (action.Evaluate number) ≡ op.Run (kept place (action.Evaluate number) at).first ((kept place (action.Evaluate number) at).first + 1) =
-              ap (cell_op (kept place (action.Evaluate number) at).first (kept place (action.Evaluate number) at).wide) is ∙ ap (λ (one : Bool). if one then op.Run (kept place (action.Evaluate number) at).first ((kept place (action.Evaluate number) at).first + 1) else op.Wide (kept place (action.Evaluate number) at).wide) test in
+              let op_is : action_op flat table (kept place (action.Evaluate number) at).first (kept place (action.Evaluate number) at).wide (action.Evaluate number) ≡ op.Run (kept place (action.Evaluate number) at).first ((kept place (action.Evaluate number) at).first + 1) (slot_in table (inputs + number)) =
+              ap (λ (net : ℕ). cell_op (slot_in table net) (kept place (action.Evaluate number) at).first (kept place (action.Evaluate number) at).wide (slice_get flat.cells number)) (net_low is) ∙ ap (cell_op (slot_in table (inputs + number)) (kept place (action.Evaluate number) at).first (kept place (action.Evaluate number) at).wide) is ∙ ap (λ (one : Bool). if one then op.Run (kept place (action.Evaluate number) at).first ((kept place (action.Evaluate number) at).first + 1) (slot_in table (inputs + number)) else op.Wide (kept place (action.Evaluate number) at).wide) test in
               let run = subst (λ (one : Op). Becomes one (two place (action.Evaluate number) at).0) op_is (two place (action.Evaluate number) at).2 in
-              let gates : action_gates flat table (action.Evaluate number) ≡ its_gate number ins cover is all own_in ∷ [] = ap (cell_gates inputs table number) is ∙ ap (λ (one : Bool). if one then table_gate table (inputs + number) ins cover.truth_table ∷ [] else []) test in
+              let gates : action_gates flat table (action.Evaluate number) ≡ its_gate number ins cover is all own_in ∷ [] = ap (cell_gates inputs table number) is ∙ ap (λ (one : Bool). if one then table_gate table ins cover.truth_table ∷ [] else []) test in
               let there : slice_get code.gates.items (kept place (action.Evaluate number) at).first ≡ Some (its_gate number ins cover is all own_in) = ap (λ (list : List TableGate). slice_get list (kept place (action.Evaluate number) at).first) made.gates ∙ (kept place (action.Evaluate number) at).gate (its_gate number ins cover is all own_in) gates in
               subst (BeginsWith flat code (action.Evaluate number)) (sym run.1) (run.2, its_gate number ins cover is all own_in, there, is_table_gate number ins cover is all own_in (leb-true cover.inputs 6 test))
           by false test =
               let op_is : action_op flat table (kept place (action.Evaluate number) at).first (kept place (action.Evaluate number) at).wide (action.Evaluate number) ≡ op.Wide (kept place (action.Evaluate number) at).wide =
-              ap (cell_op (kept place (action.Evaluate number) at).first (kept place (action.Evaluate number) at).wide) is ∙ ap (λ (one : Bool). if one then op.Run (kept place (action.Evaluate number) at).first ((kept place (action.Evaluate number) at).first + 1) else op.Wide (kept place (action.Evaluate number) at).wide) test in
+              ap (λ (net : ℕ). cell_op (slot_in table net) (kept place (action.Evaluate number) at).first (kept place (action.Evaluate number) at).wide (slice_get flat.cells number)) (net_low is) ∙ ap (cell_op (slot_in table (inputs + number)) (kept place (action.Evaluate number) at).first (kept place (action.Evaluate number) at).wide) is ∙ ap (λ (one : Bool). if one then op.Run (kept place (action.Evaluate number) at).first ((kept place (action.Evaluate number) at).first + 1) (slot_in table (inputs + number)) else op.Wide (kept place (action.Evaluate number) at).wide) test in
               let is_op = subst (λ (one : Op). Becomes one (two place (action.Evaluate number) at).0) op_is (two place (action.Evaluate number) at).2 in
               let gates : action_wide flat table (action.Evaluate number) ≡ wide_gate table number (inputs + number) ins ∷ [] = ap (cell_wide inputs table number) is ∙ ap (λ (one : Bool). if one then [] else wide_gate table number (inputs + number) ins ∷ []) test in
               let there : slice_get code.wide.items (kept place (action.Evaluate number) at).wide ≡ Some (wide_gate table number (inputs + number) ins) = ap (λ (list : List WideGate). slice_get list (kept place (action.Evaluate number) at).wide) made.wide ∙ (kept place (action.Evaluate number) at).wide_gate (wide_gate table number (inputs + number) ins) gates in
@@ -481,9 +484,9 @@ module _ (planned : PlannedBoard) (sound : IsSound planned) (node : ℕ) where
     stands = record {
       count = ap (λ (ops : List Op). length ops) made.ops ∙ length-joined (all_ops flat table 0 0 program) ∙ length-all_ops flat table program 0 0;
       begins = begins;
-      runs = λ place first end at more.
+      runs = λ place first end slot at more.
           ap (λ (ops : List Op). slice_get ops (place + 1)) made.ops
-          ∙ joined_runs (all_ops flat table 0 0 program) (all_ones flat table program 0 0) place first end (ap (λ (ops : List Op). slice_get ops place) (sym made.ops) ∙ at) more;
+          ∙ joined_runs (all_ops flat table 0 0 program) (all_ones flat table program 0 0) place first end slot (ap (λ (ops : List Op). slice_get ops place) (sym made.ops) ∙ at) more;
       sources = λ net is. let known_net = source_known net is in (slot_in table net, known_slot net known_net.0 known_net.1);
       host = λ is net low.
           let rest = map (λ (latch : OwnLatch). latch.net) latches ++ gate_nets inputs program ++ take_nets program in

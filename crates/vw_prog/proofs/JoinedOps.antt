@@ -1,5 +1,5 @@
 -- Ops of actions, with their runs joined.
-use Rattle.std.proofs.Common.{◌≡◌, ◌<◌, ◌+◌, ◌∷◌, ◌++◌, ℕ, zero, suc, Bool, true, false, List, [], length, eqb, nat_le, slice_get, Option, Some, None, if◌then◌else◌, ap, ap₂, refl, sym, subst, ◌∙◌, eqb-true, append_assoc, arith}
+use Rattle.std.proofs.Common.{◌≡◌, ◌<◌, ◌+◌, ◌∷◌, ◌++◌, ◌-◌, ◌^◌, ℕ, zero, suc, min, Bool, true, false, List, [], length, eqb, nat_le, slice_get, Option, Some, None, if◌then◌else◌, ap, ap₂, refl, sym, subst, ◌∙◌, eqb-true, append_assoc, arith}
 use Rattle.std.specs.List.{AllByRecursion}
 use Rattle.std.proofs.lemmas.List.{length-append}
 use Rattle.vw_net.specs.declared.cell.Cell.{Cell}
@@ -11,13 +11,13 @@ use Rattle.vw_prog.specs.declared.code.Op.{Op}
 use Rattle.vw_prog.specs.declared.code.Op.TheVariants as op
 use Rattle.vw_prog.specs.declared.code.TableGate.{TableGate}
 use Rattle.vw_prog.specs.declared.code.WideGate.{WideGate}
-use Rattle.vw_prog.specs.Coding.{action_gates, action_op, action_wide, all_gates, all_ops, all_wide, cell_op, joined_op, joined_ops}
+use Rattle.vw_prog.specs.Coding.{action_gates, action_op, action_wide, all_gates, all_ops, all_wide, cell_op, joined_op, joined_ops, slot_in}
 
 -- ---- joined runs
 
 -- a run of one gate, or another op
 abbrev pub IsOne : Op → Type 0
-IsOne (op.Run first end) = end ≡ first + 1
+IsOne (op.Run first end slot) = end ≡ first + 1
 IsOne (op.Wide place) = place ≡ place
 IsOne (op.Send link pin net slot) = link ≡ link
 IsOne (op.Take link slot) = link ≡ link
@@ -25,7 +25,7 @@ IsOne op.Step = true ≡ true
 
 -- a run of some gates, or another op
 abbrev HasSome : Op → Type 0
-HasSome (op.Run first end) = first < end
+HasSome (op.Run first end slot) = first < end
 HasSome (op.Wide place) = place ≡ place
 HasSome (op.Send link pin net slot) = link ≡ link
 HasSome (op.Take link slot) = link ≡ link
@@ -33,22 +33,23 @@ HasSome op.Step = true ≡ true
 
 -- what an op becomes: a run begins with its gate
 abbrev pub Becomes : Op → Op → Type 0
-Becomes (op.Run first end) two = (last : ℕ) × (two ≡ op.Run first last) × (first < last)
+Becomes (op.Run first end slot) two = (last : ℕ) × (two ≡ op.Run first last slot) × (first < last)
 Becomes (op.Wide place) two = two ≡ op.Wide place
 Becomes (op.Send link pin net slot) two = two ≡ op.Send link pin net slot
 Becomes (op.Take link slot) two = two ≡ op.Take link slot
 Becomes op.Step two = two ≡ op.Step
 
 becomes : (one : Op) (next : Option Op) → IsOne one → ((other : Op) → next ≡ Some other → HasSome other) → Becomes one (joined_op one next)
-becomes (op.Run first end) None is some = (end, refl, omega (arith, is))
-becomes (op.Run first end) (Some (op.Run next last)) is some = by (eqb next end) refl where
-  by : (same : Bool) → eqb next end ≡ same → Becomes (op.Run first end) (if same then op.Run first last else op.Run first end)
-  by true test = let more : next < last = some (op.Run next last) refl in let at : next ≡ end = eqb-true next end test in (last, refl, omega (arith, is, more, at))
-  by false test = (end, refl, omega (arith, is))
-becomes (op.Run first end) (Some (op.Wide place)) is some = (end, refl, omega (arith, is))
-becomes (op.Run first end) (Some (op.Send link pin net slot)) is some = (end, refl, omega (arith, is))
-becomes (op.Run first end) (Some (op.Take link slot)) is some = (end, refl, omega (arith, is))
-becomes (op.Run first end) (Some op.Step) is some = (end, refl, omega (arith, is))
+becomes (op.Run first end slot) None is some = (end, refl, omega (arith, is))
+becomes (op.Run first end slot) (Some (op.Run next last its)) is some = by (eqb next end) (eqb its (slot + 1)) refl where
+  by : (same follows : Bool) → eqb next end ≡ same → Becomes (op.Run first end slot) (if same then (if follows then op.Run first last slot else op.Run first end slot) else op.Run first end slot)
+  by true true test = let more : next < last = some (op.Run next last its) refl in let at : next ≡ end = eqb-true next end test in (last, refl, omega (arith, is, more, at))
+  by true false test = (end, refl, omega (arith, is))
+  by false follows test = (end, refl, omega (arith, is))
+becomes (op.Run first end slot) (Some (op.Wide place)) is some = (end, refl, omega (arith, is))
+becomes (op.Run first end own) (Some (op.Send link pin net slot)) is some = (end, refl, omega (arith, is))
+becomes (op.Run first end own) (Some (op.Take link slot)) is some = (end, refl, omega (arith, is))
+becomes (op.Run first end slot) (Some op.Step) is some = (end, refl, omega (arith, is))
 becomes (op.Wide place) None is some = refl
 becomes (op.Wide place) (Some other) is some = refl
 becomes (op.Send link pin net slot) None is some = refl
@@ -59,7 +60,7 @@ becomes op.Step None is some = refl
 becomes op.Step (Some other) is some = refl
 
 has_some : (one two : Op) → Becomes one two → HasSome two
-has_some (op.Run first end) two (last, is, more) = subst HasSome (sym is) more
+has_some (op.Run first end slot) two (last, is, more) = subst HasSome (sym is) more
 has_some (op.Wide place) two is = subst HasSome (sym is) refl
 has_some (op.Send link pin net slot) two is = subst HasSome (sym is) refl
 has_some (op.Take link slot) two is = subst HasSome (sym is) refl
@@ -79,38 +80,43 @@ joined_at (first ∷ ops) all zero one is =
       next_some (next ∷ ops) all rest other at = let found = rest 0 next refl in let same : found.0 ≡ other = cc (found.1, at) in subst HasSome same (has_some next found.0 found.2)
 joined_at (first ∷ ops) all (suc place) one is = joined_at ops all.1 place one is
 
-pub joined_runs : (ops : List Op) → AllByRecursion IsOne ops → (place first end : ℕ) → slice_get (joined_ops ops) place ≡ Some (op.Run first end) → first + 1 < end → slice_get (joined_ops ops) (place + 1) ≡ Some (op.Run (first + 1) end)
-joined_runs [] all place first end is more = cc
-joined_runs (one ∷ ops) all zero first end is more = by one (slice_get (joined_ops ops) 0) all.0 refl is where
-  other_op : (own last : ℕ) → last ≡ own + 1 → op.Run own last ≡ op.Run first end → ⊥
-  other_op own last unit same = let one : own ≡ first = cc in let two : last ≡ end = cc in omega (arith, unit, one, two, more)
+pub joined_runs : (ops : List Op) → AllByRecursion IsOne ops → (place first end slot : ℕ) → slice_get (joined_ops ops) place ≡ Some (op.Run first end slot) → first + 1 < end → slice_get (joined_ops ops) (place + 1) ≡ Some (op.Run (first + 1) end (slot + 1))
+joined_runs [] all place first end slot is more = cc
+joined_runs (one ∷ ops) all zero first end slot is more = by one (slice_get (joined_ops ops) 0) all.0 refl is where
+  other_op : (own last its : ℕ) → last ≡ own + 1 → op.Run own last its ≡ op.Run first end slot → ⊥
+  other_op own last its unit same = let one : own ≡ first = cc in let two : last ≡ end = cc in omega (arith, unit, one, two, more)
 
-  joins : (own last next stop : ℕ) (same : Bool) → eqb next last ≡ same → last ≡ own + 1 → slice_get (joined_ops ops) 0 ≡ Some (op.Run next stop) → (if same then op.Run own stop else op.Run own last) ≡ op.Run first end → slice_get (joined_ops ops) 0 ≡ Some (op.Run (first + 1) end)
-  joins own last next stop true test unit there at =
+  joins : (own last its next stop further : ℕ) (same follows : Bool) → eqb next last ≡ same → eqb further (its + 1) ≡ follows → last ≡ own + 1 → slice_get (joined_ops ops) 0 ≡ Some (op.Run next stop further)
+      → (if same then (if follows then op.Run own stop its else op.Run own last its) else op.Run own last its) ≡ op.Run first end slot → slice_get (joined_ops ops) 0 ≡ Some (op.Run (first + 1) end (slot + 1))
+  joins own last its next stop further true true test behind unit there at =
       let start : own ≡ first = cc in
       let stops : stop ≡ end = cc in
+      let slot_is : its ≡ slot = cc in
       let goes : next ≡ first + 1 = omega (arith, eqb-true next last test, unit, start) in
-      there ∙ ap₂ (λ (one two : ℕ). Some (op.Run one two)) goes stops
-  joins own last next stop false test unit there at = absurd (other_op own last unit at)
+      let next_slot : further ≡ slot + 1 = omega (arith, eqb-true further (its + 1) behind, slot_is) in
+      there ∙ ap₂ (λ (one two : ℕ). Some (op.Run one two further)) goes stops ∙ ap (λ (one : ℕ). Some (op.Run (first + 1) end one)) next_slot
+  joins own last its next stop further true false test behind unit there at = absurd (other_op own last its unit at)
+  joins own last its next stop further false follows test behind unit there at = absurd (other_op own last its unit at)
 
-  by : (one : Op) (next : Option Op) → IsOne one → slice_get (joined_ops ops) 0 ≡ next → Some (joined_op one next) ≡ Some (op.Run first end) → slice_get (joined_ops ops) 0 ≡ Some (op.Run (first + 1) end)
-  by (op.Run own last) None unit there at = absurd (other_op own last unit cc)
-  by (op.Run own last) (Some (op.Run next stop)) unit there at = joins own last next stop (eqb next last) refl unit there (let inner : (if eqb next last then op.Run own stop else op.Run own last) ≡ op.Run first end = cc in inner)
-  by (op.Run own last) (Some (op.Wide place)) unit there at = absurd (other_op own last unit cc)
-  by (op.Run own last) (Some (op.Send link pin net slot)) unit there at = absurd (other_op own last unit cc)
-  by (op.Run own last) (Some (op.Take link slot)) unit there at = absurd (other_op own last unit cc)
-  by (op.Run own last) (Some op.Step) unit there at = absurd (other_op own last unit cc)
+  by : (one : Op) (next : Option Op) → IsOne one → slice_get (joined_ops ops) 0 ≡ next → Some (joined_op one next) ≡ Some (op.Run first end slot) → slice_get (joined_ops ops) 0 ≡ Some (op.Run (first + 1) end (slot + 1))
+  by (op.Run own last its) None unit there at = absurd (other_op own last its unit cc)
+  by (op.Run own last its) (Some (op.Run next stop further)) unit there at =
+      joins own last its next stop further (eqb next last) (eqb further (its + 1)) refl refl unit there (let inner : (if eqb next last then (if eqb further (its + 1) then op.Run own stop its else op.Run own last its) else op.Run own last its) ≡ op.Run first end slot = cc in inner)
+  by (op.Run own last its) (Some (op.Wide place)) unit there at = absurd (other_op own last its unit cc)
+  by (op.Run own last its) (Some (op.Send link pin net place)) unit there at = absurd (other_op own last its unit cc)
+  by (op.Run own last its) (Some (op.Take link place)) unit there at = absurd (other_op own last its unit cc)
+  by (op.Run own last its) (Some op.Step) unit there at = absurd (other_op own last its unit cc)
   by (op.Wide place) None unit there at = cc
   by (op.Wide place) (Some other) unit there at = cc
-  by (op.Send link pin net slot) None unit there at = cc
-  by (op.Send link pin net slot) (Some other) unit there at = cc
-  by (op.Take link slot) None unit there at = cc
-  by (op.Take link slot) (Some other) unit there at = cc
+  by (op.Send link pin net place) None unit there at = cc
+  by (op.Send link pin net place) (Some other) unit there at = cc
+  by (op.Take link place) None unit there at = cc
+  by (op.Take link place) (Some other) unit there at = cc
   by op.Step None unit there at = cc
   by op.Step (Some other) unit there at = cc
-joined_runs (one ∷ ops) all (suc place) first end is more =
+joined_runs (one ∷ ops) all (suc place) first end slot is more =
     let next : suc place + 1 ≡ suc (place + 1) = omega arith in
-    ap (slice_get (joined_ops (one ∷ ops))) next ∙ joined_runs ops all.1 place first end is more
+    ap (slice_get (joined_ops (one ∷ ops))) next ∙ joined_runs ops all.1 place first end slot is more
 
 -- ---- the ops of actions
 
@@ -119,16 +125,16 @@ module _ (flat : Flat) (table : List ℕ) where
   length-all_ops [] first place = refl
   length-all_ops (one ∷ program) first place = ap suc (length-all_ops program (first + length (action_gates flat table one)) (place + length (action_wide flat table one)))
 
-  cell_one : (first place : ℕ) (cell : Option Cell) → IsOne (cell_op first place cell)
-  cell_one first place None = refl
-  cell_one first place (Some (Latch d init)) = refl
-  cell_one first place (Some (Gate ins cover)) = by (nat_le cover.inputs 6) where
-    by : (few : Bool) → IsOne (if few then op.Run first (first + 1) else op.Wide place)
+  cell_one : (slot first place : ℕ) (cell : Option Cell) → IsOne (cell_op slot first place cell)
+  cell_one slot first place None = refl
+  cell_one slot first place (Some (Latch d init)) = refl
+  cell_one slot first place (Some (Gate ins cover)) = by (nat_le cover.inputs 6) where
+    by : (few : Bool) → IsOne (if few then op.Run first (first + 1) slot else op.Wide place)
     by true = refl
     by false = refl
 
   action_one : (first place : ℕ) (one : Action) → IsOne (action_op flat table first place one)
-  action_one first place (action.Evaluate number) = cell_one first place (slice_get flat.cells number)
+  action_one first place (action.Evaluate number) = cell_one (slot_in table (min (flat.inputs + number) (2 ^ 32 - 1))) first place (slice_get flat.cells number)
   action_one first place (action.Send link pin net) = refl
   action_one first place (action.Take link pin net) = refl
   action_one first place action.Step = refl

@@ -26,8 +26,8 @@ slot_of (first ∷ nets) net = if first == net then Some 0 else option_map suc (
 abbrev pub HasSlot : List ℕ → ℕ → Type 0
 HasSlot nets net = (slot : ℕ) × (slot_of nets net ≡ Some slot)
 
--- the gate with a cell number by its truth table, with the slots of its inputs, and then any others that there are
-pub record IsTableGate (flat : Flat) (nets : List ℕ) (number : ℕ) (gate : TableGate) : Type 0 where
+-- the gate with a cell number by its truth table, with the slots of its inputs, and then any others that there are; and its own slot
+pub record IsTableGate (flat : Flat) (nets : List ℕ) (number : ℕ) (gate : TableGate) (slot : ℕ) : Type 0 where
   pub ins : List ℕ
   pub cover : Cover
   pub cell : slice_get flat.cells number ≡ Some (Gate ins cover)
@@ -36,9 +36,9 @@ pub record IsTableGate (flat : Flat) (nets : List ℕ) (number : ℕ) (gate : Ta
   pub six : length gate.reads ≡ 6
   pub reads : gate.reads ≡ own ++ more
   pub slots : map (slot_of nets) ins ≡ map Some own
-  pub within : All (λ slot. slot < length nets) gate.reads
+  pub within : All (λ read. read < length nets) gate.reads
   pub truth_table : gate.truth_table ≡ cover.truth_table
-  pub target : slot_of nets (flat.inputs + number) ≡ Some gate.target
+  pub target : slot_of nets (flat.inputs + number) ≡ Some slot
 
 -- the gate with a cell number by its rows, with the slots of its inputs
 pub record IsWideGate (flat : Flat) (nets : List ℕ) (number : ℕ) (gate : WideGate) : Type 0 where
@@ -51,7 +51,7 @@ pub record IsWideGate (flat : Flat) (nets : List ℕ) (number : ℕ) (gate : Wid
 
 -- an op does this action first
 abbrev pub BeginsWith : Flat → Code → Action → Op → Type 0
-BeginsWith flat code (action.Evaluate number) (op.Run first end) = (first < end) × (gate : TableGate) × (slice_get code.gates.items first ≡ Some gate) × IsTableGate flat code.nets.items number gate
+BeginsWith flat code (action.Evaluate number) (op.Run first end slot) = (first < end) × (gate : TableGate) × (slice_get code.gates.items first ≡ Some gate) × IsTableGate flat code.nets.items number gate slot
 BeginsWith flat code (action.Evaluate number) (op.Wide place) = (gate : WideGate) × (slice_get code.wide.items place ≡ Some gate) × IsWideGate flat code.nets.items number gate
 BeginsWith flat code (action.Send link pin net) (op.Send its_link its_pin its_net slot) = (its_link ≡ link) × (its_pin ≡ pin) × (its_net ≡ net) × (slot_of code.nets.items net ≡ Some slot)
 BeginsWith flat code (action.Take link pin net) (op.Take its_link slot) = (its_link ≡ link) × (slot_of code.nets.items net ≡ Some slot)
@@ -70,8 +70,8 @@ pub record IsCode (planned : PlannedBoard) (node : ℕ) (program : List Action) 
   pub count : length code.ops.items ≡ length program
   pub begins : (place : ℕ) (action : Action) → slice_get program place ≡ Some action
       → (one : Op) × (slice_get code.ops.items place ≡ Some one) × BeginsWith planned.ordered.flat code action one
-  -- a run of more gates than one goes on at the next action
-  pub runs : (place first end : ℕ) → slice_get code.ops.items place ≡ Some (op.Run first end) → first + 1 < end → slice_get code.ops.items (place + 1) ≡ Some (op.Run (first + 1) end)
+  -- a run of more gates than one goes on at the next action and the next slot
+  pub runs : (place first end slot : ℕ) → slice_get code.ops.items place ≡ Some (op.Run first end slot) → first + 1 < end → slice_get code.ops.items (place + 1) ≡ Some (op.Run (first + 1) end (slot + 1))
   -- the inputs and latches of the node have slots, and the host's inputs the first ones
   pub sources : (net : ℕ) → IsTrue (is_source planned node net) → HasSlot code.nets.items net
   pub host : node ≡ 0 → (net : ℕ) → net < planned.ordered.flat.inputs → slot_of code.nets.items net ≡ Some net

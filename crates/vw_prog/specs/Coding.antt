@@ -67,11 +67,10 @@ abbrev pub read_at : List ℕ → Option ℕ → ℕ
 read_at table None = 0
 read_at table (Some net) = slot_in table net
 
-abbrev pub table_gate : List ℕ → ℕ → List ℕ → ℕ → TableGate
-table_gate table net ins truth_table = record {
+abbrev pub table_gate : List ℕ → List ℕ → ℕ → TableGate
+table_gate table ins truth_table = record {
   reads = read_at table (slice_get ins 0) ∷ read_at table (slice_get ins 1) ∷ read_at table (slice_get ins 2) ∷ read_at table (slice_get ins 3) ∷ read_at table (slice_get ins 4) ∷ read_at table (slice_get ins 5) ∷ [];
   truth_table = truth_table;
-  target = slot_in table net;
 }
 
 abbrev pub wide_gate : List ℕ → ℕ → ℕ → List ℕ → WideGate
@@ -80,7 +79,7 @@ wide_gate table number net ins = record { number = number; reads = map (slot_in 
 -- what a cell adds to the gates of a code, and the op for it
 abbrev pub cell_gates : ℕ → List ℕ → ℕ → Option Cell → List TableGate
 cell_gates inputs table number None = []
-cell_gates inputs table number (Some (Gate ins cover)) = if nat_le cover.inputs 6 then table_gate table (inputs + number) ins cover.truth_table ∷ [] else []
+cell_gates inputs table number (Some (Gate ins cover)) = if nat_le cover.inputs 6 then table_gate table ins cover.truth_table ∷ [] else []
 cell_gates inputs table number (Some (Latch d init)) = []
 
 abbrev pub cell_wide : ℕ → List ℕ → ℕ → Option Cell → List WideGate
@@ -88,10 +87,10 @@ cell_wide inputs table number None = []
 cell_wide inputs table number (Some (Gate ins cover)) = if nat_le cover.inputs 6 then [] else wide_gate table number (inputs + number) ins ∷ []
 cell_wide inputs table number (Some (Latch d init)) = []
 
-abbrev pub cell_op : ℕ → ℕ → Option Cell → Op
-cell_op first place None = op.Step
-cell_op first place (Some (Gate ins cover)) = if nat_le cover.inputs 6 then op.Run first (first + 1) else op.Wide place
-cell_op first place (Some (Latch d init)) = op.Step
+abbrev pub cell_op : ℕ → ℕ → ℕ → Option Cell → Op
+cell_op slot first place None = op.Step
+cell_op slot first place (Some (Gate ins cover)) = if nat_le cover.inputs 6 then op.Run first (first + 1) slot else op.Wide place
+cell_op slot first place (Some (Latch d init)) = op.Step
 
 -- ---- actions
 
@@ -108,7 +107,7 @@ action_wide flat table (action.Take link pin net) = []
 action_wide flat table action.Step = []
 
 abbrev pub action_op : Flat → List ℕ → ℕ → ℕ → Action → Op
-action_op flat table first place (action.Evaluate number) = cell_op first place (slice_get flat.cells number)
+action_op flat table first place (action.Evaluate number) = cell_op (slot_in table (min (flat.inputs + number) (2 ^ 32 - 1))) first place (slice_get flat.cells number)
 action_op flat table first place (action.Send link pin net) = op.Send link pin net (slot_in table net)
 action_op flat table first place (action.Take link pin net) = op.Take link (slot_in table net)
 action_op flat table first place action.Step = op.Step
@@ -129,7 +128,7 @@ all_ops flat table first place (one ∷ actions) = action_op flat table first pl
 -- a run that goes on with the next one
 abbrev pub joined_op : Op → Option Op → Op
 joined_op one None = one
-joined_op (op.Run first end) (Some (op.Run next last)) = if next == end then op.Run first last else op.Run first end
+joined_op (op.Run first end slot) (Some (op.Run next last its)) = if next == end then (if its == slot + 1 then op.Run first last slot else op.Run first end slot) else op.Run first end slot
 joined_op one (Some other) = one
 
 abbrev pub joined_ops : List Op → List Op

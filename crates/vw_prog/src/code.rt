@@ -7,8 +7,6 @@ pub struct TableGate {
     pub reads: [u32; 6],
     /// Its truth table, over six inputs.
     pub truth_table: u64,
-    /// The slot of its own net.
-    pub target: u32,
 }
 
 /// A gate of more than six inputs.
@@ -26,10 +24,11 @@ pub struct WideGate {
 #[derive(Clone, Copy)]
 pub enum Op {
     /// It works out the gates with these numbers among its gates of at most six inputs, from the first to the one before the
-    /// last number.
+    /// last number. The first one's bit goes into this slot, and those of the others into the slots behind it.
     Run {
         first: usize,
         end: usize,
+        slot: u32,
     },
     /// It works out the gate with this number among its wider gates.
     Wide(usize),

@@ -1,5 +1,5 @@
 //! The form in which the actions of nodes run.
-ghost use Rattle.std.specs.Prelude.{◌≡◌, ◌+◌, ◌++◌, ◌∷◌, [], length, slice_get, IfOk, OnOk};
+ghost use Rattle.std.specs.Prelude.{◌≡◌, ◌+◌, ◌-◌, ◌^◌, ◌==◌, ◌++◌, ◌∷◌, [], length, min, slice_get, IfOk, OnOk};
 ghost use Rattle.vw_prog.specs.declared.code.Op.TheVariants.{Run, Wide};
 ghost use Rattle.vw_prog.specs.Coding.{all_gates, all_ops, all_wide, action_gates, action_op, action_wide, cell_gates, cell_op, cell_wide, joined_op, joined_ops, read_at, slot_in, table_gate, wide_gate};
 
@@ -19,9 +19,9 @@ fn read_at(table: &[u32], ins: &[u32], place: usize) -> u32
     }
 }
 
-/// A gate of at most six inputs, which drives a net.
-fn table_gate(table: &[u32], net: u32, ins: &[u32], truth_table: u64) -> TableGate
-    ensures { result ≡ table_gate table.now net ins.now truth_table }
+/// A gate of at most six inputs.
+fn table_gate(table: &[u32], ins: &[u32], truth_table: u64) -> TableGate
+    ensures { result ≡ table_gate table.now ins.now truth_table }
 {
     TableGate {
         reads: [
@@ -33,7 +33,6 @@ fn table_gate(table: &[u32], net: u32, ins: &[u32], truth_table: u64) -> TableGa
             read_at(table, ins, 5),
         ],
         truth_table,
-        target: slot_at(table, net),
     }
 }
 
@@ -54,10 +53,10 @@ fn wide_gate(
     })
 }
 
-/// Keeps a gate of at most six inputs, and gives the op that works it out.
-fn keep_table_gate(gates: &mut Vec<TableGate>, gate: TableGate) -> Result<Op, AllocError>
+/// Keeps a gate of at most six inputs, and gives the op that works it out into a slot.
+fn keep_table_gate(gates: &mut Vec<TableGate>, gate: TableGate, slot: u32) -> Result<Op, AllocError>
     ensures one { IfOk result (λ one. one
-        ≡ Run (length gates.old.items) (length gates.old.items + 1)) }
+        ≡ Run (length gates.old.items) (length gates.old.items + 1) slot) }
     ensures gates { OnOk result (gates.new.items ≡ gates.old.items ++ gate ∷ []) }
 {
     let first = gates.len();
@@ -65,6 +64,7 @@ fn keep_table_gate(gates: &mut Vec<TableGate>, gate: TableGate) -> Result<Op, Al
     Ok(Op::Run {
         first,
         end: first + 1,
+        slot,
     })
 }
 
@@ -87,8 +87,9 @@ fn cell_op(
     gates: &mut Vec<TableGate>,
     wide: &mut Vec<WideGate>,
 ) -> Result<Op, AllocError>
-    ensures one { IfOk result (λ one. one ≡ cell_op (length gates.old.items)
-        (length wide.old.items) (slice_get flat.now.cells number)) }
+    ensures one { IfOk result (λ one. one
+        ≡ cell_op (slot_in table.now (min (flat.now.inputs + number) (2 ^ 32 - 1)))
+        (length gates.old.items) (length wide.old.items) (slice_get flat.now.cells number)) }
     ensures gates { OnOk result (gates.new.items ≡ gates.old.items
         ++ cell_gates flat.now.inputs table.now number (slice_get flat.now.cells number)) }
     ensures wide { OnOk result (wide.new.items ≡ wide.old.items
@@ -98,8 +99,8 @@ fn cell_op(
         Some(Cell::Gate { ins, cover }) => {
             let net = flat.inputs() + number;
             if cover.inputs() <= TRUTH_TABLE_INPUTS {
-                let gate = table_gate(table, net, ins.as_slice(), cover.truth_table());
-                let one = keep_table_gate(gates, gate)?;
+                let gate = table_gate(table, ins.as_slice(), cover.truth_table());
+                let one = keep_table_gate(gates, gate, slot_at(table, net))?;
                 return Ok(one);
             }
             let gate = wide_gate(alloc, table, number, net, ins.as_slice())?;
@@ -146,6 +147,16 @@ fn action_op(
     }
 }
 
+/// Whether a slot is the one behind another.
+fn follows(slot: u32, its: u32) -> bool
+    ensures { result ≡ (its == slot + 1) }
+{
+    match slot.checked_add(1) {
+        Some(next) => its == next,
+        None => false,
+    }
+}
+
 /// An op, where another one comes next: a run goes on with the next run.
 fn joined_op(one: Op, next: Option<Op>) -> Op
     ensures { result ≡ joined_op one next }
@@ -155,13 +166,18 @@ fn joined_op(one: Op, next: Option<Op>) -> Op
             Op::Run {
                 first: next,
                 end: last,
+                slot: its,
             },
         ) => match one {
-            Op::Run { first, end } => {
-                if next == end {
-                    Op::Run { first, end: last }
+            Op::Run { first, end, slot } => {
+                if next == end && follows(slot, its) {
+                    Op::Run {
+                        first,
+                        end: last,
+                        slot,
+                    }
                 } else {
-                    Op::Run { first, end }
+                    one
                 }
             }
             _ => one,

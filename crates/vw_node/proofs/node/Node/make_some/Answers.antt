@@ -4,34 +4,37 @@ use Rattle.vw_net.specs.declared.ordered.Ordered.{Ordered}
 use Rattle.vw_plan.specs.declared.checked.Checked.{Checked}
 use Rattle.vw_node.specs.Slots.{wide_by}
 use Rattle.vw_node.proofs.ClockEnds.{end_agrees, end_fits, end_latches, end_makes, end_taken, end_within}
-use Rattle.vw_node.proofs.StepAnswers.{empty_makes, full_makes, run_agrees, run_begins_first, run_fits, run_last, run_made, run_makes, run_some, run_within, send_agrees, send_fits, send_makes, send_next, send_slot, take_agrees, take_expected, take_fits, take_makes, take_slot, wide_agrees, wide_fits, wide_here, wide_inside, wide_makes, wide_reads, wide_target, wide_within}
+use Rattle.vw_node.proofs.StepAnswers.{empty_makes, full_makes, run_agrees, run_begins_first, run_fits, run_last, run_made, run_makes, run_room, run_some, run_within, send_agrees, send_fits, send_makes, send_next, send_slot, take_agrees, take_expected, take_fits, take_makes, take_slot, wide_agrees, wide_fits, wide_here, wide_inside, wide_makes, wide_reads, wide_target, wide_within}
 use Rattle.vw_node.proofs.node.Node.make_some.Goals as goal
 
 -- ---- gates
 
 pub end_of-requires : goal.end_of-requires
-end_of-requires g c = run_begins_first (g.E.Ends.seen c.args.ends.now) c.args.self.now c.requires.fits c.requires.agrees c.if-self.false c.index.result.now c.in-Run.first c.in-Run.end (sym c.index.ensures ∙ c.in-Run.is)
+end_of-requires g c = run_begins_first (g.E.Ends.seen c.args.ends.now) c.args.self.now c.requires.fits c.requires.agrees c.if-self.false c.index.result.now c.in-Run.first c.in-Run.end c.in-Run.slot (sym c.index.ensures ∙ c.in-Run.is)
 
 pub run-requires-clause-order : goal.run-requires-clause-order
-run-requires-clause-order g c = omega (arith, run_some (g.E.Ends.seen c.args.ends.now) c.args.self.now c.requires.fits c.requires.agrees c.if-self.false c.index.result.now c.in-Run.first c.in-Run.end c.end_of.result c.args.whole (sym c.index.ensures ∙ c.in-Run.is) c.end_of.ensures)
+run-requires-clause-order g c = omega (arith, run_some (g.E.Ends.seen c.args.ends.now) c.args.self.now c.requires.fits c.requires.agrees c.if-self.false c.index.result.now c.in-Run.first c.in-Run.end c.in-Run.slot c.end_of.result c.args.whole (sym c.index.ensures ∙ c.in-Run.is) c.end_of.ensures)
 
 pub run-requires-clause-end : goal.run-requires-clause-end
-run-requires-clause-end g c = run_last (g.E.Ends.seen c.args.ends.now) c.args.self.now c.requires.fits c.requires.agrees c.if-self.false c.index.result.now c.in-Run.first c.in-Run.end c.end_of.result c.args.whole (sym c.index.ensures ∙ c.in-Run.is) c.end_of.ensures
+run-requires-clause-end g c = run_last (g.E.Ends.seen c.args.ends.now) c.args.self.now c.requires.fits c.requires.agrees c.if-self.false c.index.result.now c.in-Run.first c.in-Run.end c.in-Run.slot c.end_of.result c.args.whole (sym c.index.ensures ∙ c.in-Run.is) c.end_of.ensures
 
 pub run-requires-clause-within : goal.run-requires-clause-within
-run-requires-clause-within g c = run_within (g.E.Ends.seen c.args.ends.now) c.args.self.now c.requires.fits c.requires.agrees c.if-self.false c.index.result.now c.in-Run.first c.in-Run.end c.end_of.result c.args.whole (sym c.index.ensures ∙ c.in-Run.is) c.end_of.ensures
+run-requires-clause-within g c = run_within (g.E.Ends.seen c.args.ends.now) c.args.self.now c.requires.fits c.requires.agrees c.if-self.false c.index.result.now c.in-Run.first c.in-Run.end c.in-Run.slot c.end_of.result c.args.whole (sym c.index.ensures ∙ c.in-Run.is) c.end_of.ensures
+
+pub run-requires-clause-room : goal.run-requires-clause-room
+run-requires-clause-room g c = run_room (g.E.Ends.seen c.args.ends.now) c.args.self.now c.requires.fits c.requires.agrees c.if-self.false c.index.result.now c.in-Run.first c.in-Run.end c.in-Run.slot c.end_of.result c.args.whole (sym c.index.ensures ∙ c.in-Run.is) c.end_of.ensures
 
 pub run-requires-clause-made : goal.run-requires-clause-made
-run-requires-clause-made g c = run_made (g.E.Ends.seen c.args.ends.now) c.args.self.now c.requires.fits c.requires.agrees c.if-self.false c.index.result.now c.in-Run.first c.in-Run.end c.end_of.result c.args.whole (sym c.index.ensures ∙ c.in-Run.is) c.end_of.ensures
+run-requires-clause-made g c = run_made (g.E.Ends.seen c.args.ends.now) c.args.self.now c.requires.fits c.requires.agrees c.if-self.false c.index.result.now c.in-Run.first c.in-Run.end c.in-Run.slot c.end_of.result c.args.whole (sym c.index.ensures ∙ c.in-Run.is) c.end_of.ensures
 
 pub returns-in-Run-clause-fits : goal.returns-in-Run-clause-fits
-returns-in-Run-clause-fits g c = run_fits (g.E.Ends.seen c.args.ends.now) c.args.self.now c.requires.fits c.requires.agrees c.if-self.false c.index.result.now c.in-Run.first c.in-Run.end c.end_of.result c.args.whole (sym c.index.ensures ∙ c.in-Run.is) c.end_of.ensures c.run.new.self c.run.ensures.rest c.run.ensures.slots
+returns-in-Run-clause-fits g c = run_fits (g.E.Ends.seen c.args.ends.now) c.args.self.now c.requires.fits c.requires.agrees c.if-self.false c.index.result.now c.in-Run.first c.in-Run.end c.in-Run.slot c.end_of.result c.args.whole (sym c.index.ensures ∙ c.in-Run.is) c.end_of.ensures c.run.new.self c.run.ensures.rest c.run.ensures.slots
 
 pub returns-in-Run-clause-agrees : goal.returns-in-Run-clause-agrees
-returns-in-Run-clause-agrees g c = run_agrees (g.E.Ends.seen c.args.ends.now) c.args.self.now c.requires.fits c.requires.agrees c.if-self.false c.index.result.now c.in-Run.first c.in-Run.end c.end_of.result c.args.whole (sym c.index.ensures ∙ c.in-Run.is) c.end_of.ensures c.run.new.self c.run.ensures.rest c.run.ensures.slots
+returns-in-Run-clause-agrees g c = run_agrees (g.E.Ends.seen c.args.ends.now) c.args.self.now c.requires.fits c.requires.agrees c.if-self.false c.index.result.now c.in-Run.first c.in-Run.end c.in-Run.slot c.end_of.result c.args.whole (sym c.index.ensures ∙ c.in-Run.is) c.end_of.ensures c.run.new.self c.run.ensures.rest c.run.ensures.slots
 
 pub returns-in-Run-clause-makes : goal.returns-in-Run-clause-makes
-returns-in-Run-clause-makes g c = run_makes (g.E.Ends.seen c.args.ends.now) c.args.self.now c.requires.fits c.requires.agrees c.if-self.false c.index.result.now c.in-Run.first c.in-Run.end c.end_of.result c.args.whole (sym c.index.ensures ∙ c.in-Run.is) c.end_of.ensures c.run.new.self c.run.ensures.rest c.run.ensures.slots
+returns-in-Run-clause-makes g c = run_makes (g.E.Ends.seen c.args.ends.now) c.args.self.now c.requires.fits c.requires.agrees c.if-self.false c.index.result.now c.in-Run.first c.in-Run.end c.in-Run.slot c.end_of.result c.args.whole (sym c.index.ensures ∙ c.in-Run.is) c.end_of.ensures c.run.new.self c.run.ensures.rest c.run.ensures.slots
 
 -- ---- a gate by its rows
 
