@@ -190,10 +190,8 @@ impl<'a> Node<'a> {
                 slot,
             } => {
                 let bit = self.slots[slot as usize];
-                if !ends.put(
-                    link,
-                    Word::make(self.share.first + self.clock, net, pin, bit),
-                ) {
+                let word = Word::make(self.share.first + self.clock, net, pin, bit);
+                if !ends.put(link, word) {
                     return Step::Full(link);
                 }
                 self.advance();

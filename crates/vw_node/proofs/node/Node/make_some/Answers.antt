@@ -65,8 +65,8 @@ pub index-bit-requires : goal.index-bit-requires
 index-bit-requires g c = omega (arith, send_slot (g.E.Ends.seen c.args.ends.now) c.args.self.now c.requires.fits c.requires.agrees c.if-self.false c.index.result.now c.in-Send.link c.in-Send.pin c.in-Send.net c.in-Send.slot (sym c.index.ensures ∙ c.in-Send.is), c.args.self.now.slots.ok)
 
 pub put-requires : goal.put-requires
-put-requires g c = send_next (g.E.Ends.seen c.args.ends.now) c.args.self.now c.requires.fits c.requires.agrees c.if-self.false c.index.result.now c.in-Send.link c.in-Send.pin c.in-Send.net c.in-Send.slot (sym c.index.ensures ∙ c.in-Send.is) c.make.result c.make.ensures.clock c.make.ensures.net c.make.ensures.pin
-    (c.make.ensures.bit ∙ c.index-bit.ensures ∙ get_or_default c.args.self.now.slots.items c.in-Send.slot _ false (send_slot (g.E.Ends.seen c.args.ends.now) c.args.self.now c.requires.fits c.requires.agrees c.if-self.false c.index.result.now c.in-Send.link c.in-Send.pin c.in-Send.net c.in-Send.slot (sym c.index.ensures ∙ c.in-Send.is)))
+put-requires g c = send_next (g.E.Ends.seen c.args.ends.now) c.args.self.now c.requires.fits c.requires.agrees c.if-self.false c.index.result.now c.in-Send.link c.in-Send.pin c.in-Send.net c.in-Send.slot (sym c.index.ensures ∙ c.in-Send.is) c.make-word.result c.make-word.ensures.clock c.make-word.ensures.net c.make-word.ensures.pin
+    (c.make-word.ensures.bit ∙ c.index-bit.ensures ∙ get_or_default c.args.self.now.slots.items c.in-Send.slot _ false (send_slot (g.E.Ends.seen c.args.ends.now) c.args.self.now c.requires.fits c.requires.agrees c.if-self.false c.index.result.now c.in-Send.link c.in-Send.pin c.in-Send.net c.in-Send.slot (sym c.index.ensures ∙ c.in-Send.is)))
 
 pub returns-then-not-put-clause-makes : goal.returns-then-not-put-clause-makes
 returns-then-not-put-clause-makes g c = full_makes (g.E.Ends.seen c.args.ends.now) c.args.self.now c.requires.fits c.requires.agrees c.if-self.false c.index.result.now c.in-Send.link c.in-Send.pin c.in-Send.net c.in-Send.slot (sym c.index.ensures ∙ c.in-Send.is) (g.E.Ends.seen c.put.new.self) c.args.whole c.if-not-put.ensures
