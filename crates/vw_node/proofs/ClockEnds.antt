@@ -1,37 +1,54 @@
--- What the end of a clock makes of a node.
-use Rattle.std.proofs.Common.{◌≡◌, ◌<◌, ◌≤◌, ◌+◌, ◌-◌, ◌&&◌, ◌∷◌, ◌++◌, ℕ, Bool, true, false, List, [], length, map, get_or, eqb, nat_lt, slice_get, slice_index, if◌then◌else◌, Bor, ap, ap₂, refl, sym, subst, ◌∙◌, ⊎_elim, eqb-true, Option, Some, None, All, option_map, arith}
-use Rattle.std.proofs.Math.Path.{fun_ext}
+-- What the start and the end of a clock make of a node.
+use Rattle.std.proofs.Common.{◌≡◌, ◌<◌, ◌≤◌, ◌+◌, ◌-◌, ◌&&◌, ◌∷◌, ◌++◌, ℕ, Bool, true, false, List, [], length, map, take, get_or, eqb, nat_lt, replicate, slice_get, if◌then◌else◌, ap, ap₂, refl, sym, subst, ◌∙◌, ⊎_elim, Option, Some, None, All, arith}
 use Rattle.std.specs.List.{range_with_len}
-use Rattle.std.specs.Option.{option_and_then}
 use Rattle.std.specs.Vec.{vec_capacity}
-use Rattle.std.proofs.lemmas.Bool.{and_parts}
-use Rattle.std.proofs.lemmas.List.{get_or_append_left, length_push}
+use Rattle.std.proofs.lemmas.Bool.{and_parts, cases_lt}
+use Rattle.std.proofs.lemmas.List.{ext_get_or, get_or-replicate, get_or_append_left, get_or_past, length-map, length-replicate, length_push}
 use Rattle.std.proofs.lemmas.List.Elements.{filter_passes}
+use Rattle.std.proofs.lemmas.Option.{slice_get-get_or}
+use Rattle.vw_net.specs.declared.cell.Cell.{Cell}
+use Rattle.vw_net.specs.declared.cell.Cell.TheVariants.{Gate, Latch}
+use Rattle.vw_net.specs.Cells.{latch_count}
 use Rattle.vw_net.specs.Order.{is_latch}
-use Rattle.vw_plan.specs.declared.checked.Checked.{Checked}
-use Rattle.vw_plan.specs.Nets.{driving_cell, node_of}
-use Rattle.vw_plan.specs.PlannedBoard.{home}
+use Rattle.vw_net.proofs.FittingCells.{cell_fits}
+use Rattle.vw_net.proofs.Levels.{map_agree}
+use Rattle.vw_plan.specs.Nets.{driving_cell}
+use Rattle.vw_plan.specs.PlannedBoard.{PlannedBoard, home}
 use Rattle.vw_prog.specs.declared.action.Action.{Action}
-use Rattle.vw_prog.specs.declared.action.Action.TheVariants.{Evaluate, Send, Step as step_action, Take}
+use Rattle.vw_prog.specs.declared.action.Action.TheVariants as action
+use Rattle.vw_prog.specs.declared.code.Code.{Code}
+use Rattle.vw_prog.specs.declared.code.Op.{Op}
+use Rattle.vw_prog.specs.declared.code.Op.TheVariants as op
 use Rattle.vw_prog.specs.declared.job.Job.{Job}
 use Rattle.vw_prog.specs.declared.job.Share.{Share}
 use Rattle.vw_prog.specs.Actions.{actions}
+use Rattle.vw_prog.specs.Codes.{BeginsWith, IsCode, slot_of, taken_net}
 use Rattle.vw_prog.specs.Due.{own_latches, recorded}
 use Rattle.vw_prog.specs.Ends.{SeenEnds}
 use Rattle.vw_prog.specs.Scripts.{planned_of}
 use Rattle.vw_prog.specs.Timetable.{entries_at, is_evaluating, is_sending, timetable}
 use Rattle.vw_node.specs.declared.node.Node.{Node}
 use Rattle.vw_node.specs.declared.step.Step.TheVariants.{Moved}
-use Rattle.vw_node.specs.Fits.{IsFit, IsShare, bit_in, state_of}
+use Rattle.vw_node.specs.Fits.{IsFit, IsShare, bit_by, bit_in, slot_bit, state_of}
 use Rattle.vw_node.specs.Lists.{tabulate}
-use Rattle.vw_node.specs.Moves.{Steps}
+use Rattle.vw_node.specs.Moves.{MakesSome}
 use Rattle.vw_node.specs.Positions.{Agrees}
-use Rattle.vw_node.specs.Slots.{next_bit, row_at, row_bit}
-use Rattle.vw_node.specs.States.{NodeState, input_bit, latch_bit, stepped, stepped_bit}
+use Rattle.vw_node.specs.Slots.{row_at, with_bits, with_row}
+use Rattle.vw_node.specs.Starts.{net_count}
+use Rattle.vw_node.specs.States.{NodeState, input_bit, kept_bit, latch_bit, latch_number, slot, start_bit, stepped, stepped_bit}
 use Rattle.vw_node.proofs.EntryKinds.{next_entry}
 use Rattle.vw_node.proofs.Held.{latch_is, latch_within}
+use Rattle.vw_node.proofs.MovesOn.{makes_one}
 use Rattle.vw_node.proofs.NodeSteps.{next_of, stepped_agrees}
-use Rattle.vw_node.proofs.StepAnswers.{moved_to, reads_next, unfinished}
+use Rattle.vw_node.proofs.OpActions.{op_begins}
+use Rattle.vw_node.proofs.SlotBits.{bits_are, length-with_bits, slots_long, slots_within}
+use Rattle.vw_node.proofs.SourceBits.{latch_or, length-with_row, row_is, source_bit}
+use Rattle.vw_node.proofs.StepAnswers.{many_are, moved_to, op_within, unfinished}
+use Rattle.vw_node.proofs.Values.{get_or-tabulate, length-tabulate}
+
+map_twice : {A B C : Type 0} (g : B → C) (f : A → B) (xs : List A) → map g (map f xs) ≡ map (λ x. g (f x)) xs
+map_twice g f [] = refl
+map_twice g f (x ∷ xs) = ap (λ (rest : List _). g (f x) ∷ rest) (map_twice g f xs)
 
 -- what a node records are nets
 pub records_within : (job : Job) (node : ℕ) → All (λ net. net < job.checked.ordered.flat.inputs + length job.checked.ordered.flat.cells) (recorded (planned_of job) node)
@@ -45,87 +62,196 @@ records_within job node = by (eqb node 0) where
       let cell = latch_is job node (driving_cell flat net) (and_parts (is_latch (driving_cell flat net)) (eqb (home (planned_of job) net) node) passes).0 in
       latch_within job node net cell.0 cell.1.0 cell.1.1
 
--- ---- slots
+tabulate_same : (each other : ℕ → Bool) (count : ℕ) → ((place : ℕ) → place < count → each place ≡ other place) → tabulate each count ≡ tabulate other count
+tabulate_same each other count agree =
+    ext_get_or false (tabulate each count) (tabulate other count) (length-tabulate each count ∙ sym (length-tabulate other count)) (λ place below.
+    let under : place < count = omega (arith, below, length-tabulate each count) in
+    get_or-tabulate each count place false under ∙ agree place under ∙ sym (get_or-tabulate other count place false under))
 
-tabulate_agree : {A : Type 0} (each other : ℕ → A) (count : ℕ) → ((place : ℕ) → each place ≡ other place) → tabulate each count ≡ tabulate other count
-tabulate_agree each other count agree = ap (λ (f : ℕ → _). tabulate f count) (fun_ext agree)
+pub numbers_long : (planned : PlannedBoard) (node : ℕ) (program : List Action) (code : Code) → IsCode planned node program code → length code.numbers.items ≡ length code.latches.items
+numbers_long planned node program code is =
+    let flat = planned.ordered.flat in
+    ap (λ (list : List ℕ). length list) is.numbers ∙ length-map (own_latches planned node) (λ (net : ℕ). latch_count (take (net - flat.inputs) flat.cells)) ∙ slots_long code.nets.items (own_latches planned node) code.latches.items is.latches
 
-module _ (job : Job) (share : Share) (is : IsShare job share) (clock made : ℕ) (slots : List Bool) (rows : List (List Bool)) where
-  abbrev state : NodeState
-  state = record { clock = clock; made = made; slots = slots; rows = rows }
+-- ---- a code of the job's node
 
-  -- the host has the rows
-  host_row : share.node ≡ 0 → row_at share (clock + 1) ≡ slice_get job.rows (clock + 1)
-  host_row host = by share.rows (is.rows ∙ ap (λ (one : Bool). if one then Some job.rows else None) (ap (λ (node : ℕ). eqb node 0) host)) where
-    by : (rows_in : Option (Bor (List (List Bool)))) → option_map (λ rows. rows.now) rows_in ≡ Some job.rows → option_and_then (λ rows. slice_get rows.now (clock + 1)) rows_in ≡ slice_get job.rows (clock + 1)
-    by None at = cc
-    by (Some own) at = let same : own.now ≡ job.rows = cc in ap (λ (list : List (List Bool)). slice_get list (clock + 1)) same
+module _ (job : Job) (share : Share) (is : IsShare job share) (code : Code) (is_code : IsCode (planned_of job) share.node (actions (planned_of job) share.node) code) where
+  abbrev node : ℕ
+  node = share.node
 
-  same_bit : (net : ℕ) → next_bit share clock slots net ≡ stepped_bit job share.node state net
-  same_bit net =
-      let flat = job.checked.ordered.flat in
-      let own = bit_in slots net in
-      let by_checked : next_bit share clock slots net ≡ (if eqb (home (planned_of job) net) share.node then (if nat_lt net flat.inputs then row_bit share (clock + 1) net own else latch_bit (bit_in slots) own (driving_cell flat net)) else own) =
-      ap (λ (checked : Checked). if eqb (node_of checked.ordered.flat checked.plan.chip_of net) share.node then (if nat_lt net checked.ordered.flat.inputs then row_bit share (clock + 1) net own else latch_bit (bit_in slots) own (driving_cell checked.ordered.flat net)) else own) is.checked in
-      by_checked ∙ by (nat_lt net flat.inputs) (eqb (home (planned_of job) net) share.node) refl refl where
-        by : (input here : Bool) → nat_lt net job.checked.ordered.flat.inputs ≡ input → eqb (home (planned_of job) net) share.node ≡ here
-            → (if here then (if input then row_bit share (clock + 1) net (bit_in slots net) else latch_bit (bit_in slots) (bit_in slots net) (driving_cell job.checked.ordered.flat net)) else bit_in slots net)
-            ≡ (if here then (if input then input_bit (slice_get job.rows (clock + 1)) net (bit_in slots net) else latch_bit (bit_in slots) (bit_in slots net) (driving_cell job.checked.ordered.flat net)) else bit_in slots net)
-        by input false kind at = refl
-        by false true kind at = refl
-        by true true kind at =
-            let at_host : home (planned_of job) net ≡ 0 = ap (λ (one : Bool). if one then 0 else slice_index job.checked.plan.chip_of (net - job.checked.ordered.flat.inputs)) kind in
-            let host : share.node ≡ 0 = sym (eqb-true (home (planned_of job) net) share.node at) ∙ at_host in
-            ap (λ (row : Option (List Bool)). input_bit row net (bit_in slots net)) (host_row host)
+  abbrev nets : List ℕ
+  nets = code.nets.items
 
-  pub same_slots : tabulate (next_bit share clock slots) (length slots) ≡ tabulate (stepped_bit job share.node state) (length slots)
-  same_slots = tabulate_agree (next_bit share clock slots) (stepped_bit job share.node state) (length slots) same_bit
+  abbrev own : List ℕ
+  own = own_latches (planned_of job) node
+
+  abbrev all_nets : ℕ
+  all_nets = job.checked.ordered.flat.inputs + length job.checked.ordered.flat.cells
+
+  pub latches_within : All (λ slot. slot < length nets) code.latches.items
+  latches_within = slots_within nets own code.latches.items is_code.latches
+
+  inputs_map : map (slot_of nets) (map (λ net. taken_net (driving_cell job.checked.ordered.flat net)) own) ≡ map Some code.inputs.items
+  inputs_map = map_twice (slot_of nets) (λ (net : ℕ). taken_net (driving_cell job.checked.ordered.flat net)) own ∙ is_code.inputs
+
+  pub inputs_within : All (λ slot. slot < length nets) code.inputs.items
+  inputs_within = slots_within nets (map (λ net. taken_net (driving_cell job.checked.ordered.flat net)) own) code.inputs.items inputs_map
+
+  pub inputs_long : length code.inputs.items ≡ length code.latches.items
+  inputs_long =
+      sym (slots_long nets (map (λ net. taken_net (driving_cell job.checked.ordered.flat net)) own) code.inputs.items inputs_map)
+      ∙ length-map own (λ (net : ℕ). taken_net (driving_cell job.checked.ordered.flat net)) ∙ slots_long nets own code.latches.items is_code.latches
+
+  -- the bits of latches that take the values of a function, with a row of inputs
+  abbrev sourced : (ℕ → Bool) → ℕ → List Bool → List Bool
+  sourced value clock bits = with_bits code.latches.items (map value own) (with_row (row_at share clock) bits)
+
+  sourced_bit : (value : ℕ → Bool) (clock : ℕ) (bits : List Bool) → length bits ≡ length nets → (net : ℕ) → bit_by nets (sourced value clock bits) net
+      ≡ (if eqb (home (planned_of job) net) node then (if nat_lt net job.checked.ordered.flat.inputs then input_bit (slice_get job.rows clock) net (bit_by nets bits net) else latch_or (value net) (bit_by nets bits net) (driving_cell job.checked.ordered.flat net)) else bit_by nets bits net)
+  sourced_bit value clock bits long net =
+      ap (λ (row : Option (List Bool)). bit_by nets (with_bits code.latches.items (map value own) (with_row row bits)) net) (row_is job share is clock)
+      ∙ source_bit job node code is_code bits long clock value net
+
+  pub length-sourced : (others : List Bool) (clock : ℕ) (bits : List Bool) → length bits ≡ length nets → length (with_bits code.latches.items others (with_row (row_at share clock) bits)) ≡ length nets
+  length-sourced others clock bits long =
+      length-with_bits code.latches.items others (with_row (row_at share clock) bits)
+      ∙ ap (λ (row : Option (List Bool)). length (with_row row bits)) (row_is job share is clock) ∙ length-with_row job node code is_code bits long clock
+
+  -- ---- the start
+
+  pub start_slots_are : (bits : List Bool) → bits ≡ replicate (length nets) false
+      → tabulate (bit_by nets (with_bits code.latches.items (map (bit_in share.start.now) code.numbers.items) (with_row (row_at share 0) bits))) all_nets ≡ tabulate (start_bit job node) all_nets
+  start_slots_are bits zeros =
+      ap (λ (others : List Bool). tabulate (bit_by nets (with_bits code.latches.items others (with_row (row_at share 0) bits))) all_nets) values
+      ∙ tabulate_same (bit_by nets (sourced value 0 bits)) (start_bit job node) all_nets (λ net within. sourced_bit value 0 bits long net ∙ same net) where
+        value : ℕ → Bool
+        value net = bit_in job.start (latch_number job net)
+
+        values : map (bit_in share.start.now) code.numbers.items ≡ map value own
+        values = ap₂ (λ (start : List Bool) (numbers : List ℕ). map (bit_in start) numbers) is.start is_code.numbers ∙ map_twice (bit_in job.start) (latch_number job) own
+
+        long : length bits ≡ length nets
+        long = ap (λ (list : List Bool). length list) zeros ∙ length-replicate (length nets) false
+
+        none : (net : ℕ) → bit_by nets bits net ≡ false
+        none net = by (slot_of nets net) where
+          by : (slot : Option ℕ) → slot_bit bits slot ≡ false
+          by None = refl
+          by (Some place) = ap (λ (list : List Bool). get_or list place false) zeros ∙ zero_at (length nets) place where
+            zero_at : (count place : ℕ) → get_or (replicate count false) place false ≡ false
+            zero_at count place = ⊎_elim (λ (within : place < count). get_or-replicate count place false false within) (λ (past : count ≤ place). get_or_past (replicate count false) place false (omega (arith, past, length-replicate count false))) (cases_lt place count)
+
+        same : (net : ℕ) → (if eqb (home (planned_of job) net) node then (if nat_lt net job.checked.ordered.flat.inputs then input_bit (slice_get job.rows 0) net (bit_by nets bits net) else latch_or (value net) (bit_by nets bits net) (driving_cell job.checked.ordered.flat net)) else bit_by nets bits net) ≡ start_bit job node net
+        same net =
+            ap (λ (own : Bool). if eqb (home (planned_of job) net) node then (if nat_lt net job.checked.ordered.flat.inputs then input_bit (slice_get job.rows 0) net own else latch_or (value net) own (driving_cell job.checked.ordered.flat net)) else own) (none net)
+            ∙ ap (λ (bit : Bool). if eqb (home (planned_of job) net) node then (if nat_lt net job.checked.ordered.flat.inputs then input_bit (slice_get job.rows 0) net false else bit) else false) (by (driving_cell job.checked.ordered.flat net)) where
+              by : (cell : Option Cell) → latch_or (value net) false cell ≡ kept_bit job.start (latch_number job net) cell
+              by None = refl
+              by (Some (Gate ins cover)) = refl
+              by (Some (Latch d init)) = refl
+
+  -- ---- the step
+
+  module _ (many clock made : ℕ) (bits : List Bool) (rows : List (List Bool)) (count : many ≡ all_nets) (long : length bits ≡ length nets) where
+    abbrev now : NodeState
+    now = record { clock = clock; made = made; slots = tabulate (bit_by nets bits) many; rows = rows }
+
+    slot_now : (net : ℕ) → net < all_nets → slot now net ≡ bit_by nets bits net
+    slot_now net within = get_or-tabulate (bit_by nets bits) many net false (omega (arith, within, count))
+
+    pub recorded_now : map (bit_in bits) code.records.items ≡ map (slot now) (recorded (planned_of job) node)
+    recorded_now =
+        bits_are nets bits (recorded (planned_of job) node) code.records.items is_code.records
+        ∙ map_agree (bit_by nets bits) (slot now) (recorded (planned_of job) node) (λ place default within. sym (slot_now (get_or (recorded (planned_of job) node) place default) (records_within job node place default within)))
+
+    pub stepped_now : tabulate (bit_by nets (with_bits code.latches.items (map (bit_in bits) code.inputs.items) (with_row (row_at share (clock + 1)) bits))) many ≡ tabulate (stepped_bit job node now) (length now.slots)
+    stepped_now =
+        ap (λ (others : List Bool). tabulate (bit_by nets (with_bits code.latches.items others (with_row (row_at share (clock + 1)) bits))) many) values
+        ∙ tabulate_same (bit_by nets (sourced value (clock + 1) bits)) (stepped_bit job node now) many (λ net within. sourced_bit value (clock + 1) bits long net ∙ same net (omega (arith, within, count)))
+        ∙ ap (tabulate (stepped_bit job node now)) (sym (length-tabulate (bit_by nets bits) many)) where
+          value : ℕ → Bool
+          value net = bit_by nets bits (taken_net (driving_cell job.checked.ordered.flat net))
+
+          values : map (bit_in bits) code.inputs.items ≡ map value own
+          values = bits_are nets bits (map (λ net. taken_net (driving_cell job.checked.ordered.flat net)) own) code.inputs.items inputs_map ∙ map_twice (bit_by nets bits) (λ (net : ℕ). taken_net (driving_cell job.checked.ordered.flat net)) own
+
+          latch : (net : ℕ) (cell : Option Cell) (input : Bool) → nat_lt net job.checked.ordered.flat.inputs ≡ input → driving_cell job.checked.ordered.flat net ≡ cell → latch_or (value net) (bit_by nets bits net) cell ≡ latch_bit (slot now) (bit_by nets bits net) cell
+          latch net None input test at = refl
+          latch net (Some (Gate ins cover)) input test at = refl
+          latch net (Some (Latch d init)) true test at = let none : None ≡ Some (Latch d init) = ap (λ (input : Bool). if input then None else slice_get job.checked.ordered.flat.cells (net - job.checked.ordered.flat.inputs)) (sym test) ∙ at in cc
+          latch net (Some (Latch d init)) false test at =
+              let there : slice_get job.checked.ordered.flat.cells (net - job.checked.ordered.flat.inputs) ≡ Some (Latch d init) = ap (λ (input : Bool). if input then None else slice_get job.checked.ordered.flat.cells (net - job.checked.ordered.flat.inputs)) (sym test) ∙ at in
+              let within : d < all_nets = (cell_fits all_nets job.checked.ordered.flat.cells (net - job.checked.ordered.flat.inputs) (Latch d init) job.checked.ordered.flat.cells_fit there).1 0 0 (omega arith) in
+              ap (λ (cell : Option Cell). bit_by nets bits (taken_net cell)) at ∙ sym (slot_now d within)
+
+          same : (net : ℕ) → net < all_nets → (if eqb (home (planned_of job) net) node then (if nat_lt net job.checked.ordered.flat.inputs then input_bit (slice_get job.rows (clock + 1)) net (bit_by nets bits net) else latch_or (value net) (bit_by nets bits net) (driving_cell job.checked.ordered.flat net)) else bit_by nets bits net) ≡ stepped_bit job node now net
+          same net within =
+              ap (λ (bit : Bool). if eqb (home (planned_of job) net) node then (if nat_lt net job.checked.ordered.flat.inputs then input_bit (slice_get job.rows (clock + 1)) net (bit_by nets bits net) else bit) else bit_by nets bits net) (latch net (driving_cell job.checked.ordered.flat net) (nat_lt net job.checked.ordered.flat.inputs) refl refl)
+              ∙ ap (λ (own : Bool). if eqb (home (planned_of job) net) node then (if nat_lt net job.checked.ordered.flat.inputs then input_bit (slice_get job.rows (clock + 1)) net own else latch_bit (slot now) own (driving_cell job.checked.ordered.flat net)) else own) (sym (slot_now net within))
 
 -- ---- the node
 
 module _ (ends : SeenEnds) (old : Node) (fits : IsFit ends.job old) (agrees : Agrees ends.job old.share.node (state_of old) ends) (differ : old.clock ≡ old.share.clocks → ⊥) where
-  abbrev job_of : Job
-  job_of = ends.job
-
   pub some_spare : 0 < length old.spare.items
   some_spare = omega (arith, fits.spare, unfinished ends old fits agrees differ)
 
-  pub within : All (λ net. net < length old.slots.items) old.recorded.items
-  within = λ place default below.
-      let at : get_or old.recorded.items place default ≡ get_or (recorded (planned_of ends.job) old.share.node) place default = ap (λ (list : List ℕ). get_or list place default) fits.records in
-      omega (arith, at, records_within ends.job old.share.node place default (omega (arith, below, ap (λ (list : List ℕ). length list) fits.records)), agrees.holds.size)
+  pub end_inputs : length old.code.now.inputs.items ≡ length old.code.now.latches.items
+  end_inputs = inputs_long ends.job old.share fits.share old.code.now fits.code
+
+  pub end_latches : All (λ slot. slot < length old.slots.items) old.code.now.latches.items
+  end_latches = subst (λ (count : ℕ). All (λ slot. slot < count) old.code.now.latches.items) (sym fits.slots) (latches_within ends.job old.share fits.share old.code.now fits.code)
+
+  pub end_taken : All (λ slot. slot < length old.slots.items) old.code.now.inputs.items
+  end_taken = subst (λ (count : ℕ). All (λ slot. slot < count) old.code.now.inputs.items) (sym fits.slots) (inputs_within ends.job old.share fits.share old.code.now fits.code)
+
+  pub end_within : All (λ slot. slot < length old.slots.items) old.code.now.records.items
+  end_within = subst (λ (count : ℕ). All (λ slot. slot < count) old.code.now.records.items) (sym fits.slots) (slots_within old.code.now.nets.items (recorded (planned_of ends.job) old.share.node) old.code.now.records.items fits.code.records)
 
   module _ (new : Node) (row : List Bool) (rest : new ≡ record old { clock = old.clock + 1; made = 0; slots = new.slots; next = new.next; rows = new.rows; spare = new.spare })
-      (slots : new.slots.items ≡ tabulate (next_bit old.share old.clock old.slots.items) (length old.slots.items)) (next : length new.next.items ≡ length old.slots.items)
-      (rows : new.rows.items ≡ old.rows.items ++ map (bit_in old.slots.items) old.recorded.items ∷ []) (spare : old.spare.items ≡ new.spare.items ++ row ∷ []) (capacity : vec_capacity old.rows ≤ vec_capacity new.rows) where
+      (slots : new.slots.items ≡ with_bits old.code.now.latches.items (map (bit_in old.slots.items) old.code.now.inputs.items) (with_row (row_at old.share (old.clock + 1)) old.slots.items)) (next : length new.next.items ≡ length old.next.items)
+      (rows : new.rows.items ≡ old.rows.items ++ map (bit_in old.slots.items) old.code.now.records.items ∷ []) (spare : old.spare.items ≡ new.spare.items ++ row ∷ []) (capacity : vec_capacity old.rows ≤ vec_capacity new.rows) where
     same_share : new.share ≡ old.share
     same_share = ap (λ (one : Node). one.share) rest
+
+    same_code : new.code.now ≡ old.code.now
+    same_code = ap (λ (one : Node). one.code.now) rest
 
     pub end_fits : IsFit ends.job new
     end_fits = record {
       share = subst (IsShare ends.job) (sym same_share) fits.share;
-      program = ap (λ (one : Node). one.program.now) rest ∙ fits.program ∙ ap (λ (share : Share). actions (planned_of ends.job) share.node) (sym same_share);
-      records = ap (λ (one : Node). one.recorded.items) rest ∙ fits.records ∙ ap (λ (share : Share). recorded (planned_of ends.job) share.node) (sym same_share);
-      next = next ∙ agrees.holds.size;
+      code = subst (λ (share : Share). IsCode (planned_of ends.job) share.node (actions (planned_of ends.job) share.node) new.code.now) (sym same_share) (subst (IsCode (planned_of ends.job) old.share.node (actions (planned_of ends.job) old.share.node)) (sym same_code) fits.code);
+      slots = ap (λ (bits : List Bool). length bits) slots ∙ length-sourced ends.job old.share fits.share old.code.now fits.code (map (bit_in old.slots.items) old.code.now.inputs.items) (old.clock + 1) old.slots.items fits.slots ∙ ap (λ (code : Code). length code.nets.items) (sym same_code);
+      next = next ∙ fits.next ∙ ap (λ (code : Code). length code.latches.items) (sym same_code);
       spare = omega (arith, fits.spare, ap (λ (list : List (List Bool)). length list) spare, length_push new.spare.items row, ap (λ (one : Node). one.clock) rest);
       even = λ place default below.
           let at = get_or_append_left new.spare.items (row ∷ []) default place below in
-          let long : length (get_or old.spare.items place default) ≡ length old.recorded.items = fits.even place default (omega (arith, below, ap (λ (list : List (List Bool)). length list) spare, length_push new.spare.items row)) in
-          ap (λ (list : List Bool). length list) (sym at) ∙ ap (λ (all : List (List Bool)). length (get_or all place default)) (sym spare) ∙ long ∙ sym (ap (λ (one : Node). length one.recorded.items) rest);
-      room = omega (arith, fits.room, capacity, ap (λ (list : List (List Bool)). length list) spare, length_push new.spare.items row, ap (λ (list : List (List Bool)). length list) rows, length_push old.rows.items (map (bit_in old.slots.items) old.recorded.items));
+          let long : length (get_or old.spare.items place default) ≡ length old.code.now.records.items = fits.even place default (omega (arith, below, ap (λ (list : List (List Bool)). length list) spare, length_push new.spare.items row)) in
+          ap (λ (list : List Bool). length list) (sym at) ∙ ap (λ (all : List (List Bool)). length (get_or all place default)) (sym spare) ∙ long ∙ ap (λ (code : Code). length code.records.items) (sym same_code);
+      room = omega (arith, fits.room, capacity, ap (λ (list : List (List Bool)). length list) spare, length_push new.spare.items row, ap (λ (list : List (List Bool)). length list) rows, length_push old.rows.items (map (bit_in old.slots.items) old.code.now.records.items));
     }
 
     end_state : state_of new ≡ stepped ends.job old.share.node (state_of old)
     end_state =
         ap state_of rest
-        ∙ ap₂ (λ (all : List Bool) (lines : List (List Bool)). let state : NodeState = record { clock = old.clock + 1; made = 0; slots = all; rows = lines } in state)
-        (slots ∙ same_slots ends.job old.share fits.share old.clock old.made old.slots.items old.rows.items)
-        (rows ∙ ap (λ (nets : List ℕ). old.rows.items ++ map (bit_in old.slots.items) nets ∷ []) fits.records)
+        ∙ ap₂ (λ (bits : List Bool) (lines : List (List Bool)). let state : NodeState = record { clock = old.clock + 1; made = 0; slots = tabulate (bit_by old.code.now.nets.items bits) (net_count old.share); rows = lines } in state) slots rows
+        ∙ ap₂ (λ (all : List Bool) (line : List Bool). let state : NodeState = record { clock = old.clock + 1; made = 0; slots = all; rows = old.rows.items ++ line ∷ [] } in state)
+        (stepped_now ends.job old.share fits.share old.code.now fits.code (net_count old.share) old.clock old.made old.slots.items old.rows.items (many_are ends old fits agrees differ) fits.slots)
+        (recorded_now ends.job old.share fits.share old.code.now fits.code (net_count old.share) old.clock old.made old.slots.items old.rows.items (many_are ends old fits agrees differ) fits.slots)
 
-    module _ (default : Action) (is : get_or old.program.now old.made default ≡ step_action) where
+    module _ (default : Op) (is : get_or old.code.now.ops.items old.made default ≡ op.Step) where
+      step_next : slice_get (actions (planned_of ends.job) old.share.node) old.made ≡ Some action.Step
+      step_next =
+          let found = op_begins ends old.share.node old.code.now fits.code old.made op.Step (slice_get-get_or old.code.now.ops.items old.made default (op_within ends old fits agrees differ) ∙ ap Some is) in
+          by found.0 found.1.0 found.1.1 where
+            by : (one : Action) → slice_get (actions (planned_of ends.job) old.share.node) old.made ≡ Some one → BeginsWith ends.job.checked.ordered.flat old.code.now one op.Step → slice_get (actions (planned_of ends.job) old.share.node) old.made ≡ Some action.Step
+            by (action.Evaluate number) at begins = absurd begins
+            by (action.Send link pin net) at begins = absurd begins
+            by (action.Take link pin net) at begins = absurd begins
+            by action.Step at begins = at
+
       all_made : old.made ≡ length (entries_at old.share.node (timetable (planned_of ends.job)))
-      all_made = ⊎_elim (λ found. absurd (no_step (found.0.net - ends.job.checked.ordered.flat.inputs) found.0.net found.0.link found.0.place (is_evaluating found.0) (is_sending found.0) found.1.1)) (λ last. last.0) (next_entry (planned_of ends.job) old.share.node old.made agrees.holds.under step_action (reads_next ends old fits agrees differ default step_action is)) where
-        no_step : (gate net link pin : ℕ) (first second : Bool) → step_action ≡ (if first then Evaluate gate else (if second then Send link pin net else Take link pin net)) → ⊥
+      all_made = ⊎_elim (λ found. absurd (no_step (found.0.net - ends.job.checked.ordered.flat.inputs) found.0.net found.0.link found.0.place (is_evaluating found.0) (is_sending found.0) found.1.1)) (λ last. last.0) (next_entry (planned_of ends.job) old.share.node old.made agrees.holds.under action.Step step_next) where
+        no_step : (gate net link pin : ℕ) (first second : Bool) → action.Step ≡ (if first then action.Evaluate gate else (if second then action.Send link pin net else action.Take link pin net)) → ⊥
         no_step gate net link pin true second same = cc
         no_step gate net link pin false true same = cc
         no_step gate net link pin false false same = cc
@@ -133,5 +259,5 @@ module _ (ends : SeenEnds) (old : Node) (fits : IsFit ends.job old) (agrees : Ag
       pub end_agrees : Agrees ends.job new.share.node (state_of new) ends
       end_agrees = moved_to ends old fits agrees differ new (stepped ends.job old.share.node (state_of old)) ends same_share end_state (stepped_agrees ends old.share.node (state_of old) agrees (unfinished ends old fits agrees differ) all_made)
 
-      pub end_steps : Steps ends.job old.share.node (state_of old) (state_of new) ends ends Moved
-      end_steps = (step_action, next_of ends old.share.node (state_of old) agrees (unfinished ends old fits agrees differ) step_action (reads_next ends old fits agrees differ default step_action is), (end_state, refl))
+      pub end_makes : (whole : Bool) → MakesSome ends.job old.share.node (state_of old) (state_of new) ends ends whole Moved
+      end_makes whole = makes_one ends.job old.share.node (state_of old) (state_of new) ends ends whole (action.Step, next_of ends old.share.node (state_of old) agrees (unfinished ends old fits agrees differ) action.Step step_next, (end_state, refl)) agrees.holds

@@ -1,10 +1,13 @@
+pub mod Places
 pub mod Clocks
 pub mod Values
+pub mod SlotBits
 pub mod Held
 pub mod Words
 pub mod EntryKinds
 pub mod NodeSteps
-pub mod StepAnswers
-pub mod ClockEnds
-pub mod StartLists
 pub mod MovesOn
+pub mod OpActions
+pub mod StepAnswers
+pub mod SourceBits
+pub mod ClockEnds

@@ -1,5 +1,6 @@
 -- Many actions of a node, and how many it has to come.
-use Rattle.std.proofs.Common.{◌≡◌, ◌<◌, ◌≤◌, ◌+◌, ◌-◌, ◌*◌, ◌∷◌, ℕ, suc, Bool, true, false, List, [], length, map, nat_lt, slice_get, if◌then◌else◌, ap, ap₂, refl, sym, subst, ◌∙◌, ⊎_elim, true≢false, ltb-true, Some, None, arith}
+use Rattle.std.proofs.Common.{◌≡◌, ◌<◌, ◌+◌, ◌-◌, ◌*◌, ◌∷◌, ℕ, zero, suc, Bool, true, false, List, [], length, map, nat_lt, slice_get, if◌then◌else◌, ap, ap₂, refl, sym, subst, ◌∙◌, ⊎_elim, true≢false, ltb-true, Some, None, arith}
+use Rattle.std.proofs.lemmas.Bool.{cases_Bool}
 use Rattle.std.proofs.lemmas.List.{length-append, length-map}
 use Rattle.std.proofs.lemmas.Option.{slice_get_within}
 use Rattle.vw_prog.specs.declared.action.Action.{Action}
@@ -17,7 +18,7 @@ use Rattle.vw_node.specs.declared.step.Step.TheVariants.{Done, Empty, Full, Move
 use Rattle.vw_node.specs.Fits.{IsFit, state_of}
 use Rattle.vw_node.specs.Holding.{HoldsValues}
 use Rattle.vw_node.specs.Left.{left}
-use Rattle.vw_node.specs.Moves.{GoesOn, Goes, Makes, Steps, is_moved}
+use Rattle.vw_node.specs.Moves.{Goes, GoesOn, Makes, MakesSome, Steps, is_moved}
 use Rattle.vw_node.specs.Positions.{Agrees}
 use Rattle.vw_node.specs.States.{NodeState, next_action}
 use Rattle.vw_node.proofs.EntryKinds.{next_entry}
@@ -93,34 +94,84 @@ module _ (job : Job) (node : ℕ) (old : NodeState) where
 
 -- ---- many actions
 
--- a node that made actions, and whose last step came to an answer
+-- an action before others
+pub goes_before : (job : Job) (node : ℕ) (first second last : NodeState) (before between after : SeenEnds) (count : ℕ) → Steps job node first second before between Moved → GoesOn job node second last between after count → GoesOn job node first last before after (suc count)
+goes_before job node first second last before between after zero step (same, stay) =
+    (first, before, (refl, refl), subst (λ (state : NodeState). Steps job node first state before after Moved) (sym same) (subst (λ (ends : SeenEnds). Steps job node first second before ends Moved) (sym stay) step))
+goes_before job node first second last before between after (suc count) step (state, ends, rest, final) =
+    (state, ends, goes_before job node first second state before between ends count step rest, final)
+
+-- actions behind others
+pub goes_further : (job : Job) (node : ℕ) (first second last : NodeState) (before between after : SeenEnds) (made count : ℕ) → GoesOn job node first second before between made → GoesOn job node second last between after count → (all : ℕ) × GoesOn job node first last before after all
+goes_further job node first second last before between after made zero start (same, stay) =
+    (made, subst (λ (state : NodeState). GoesOn job node first state before after made) (sym same) (subst (λ (ends : SeenEnds). GoesOn job node first second before ends made) (sym stay) start))
+goes_further job node first second last before between after made (suc count) start (state, ends, rest, final) =
+    let so_far = goes_further job node first second state before between ends made count start rest in
+    (suc so_far.0, (state, ends, so_far.1, final))
+
+pub goes_stays : (job : Job) (node : ℕ) (first last : NodeState) (before after : SeenEnds) (count : ℕ) → GoesOn job node first last before after count → after.job ≡ before.job
+goes_stays job node first last before after zero (same, stay) = ap (λ (ends : SeenEnds). ends.job) stay
+goes_stays job node first last before after (suc count) (state, ends, rest, final) = job_stays job node state last ends after Moved final ∙ goes_stays job node first state before ends count rest
+
+-- ---- one action, or none
+
+module _ (job : Job) (node : ℕ) (old new : NodeState) (before after : SeenEnds) (whole : Bool) where
+  pub makes_one : Steps job node old new before after Moved → HoldsValues job node old → MakesSome job node old new before after whole Moved
+  makes_one steps holds = record {
+    one = λ single. steps;
+    some = λ moved. (0, (old, before, (refl, refl), steps));
+    fewer = λ moved. omega (arith, less_left job node old new before after steps holds);
+    none = λ stopped. absurd (true≢false stopped);
+  }
+
+  pub makes_none : (answer : Step) → is_moved answer ≡ false → Steps job node old new before after answer → MakesSome job node old new before after whole answer
+  makes_none answer is steps = record {
+    one = λ single. steps;
+    some = λ moved. absurd (true≢false (sym moved ∙ is));
+    fewer = λ moved. absurd (true≢false (sym moved ∙ is));
+    none = λ stopped. steps;
+  }
+
+  -- and some of them, of which there may be one alone
+  pub makes_many : (count : ℕ) → 0 < count → (whole ≡ false → count ≡ 1) → GoesOn job node old new before after count → left job node new + count ≡ left job node old → MakesSome job node old new before after whole Moved
+  makes_many zero some single goes less = absurd (omega (arith, some))
+  makes_many (suc count) some single goes less = record {
+    one = λ is. only (subst (GoesOn job node old new before after) (single is) goes);
+    some = λ moved. (count, goes);
+    fewer = λ moved. omega (arith, less);
+    none = λ stopped. absurd (true≢false stopped);
+  } where
+    only : GoesOn job node old new before after 1 → Steps job node old new before after Moved
+    only (state, ends, (same, stay), final) = subst (λ (one : NodeState). Steps job node one new before after Moved) same (subst (λ (one : SeenEnds). Steps job node state new one after Moved) stay final)
+
+  pub makes_stays : (answer : Step) → MakesSome job node old new before after whole answer → after.job ≡ before.job
+  makes_stays answer makes =
+      ⊎_elim (λ (moved : is_moved answer ≡ true). let gone = makes.some moved in goes_stays job node old new before after (suc gone.0) gone.1) (λ (stopped : is_moved answer ≡ false). job_stays job node old new before after answer (makes.none stopped)) (cases_Bool (is_moved answer))
+
+-- ---- until an action is refused
+
+-- a node that made actions, and whose last try came to an answer
 pub record IsUnderway (start : Node) (before : SeenEnds) (now : Node) (ends : SeenEnds) (answer : Step) : Type 0 where
   pub fits : IsFit before.job now
   pub agrees : Agrees before.job start.share.node (state_of now) ends
   pub share : now.share ≡ start.share
-  pub count : ℕ
-  pub between : NodeState
-  pub ends_there : SeenEnds
-  pub moves : GoesOn before.job start.share.node (state_of start) between before ends_there count
-  pub last : Steps before.job start.share.node between (state_of now) ends_there ends answer
+  pub moved : is_moved answer ≡ true → (count : ℕ) × GoesOn before.job start.share.node (state_of start) (state_of now) before ends count
+  pub stopped : is_moved answer ≡ false → Goes before.job start.share.node (state_of start) (state_of now) before ends answer
 
 -- how many steps are left until one isn't made, and one more
 abbrev pub tries_left : Job → ℕ → NodeState → Step → ℕ
 tries_left job node state answer = if is_moved answer then suc (left job node state) else 0
 
-module _ (start : Node) (before : SeenEnds) (fits : IsFit before.job start) (agrees : Agrees before.job start.share.node (state_of start) before) where
-  pub first_step : (now : Node) (ends : SeenEnds) (answer : Step) → IsFit ends.job now → Agrees ends.job now.share.node (state_of now) ends → now.share ≡ start.share → Steps before.job start.share.node (state_of start) (state_of now) before ends answer → IsUnderway start before now ends answer
-  first_step now ends answer fit agree share steps =
-      let job : ends.job ≡ before.job = job_stays before.job start.share.node (state_of start) (state_of now) before ends answer steps in
+module _ (start : Node) (before : SeenEnds) where
+  pub first_try : (now : Node) (ends : SeenEnds) (answer : Step) → IsFit ends.job now → Agrees ends.job now.share.node (state_of now) ends → now.share ≡ start.share → MakesSome before.job start.share.node (state_of start) (state_of now) before ends true answer → IsUnderway start before now ends answer
+  first_try now ends answer fit agree share makes =
+      let job : ends.job ≡ before.job = makes_stays before.job start.share.node (state_of start) (state_of now) before ends true answer makes in
       record {
         fits = subst (λ (one : Job). IsFit one now) job fit;
         agrees = subst (λ (one : Job). Agrees one start.share.node (state_of now) ends) job (subst (λ (own : Share). Agrees ends.job own.node (state_of now) ends) share agree);
         share = share;
-        count = 0;
-        between = state_of start;
-        ends_there = before;
-        moves = (refl, refl);
-        last = steps;
+        moved = λ is. let gone = makes.some is in (suc gone.0, gone.1);
+        stopped = λ is. record { count = 0; between = state_of start; ends = before; moves = (refl, refl); last = makes.none is; stops = is };
       }
 
   module _ (now : Node) (ends : SeenEnds) (answer : Step) (underway : IsUnderway start before now ends answer) where
@@ -133,43 +184,31 @@ module _ (start : Node) (before : SeenEnds) (fits : IsFit before.job start) (agr
     pub agrees_now : Agrees ends.job now.share.node (state_of now) ends
     agrees_now = subst (λ (one : Job). Agrees one now.share.node (state_of now) ends) (sym same_job) (subst (λ (own : Share). Agrees before.job own.node (state_of now) ends) (sym underway.share) underway.agrees)
 
-    pub goes_so : is_moved answer ≡ false → Goes before.job start.share.node (state_of start) (state_of now) before ends answer
-    goes_so stops = record { count = underway.count; between = underway.between; ends = underway.ends_there; moves = underway.moves; last = underway.last; stops = stops }
-
     module _ (moved : is_moved answer ≡ true) (new : Node) (after : SeenEnds) (next : Step) (fit : IsFit after.job new) (agree : Agrees after.job new.share.node (state_of new) after) (share : new.share ≡ now.share)
-        (steps : Steps ends.job now.share.node (state_of now) (state_of new) ends after next) where
-      steps_here : Steps before.job start.share.node (state_of now) (state_of new) ends after next
-      steps_here = subst (λ (one : Job). Steps one start.share.node (state_of now) (state_of new) ends after next) same_job (subst (λ (own : Share). Steps ends.job own.node (state_of now) (state_of new) ends after next) underway.share steps)
+        (makes : MakesSome ends.job now.share.node (state_of now) (state_of new) ends after true next) where
+      makes_here : MakesSome before.job start.share.node (state_of now) (state_of new) ends after true next
+      makes_here = subst (λ (one : Job). MakesSome one start.share.node (state_of now) (state_of new) ends after true next) same_job (subst (λ (own : Share). MakesSome ends.job own.node (state_of now) (state_of new) ends after true next) underway.share makes)
 
-      moved_last : Steps before.job start.share.node underway.between (state_of now) underway.ends_there ends Moved
-      moved_last = by answer moved underway.last where
-        by : (one : Step) → is_moved one ≡ true → Steps before.job start.share.node underway.between (state_of now) underway.ends_there ends one → Steps before.job start.share.node underway.between (state_of now) underway.ends_there ends Moved
-        by Moved is last = last
-        by (Full link) is last = absurd (true≢false (sym is))
-        by (Empty link) is last = absurd (true≢false (sym is))
-        by Done is last = absurd (true≢false (sym is))
-
-      pub step_more : IsUnderway start before new after next
-      step_more =
-          let job : after.job ≡ before.job = job_stays ends.job now.share.node (state_of now) (state_of new) ends after next steps ∙ same_job in
+      pub try_more : IsUnderway start before new after next
+      try_more =
+          let job : after.job ≡ before.job = makes_stays before.job start.share.node (state_of now) (state_of new) ends after true next makes_here ∙ same_job in
           let shares : new.share ≡ start.share = share ∙ underway.share in
+          let so_far = underway.moved moved in
           record {
             fits = subst (λ (one : Job). IsFit one new) job fit;
             agrees = subst (λ (one : Job). Agrees one start.share.node (state_of new) after) job (subst (λ (own : Share). Agrees after.job own.node (state_of new) after) shares agree);
             share = shares;
-            count = suc underway.count;
-            between = state_of now;
-            ends_there = ends;
-            moves = (underway.between, underway.ends_there, underway.moves, moved_last);
-            last = steps_here;
+            moved = λ is. let gone = makes_here.some is in goes_further before.job start.share.node (state_of start) (state_of now) (state_of new) before ends after so_far.0 (suc gone.0) so_far.1 gone.1;
+            stopped = λ is. record { count = so_far.0; between = state_of now; ends = ends; moves = so_far.1; last = makes_here.none is; stops = is };
           }
 
       pub fewer_tries : tries_left before.job start.share.node (state_of new) next < tries_left before.job start.share.node (state_of now) answer
       fewer_tries =
           let old : tries_left before.job start.share.node (state_of now) answer ≡ suc (left before.job start.share.node (state_of now)) = ap (λ (is : Bool). if is then suc (left before.job start.share.node (state_of now)) else 0) moved in
-          omega (arith, old, by next steps_here) where
-            by : (one : Step) → Steps before.job start.share.node (state_of now) (state_of new) ends after one → tries_left before.job start.share.node (state_of new) one ≤ left before.job start.share.node (state_of now)
-            by Moved made = let less = less_left before.job start.share.node (state_of now) (state_of new) ends after made underway.agrees.holds in omega (arith, less)
-            by (Full link) made = omega arith
-            by (Empty link) made = omega arith
-            by Done made = omega arith
+          let if_moved = λ (is : is_moved next ≡ true).
+          let here : tries_left before.job start.share.node (state_of new) next ≡ suc (left before.job start.share.node (state_of new)) = ap (λ (one : Bool). if one then suc (left before.job start.share.node (state_of new)) else 0) is in
+          let whole : tries_left before.job start.share.node (state_of new) next < tries_left before.job start.share.node (state_of now) answer = omega (arith, old, here, makes_here.fewer is) in whole in
+          let if_stopped = λ (is : is_moved next ≡ false).
+          let here : tries_left before.job start.share.node (state_of new) next ≡ 0 = ap (λ (one : Bool). if one then suc (left before.job start.share.node (state_of new)) else 0) is in
+          let whole : tries_left before.job start.share.node (state_of new) next < tries_left before.job start.share.node (state_of now) answer = omega (arith, old, here) in whole in
+          ⊎_elim if_moved if_stopped (cases_Bool (is_moved next))

@@ -1,30 +1,44 @@
--- What a step of a node comes to, by its next action.
-use Rattle.std.proofs.Common.{◌≡◌, ◌<◌, ◌+◌, ℕ, Bool, true, false, List, length, get_or, set, slice_get, ap, ap₂, refl, sym, subst, ◌∙◌, ⊎_elim, Some, None, arith}
-use Rattle.vw_net.specs.declared.cell.Cell.{Cell}
+-- What a try of a node comes to, by its next op.
+use Rattle.std.proofs.Common.{◌≡◌, ◌<◌, ◌≤◌, ◌+◌, ◌-◌, ℕ, Bool, true, false, List, length, get_or, set, drop, slice_get, if◌then◌else◌, ap, refl, sym, subst, ◌∙◌, ⊎_elim, Some, None, All, arith}
+use Rattle.std.specs.Global.{Vec}
+use Rattle.std.specs.List.{slice_range}
+use Rattle.std.proofs.lemmas.List.{length-append, length-drop, length-map, length-set, length-take}
+use Rattle.std.proofs.lemmas.List.Elements.{All-from_recursion}
+use Rattle.std.proofs.lemmas.Option.{slice_get-get_or, slice_get_within}
 use Rattle.vw_net.specs.declared.flat.Flat.{Flat}
+use Rattle.vw_plan.specs.declared.checked.Checked.{Checked}
 use Rattle.vw_plan.specs.PlannedBoard.{PlannedBoard}
 use Rattle.vw_prog.specs.declared.action.Action.{Action}
-use Rattle.vw_prog.specs.declared.action.Action.TheVariants.{Evaluate, Send, Step as step_action, Take}
+use Rattle.vw_prog.specs.declared.action.Action.TheVariants as action
+use Rattle.vw_prog.specs.declared.code.Code.{Code}
+use Rattle.vw_prog.specs.declared.code.Op.{Op}
+use Rattle.vw_prog.specs.declared.code.Op.TheVariants as op
+use Rattle.vw_prog.specs.declared.code.TableGate.{TableGate}
+use Rattle.vw_prog.specs.declared.code.WideGate.{WideGate}
 use Rattle.vw_prog.specs.declared.entry.Entry.{Entry}
 use Rattle.vw_prog.specs.declared.job.Job.{Job}
 use Rattle.vw_prog.specs.declared.job.Share.{Share}
 use Rattle.vw_prog.specs.declared.word.Word.{Word}
 use Rattle.vw_prog.specs.Actions.{action_of, actions}
+use Rattle.vw_prog.specs.Codes.{BeginsWith, IsWideGate, slot_of}
 use Rattle.vw_prog.specs.Ends.{IsExpected, IsNextWord, Puts, SeenEnds, Takes, counted}
 use Rattle.vw_prog.specs.Scripts.{planned_of}
 use Rattle.vw_prog.specs.Timetable.{entries_at, timetable}
 use Rattle.vw_node.specs.declared.node.Node.{Node}
 use Rattle.vw_node.specs.declared.step.Step.TheVariants.{Empty, Full, Moved}
-use Rattle.vw_node.specs.Fits.{IsFit, bit_in, state_of}
-use Rattle.vw_node.specs.Moves.{Steps}
+use Rattle.vw_node.specs.Fits.{IsFit, bit_by, slot_bit, state_of}
+use Rattle.vw_node.specs.Lists.{tabulate}
+use Rattle.vw_node.specs.Moves.{MakesSome, Steps}
 use Rattle.vw_node.specs.Positions.{Agrees}
-use Rattle.vw_node.specs.States.{NodeState, evaluated, gate_bit, moved, written}
-use Rattle.vw_node.proofs.EntryKinds.{evaluates, next_entry, next_is, sends, takes}
-use Rattle.vw_node.proofs.NodeSteps.{evaluated_agrees, gate_net, is_expected, next_of, sent_agrees, sent_net, sent_next, taken_agrees, taken_net}
-
--- the state after a write
-written_is : (old new : Node) (net : ℕ) (bit : Bool) → new ≡ record old { made = old.made + 1; slots = new.slots } → new.slots.items ≡ set old.slots.items net bit → state_of new ≡ written (state_of old) net bit
-written_is old new net bit rest slots = ap state_of rest ∙ ap (λ (all : List Bool). let state : NodeState = record { clock = old.clock; made = old.made + 1; slots = all; rows = old.rows.items } in state) slots
+use Rattle.vw_node.specs.Slots.{HasArity, IsWithin, wide_by, with_gates}
+use Rattle.vw_node.specs.Starts.{net_count}
+use Rattle.vw_node.specs.States.{NodeState, gate_bit, moved, slot, written}
+use Rattle.vw_node.proofs.EntryKinds.{next_entry, sends, takes}
+use Rattle.vw_node.proofs.MovesOn.{makes_many, makes_none, makes_one}
+use Rattle.vw_node.proofs.NodeSteps.{is_expected, next_of, sent_agrees, sent_net, sent_next, taken_agrees, taken_net}
+use Rattle.vw_node.proofs.OpActions.{HasGone, RunsOn, gate_agrees, gate_steps, gates_go, length-with_gates, op_begins, run_begins, run_of, runs_inside, runs_room, runs_within, wide_arity, wide_is}
+use Rattle.vw_node.proofs.SlotBits.{known_written, slot_within, slots_within}
+use Rattle.vw_node.proofs.Values.{get_or-tabulate}
 
 module _ (ends : SeenEnds) (old : Node) (fits : IsFit ends.job old) (agrees : Agrees ends.job old.share.node (state_of old) ends) (differ : old.clock ≡ old.share.clocks → ⊥) where
   abbrev job : Job
@@ -39,110 +53,272 @@ module _ (ends : SeenEnds) (old : Node) (fits : IsFit ends.job old) (agrees : Ag
   abbrev state : NodeState
   state = state_of old
 
-  abbrev inputs : ℕ
-  inputs = job.checked.ordered.flat.inputs
+  abbrev flat : Flat
+  flat = job.checked.ordered.flat
 
-  abbrev cells : List Cell
-  cells = job.checked.ordered.flat.cells
+  abbrev code : Code
+  code = old.code.now
+
+  abbrev nets : List ℕ
+  nets = code.nets.items
+
+  abbrev many : ℕ
+  many = net_count old.share
 
   abbrev own : List Entry
   own = entries_at node (timetable planned)
 
+  -- the node with these bits, when so many actions are made
+  abbrev known_now : ℕ → List Bool → NodeState
+  known_now made bits = record { clock = old.clock; made = made; slots = tabulate (bit_by nets bits) many; rows = old.rows.items }
+
+  pub many_are : many ≡ flat.inputs + length flat.cells
+  many_are = ap (λ (checked : Checked). checked.ordered.flat.inputs + length checked.ordered.flat.cells) fits.share.checked
+
   pub unfinished : old.clock < length job.rows
   unfinished = omega (arith, agrees.holds.within, fits.share.clocks, differ)
 
-  -- what the program has next
-  pub reads_next : (default action : Action) → get_or old.program.now old.made default ≡ action → slice_get (actions planned node) old.made ≡ Some action
-  reads_next default action is = next_is planned node old.made agrees.holds.under old.program.now default action fits.program is
+  actions_long : length (actions planned node) ≡ length own + 1
+  actions_long = length-append _ _ ∙ ap (λ (count : ℕ). count + 1) (length-map own (action_of flat.inputs))
 
-  -- the entry of an action that isn't the step
-  entry_for : (default action : Action) → get_or old.program.now old.made default ≡ action → (action ≡ step_action → ⊥) → (entry : Entry) × ((slice_get own old.made ≡ Some entry) × (action ≡ action_of inputs entry))
-  entry_for default action is other = ⊎_elim (λ found. found) (λ last. absurd (other last.1)) (next_entry planned node old.made agrees.holds.under action (reads_next default action is))
+  -- there is an op
+  pub op_within : old.made < length code.ops.items
+  op_within = omega (arith, fits.code.count, actions_long, agrees.holds.under)
+
+  op_is : (default one : Op) → get_or code.ops.items old.made default ≡ one → slice_get code.ops.items old.made ≡ Some one
+  op_is default one is = slice_get-get_or code.ops.items old.made default op_within ∙ ap Some is
+
+  -- what a node has stays, as long as there are as many slots
+  fits_then : (made : ℕ) (slots : Vec Bool) → length slots.items ≡ length old.slots.items → IsFit job (record old { made = made; slots = slots })
+  fits_then made slots long = record { share = fits.share; code = fits.code; slots = long ∙ fits.slots; next = fits.next; spare = fits.spare; even = fits.even; room = fits.room }
+
+  fits_again : (new : Node) (made : ℕ) → new ≡ record old { made = made; slots = new.slots } → length new.slots.items ≡ length old.slots.items → IsFit job new
+  fits_again new made rest long = subst (IsFit job) (sym rest) (fits_then made new.slots long)
 
   -- an answer about a node and its ends that are as they were is one about these
   pub moved_to : (new : Node) (state_then : NodeState) (after : SeenEnds) → new.share ≡ old.share → state_of new ≡ state_then → Agrees job node state_then after → Agrees job new.share.node (state_of new) after
-  moved_to new then after share is agree = subst (λ (one : ℕ). Agrees job one (state_of new) after) (sym (ap (λ (own : Share). own.node) share)) (subst (λ (one : NodeState). Agrees job node one after) (sym is) agree)
+  moved_to new so after share is agree = subst (λ (one : ℕ). Agrees job one (state_of new) after) (sym (ap (λ (own : Share). own.node) share)) (subst (λ (one : NodeState). Agrees job node one after) (sym is) agree)
 
-  -- ---- a gate
+  state_then : (new : Node) (made : ℕ) (bits : List Bool) → new ≡ record old { made = made; slots = new.slots } → new.slots.items ≡ bits → state_of new ≡ known_now made bits
+  state_then new made bits rest wrote = ap state_of rest ∙ ap (known_now made) wrote
 
-  module _ (default : Action) (gate : ℕ) (is : get_or old.program.now old.made default ≡ Evaluate gate) where
-    entry_of_gate : (entry : Entry) × ((slice_get own old.made ≡ Some entry) × (Evaluate gate ≡ action_of inputs entry))
-    entry_of_gate = entry_for default (Evaluate gate) is (λ same. cc)
+  -- ---- gates
 
-    pub gate_inside : inputs + gate < inputs + length cells
-    gate_inside = let found = entry_of_gate in let kind = evaluates inputs gate found.0 found.1.1 in gate_net ends node state agrees unfinished found.0 found.1.0 gate kind.0 kind.1
+  module _ (default : Op) (first end place stop : ℕ) (whole : Bool) (is : get_or code.ops.items old.made default ≡ op.Run first end place) (stop_is : stop ≡ (if whole then end else first + 1)) where
+    begins : first < end
+    begins = (run_begins ends node code fits.code old.made first end place (op_is default (op.Run first end place) is)).2.0
 
-    module _ (new : Node) (net : ℕ) (bit : Bool) (flat : Flat) (slots : List Bool) (rest : new ≡ record old { made = old.made + 1; slots = new.slots }) (wrote : new.slots.items ≡ set old.slots.items net bit)
-        (its_net : net ≡ inputs + gate) (its_bit : bit ≡ gate_bit (bit_in slots) (slice_get flat.cells gate)) (its_flat : flat ≡ job.checked.ordered.flat) (its_slots : slots ≡ old.slots.items) where
-      gate_state : state_of new ≡ evaluated planned gate state
-      gate_state =
-          written_is old new net bit rest wrote
-          ∙ ap₂ (λ (one : ℕ) (value : Bool). written state one value) its_net (its_bit ∙ ap₂ (λ (all : List Bool) (list : Flat). gate_bit (bit_in all) (slice_get list.cells gate)) its_slots its_flat)
+    pub run_some : first < stop
+    run_some = by whole stop_is where
+      by : (all : Bool) → stop ≡ (if all then end else first + 1) → first < stop
+      by true at = omega (arith, at, begins)
+      by false at = omega (arith, at)
 
-      pub gate_agrees : Agrees job new.share.node (state_of new) ends
-      gate_agrees =
-          let found = entry_of_gate in
-          let kind = evaluates inputs gate found.0 found.1.1 in
-          moved_to new (evaluated planned gate state) ends (ap (λ (one : Node). one.share) rest) gate_state (evaluated_agrees ends node state agrees unfinished found.0 found.1.0 gate kind.0 kind.1)
+    run_ends : stop ≤ end
+    run_ends = by whole stop_is where
+      by : (all : Bool) → stop ≡ (if all then end else first + 1) → stop ≤ end
+      by true at = omega (arith, at)
+      by false at = omega (arith, at, begins)
 
-      pub gate_steps : Steps job node state (state_of new) ends ends Moved
-      gate_steps = (Evaluate gate, next_of ends node state agrees unfinished (Evaluate gate) (reads_next default (Evaluate gate) is), (gate_state, refl))
+    abbrev gates : List TableGate
+    gates = slice_range code.gates.items first stop
+
+    runs : RunsOn ends node code fits.code old.made place gates × (stop ≤ length code.gates.items)
+    runs = run_of ends node code fits.code (stop - first - 1) old.made first stop end place (omega (arith, run_some)) run_ends (op_is default (op.Run first end place) is)
+
+    pub run_last : stop ≤ length code.gates.items
+    run_last = runs.1
+
+    pub run_within : All (IsWithin (length old.slots.items)) gates
+    run_within = subst (λ (count : ℕ). All (IsWithin count) gates) (sym fits.slots) (All-from_recursion (IsWithin (length nets)) gates (runs_within ends node code fits.code old.made place gates runs.0))
+
+    gates_long : length gates ≡ stop - first
+    gates_long = omega (arith, run_last, length-take (stop - first) (drop first code.gates.items), length-drop first code.gates.items)
+
+    pub run_made : old.made + (stop - first) ≤ length code.ops.items
+    run_made = omega (arith, gates_long, runs_inside ends node code fits.code old.made place gates runs.0 (omega (arith, op_within, fits.code.count)), fits.code.count)
+
+    pub run_room : place + (stop - first) ≤ length old.slots.items
+    run_room = omega (arith, gates_long, fits.slots, runs_room ends node code fits.code old.made place gates runs.0 (omega (arith, gates_long, run_some)))
+
+    module _ (new : Node) (rest : new ≡ record old { made = old.made + (stop - first); slots = new.slots }) (wrote : new.slots.items ≡ with_gates place gates old.slots.items) where
+      run_state : state_of new ≡ known_now (old.made + (stop - first)) (with_gates place gates old.slots.items)
+      run_state = state_then new (old.made + (stop - first)) (with_gates place gates old.slots.items) rest wrote
+
+      gone : HasGone ends node code fits.code old.clock many old.rows.items many_are unfinished place gates old.made (old.made + (stop - first)) old.slots.items
+      gone = gates_go ends node code fits.code old.clock many old.rows.items many_are unfinished gates place old.made (old.made + (stop - first)) old.slots.items (omega (arith, gates_long)) fits.slots runs.0 agrees
+
+      pub run_fits : IsFit job new
+      run_fits = fits_again new (old.made + (stop - first)) rest (ap (λ (bits : List Bool). length bits) wrote ∙ length-with_gates ends node code fits.code place gates old.slots.items)
+
+      pub run_agrees : Agrees job new.share.node (state_of new) ends
+      run_agrees = moved_to new (known_now (old.made + (stop - first)) (with_gates place gates old.slots.items)) ends (ap (λ (one : Node). one.share) rest) run_state gone.0
+
+      pub run_makes : MakesSome job node state (state_of new) ends ends whole Moved
+      run_makes =
+          let single = λ (part : whole ≡ false). let one : stop ≡ first + 1 = stop_is ∙ ap (λ (all : Bool). if all then end else first + 1) part in let count : length gates ≡ 1 = omega (arith, gates_long, one) in count in
+          subst (λ (one : NodeState). MakesSome job node state one ends ends whole Moved) (sym run_state)
+          (makes_many job node state (known_now (old.made + (stop - first)) (with_gates place gates old.slots.items)) ends ends whole (length gates) (omega (arith, gates_long, run_some)) single gone.1 gone.2)
+
+  pub run_begins_first : (default : Op) (first end place : ℕ) → get_or code.ops.items old.made default ≡ op.Run first end place → first < end
+  run_begins_first default first end place is = (run_begins ends node code fits.code old.made first end place (op_is default (op.Run first end place) is)).2.0
+
+  -- ---- a gate by its rows
+
+  module _ (default : Op) (place : ℕ) (is : get_or code.ops.items old.made default ≡ op.Wide place) where
+    pub wide_gate : (number : ℕ) × (slice_get (actions planned node) old.made ≡ Some (action.Evaluate number)) × BeginsWith flat code (action.Evaluate number) (op.Wide place)
+    wide_gate = let found = op_begins ends node code fits.code old.made (op.Wide place) (op_is default (op.Wide place) is) in by found.0 found.1.0 found.1.1 where
+      by : (next : Action) → slice_get (actions planned node) old.made ≡ Some next → BeginsWith flat code next (op.Wide place) → (number : ℕ) × (slice_get (actions planned node) old.made ≡ Some (action.Evaluate number)) × BeginsWith flat code (action.Evaluate number) (op.Wide place)
+      by (action.Evaluate number) at begins = (number, at, begins)
+      by (action.Send link pin net) at begins = absurd begins
+      by (action.Take link pin net) at begins = absurd begins
+      by action.Step at begins = absurd begins
+
+    pub wide_inside : place < length code.wide.items
+    wide_inside = slice_get_within code.wide.items place wide_gate.2.0 wide_gate.2.1
+
+    pub wide_here : (gate : WideGate) → gate ≡ get_or code.wide.items place gate → slice_get code.wide.items place ≡ Some gate
+    wide_here gate same = slice_get-get_or code.wide.items place gate wide_inside ∙ ap Some (sym same)
+
+    module _ (gate : WideGate) (here : slice_get code.wide.items place ≡ Some gate) (its_flat : Flat) (flat_is : its_flat ≡ flat) where
+      is_gate : IsWideGate flat nets wide_gate.0 gate
+      is_gate = let same : wide_gate.2.0 ≡ gate = cc (wide_gate.2.1, here) in subst (IsWideGate flat nets wide_gate.0) same wide_gate.2.2
+
+      pub wide_reads : HasArity (slice_get its_flat.cells gate.number) gate.reads
+      wide_reads = subst (λ (one : Flat). HasArity (slice_get one.cells gate.number) gate.reads) (sym flat_is) (wide_arity ends node code fits.code wide_gate.0 old.slots.items gate is_gate)
+
+      pub wide_within : All (λ slot. slot < length old.slots.items) gate.reads
+      wide_within = subst (λ (count : ℕ). All (λ slot. slot < count) gate.reads) (sym fits.slots) (slots_within nets is_gate.ins gate.reads is_gate.slots)
+
+      pub wide_target : gate.target < length old.slots.items
+      wide_target = omega (arith, fits.slots, slot_within nets (flat.inputs + wide_gate.0) gate.target is_gate.target)
+
+      module _ (new : Node) (bit : Bool) (rest : new ≡ record old { made = old.made + 1; slots = new.slots }) (wrote : new.slots.items ≡ set old.slots.items gate.target bit) (bit_is : bit ≡ wide_by (slice_get its_flat.cells gate.number) old.slots.items gate.reads) where
+        wide_state : state_of new ≡ known_now (old.made + 1) (set old.slots.items gate.target bit)
+        wide_state = state_then new (old.made + 1) (set old.slots.items gate.target bit) rest wrote
+
+        right : bit ≡ gate_bit (bit_by nets old.slots.items) (slice_get flat.cells wide_gate.0)
+        right = bit_is ∙ ap (λ (one : Flat). wide_by (slice_get one.cells gate.number) old.slots.items gate.reads) flat_is ∙ wide_is ends node code fits.code wide_gate.0 old.slots.items gate is_gate
+
+        pub wide_fits : IsFit job new
+        wide_fits = fits_again new (old.made + 1) rest (ap (λ (bits : List Bool). length bits) wrote ∙ length-set old.slots.items gate.target bit)
+
+        pub wide_agrees : Agrees job new.share.node (state_of new) ends
+        wide_agrees =
+            moved_to new (known_now (old.made + 1) (set old.slots.items gate.target bit)) ends (ap (λ (one : Node). one.share) rest) wide_state
+            (gate_agrees ends node code fits.code old.clock many old.rows.items many_are unfinished old.made old.slots.items fits.slots agrees wide_gate.0 wide_gate.1 gate.target bit is_gate.target right)
+
+        pub wide_makes : (whole : Bool) → MakesSome job node state (state_of new) ends ends whole Moved
+        wide_makes whole =
+            makes_one job node state (state_of new) ends ends whole
+            (subst (λ (one : NodeState). Steps job node state one ends ends Moved) (sym wide_state)
+            (gate_steps ends node code fits.code old.clock many old.rows.items many_are unfinished old.made old.slots.items fits.slots agrees wide_gate.0 wide_gate.1 gate.target bit is_gate.target right))
+            agrees.holds
+
+  -- the entry of an action that isn't the step
+  entry_for : (next : Action) → slice_get (actions planned node) old.made ≡ Some next → (next ≡ action.Step → ⊥) → (entry : Entry) × ((slice_get own old.made ≡ Some entry) × (next ≡ action_of flat.inputs entry))
+  entry_for next at other = ⊎_elim (λ found. found) (λ last. absurd (other last.1)) (next_entry planned node old.made agrees.holds.under next at)
 
   -- ---- a send
 
-  module _ (default : Action) (link pin net : ℕ) (is : get_or old.program.now old.made default ≡ Send link pin net) where
-    entry_of_send : (entry : Entry) × ((slice_get own old.made ≡ Some entry) × (Send link pin net ≡ action_of inputs entry))
-    entry_of_send = entry_for default (Send link pin net) is (λ same. cc)
+  module _ (default : Op) (link pin net place : ℕ) (is : get_or code.ops.items old.made default ≡ op.Send link pin net place) where
+    sending : (slice_get (actions planned node) old.made ≡ Some (action.Send link pin net)) × (slot_of nets net ≡ Some place)
+    sending = let found = op_begins ends node code fits.code old.made (op.Send link pin net place) (op_is default (op.Send link pin net place) is) in by found.0 found.1.0 found.1.1 where
+      by : (next : Action) → slice_get (actions planned node) old.made ≡ Some next → BeginsWith flat code next (op.Send link pin net place) → (slice_get (actions planned node) old.made ≡ Some (action.Send link pin net)) × (slot_of nets net ≡ Some place)
+      by (action.Evaluate number) at begins = absurd begins
+      by (action.Send its_link its_pin its_net) at begins =
+          let same : action.Send its_link its_pin its_net ≡ action.Send link pin net = λ i. action.Send (sym begins.0 i) (sym begins.1 i) (sym begins.2 i) in
+          (at ∙ ap Some same, ap (slot_of nets) begins.2 ∙ begins.3)
+      by (action.Take its_link its_pin its_net) at begins = absurd begins
+      by action.Step at begins = absurd begins
 
-    pub send_net : net < length old.slots.items
-    send_net = let found = entry_of_send in let kind = sends inputs link pin net found.0 found.1.1 in sent_net ends node state agrees unfinished found.0 found.1.0 link pin net kind.0 kind.1 kind.2 kind.3
+    entry_of_send : (entry : Entry) × ((slice_get own old.made ≡ Some entry) × (action.Send link pin net ≡ action_of flat.inputs entry))
+    entry_of_send = entry_for (action.Send link pin net) sending.0 (λ same. cc)
 
-    pub send_next : (word : Word) → word.clock ≡ old.share.first + old.clock → word.net ≡ net → word.pin ≡ pin → word.bit ≡ get_or old.slots.items net false → IsNextWord ends link word
+    pub send_slot : place < length old.slots.items
+    send_slot = omega (arith, fits.slots, slot_within nets net place sending.1)
+
+    send_net : net < length state.slots
+    send_net = let found = entry_of_send in let kind = sends flat.inputs link pin net found.0 found.1.1 in sent_net ends node state agrees unfinished found.0 found.1.0 link pin net kind.0 kind.1 kind.2 kind.3
+
+    bit_there : get_or old.slots.items place false ≡ slot state net
+    bit_there = sym (ap (slot_bit old.slots.items) sending.1) ∙ sym (get_or-tabulate (bit_by nets old.slots.items) many net false (omega (arith, send_net, agrees.holds.size, many_are)))
+
+    pub send_next : (word : Word) → word.clock ≡ old.share.first + old.clock → word.net ≡ net → word.pin ≡ pin → word.bit ≡ get_or old.slots.items place false → IsNextWord ends link word
     send_next word clock one two bit =
         let found = entry_of_send in
-        let kind = sends inputs link pin net found.0 found.1.1 in
-        sent_next ends node state agrees unfinished found.0 found.1.0 link pin net kind.0 kind.1 kind.2 kind.3 word (clock ∙ ap (λ (first : ℕ). first + old.clock) fits.share.first) one two bit
+        let kind = sends flat.inputs link pin net found.0 found.1.1 in
+        sent_next ends node state agrees unfinished found.0 found.1.0 link pin net kind.0 kind.1 kind.2 kind.3 word (clock ∙ ap (λ (first : ℕ). first + old.clock) fits.share.first) one two (bit ∙ bit_there)
 
-    pub send_agrees : (new : Node) (after : SeenEnds) → new ≡ record old { made = old.made + 1 } → Puts link ends after true → Agrees after.job new.share.node (state_of new) after
-    send_agrees new after rest puts =
-        let found = entry_of_send in
-        let kind = sends inputs link pin net found.0 found.1.1 in
-        let agree = sent_agrees ends node state agrees unfinished found.0 found.1.0 link pin net kind.0 kind.1 kind.2 kind.3 in
-        let then = moved_to new (moved state) (record ends { sent = counted link ends.sent }) (ap (λ (one : Node). one.share) rest) (ap state_of rest) agree in
-        subst (λ (one : SeenEnds). Agrees one.job new.share.node (state_of new) one) (sym puts.ends) then
+    module _ (new : Node) (after : SeenEnds) (rest : new ≡ record old { made = old.made + 1 }) (puts : Puts link ends after true) where
+      pub send_fits : IsFit after.job new
+      send_fits = subst (λ (one : SeenEnds). IsFit one.job new) (sym puts.ends) (subst (IsFit job) (sym rest) (fits_then (old.made + 1) old.slots refl))
 
-    pub send_steps : (new : Node) (after : SeenEnds) → new ≡ record old { made = old.made + 1 } → Puts link ends after true → Steps job node state (state_of new) ends after Moved
-    send_steps new after rest puts = (Send link pin net, next_of ends node state agrees unfinished (Send link pin net) (reads_next default (Send link pin net) is), (ap state_of rest, puts))
+      pub send_agrees : Agrees after.job new.share.node (state_of new) after
+      send_agrees =
+          let found = entry_of_send in
+          let kind = sends flat.inputs link pin net found.0 found.1.1 in
+          let agree = sent_agrees ends node state agrees unfinished found.0 found.1.0 link pin net kind.0 kind.1 kind.2 kind.3 in
+          let so = moved_to new (moved state) (record ends { sent = counted link ends.sent }) (ap (λ (one : Node). one.share) rest) (ap state_of rest) agree in
+          subst (λ (one : SeenEnds). Agrees one.job new.share.node (state_of new) one) (sym puts.ends) so
 
-    pub full_steps : (after : SeenEnds) → Puts link ends after false → Steps job node state state ends after (Full link)
-    full_steps after puts = (pin, net, next_of ends node state agrees unfinished (Send link pin net) (reads_next default (Send link pin net) is), refl, puts)
+      pub send_makes : (whole : Bool) → MakesSome job node state (state_of new) ends after whole Moved
+      send_makes whole = makes_one job node state (state_of new) ends after whole (action.Send link pin net, next_of ends node state agrees unfinished (action.Send link pin net) sending.0, (ap state_of rest, puts)) agrees.holds
+
+    pub full_makes : (after : SeenEnds) (whole : Bool) → Puts link ends after false → MakesSome job node state state ends after whole (Full link)
+    full_makes after whole puts = makes_none job node state state ends after whole (Full link) refl (pin, net, next_of ends node state agrees unfinished (action.Send link pin net) sending.0, refl, puts)
 
   -- ---- a take
 
-  module _ (default : Action) (link pin net : ℕ) (is : get_or old.program.now old.made default ≡ Take link pin net) where
-    entry_of_take : (entry : Entry) × ((slice_get own old.made ≡ Some entry) × (Take link pin net ≡ action_of inputs entry))
-    entry_of_take = entry_for default (Take link pin net) is (λ same. cc)
+  module _ (default : Op) (link place : ℕ) (is : get_or code.ops.items old.made default ≡ op.Take link place) where
+    taking : (pin net : ℕ) × (slice_get (actions planned node) old.made ≡ Some (action.Take link pin net)) × (slot_of nets net ≡ Some place)
+    taking = let found = op_begins ends node code fits.code old.made (op.Take link place) (op_is default (op.Take link place) is) in by found.0 found.1.0 found.1.1 where
+      by : (next : Action) → slice_get (actions planned node) old.made ≡ Some next → BeginsWith flat code next (op.Take link place) → (pin net : ℕ) × (slice_get (actions planned node) old.made ≡ Some (action.Take link pin net)) × (slot_of nets net ≡ Some place)
+      by (action.Evaluate number) at begins = absurd begins
+      by (action.Send its_link its_pin its_net) at begins = absurd begins
+      by (action.Take its_link its_pin its_net) at begins =
+          let same : action.Take its_link its_pin its_net ≡ action.Take link its_pin its_net = λ i. action.Take (sym begins.0 i) its_pin its_net in
+          (its_pin, its_net, at ∙ ap Some same, begins.1)
+      by action.Step at begins = absurd begins
 
-    pub take_net : net < length old.slots.items
-    take_net = let found = entry_of_take in let kind = takes inputs link pin net found.0 found.1.1 in taken_net ends node state agrees unfinished found.0 found.1.0 link net kind.0 kind.1 kind.2
+    abbrev pin : ℕ
+    pin = taking.0
+
+    abbrev net : ℕ
+    net = taking.1
+
+    entry_of_take : (entry : Entry) × ((slice_get own old.made ≡ Some entry) × (action.Take link pin net ≡ action_of flat.inputs entry))
+    entry_of_take = entry_for (action.Take link pin net) taking.2 (λ same. cc)
+
+    take_net : net < length state.slots
+    take_net = let found = entry_of_take in let kind = takes flat.inputs link pin net found.0 found.1.1 in taken_net ends node state agrees unfinished found.0 found.1.0 link net kind.0 kind.1 kind.2
+
+    pub take_slot : place < length old.slots.items
+    take_slot = omega (arith, fits.slots, slot_within nets net place taking.3)
 
     pub take_expected : IsExpected ends link
-    take_expected = let found = entry_of_take in let kind = takes inputs link pin net found.0 found.1.1 in is_expected ends node state agrees unfinished found.0 found.1.0 link net kind.0 kind.1 kind.2
+    take_expected = let found = entry_of_take in let kind = takes flat.inputs link pin net found.0 found.1.1 in is_expected ends node state agrees unfinished found.0 found.1.0 link net kind.0 kind.1 kind.2
 
-    module _ (new : Node) (after : SeenEnds) (word : Word) (bit : Bool) (took : Takes link ends after (Some word)) (rest : new ≡ record old { made = old.made + 1; slots = new.slots }) (wrote : new.slots.items ≡ set old.slots.items net bit) (its_bit : bit ≡ word.bit) where
+    module _ (new : Node) (after : SeenEnds) (word : Word) (bit : Bool) (took : Takes link ends after (Some word)) (rest : new ≡ record old { made = old.made + 1; slots = new.slots }) (wrote : new.slots.items ≡ set old.slots.items place bit) (its_bit : bit ≡ word.bit) where
       take_state : state_of new ≡ written state net word.bit
-      take_state = written_is old new net bit rest wrote ∙ ap (written state net) its_bit
+      take_state =
+          state_then new (old.made + 1) (set old.slots.items place bit) rest wrote
+          ∙ ap (λ (all : List Bool). let state : NodeState = record { clock = old.clock; made = old.made + 1; slots = all; rows = old.rows.items } in state)
+          (known_written nets old.slots.items net place bit many taking.3 take_slot (omega (arith, take_net, agrees.holds.size, many_are)) ∙ ap (set (tabulate (bit_by nets old.slots.items) many) net) its_bit)
+
+      pub take_fits : IsFit after.job new
+      take_fits = subst (λ (one : SeenEnds). IsFit one.job new) (sym took.0) (fits_again new (old.made + 1) rest (ap (λ (bits : List Bool). length bits) wrote ∙ length-set old.slots.items place bit))
 
       pub take_agrees : Agrees after.job new.share.node (state_of new) after
       take_agrees =
           let found = entry_of_take in
-          let kind = takes inputs link pin net found.0 found.1.1 in
+          let kind = takes flat.inputs link pin net found.0 found.1.1 in
           let agree = taken_agrees ends node state agrees unfinished found.0 found.1.0 link net kind.0 kind.1 kind.2 word took.1 in
-          let then = moved_to new (written state net word.bit) (record ends { taken = counted link ends.taken }) (ap (λ (one : Node). one.share) rest) take_state agree in
-          subst (λ (one : SeenEnds). Agrees one.job new.share.node (state_of new) one) (sym took.0) then
+          let so = moved_to new (written state net word.bit) (record ends { taken = counted link ends.taken }) (ap (λ (one : Node). one.share) rest) take_state agree in
+          subst (λ (one : SeenEnds). Agrees one.job new.share.node (state_of new) one) (sym took.0) so
 
-      pub take_steps : Steps job node state (state_of new) ends after Moved
-      take_steps = (Take link pin net, next_of ends node state agrees unfinished (Take link pin net) (reads_next default (Take link pin net) is), (word, take_state, took))
+      pub take_makes : (whole : Bool) → MakesSome job node state (state_of new) ends after whole Moved
+      take_makes whole = makes_one job node state (state_of new) ends after whole (action.Take link pin net, next_of ends node state agrees unfinished (action.Take link pin net) taking.2, (word, take_state, took)) agrees.holds
 
-    pub empty_steps : (after : SeenEnds) → Takes link ends after None → Steps job node state state ends after (Empty link)
-    empty_steps after took = (pin, net, next_of ends node state agrees unfinished (Take link pin net) (reads_next default (Take link pin net) is), refl, took)
+    pub empty_makes : (after : SeenEnds) (whole : Bool) → Takes link ends after None → MakesSome job node state state ends after whole (Empty link)
+    empty_makes after whole took = makes_none job node state state ends after whole (Empty link) refl (pin, net, next_of ends node state agrees unfinished (action.Take link pin net) taking.2, refl, took)

@@ -1,10 +1,10 @@
 pub mod Lists
 pub mod States
+pub mod Left
 pub mod Holding
 pub mod Positions
+pub mod Starts
 pub mod Fits
 pub mod Slots
-pub mod Starts
 pub mod Made
 pub mod Moves
-pub mod Left

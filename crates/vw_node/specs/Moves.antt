@@ -1,5 +1,5 @@
 -- What one step of a node does, and many, of itself and of the ends of its links. Source: this project.
-use Rattle.std.specs.Prelude.{◌≡◌, ℕ, zero, suc, Bool, true, false, Some, None}
+use Rattle.std.specs.Prelude.{◌≡◌, ◌<◌, ℕ, zero, suc, Bool, true, false, Some, None}
 use Rattle.vw_prog.specs.declared.action.Action.{Action}
 use Rattle.vw_prog.specs.declared.action.Action.TheVariants as action
 use Rattle.vw_prog.specs.declared.job.Job.{Job}
@@ -8,6 +8,7 @@ use Rattle.vw_prog.specs.Ends.{Puts, SeenEnds, Takes}
 use Rattle.vw_prog.specs.Scripts.{planned_of}
 use Rattle.vw_node.specs.declared.step.Step.{Step}
 use Rattle.vw_node.specs.declared.step.Step.TheVariants.{Done, Empty, Full, Moved}
+use Rattle.vw_node.specs.Left.{left}
 use Rattle.vw_node.specs.States.{NodeState, evaluated, moved, next_action, stepped, written}
 
 -- the node made an action
@@ -44,3 +45,10 @@ pub record Goes (job : Job) (node : ℕ) (old new : NodeState) (before after : S
   pub moves : GoesOn job node old between before ends count
   pub last : Steps job node between new ends after answer
   pub stops : is_moved answer ≡ false
+
+-- a node made one action or more, or none; and no more than one where the run wasn't to be whole
+pub record MakesSome (job : Job) (node : ℕ) (old new : NodeState) (before after : SeenEnds) (whole : Bool) (answer : Step) : Type 0 where
+  pub one : whole ≡ false → Steps job node old new before after answer
+  pub some : is_moved answer ≡ true → (count : ℕ) × GoesOn job node old new before after (suc count)
+  pub fewer : is_moved answer ≡ true → left job node new < left job node old
+  pub none : is_moved answer ≡ false → Steps job node old new before after answer

@@ -1,22 +1,51 @@
--- The bit of a net after a step, from what a node may see of its job. No public clause cites it.
-use Rattle.std.specs.Prelude.{◌+◌, ◌==◌, ℕ, Bool, List, slice_get, nat_lt, Option, if◌then◌else◌}
+-- What functions of this crate make of slots, step by step. No public clause cites it.
+use Rattle.std.specs.Prelude.{◌≡◌, ◌<◌, ◌+◌, ◌++◌, ℕ, Bool, false, List, [], ◌∷◌, drop, length, map, min, take, slice_get, slice_set, Option, Some, None, IsTrue, true}
+use Rattle.std.specs.List.{All}
 use Rattle.std.specs.Option.{option_and_then}
-use Rattle.vw_plan.specs.Nets.{driving_cell, node_of}
+use Rattle.vw_net.specs.declared.cell.Cell.{Cell}
+use Rattle.vw_net.specs.declared.cell.Cell.TheVariants.{Gate, Latch}
+use Rattle.vw_net.specs.Cover.{cover_value}
+use Rattle.vw_net.specs.TruthTable.{bit_of, place_of}
+use Rattle.vw_prog.specs.declared.code.TableGate.{TableGate}
 use Rattle.vw_prog.specs.declared.job.Share.{Share}
 use Rattle.vw_node.specs.Fits.{bit_in}
-use Rattle.vw_node.specs.States.{input_bit, latch_bit}
+
+-- ---- gates
+
+-- a gate reads slots that there are
+abbrev pub IsWithin : ℕ → TableGate → Type 0
+IsWithin slots gate = All (λ slot. slot < slots) gate.reads
+
+-- bits after gates were worked out, one after the other, into slots from one on
+abbrev pub with_gates : ℕ → List TableGate → List Bool → List Bool
+with_gates slot [] bits = bits
+with_gates slot (gate ∷ gates) bits = with_gates (slot + 1) gates (slice_set bits slot (bit_of gate.truth_table (place_of (map (bit_in bits) gate.reads))))
+
+-- a gate has as many reads as its cover has inputs
+abbrev pub HasArity : Option Cell → List ℕ → Type 0
+HasArity None reads = IsTrue true
+HasArity (Some (Gate ins cover)) reads = length reads ≡ cover.inputs
+HasArity (Some (Latch d init)) reads = IsTrue true
+
+-- what a gate makes of the bits of its reads
+abbrev pub wide_by : Option Cell → List Bool → List ℕ → Bool
+wide_by None bits reads = false
+wide_by (Some (Gate ins cover)) bits reads = cover_value cover (map (bit_in bits) reads)
+wide_by (Some (Latch d init)) bits reads = false
+
+-- ---- sources
 
 -- the row of a clock, where the node has rows
 abbrev pub row_at : Share → ℕ → Option (List Bool)
 row_at share clock = option_and_then (λ rows. slice_get rows.now clock) share.rows
 
--- the bit of an input in the row of a clock
-abbrev pub row_bit : Share → ℕ → ℕ → Bool → Bool
-row_bit share clock net own = input_bit (row_at share clock) net own
+-- bits with a row in the first slots, as far as there are some
+abbrev pub with_row : Option (List Bool) → List Bool → List Bool
+with_row None bits = bits
+with_row (Some row) bits = let count = min (length row) (length bits) in take count row ++ drop count bits
 
-abbrev pub next_bit : Share → ℕ → List Bool → ℕ → Bool
-next_bit share clock slots net =
-    let flat = share.checked.now.ordered.flat in
-    if node_of flat share.checked.now.plan.chip_of net == share.node
-    then (if nat_lt net flat.inputs then row_bit share (clock + 1) net (bit_in slots net) else latch_bit (bit_in slots) (bit_in slots net) (driving_cell flat net))
-    else bit_in slots net
+-- bits with others in some slots
+abbrev pub with_bits : List ℕ → List Bool → List Bool → List Bool
+with_bits [] others bits = bits
+with_bits (slot ∷ slots) [] bits = bits
+with_bits (slot ∷ slots) (other ∷ others) bits = with_bits slots others (slice_set bits slot other)

@@ -2,40 +2,69 @@
 ghost use Rattle.std.specs.Prelude.{◌≡◌, ◌<◌, ◌≤◌, ◌+◌, length, map, take, slice_get};
 ghost use Rattle.std.specs.List.{All};
 ghost use Rattle.vw_net.specs.Cover.{cover_value};
+ghost use Rattle.vw_net.specs.TruthTable.{place_of};
 ghost use Rattle.vw_node.specs.Fits.{bit_in};
-ghost use Rattle.vw_node.specs.States.{gate_bit};
+ghost use Rattle.vw_node.specs.Slots.{HasArity, IsWithin, wide_by, with_gates};
 
-use vw_net::{Cell, Cover, Flat};
+use vw_net::{Cell, Cover, Flat, bit_of};
+use vw_prog::{TableGate, WideGate};
 
-/// Puts the bits of these nets at the start of `bits`.
-fn gather(nets: &[u32], slots: &[bool], bits: &mut [bool])
-    requires room { length nets.now ≤ length bits.old }
-    requires within { All (λ net. net < length slots.now) nets.now }
-    ensures { take (length nets.now) bits.new ≡ map (bit_in slots.now) nets.now }
+/// The place of the bits of some slots in a truth table.
+fn place_at(reads: &[u32], slots: &[bool]) -> u32
+    requires few { length reads.now ≤ 6 }
+    requires within { All (λ slot. slot < length slots.now) reads.now }
+    ensures place { result ≡ place_of (map (bit_in slots.now) reads.now) }
+    ensures below { result < 64 }
 {
-    for (i, net) in nets.iter().enumerate() {
-        bits[i] = slots[*net as usize];
+    let mut place = 0;
+    for i in (0..reads.len()).rev() {
+        place = place * 2 + slots[reads[i] as usize] as u32;
+    }
+    place
+}
+
+/// Works out gates, one after the other, into slots from one on.
+pub fn run_gates(gates: &[TableGate], first: usize, slots: &mut [bool])
+    requires within { All (IsWithin (length slots.old)) gates.now }
+    requires room { first + length gates.now ≤ length slots.old }
+    ensures { slots.new ≡ with_gates first gates.now slots.old }
+{
+    for (i, gate) in gates.iter().enumerate() {
+        let place = place_at(&gate.reads, slots);
+        slots[first + i] = bit_of(gate.truth_table, place);
     }
 }
 
-/// The value of a table where its inputs are these nets.
-fn table_value(ins: &[u32], cover: &Cover, slots: &[bool]) -> bool
-    requires arity { length ins.now ≡ cover.now.inputs }
-    requires within { All (λ net. net < length slots.now) ins.now }
-    ensures { result ≡ cover_value cover.now (map (bit_in slots.now) ins.now) }
+/// Puts the bits of these slots at the start of `bits`.
+fn gather(reads: &[u32], slots: &[bool], bits: &mut [bool])
+    requires room { length reads.now ≤ length bits.old }
+    requires within { All (λ slot. slot < length slots.now) reads.now }
+    ensures { take (length reads.now) bits.new ≡ map (bit_in slots.now) reads.now }
 {
-    let mut bits = [false; 128];
-    gather(ins, slots, &mut bits);
-    cover.value_on(&bits[..ins.len()])
+    for (i, slot) in reads.iter().enumerate() {
+        bits[i] = slots[*slot as usize];
+    }
 }
 
-/// What the cell with this number makes of the bits of slots: a gate its table's value.
-pub fn gate_value(flat: &Flat, slots: &[bool], number: u32) -> bool
-    requires nets { length slots.now ≡ flat.now.inputs + length flat.now.cells }
-    ensures { result ≡ gate_bit (bit_in slots.now) (slice_get flat.now.cells number) }
+/// The value of a cover where the bits of its inputs are in these slots.
+fn wide_value(reads: &[u32], cover: &Cover, slots: &[bool]) -> bool
+    requires arity { length reads.now ≡ cover.now.inputs }
+    requires within { All (λ slot. slot < length slots.now) reads.now }
+    ensures { result ≡ cover_value cover.now (map (bit_in slots.now) reads.now) }
 {
-    match flat.cells().get(number as usize) {
-        Some(Cell::Gate { ins, cover }) => table_value(ins.as_slice(), cover, slots),
+    let mut bits = [false; 128];
+    gather(reads, slots, &mut bits);
+    cover.value_on(&bits[..reads.len()])
+}
+
+/// The value of a gate of more than six inputs.
+pub fn wide_bit(flat: &Flat, gate: &WideGate, slots: &[bool]) -> bool
+    requires arity { HasArity (slice_get flat.now.cells gate.now.number) gate.now.reads }
+    requires within { All (λ slot. slot < length slots.now) gate.now.reads }
+    ensures { result ≡ wide_by (slice_get flat.now.cells gate.now.number) slots.now gate.now.reads }
+{
+    match flat.cells().get(gate.number as usize) {
+        Some(Cell::Gate { cover, .. }) => wide_value(gate.reads.as_slice(), cover, slots),
         Some(Cell::Latch { .. }) => false,
         None => false,
     }

@@ -28,9 +28,9 @@ impl<'a> Node<'a> {
         ensures goes { Goes (E.seen ends.old).job self.old.share.node (state_of self.old)
             (state_of self.new) (E.seen ends.old) (E.seen ends.new) result }
     {
-        let mut answer = self.step(ends);
+        let mut answer = self.make_some(ends, true);
         while answer.is_moved() {
-            answer = self.step(ends);
+            answer = self.make_some(ends, true);
         }
         answer
     }

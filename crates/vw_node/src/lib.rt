@@ -1,13 +1,12 @@
 //! The nodes of a board, each of which makes its actions one after the other.
 #![tactic(auto)]
 
+mod bits;
 mod gates;
 mod going;
 mod laws;
 mod making;
 mod node;
-mod rows;
-mod slots;
 mod starting;
 mod step;
 mod stepping;

@@ -1,11 +1,13 @@
 //! Nodes are made.
-ghost use Rattle.std.specs.Prelude.{◌≡◌, ◌<◌, false, length, slice_index_or, IfOk};
+ghost use Rattle.std.specs.Prelude.{◌≡◌, ◌<◌, length, slice_index, IfOk};
 ghost use Rattle.vw_prog.specs.Actions.{ArePrograms};
+ghost use Rattle.vw_node.specs.Fits.{bit_by, bit_in, state_of};
 ghost use Rattle.vw_node.specs.Made.{IsMade};
 ghost use Rattle.vw_node.specs.Starts.{planned_in};
+ghost use Rattle.vw_node.specs.States.{slot};
 
 use crate::node::Node;
-use crate::starting::{recorded_nets, spare_rows, start_slots};
+use crate::starting::{spare_rows, start_slots};
 use std::alloc::{AllocError, Global};
 use vw_net::Bits;
 use vw_prog::{Programs, Share};
@@ -16,15 +18,14 @@ impl<'a> Node<'a> {
         requires { ArePrograms (planned_in share) programs.now }
         ensures { IfOk result (IsMade share.entry) }
     {
-        let recorded = recorded_nets(alloc, &share)?;
-        let slots = start_slots(alloc, &share)?;
-        let next = vec![in alloc; false; slots.len()]?;
+        let code = programs.code(share.node);
+        let slots = start_slots(alloc, &share, code)?;
+        let next = vec![in alloc; false; code.latches.len()]?;
         let rows = Vec::with_capacity(alloc, share.clocks as usize)?;
-        let spare = spare_rows(alloc, share.clocks, recorded.len())?;
+        let spare = spare_rows(alloc, share.clocks, code.records.len())?;
         Ok(Node {
             share,
-            program: programs.list(share.node),
-            recorded,
+            code,
             clock: 0,
             made: 0,
             slots,
@@ -42,13 +43,6 @@ impl<'a> Node<'a> {
         self.rows.as_slice()
     }
 
-    /// The nets that it records: the host the outputs, a chip its latches. It takes no memory.
-    pub fn recorded(&self) -> &[u32]
-        ensures { result.now ≡ self.now.recorded.items }
-    {
-        self.recorded.as_slice()
-    }
-
     /// What it has recorded, given up. It takes no memory.
     pub fn into_rows(self) -> Vec<Bits>
         ensures { result.items ≡ self.entry.rows.items }
@@ -56,11 +50,49 @@ impl<'a> Node<'a> {
         self.rows
     }
 
-    /// The bit of a net. It takes no memory.
-    pub fn bit(&self, net: u32) -> bool
-        requires { net < length self.now.slots.items }
-        ensures { result ≡ slice_index_or self.now.slots.items net false }
+    /// The number of each of its latches among all latches of the design. It takes no memory.
+    pub fn numbers(&self) -> &[u32]
+        ensures { result.now ≡ self.now.code.now.numbers.items }
     {
-        self.slots[net as usize]
+        self.code.numbers.as_slice()
+    }
+
+    /// The bit of the latch at a place among its latches. It takes no memory.
+    pub fn latch_bit(&self, place: usize) -> bool
+        requires { place < length self.now.code.now.latches.items }
+        ensures { result
+            ≡ bit_in self.now.slots.items (slice_index self.now.code.now.latches.items place) }
+    {
+        self.slot_bit(self.code.latches[place] as usize)
+    }
+
+    /// The bit of a net, which is 0 where the node doesn't know the net. It looks through its nets. It takes no memory.
+    pub fn bit(&self, net: u32) -> bool
+        requires { net < length (state_of self.now).slots }
+        ensures { result ≡ slot (state_of self.now) net }
+    {
+        self.known_bit(net)
+    }
+
+    /// The bit of a slot.
+    fn slot_bit(&self, slot: usize) -> bool
+        ensures { result ≡ bit_in self.now.slots.items slot }
+    {
+        match self.slots.get(slot) {
+            Some(bit) => *bit,
+            None => false,
+        }
+    }
+
+    /// The bit of a net, which is 0 where the node doesn't know the net.
+    fn known_bit(&self, net: u32) -> bool
+        ensures { result ≡ bit_by self.now.code.now.nets.items self.now.slots.items net }
+    {
+        for (slot, own) in self.code.nets.iter().enumerate() {
+            if *own == net {
+                return self.slot_bit(slot);
+            }
+        }
+        false
     }
 }

@@ -1,109 +1,40 @@
 //! A node before its first action.
-ghost use Rattle.std.specs.Prelude.{◌≡◌, ◌<◌, ◌+◌, ◌-◌, ◌&&◌, ◌==◌, ℕ, List, length, take, slice_get, IfOk};
+ghost use Rattle.std.specs.Prelude.{◌≡◌, ◌<◌, false, length, map, replicate, IfOk};
 ghost use Rattle.std.specs.List.{All};
-ghost use Rattle.vw_net.specs.Cells.{latch_count};
-ghost use Rattle.vw_net.specs.Order.{is_latch};
-ghost use Rattle.vw_plan.specs.Nets.{driving_cell};
-ghost use Rattle.vw_plan.specs.PlannedBoard.{home};
-ghost use Rattle.vw_prog.specs.Due.{recorded};
-ghost use Rattle.vw_node.specs.Lists.{tabulate};
-ghost use Rattle.vw_node.specs.Starts.{net_count, planned_in, start_by};
+ghost use Rattle.vw_node.specs.Fits.{bit_in};
+ghost use Rattle.vw_node.specs.Slots.{row_at, with_bits, with_row};
 
-use crate::slots::input_bit;
+use crate::bits::{put_bits, put_inputs};
 use std::alloc::{AllocError, Global};
-use vw_net::{Bits, Cell, Flat};
-use vw_plan::node_of;
-use vw_prog::Share;
+use vw_net::Bits;
+use vw_prog::{Code, Share};
 
-/// Whether a net is a latch's.
-fn is_latch(flat: &Flat, net: u32) -> bool
-    ensures { result ≡ is_latch (driving_cell flat.now net) }
+/// Puts the start bits of latches, by their numbers, into a list.
+fn take_starts(numbers: &[u32], start: &[bool], bits: &mut [bool])
+    requires { length bits.old ≡ length numbers.now }
+    ensures { bits.new ≡ map (bit_in start.now) numbers.now }
 {
-    if net < flat.inputs() {
-        return false;
-    }
-    match flat.cells().get((net - flat.inputs()) as usize) {
-        Some(Cell::Latch { .. }) => true,
-        Some(Cell::Gate { .. }) => false,
-        None => false,
+    for (i, number) in numbers.iter().enumerate() {
+        bits[i] = match start.get(*number as usize) {
+            Some(bit) => *bit,
+            None => false,
+        };
     }
 }
 
-/// Whether a net is one of the node.
-fn is_home(share: &Share, net: u32) -> bool
-    requires { net < net_count share.now }
-    ensures { result ≡ (home (planned_in share.now) net == share.now.node) }
+/// The slots at the start: the host's inputs have the first row, latches have their start bits, and all others are 0.
+pub fn start_slots(alloc: Global, share: &Share, code: &Code) -> Result<Vec<bool>, AllocError>
+    requires numbers { length code.now.numbers.items ≡ length code.now.latches.items }
+    requires latches { All (λ slot. slot < length code.now.nets.items) code.now.latches.items }
+    ensures { IfOk result (λ slots. slots.items ≡ with_bits code.now.latches.items
+        (map (bit_in share.now.start.now) code.now.numbers.items)
+        (with_row (row_at share.now 0) (replicate (length code.now.nets.items) false))) }
 {
-    node_of(
-        share.checked.ordered().flat(),
-        share.checked.plan().chip_of(),
-        net,
-    ) == share.node
-}
-
-/// Whether a net is that of a latch of the node.
-fn is_own_latch(share: &Share, net: u32) -> bool
-    requires { net < net_count share.now }
-    ensures { result ≡ (is_latch (driving_cell share.now.checked.now.ordered.flat net)
-        && home (planned_in share.now) net == share.now.node) }
-{
-    is_latch(share.checked.ordered().flat(), net) && is_home(share, net)
-}
-
-/// The nets that a node records: the host the outputs, a chip its latches.
-pub fn recorded_nets(alloc: Global, share: &Share) -> Result<Vec<u32>, AllocError>
-    ensures { IfOk result (λ nets. nets.items ≡ recorded (planned_in share.now) share.now.node) }
-{
-    let flat = share.checked.ordered().flat();
-    if share.node == 0 {
-        return Vec::from_slice(alloc, flat.outputs());
-    }
-    let mut nets = Vec::new(alloc);
-    for net in flat.inputs()..flat.inputs() + flat.cells().len() as u32 {
-        if is_own_latch(share, net) {
-            nets.push(net)?;
-        }
-    }
-    Ok(nets)
-}
-
-/// The bit of a net at the start, of which this is the number among the latches if it is one.
-fn start_bit(share: &Share, net: u32, latch: usize) -> bool
-    requires net { net < net_count share.now }
-    requires latch { latch ≡ latch_count (take
-        (net - share.now.checked.now.ordered.flat.inputs) share.now.checked.now.ordered.flat.cells) }
-    ensures { result ≡ start_by share.now net }
-{
-    let flat = share.checked.ordered().flat();
-    if !is_home(share, net) {
-        return false;
-    }
-    if net < flat.inputs() {
-        return input_bit(share, 0, net, false);
-    }
-    if !is_latch(flat, net) {
-        return false;
-    }
-    match share.start.as_slice().get(latch) {
-        Some(bit) => *bit,
-        None => false,
-    }
-}
-
-/// The bit of each net at the start.
-pub fn start_slots(alloc: Global, share: &Share) -> Result<Vec<bool>, AllocError>
-    ensures { IfOk result (λ slots.
-        slots.items ≡ tabulate (start_by share.now) (net_count share.now)) }
-{
-    let flat = share.checked.ordered().flat();
-    let mut slots = Vec::new(alloc);
-    let mut latch = 0;
-    for net in 0..flat.inputs() + flat.cells().len() as u32 {
-        slots.push(start_bit(share, net, latch))?;
-        if is_latch(flat, net) {
-            latch += 1;
-        }
-    }
+    let mut slots = vec![in alloc; false; code.nets.len()]?;
+    let mut starts = vec![in alloc; false; code.latches.len()]?;
+    take_starts(&code.numbers, share.start.as_slice(), &mut starts);
+    put_inputs(share, 0, &mut slots);
+    put_bits(&code.latches, &starts, &mut slots);
     Ok(slots)
 }
 

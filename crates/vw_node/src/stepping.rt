@@ -1,60 +1,87 @@
-//! The actions of a node, one by one.
-ghost use Rattle.std.specs.Prelude.{◌≡◌, ◌<◌, ◌≤◌, ◌+◌, ◌++◌, ◌∷◌, [], Bool, List, length, map, slice_set};
-ghost use Rattle.std.specs.List.{All};
+//! The actions of a node.
+ghost use Rattle.std.specs.Prelude.{◌≡◌, ◌<◌, ◌≤◌, ◌+◌, ◌-◌, ◌++◌, ◌∷◌, [], Bool, List, length, map, slice_set, false, if◌then◌else◌};
+ghost use Rattle.std.specs.List.{All, slice_range};
 ghost use Rattle.std.specs.Vec.{vec_capacity};
 ghost use Rattle.vw_node.specs.Fits.{IsFit, bit_in, state_of};
-ghost use Rattle.vw_node.specs.Lists.{tabulate};
-ghost use Rattle.vw_node.specs.Moves.{Steps};
+ghost use Rattle.vw_node.specs.Moves.{MakesSome, Steps};
 ghost use Rattle.vw_node.specs.Positions.{Agrees};
-ghost use Rattle.vw_node.specs.Slots.{next_bit};
+ghost use Rattle.vw_node.specs.Slots.{IsWithin, row_at, with_bits, with_gates, with_row};
 
-use crate::gates::gate_value;
+use crate::bits::{put_bits, put_inputs, put_row, take_bits};
+use crate::gates::{run_gates, wide_bit};
 use crate::node::Node;
-use crate::rows::put_row;
-use crate::slots::step_slots;
 use crate::step::Step;
-use vw_prog::{Action, Ends, Word};
+use vw_prog::{Ends, Op, Word};
+
+/// The end of what is made of a run of gates: all of it, or one gate.
+fn end_of(first: usize, end: usize, whole: bool) -> usize
+    requires { first < end }
+    ensures { result ≡ (if whole then end else first + 1) }
+{
+    if whole { end } else { first + 1 }
+}
 
 impl<'a> Node<'a> {
     /// One action more is made.
     fn advance(&mut self)
-        requires { self.old.made < length self.old.program.now }
+        requires { self.old.made < length self.old.code.now.ops.items }
         ensures { self.new ≡ record self.old { made = self.old.made + 1 } }
     {
-        let _count = self.program.len();
+        let _count = self.code.ops.len();
         self.made += 1;
     }
 
-    /// One action more is made, which puts a bit into the slot of a net.
-    fn write(&mut self, net: u32, bit: bool)
-        requires made { self.old.made < length self.old.program.now }
-        requires net { net < length self.old.slots.items }
+    /// One action more is made, which puts a bit into a slot.
+    fn write(&mut self, slot: u32, bit: bool)
+        requires made { self.old.made < length self.old.code.now.ops.items }
+        requires slot { slot < length self.old.slots.items }
         ensures rest { self.new
             ≡ record self.old { made = self.old.made + 1; slots = self.new.slots } }
-        ensures slots { self.new.slots.items ≡ slice_set self.old.slots.items net bit }
+        ensures slots { self.new.slots.items ≡ slice_set self.old.slots.items slot bit }
     {
-        let _count = self.program.len();
-        self.slots[net as usize] = bit;
+        let _count = self.code.ops.len();
+        self.slots[slot as usize] = bit;
         self.made += 1;
+    }
+
+    /// Works out some of the gates of at most six inputs, into slots from one on.
+    fn run(&mut self, first: usize, end: usize, slot: u32)
+        requires order { first ≤ end }
+        requires end { end ≤ length self.old.code.now.gates.items }
+        requires within { All (IsWithin (length self.old.slots.items))
+            (slice_range self.old.code.now.gates.items first end) }
+        requires room { slot + (end - first) ≤ length self.old.slots.items }
+        requires made { self.old.made + (end - first) ≤ length self.old.code.now.ops.items }
+        ensures rest { self.new
+            ≡ record self.old { made = self.old.made + (end - first); slots = self.new.slots } }
+        ensures slots { self.new.slots.items
+            ≡ with_gates slot (slice_range self.old.code.now.gates.items first end)
+            self.old.slots.items }
+    {
+        let code = self.code;
+        let _count = code.ops.len();
+        run_gates(&code.gates[first..end], slot as usize, &mut self.slots);
+        self.made += (end - first) as u64;
     }
 
     /// Records the bits of its nets. The row for them is taken from those that are spare.
     fn record_row(&mut self)
         requires some { 0 < length self.old.spare.items }
-        requires even { All (λ row. length row ≡ length self.old.recorded.items)
+        requires even { All (λ row. length row ≡ length self.old.code.now.records.items)
             self.old.spare.items }
-        requires within { All (λ net. net < length self.old.slots.items) self.old.recorded.items }
+        requires within { All (λ slot. slot < length self.old.slots.items)
+            self.old.code.now.records.items }
         requires room { length self.old.rows.items < vec_capacity self.old.rows }
         ensures rest { self.new ≡ record self.old { rows = self.new.rows; spare = self.new.spare } }
         ensures rows { self.new.rows.items ≡ self.old.rows.items
-            ++ map (bit_in self.old.slots.items) self.old.recorded.items ∷ [] }
+            ++ map (bit_in self.old.slots.items) self.old.code.now.records.items ∷ [] }
         ensures spare { (row : List Bool) × (self.old.spare.items
             ≡ self.new.spare.items ++ row ∷ []) }
         ensures capacity { vec_capacity self.old.rows ≤ vec_capacity self.new.rows }
     {
         match self.spare.pop() {
             Some(mut row) => {
-                put_row(&self.recorded, &self.slots, &mut row);
+                put_row(&self.code.records, &self.slots, &mut row);
                 match self.rows.push(row) {
                     Ok(()) => (),
                     Err(_) => unreachable!(),
@@ -64,17 +91,44 @@ impl<'a> Node<'a> {
         }
     }
 
+    /// Gives the latches the bits of their inputs, all together, and the inputs their bits of the next row.
+    fn move_sources(&mut self)
+        requires clock { self.old.clock < self.old.share.clocks }
+        requires next { length self.old.next.items ≡ length self.old.code.now.latches.items }
+        requires inputs { length self.old.code.now.inputs.items
+            ≡ length self.old.code.now.latches.items }
+        requires latches { All (λ slot. slot < length self.old.slots.items)
+            self.old.code.now.latches.items }
+        requires taken { All (λ slot. slot < length self.old.slots.items)
+            self.old.code.now.inputs.items }
+        ensures rest { self.new ≡ record self.old { slots = self.new.slots; next = self.new.next } }
+        ensures next { length self.new.next.items ≡ length self.old.next.items }
+        ensures slots { self.new.slots.items ≡ with_bits self.old.code.now.latches.items
+            (map (bit_in self.old.slots.items) self.old.code.now.inputs.items)
+            (with_row (row_at self.old.share (self.old.clock + 1)) self.old.slots.items) }
+    {
+        let code = self.code;
+        let _clocks = self.share.clocks;
+        take_bits(&code.inputs, &self.slots, &mut self.next);
+        put_inputs(&self.share, self.clock + 1, &mut self.slots);
+        put_bits(&code.latches, &self.next, &mut self.slots);
+    }
+
     /// Ends a clock.
     fn end_clock(&mut self)
         requires clock { self.old.clock < self.old.share.clocks }
-        requires nets { length self.old.slots.items
-            ≡ self.old.share.checked.now.ordered.flat.inputs
-            + length self.old.share.checked.now.ordered.flat.cells }
-        requires next { length self.old.next.items ≡ length self.old.slots.items }
+        requires next { length self.old.next.items ≡ length self.old.code.now.latches.items }
+        requires inputs { length self.old.code.now.inputs.items
+            ≡ length self.old.code.now.latches.items }
+        requires latches { All (λ slot. slot < length self.old.slots.items)
+            self.old.code.now.latches.items }
+        requires taken { All (λ slot. slot < length self.old.slots.items)
+            self.old.code.now.inputs.items }
         requires some { 0 < length self.old.spare.items }
-        requires even { All (λ row. length row ≡ length self.old.recorded.items)
+        requires even { All (λ row. length row ≡ length self.old.code.now.records.items)
             self.old.spare.items }
-        requires within { All (λ net. net < length self.old.slots.items) self.old.recorded.items }
+        requires within { All (λ slot. slot < length self.old.slots.items)
+            self.old.code.now.records.items }
         requires room { length self.old.rows.items < vec_capacity self.old.rows }
         ensures rest { self.new ≡ record self.old {
           clock = self.old.clock + 1;
@@ -84,22 +138,77 @@ impl<'a> Node<'a> {
           rows = self.new.rows;
           spare = self.new.spare;
         } }
-        ensures slots { self.new.slots.items
-            ≡ tabulate (next_bit self.old.share self.old.clock self.old.slots.items)
-            (length self.old.slots.items) }
-        ensures next { length self.new.next.items ≡ length self.old.slots.items }
+        ensures next { length self.new.next.items ≡ length self.old.next.items }
+        ensures slots { self.new.slots.items ≡ with_bits self.old.code.now.latches.items
+            (map (bit_in self.old.slots.items) self.old.code.now.inputs.items)
+            (with_row (row_at self.old.share (self.old.clock + 1)) self.old.slots.items) }
         ensures rows { self.new.rows.items ≡ self.old.rows.items
-            ++ map (bit_in self.old.slots.items) self.old.recorded.items ∷ [] }
+            ++ map (bit_in self.old.slots.items) self.old.code.now.records.items ∷ [] }
         ensures spare { (row : List Bool) × (self.old.spare.items
             ≡ self.new.spare.items ++ row ∷ []) }
         ensures capacity { vec_capacity self.old.rows ≤ vec_capacity self.new.rows }
     {
         self.record_row();
-        step_slots(&self.share, self.clock, &self.slots, &mut self.next);
-        std::mem::swap(&mut self.slots, &mut self.next);
+        self.move_sources();
         let _clocks = self.share.clocks;
         self.clock += 1;
         self.made = 0;
+    }
+
+    /// Makes the next action; where these are gates of a run, and it is to be `whole`, all that are left of the run.
+    #[inline(always)]
+    pub(crate) fn make_some<E: Ends>(&mut self, ends: &mut E, whole: bool) -> Step
+        requires fits { IsFit (E.seen ends.old).job self.old }
+        requires agrees { Agrees (E.seen ends.old).job self.old.share.node (state_of self.old)
+            (E.seen ends.old) }
+        ensures fits { IsFit (E.seen ends.new).job self.new }
+        ensures agrees { Agrees (E.seen ends.new).job self.new.share.node (state_of self.new)
+            (E.seen ends.new) }
+        ensures same { self.new.share ≡ self.old.share }
+        ensures makes { MakesSome (E.seen ends.old).job self.old.share.node (state_of self.old)
+            (state_of self.new) (E.seen ends.old) (E.seen ends.new) whole result }
+    {
+        if self.clock == self.share.clocks {
+            return Step::Done;
+        }
+        let code = self.code;
+        match code.ops[self.made as usize] {
+            Op::Run { first, end, slot } => {
+                self.run(first, end_of(first, end, whole), slot);
+                Step::Moved
+            }
+            Op::Wide(place) => {
+                let gate = &code.wide[place];
+                let bit = wide_bit(self.share.checked.ordered().flat(), gate, &self.slots);
+                self.write(gate.target, bit);
+                Step::Moved
+            }
+            Op::Send {
+                link,
+                pin,
+                net,
+                slot,
+            } => {
+                let bit = self.slots[slot as usize];
+                let word = Word::make(self.share.first + self.clock, net, pin, bit);
+                if !ends.put(link, word) {
+                    return Step::Full(link);
+                }
+                self.advance();
+                Step::Moved
+            }
+            Op::Take { link, slot } => match ends.take(link) {
+                Some(word) => {
+                    self.write(slot, word.bit());
+                    Step::Moved
+                }
+                None => Step::Empty(link),
+            },
+            Op::Step => {
+                self.end_clock();
+                Step::Moved
+            }
+        }
     }
 
     /// Makes the next action, where it isn't refused. A send puts the bit of a slot into its link, and a take puts the bit of a
@@ -122,38 +231,6 @@ impl<'a> Node<'a> {
         ensures steps { Steps (E.seen ends.old).job self.old.share.node (state_of self.old)
             (state_of self.new) (E.seen ends.old) (E.seen ends.new) result }
     {
-        if self.clock == self.share.clocks {
-            return Step::Done;
-        }
-        match self.program[self.made as usize] {
-            Action::Evaluate(gate) => {
-                let flat = self.share.checked.ordered().flat();
-                let bit = gate_value(flat, &self.slots, gate);
-                self.write(flat.inputs() + gate, bit);
-                Step::Moved
-            }
-            Action::Send { link, pin, net } => {
-                let bit = self.slots[net as usize];
-                if !ends.put(
-                    link,
-                    Word::make(self.share.first + self.clock, net, pin, bit),
-                ) {
-                    return Step::Full(link);
-                }
-                self.advance();
-                Step::Moved
-            }
-            Action::Take { link, net, .. } => match ends.take(link) {
-                Some(word) => {
-                    self.write(net, word.bit());
-                    Step::Moved
-                }
-                None => Step::Empty(link),
-            },
-            Action::Step => {
-                self.end_clock();
-                Step::Moved
-            }
-        }
+        self.make_some(ends, false)
     }
 }

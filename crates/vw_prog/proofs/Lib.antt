@@ -8,3 +8,9 @@ pub mod Givers
 pub mod DueReads
 pub mod LinkPasses
 pub mod EntryParts
+pub mod NamedNets
+pub mod CellOps
+pub mod OwnedLatches
+pub mod JoinedOps
+pub mod CodesStand
+pub mod MadeCodes

@@ -1,8 +1,10 @@
 pub mod Sorting
 pub mod Timetable
 pub mod Actions
+pub mod Codes
 pub mod Scripts
 pub mod Ends
 pub mod Fabric
 pub mod Due
+pub mod Coding
 pub mod Steps

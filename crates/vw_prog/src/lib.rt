@@ -5,15 +5,21 @@
 mod action;
 mod answer;
 mod build;
+mod code;
+mod codes;
+mod coding;
 mod ends;
 mod entry;
 mod job;
 mod laws;
+mod naming;
+mod owners;
 mod programs;
 mod word;
 
 pub use action::Action;
 pub use answer::Answer;
+pub use code::{Code, Op, TableGate, WideGate};
 pub use ends::{Ends, Fabric, PutEnd, TakeEnd};
 pub use job::{Job, Share};
 pub use laws::{leads_end_in_time, passes_have_two_ends, reads_are_due};

@@ -19,19 +19,24 @@ use Rattle.vw_prog.specs.declared.job.Job.{Job}
 use Rattle.vw_prog.specs.Due.{is_source, own_latches, recorded}
 use Rattle.vw_prog.specs.Scripts.{planned_of, state_at, value_at}
 use Rattle.vw_node.specs.declared.node.Node.{Node}
-use Rattle.vw_node.specs.Fits.{state_of}
+use Rattle.vw_node.specs.Fits.{bit_by, bit_in, state_of}
+use Rattle.vw_node.specs.Starts.{net_count}
+use Rattle.vw_node.proofs.SlotBits.{bits_are}
+use Rattle.vw_plan.specs.declared.checked.Checked.{Checked}
+use Rattle.vw_prog.specs.Actions.{actions}
+use Rattle.vw_prog.specs.Codes.{IsCode}
 use Rattle.vw_node.specs.Holding.{HoldsValues}
 use Rattle.vw_node.specs.Lists.{tabulate}
 use Rattle.vw_node.specs.States.{NodeState, latch_number, slot}
 use Rattle.vw_node.proofs.Clocks.{value-latch}
 use Rattle.vw_node.proofs.Held.{latch_is, latch_within}
 use Rattle.vw_node.proofs.Values.{get_or-tabulate, length-tabulate}
-use Rattle.vw_world.specs.Answers.{AreNumbers, HasLast, HaveLatches, IsDoneBoard, IsDoneNode, number_in, with_latches}
+use Rattle.vw_world.specs.Answers.{HasLatches, HaveLatches, IsDoneBoard, IsDoneNode, with_latches}
 use Rattle.vw_world.specs.Boards.{IsBoard, world_of}
 use Rattle.vw_world.specs.Lanes.{SeenLanes}
 use Rattle.vw_world.specs.Worlds.{node_at}
 use Rattle.vw_world.proofs.BoardSteps.{same_lists}
-use Rattle.vw_world.proofs.LatchRows.{driven_at, latch_with, number_once, number_within, put_right, same_width}
+use Rattle.vw_world.proofs.LatchRows.{latch_with, number_within, put_right, same_width}
 
 -- ---- histories, clock by clock
 
@@ -44,6 +49,16 @@ outputs_are : (flat : Flat) (state : List Bool) (rows : List (List Bool)) (clock
 outputs_are flat state [] clock within = absurd (omega (arith, within))
 outputs_are flat state (row ∷ rows) zero within = refl
 outputs_are flat state (row ∷ rows) (suc clock) within = outputs_are flat (next_state flat row state) rows clock (omega (arith, within))
+
+-- two functions that agree on the nets of a list
+map_among : (f g : ℕ → Bool) (nets : List ℕ) → ((net : ℕ) → is_among nets net ≡ true → f net ≡ g net) → map f nets ≡ map g nets
+map_among f g [] agree = refl
+map_among f g (net ∷ nets) agree =
+    ap₂ (λ (bit : Bool) (bits : List Bool). bit ∷ bits) (agree net (ap (λ (first : Bool). first || is_among nets net) (eq-eqb net net refl)))
+    (map_among f g nets (λ other among. agree other (or_right (eqb net other) (is_among nets other) among))) where
+      or_right : (first second : Bool) → second ≡ true → (first || second) ≡ true
+      or_right true second is = refl
+      or_right false second is = is
 
 module _ (job : Job) where
   abbrev flat : Flat
@@ -99,6 +114,15 @@ module _ (job : Job) where
       sym (among_filter (λ net. is_latch (driving_cell flat net) && eqb (home planned net) node) (range_with_len flat.inputs (length flat.cells)) net) ∙ among in
       (and_parts (is_latch (driving_cell flat net)) (eqb (home planned net) node) (and_parts (is_latch (driving_cell flat net) && eqb (home planned net) node) (is_among (range_with_len flat.inputs (length flat.cells)) net) both).0).0
 
+  pub own_home : (node net : ℕ) → is_among (own_latches planned node) net ≡ true → home planned net ≡ node
+  own_home node net among =
+      let both : ((is_latch (driving_cell flat net) && eqb (home planned net) node) && is_among (range_with_len flat.inputs (length flat.cells)) net) ≡ true =
+      sym (among_filter (λ net. is_latch (driving_cell flat net) && eqb (home planned net) node) (range_with_len flat.inputs (length flat.cells)) net) ∙ among in
+      eqb-true (home planned net) node (and_parts (is_latch (driving_cell flat net)) (eqb (home planned net) node) (and_parts (is_latch (driving_cell flat net) && eqb (home planned net) node) (is_among (range_with_len flat.inputs (length flat.cells)) net) both).0).1
+
+  among_at_place : (nets : List ℕ) (place default : ℕ) → place < length nets → is_among nets (get_or nets place default) ≡ true
+  among_at_place nets place default within = list_any_at (λ (other : ℕ). eqb other (get_or nets place default)) nets place default within (eq-eqb (get_or nets place default) (get_or nets place default) refl)
+
   -- ---- a row of all latches
 
   -- the value of a latch in a clock is in the state before it
@@ -125,13 +149,19 @@ module _ (job : Job) where
         let state : node_at (world_of nodes all) node ≡ state_of there = get_or-map state_of nodes node there _ within ∙ ap state_of (get_or_from_slice_get nodes node there there is) in
         let clock : there.clock ≡ length job.rows = sym (ap (λ (one : NodeState). one.clock) state) ∙ done node inside in
         let holds : HoldsValues job node (state_of there) = subst (HoldsValues job node) state (board.kept.nodes node inside) in
+        let fits = board.fits node there is in
+        let code : IsCode planned node (actions planned node) there.code.now = subst (λ (one : ℕ). IsCode planned one (actions planned one) there.code.now) (board.numbers node there is) fits.code in
         record {
-          nets = (board.fits node there is).records ∙ ap (recorded planned) (board.numbers node there is);
+          numbers = code.numbers;
           rows = holds.told ∙ ap (tabulate (λ clock. map (value_at job clock) (recorded planned node))) clock;
-          size = holds.size;
-          last = λ net latch its.
-              let own : is_source planned node net ≡ true = and_from (eqb (home planned net) node) (nat_lt net flat.inputs || is_latch (driving_cell flat net)) (eq-eqb (home planned net) node its) (or_second (nat_lt net flat.inputs) (is_latch (driving_cell flat net)) latch) in
-              holds.latched net (latch_net net latch).0 own ∙ ap (λ (one : ℕ). value_at job one net) clock;
+          last = bits_are there.code.now.nets.items there.slots.items (own_latches planned node) there.code.now.latches.items code.latches
+          ∙ map_among (bit_by there.code.now.nets.items there.slots.items) (value_at job (length job.rows)) (own_latches planned node) (λ net among.
+              let latch = own_are node net among in
+              let at = latch_net net latch in
+              let own : is_source planned node net ≡ true = and_from (eqb (home planned net) node) (nat_lt net flat.inputs || is_latch (driving_cell flat net)) (eq-eqb (home planned net) node (own_home node net among)) (or_second (nat_lt net flat.inputs) (is_latch (driving_cell flat net)) latch) in
+              let many : net_count there.share ≡ flat.inputs + length flat.cells = ap (λ (checked : Checked). checked.ordered.flat.inputs + length checked.ordered.flat.cells) fits.share.checked in
+              sym (get_or-tabulate (bit_by there.code.now.nets.items there.slots.items) (net_count there.share) net false (omega (arith, at.1, many)))
+              ∙ holds.latched net at.0 own ∙ ap (λ (one : ℕ). value_at job one net) clock);
         } where
           or_second : (first second : Bool) → second ≡ true → (first || second) ≡ true
           or_second true second is = refl
@@ -142,11 +172,10 @@ module _ (job : Job) where
   chip_nets node chip = ap (λ (host : Bool). if host then flat.outputs else own_latches planned node) (ne_eqb node 0 (λ same. absurd (omega (arith, chip, same))))
 
   module _ (node : ℕ) (there : Node) (is_done : IsDoneNode job node there) where
-    pub row_at_clock : (clock : ℕ) → clock < length job.rows → get_or there.rows.items clock [] ≡ map (value_at job clock) there.recorded.items
+    pub row_at_clock : (clock : ℕ) → clock < length job.rows → get_or there.rows.items clock [] ≡ map (value_at job clock) (recorded planned node)
     row_at_clock clock within =
         ap (λ (rows : List (List Bool)). get_or rows clock []) is_done.rows
         ∙ get_or-tabulate (λ clock. map (value_at job clock) (recorded planned node)) (length job.rows) clock [] within
-        ∙ ap (map (value_at job clock)) (sym is_done.nets)
 
     pub rows_count : length there.rows.items ≡ length job.rows
     rows_count = ap (λ (rows : List (List Bool)). length rows) is_done.rows ∙ length-tabulate (λ clock. map (value_at job clock) (recorded planned node)) (length job.rows)
@@ -157,7 +186,7 @@ module _ (job : Job) where
   unfolding value_at
   outputs_told there is_done = same_lists there.rows.items (outputs_of flat job.start job.rows) [] (rows_count 0 there is_done ∙ sym (length-outputs_of flat job.start job.rows)) (λ clock below.
       let within : clock < length job.rows = omega (arith, below, rows_count 0 there is_done) in
-      row_at_clock 0 there is_done clock within ∙ ap (map (value_at job clock)) is_done.nets ∙ sym (outputs_are flat job.start job.rows clock within))
+      row_at_clock 0 there is_done clock within ∙ sym (outputs_are flat job.start job.rows clock within))
 
   -- ---- the latches
 
@@ -176,128 +205,66 @@ module _ (job : Job) where
       let row = have.each clock below in
       row_is clock (get_or rows clock []) row.wide (λ net latch. row.right net latch (omega (arith, (latch_home net latch).1, over))) ∙ sym (states_at flat job.start job.rows clock within))
 
-  -- one chip more
-  pub chip_more : (numbers : List ℕ) → AreNumbers flat numbers → (node : ℕ) (there : Node) → 1 ≤ node → IsDoneNode job node there → (rows new : List (List Bool)) → HaveLatches job node rows → length new ≡ length rows
-      → ((clock : ℕ) → clock < length new → get_or new clock [] ≡ with_latches (number_in numbers flat.inputs) there.recorded.items (get_or there.rows.items clock []) (get_or rows clock [])) → HaveLatches job (node + 1) new
-  chip_more numbers are node there chip is_done rows new have count each = record {
-    count = count ∙ have.count;
-    each = λ clock within.
-        let low : clock < length rows = omega (arith, within, count) in
-        let early : clock < length job.rows = omega (arith, low, have.count) in
-        let row = have.each clock low in
-        let nets : there.recorded.items ≡ own_latches planned node = is_done.nets ∙ chip_nets node chip in
-        let bits : get_or there.rows.items clock [] ≡ map (value_at job clock) (own_latches planned node) = row_at_clock node there is_done clock early ∙ ap (map (value_at job clock)) nets in
-        let made : get_or new clock [] ≡ with_latches (number_in numbers flat.inputs) (own_latches planned node) (map (value_at job clock) (own_latches planned node)) (get_or rows clock []) =
-        each clock within ∙ ap₂ (λ (own : List ℕ) (values : List Bool). with_latches (number_in numbers flat.inputs) own values (get_or rows clock [])) nets bits in
-        let is_there : (net : ℕ) → IsLatch net → number_in numbers flat.inputs net ≡ latch_number job net = λ net latch. let net_is = latch_net net latch in are.1 (net - flat.inputs) (omega (arith, net_is.0, net_is.1)) in
-        record {
-          wide = ap (λ (row : List Bool). length row) made ∙ same_width job (number_in numbers flat.inputs) (value_at job clock) is_there (own_latches planned node) (map (value_at job clock) (own_latches planned node)) (get_or rows clock []) ∙ row.wide;
-          right = λ net latch below.
-              let right : (is_among (own_latches planned node) net ≡ true) ⊎ (get_or (get_or rows clock []) (latch_number job net) false ≡ value_at job clock net) =
-              ⊎_elim (λ (before : home planned net < node). inr (row.right net latch before)) (λ (past : node ≤ home planned net). inl (own_among node net latch (omega (arith, past, below)))) (cases_lt (home planned net) node) in
-              ap (λ (row : List Bool). get_or row (latch_number job net) false) made
-              ∙ put_right job (number_in numbers flat.inputs) (value_at job clock) is_there (own_latches planned node) (get_or rows clock []) net (own_are node) latch (omega (arith, row.wide)) right;
-        };
-  }
+  -- the rows of the end, before any chip
+  pub no_last : (row : List Bool) → length row ≡ latch_count flat.cells → HasLatches job (length job.rows) 1 row
+  no_last row wide = record { wide = wide; right = λ net latch below. absurd (omega (arith, (latch_home net latch).0, below)) }
 
-  -- ---- the latches after the last clock
+  pub all_last : (row : List Bool) (done : ℕ) → HasLatches job (length job.rows) done row → suc job.checked.board.chips ≤ done → row ≡ state_after flat job.start job.rows
+  all_last row done has over =
+      row_is (length job.rows) row has.wide (λ net latch. has.right net latch (omega (arith, (latch_home net latch).1, over)))
+      ∙ ap (λ (rows : List (List Bool)). state_after flat job.start rows) (take_all (length job.rows) job.rows (omega arith))
 
-  pub last_none : (row : List Bool) → length row ≡ latch_count flat.cells → HasLast job 0 row
-  last_none row wide = record { wide = wide; right = λ net latch below. absurd (omega (arith, (latch_net net latch).0, below)) }
+  -- one chip more, in one row
+  pub row_more : (clock node : ℕ) (numbers : List ℕ) (bits row new : List Bool) → HasLatches job clock node row → numbers ≡ map (latch_number job) (own_latches planned node) → bits ≡ map (value_at job clock) (own_latches planned node)
+      → new ≡ with_latches numbers bits row → HasLatches job clock (node + 1) new
+  row_more clock node numbers bits row new has numbers_are bits_so new_is =
+      let own = own_latches planned node in
+      let made : new ≡ with_latches (map (latch_number job) own) (map (value_at job clock) own) row = new_is ∙ ap₂ (λ (places : List ℕ) (values : List Bool). with_latches places values row) numbers_are bits_so in
+      record {
+        wide = ap (λ (list : List Bool). length list) made ∙ same_width job (map (latch_number job) own) (map (value_at job clock) own) row ∙ has.wide;
+        right = λ net latch below.
+            let right : (is_among own net ≡ true) ⊎ (get_or row (latch_number job net) false ≡ value_at job clock net) =
+            ⊎_elim (λ (before : home planned net < node). inr (has.right net latch before)) (λ (past : node ≤ home planned net). inl (own_among node net latch (omega (arith, past, below)))) (cases_lt (home planned net) node) in
+            ap (λ (list : List Bool). get_or list (latch_number job net) false) made ∙ put_right job (value_at job clock) own row net (own_are node) latch (omega (arith, has.wide)) right;
+      }
 
-  pub last_all : (row : List Bool) (done : ℕ) → HasLast job done row → length flat.cells ≤ done → row ≡ state_after flat job.start job.rows
-  last_all row done has over =
-      row_is (length job.rows) row has.wide (λ net latch. has.right net latch (omega (arith, (latch_net net latch).1, over))) ∙ ap (λ (rows : List (List Bool)). state_after flat job.start rows) (take_all (length job.rows) job.rows (omega arith))
+  module _ (node : ℕ) (chip : 1 ≤ node) (there : Node) (is_done : IsDoneNode job node there) where
+    -- the numbers of its latches are below their count
+    each_within : (place default : ℕ) → place < length there.code.now.numbers.items → get_or there.code.now.numbers.items place default < latch_count flat.cells
+    each_within place default within =
+        let own = own_latches planned node in
+        let low : place < length own = omega (arith, within, ap (λ (list : List ℕ). length list) is_done.numbers, length-map own (latch_number job)) in
+        let net = get_or own place 0 in
+        let is : get_or there.code.now.numbers.items place default ≡ latch_number job net = ap (λ (list : List ℕ). get_or list place default) is_done.numbers ∙ get_or-map (latch_number job) own place 0 default low in
+        omega (arith, is, number_within job net (own_are node net (among_at_place own place 0 low)))
 
-  pub last_more : (row new : List Bool) (done : ℕ) (bit : Bool) → HasLast job done row → IsLatch (flat.inputs + done) → bit ≡ value_at job (length job.rows) (flat.inputs + done) → new ≡ set row (latch_number job (flat.inputs + done)) bit → HasLast job (done + 1) new
-  last_more row new done bit has latch bit_is new_is = subst (HasLast job (done + 1)) (sym new_is) (record {
-    wide = length-set row (latch_number job (flat.inputs + done)) bit ∙ has.wide;
-    right = λ net one below.
-        let own = flat.inputs + done in
-        let if_same = λ (same : net ≡ own).
-        ap (λ (any : ℕ). get_or (set row (latch_number job own) bit) (latch_number job any) false) same ∙ get_or-set_same row (latch_number job own) bit false (omega (arith, number_within job own latch, has.wide)) ∙ bit_is ∙ ap (value_at job (length job.rows)) (sym same) in
-        let if_other = λ (apart : net ≡ own → ⊥).
-        get_or-set_other row (latch_number job own) (latch_number job net) bit false (λ same. apart (number_once job net own one latch same)) ∙ has.right net one (omega (arith, below, apart)) in
-        ⊎_elim if_same if_other (cases_eq net own);
-  })
+    pub within_row : (clock done : ℕ) (row : List Bool) → HasLatches job clock done row → All (λ number. number < length row) there.code.now.numbers.items
+    within_row clock done row has place default within = omega (arith, each_within place default within, has.wide)
 
-  pub last_passed : (row : List Bool) (done : ℕ) → HasLast job done row → (IsLatch (flat.inputs + done) → ⊥) → HasLast job (done + 1) row
-  last_passed row done has none = record {
-    wide = has.wide;
-    right = λ net latch below.
-        let if_same = λ (same : net ≡ flat.inputs + done). absurd (none (subst IsLatch same latch)) in
-        let if_other = λ (apart : net ≡ flat.inputs + done → ⊥). has.right net latch (omega (arith, below, apart)) in
-        ⊎_elim if_same if_other (cases_eq net (flat.inputs + done));
-  }
+    pub within_rows : (done : ℕ) (rows : List (List Bool)) → HaveLatches job done rows → All (λ row. All (λ number. number < length row) there.code.now.numbers.items) rows
+    within_rows done rows have clock none below place default within =
+        omega (arith, each_within place default within, (have.each clock below).wide, ap (λ (bits : List Bool). length bits) (get_or_default rows clock none [] below))
 
-  -- ---- one latch after the last clock
-
-  module _ (nodes : List Node) (done : IsDoneBoard job nodes) (number : ℕ) (latch : is_latch (slice_get flat.cells number) ≡ true) where
-    abbrev net : ℕ
-    net = flat.inputs + number
-
-    pub net_latch : IsLatch net
-    net_latch = ap is_latch (driven_at job number) ∙ latch
-
-    net_cell : (flat.inputs ≤ net) × (net < flat.inputs + length flat.cells)
-    net_cell = latch_net net net_latch
-
-    pub cell_within : number < length flat.cells
-    cell_within = omega (arith, net_cell.1)
-
-    pub chip_within : number < length job.checked.plan.chip_of
-    chip_within = omega (arith, cell_within, job.checked.sound.one_chip_each.each)
-
-    chip_is : home planned net ≡ get_or job.checked.plan.chip_of number 0
-    chip_is =
-        let back : flat.inputs + number - flat.inputs ≡ number = omega arith in
-        ap (λ (input : Bool). if input then 0 else get_or job.checked.plan.chip_of (flat.inputs + number - flat.inputs) 0) (le-ltb net flat.inputs (omega arith)) ∙ ap (λ (place : ℕ). get_or job.checked.plan.chip_of place 0) back
-
-    pub node_within : get_or job.checked.plan.chip_of number 0 < length nodes
-    node_within = omega (arith, (latch_home net net_latch).1, chip_is, done.0)
-
-    module _ (default : Node) where
-      abbrev there : Node
-      there = get_or nodes (get_or job.checked.plan.chip_of number 0) default
-
-      its : IsDoneNode job (home planned net) there
-      its = done.1 (home planned net) there (ap (slice_get nodes) chip_is ∙ slice_get-get_or nodes (get_or job.checked.plan.chip_of number 0) default node_within)
-
-      pub slot_within : net < length (state_of there).slots
-      slot_within = omega (arith, its.size, net_cell.1)
-
-      pub bit_is : slot (state_of there) net ≡ value_at job (length job.rows) net
-      bit_is = its.last net net_latch refl
-
-  -- ---- the nets of a chip, in the table of numbers
-
-  among_at_place : (nets : List ℕ) (place default : ℕ) → place < length nets → is_among nets (get_or nets place default) ≡ true
-  among_at_place nets place default within = list_any_at (λ (other : ℕ). eqb other (get_or nets place default)) nets place default within (eq-eqb (get_or nets place default) (get_or nets place default) refl)
-
-  module _ (numbers : List ℕ) (are : AreNumbers flat numbers) (node : ℕ) (chip : 1 ≤ node) (there : Node) (is_done : IsDoneNode job node there) where
-    own_nets : there.recorded.items ≡ own_latches planned node
-    own_nets = is_done.nets ∙ chip_nets node chip
-
-    each_latch : (place default : ℕ) → place < length there.recorded.items → IsLatch (get_or there.recorded.items place default)
-    each_latch place default within =
-        own_are node (get_or there.recorded.items place default)
-        (ap (λ (nets : List ℕ). is_among nets (get_or there.recorded.items place default)) (sym own_nets) ∙ among_at_place there.recorded.items place default within)
-
-    pub nets_within : (inputs : ℕ) → inputs ≡ flat.inputs → All (λ net. (inputs ≤ net) × (net - inputs < length numbers)) there.recorded.items
-    nets_within inputs same place default within =
-        let net = latch_net (get_or there.recorded.items place default) (each_latch place default within) in
-        (omega (arith, same, net.0), omega (arith, same, net.0, net.1, are.0))
-
-    pub numbers_within : (inputs : ℕ) → inputs ≡ flat.inputs → (rows : List (List Bool)) → HaveLatches job node rows → All (λ row. All (λ net. number_in numbers inputs net < length row) there.recorded.items) rows
-    numbers_within inputs same rows have clock none below place default within =
-        let net = get_or there.recorded.items place default in
-        let latch = each_latch place default within in
-        let is = latch_net net latch in
-        let row : get_or rows clock none ≡ get_or rows clock [] = get_or_default rows clock none [] below in
-        let number : number_in numbers inputs net ≡ latch_number job net = ap (λ (first : ℕ). get_or numbers (net - first) 0) same ∙ are.1 (net - flat.inputs) (omega (arith, is.0, is.1)) in
-        omega (arith, number, number_within job net latch, (have.each clock below).wide, ap (λ (bits : List Bool). length bits) row)
-
-    pub bits_wide : All (λ bits. length bits ≡ length there.recorded.items) there.rows.items
+    pub bits_wide : All (λ bits. length bits ≡ length there.code.now.numbers.items) there.rows.items
     bits_wide clock none below =
         let early : clock < length job.rows = omega (arith, below, rows_count node there is_done) in
-        ap (λ (bits : List Bool). length bits) (get_or_default there.rows.items clock none [] below ∙ row_at_clock node there is_done clock early) ∙ length-map there.recorded.items (value_at job clock)
+        ap (λ (bits : List Bool). length bits) (get_or_default there.rows.items clock none [] below ∙ row_at_clock node there is_done clock early ∙ ap (map (value_at job clock)) (chip_nets node chip))
+        ∙ length-map (own_latches planned node) (value_at job clock) ∙ sym (length-map (own_latches planned node) (latch_number job)) ∙ sym (ap (λ (list : List ℕ). length list) is_done.numbers)
+
+    pub latches_long : length there.code.now.latches.items ≡ length there.code.now.numbers.items
+    latches_long =
+        sym (length-map there.code.now.latches.items (bit_in there.slots.items)) ∙ ap (λ (bits : List Bool). length bits) is_done.last
+        ∙ length-map (own_latches planned node) (value_at job (length job.rows)) ∙ sym (length-map (own_latches planned node) (latch_number job)) ∙ sym (ap (λ (list : List ℕ). length list) is_done.numbers)
+
+    pub rows_more : (rows new : List (List Bool)) → HaveLatches job node rows → length new ≡ length rows
+        → ((clock : ℕ) → clock < length new → get_or new clock [] ≡ with_latches there.code.now.numbers.items (get_or there.rows.items clock []) (get_or rows clock [])) → HaveLatches job (node + 1) new
+    rows_more rows new have count each = record {
+      count = count ∙ have.count;
+      each = λ clock within.
+          let low : clock < length rows = omega (arith, within, count) in
+          row_more clock node there.code.now.numbers.items (get_or there.rows.items clock []) (get_or rows clock []) (get_or new clock []) (have.each clock low) is_done.numbers
+          (row_at_clock node there is_done clock (omega (arith, low, have.count)) ∙ ap (map (value_at job clock)) (chip_nets node chip)) (each clock within);
+    }
+
+    pub last_more : (row new : List Bool) → HasLatches job (length job.rows) node row → new ≡ with_latches there.code.now.numbers.items (map (bit_in there.slots.items) there.code.now.latches.items) row → HasLatches job (length job.rows) (node + 1) new
+    last_more row new has new_is = row_more (length job.rows) node there.code.now.numbers.items (map (bit_in there.slots.items) there.code.now.latches.items) row new has is_done.numbers is_done.last new_is

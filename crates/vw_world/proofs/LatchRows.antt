@@ -1,5 +1,5 @@
 -- Rows of latches, filled by the nodes of the latches one after the other.
-use Rattle.std.proofs.Common.{◌≡◌, ◌<◌, ◌≤◌, ◌+◌, ◌-◌, ◌∷◌, ◌||◌, ◌⊎◌, ℕ, zero, suc, Bool, true, false, List, [], length, map, take, get_or, set, eqb, slice_get, if◌then◌else◌, ap, refl, sym, ◌∙◌, ⊎_elim, inl, inr, eqb-true, eq-eqb, true≢false, None, arith}
+use Rattle.std.proofs.Common.{◌≡◌, ◌<◌, ◌≤◌, ◌+◌, ◌-◌, ◌∷◌, ◌||◌, ◌⊎◌, ℕ, zero, suc, Bool, true, false, List, [], length, map, take, get_or, set, eqb, slice_get, if◌then◌else◌, ap, refl, sym, ◌∙◌, ⊎_elim, inl, inr, eqb-true, eq-eqb, true≢false, None, arith, lt-ltb, Option, nat_lt}
 use Rattle.std.proofs.lemmas.Bool.{cases_Bool, cases_eq, cases_lt, le-ltb}
 use Rattle.std.proofs.lemmas.List.{get_or-set_other, get_or-set_same, length-set, take_all}
 use Rattle.vw_net.specs.Steps.Bits.{one_if}
@@ -12,10 +12,31 @@ use Rattle.vw_plan.specs.Nets.{driving_cell}
 use Rattle.vw_prog.specs.declared.job.Job.{Job}
 use Rattle.vw_node.specs.States.{latch_number}
 use Rattle.vw_node.proofs.Held.{latch_is, latch_within}
-use Rattle.vw_node.proofs.StartLists.{latch_more}
 use Rattle.vw_world.specs.Answers.{with_latches}
 
 -- ---- the numbers of latches
+
+count_next : (cells : List Cell) (number : ℕ) → latch_count (take (suc number) cells) ≡ latch_count (take number cells) + one_if (is_latch (slice_get cells number))
+count_next [] zero = omega arith
+count_next [] (suc number) = omega arith
+count_next (Gate ins cover ∷ cells) zero = omega arith
+count_next (Latch d init ∷ cells) zero = omega arith
+count_next (Gate ins cover ∷ cells) (suc number) = count_next cells number
+count_next (Latch d init ∷ cells) (suc number) = omega (arith, count_next cells number)
+
+latch_more : (flat : Flat) (net : ℕ) → latch_count (take (net + 1 - flat.inputs) flat.cells) ≡ latch_count (take (net - flat.inputs) flat.cells) + one_if (is_latch (driving_cell flat net))
+latch_more flat net =
+    let if_input = λ (input : net < flat.inputs).
+    let now : net - flat.inputs ≡ 0 = omega arith in
+    let next : net + 1 - flat.inputs ≡ 0 = omega arith in
+    let kind : one_if (is_latch (driving_cell flat net)) ≡ 0 = ap (λ (is : Bool). one_if (is_latch (if is then None else slice_get flat.cells (net - flat.inputs)))) (lt-ltb net flat.inputs input) in
+    let whole : latch_count (take (net + 1 - flat.inputs) flat.cells) ≡ latch_count (take (net - flat.inputs) flat.cells) + one_if (is_latch (driving_cell flat net)) = omega (arith, kind, ap (λ (many : ℕ). latch_count (take many flat.cells)) now, ap (λ (many : ℕ). latch_count (take many flat.cells)) next) in whole in
+    let if_cell = λ (past : flat.inputs ≤ net).
+    let next : net + 1 - flat.inputs ≡ suc (net - flat.inputs) = omega arith in
+    let kind : one_if (is_latch (driving_cell flat net)) ≡ one_if (is_latch (slice_get flat.cells (net - flat.inputs))) = ap (λ (is : Bool). one_if (is_latch (if is then None else slice_get flat.cells (net - flat.inputs)))) (le-ltb net flat.inputs past) in
+    let whole : latch_count (take (net + 1 - flat.inputs) flat.cells) ≡ latch_count (take (net - flat.inputs) flat.cells) + one_if (is_latch (driving_cell flat net)) = omega (arith, kind, ap (λ (many : ℕ). latch_count (take many flat.cells)) next, count_next flat.cells (net - flat.inputs)) in whole in
+    ⊎_elim if_input if_cell (cases_lt net flat.inputs)
+
 
 module _ (job : Job) where
   abbrev flat : Flat
@@ -73,7 +94,12 @@ module _ (job : Job) where
 
   -- ---- bits at the numbers of latches
 
-  module _ (number : ℕ → ℕ) (bit : ℕ → Bool) (numbers : (net : ℕ) → IsLatch net → number net ≡ latch_number job net) where
+  pub same_width : (numbers : List ℕ) (bits row : List Bool) → length (with_latches numbers bits row) ≡ length row
+  same_width [] bits row = refl
+  same_width (number ∷ numbers) [] row = refl
+  same_width (number ∷ numbers) (bit ∷ bits) row = same_width numbers bits (set row number bit) ∙ length-set row number bit
+
+  module _ (bit : ℕ → Bool) where
     abbrev IsRight : List Bool → ℕ → Type 0
     IsRight row net = get_or row (latch_number job net) false ≡ bit net
 
@@ -81,33 +107,27 @@ module _ (job : Job) where
     abbrev AreAll : List ℕ → Type 0
     AreAll nets = (net : ℕ) → is_among nets net ≡ true → IsLatch net
 
-    pub same_width : (nets : List ℕ) (bits row : List Bool) → length (with_latches number nets bits row) ≡ length row
-    same_width [] bits row = refl
-    same_width (net ∷ nets) [] row = refl
-    same_width (net ∷ nets) (one ∷ bits) row = same_width nets bits (set row (number net) one) ∙ length-set row (number net) one
-
-    set_right : (row : List Bool) (own net : ℕ) → IsLatch own → IsLatch net → latch_count flat.cells ≤ length row → (own ≡ net) ⊎ IsRight row net → IsRight (set row (number own) (bit own)) net
+    set_right : (row : List Bool) (own net : ℕ) → IsLatch own → IsLatch net → latch_count flat.cells ≤ length row → (own ≡ net) ⊎ IsRight row net → IsRight (set row (latch_number job own) (bit own)) net
     set_right row own net latch one long right =
-        let place = numbers own latch in
         let if_same = λ (same : own ≡ net).
-        let at : number own ≡ latch_number job net = place ∙ ap (latch_number job) same in
+        let at : latch_number job own ≡ latch_number job net = ap (latch_number job) same in
         ap (λ (where_to : ℕ). get_or (set row where_to (bit own)) (latch_number job net) false) at ∙ get_or-set_same row (latch_number job net) (bit own) false (omega (arith, number_within net one, long)) ∙ ap bit same in
         let if_apart = λ (apart : own ≡ net → ⊥).
-        let other : latch_number job net ≡ number own → ⊥ = λ same. apart (sym (number_once net own one latch (same ∙ place))) in
+        let other : latch_number job net ≡ latch_number job own → ⊥ = λ same. apart (sym (number_once net own one latch same)) in
         let old : IsRight row net = ⊎_elim (λ same. absurd (apart same)) (λ old. old) right in
-        get_or-set_other row (number own) (latch_number job net) (bit own) false other ∙ old in
+        get_or-set_other row (latch_number job own) (latch_number job net) (bit own) false other ∙ old in
         ⊎_elim if_same if_apart (cases_eq own net)
 
     -- what is right stays right, and what is among the nets becomes right
-    pub put_right : (nets : List ℕ) (row : List Bool) (net : ℕ) → AreAll nets → IsLatch net → latch_count flat.cells ≤ length row → (is_among nets net ≡ true) ⊎ IsRight row net → IsRight (with_latches number nets (map bit nets) row) net
+    pub put_right : (nets : List ℕ) (row : List Bool) (net : ℕ) → AreAll nets → IsLatch net → latch_count flat.cells ≤ length row → (is_among nets net ≡ true) ⊎ IsRight row net → IsRight (with_latches (map (latch_number job) nets) (map bit nets) row) net
     put_right [] row net all one long right = ⊎_elim (λ none. absurd (true≢false (sym none))) (λ old. old) right
     put_right (own ∷ nets) row net all one long right =
         let latch : IsLatch own = all own (ap (λ (first : Bool). first || is_among nets own) (eq-eqb own own refl)) in
         let later : AreAll nets = λ other among. all other (or_right (eqb own other) (is_among nets other) among) in
-        let if_among = λ (among : is_among nets net ≡ true). put_right nets (set row (number own) (bit own)) net later one (omega (arith, long, length-set row (number own) (bit own))) (inl among) in
+        let if_among = λ (among : is_among nets net ≡ true). put_right nets (set row (latch_number job own) (bit own)) net later one (omega (arith, long, length-set row (latch_number job own) (bit own))) (inl among) in
         let if_not = λ (none : is_among nets net ≡ false).
         let now : (own ≡ net) ⊎ IsRight row net = ⊎_elim (λ (among : (eqb own net || is_among nets net) ≡ true). inl (eqb-true own net (first_of (eqb own net) (is_among nets net) among none))) (λ old. inr old) right in
-        put_right nets (set row (number own) (bit own)) net later one (omega (arith, long, length-set row (number own) (bit own))) (inr (set_right row own net latch one long now)) in
+        put_right nets (set row (latch_number job own) (bit own)) net later one (omega (arith, long, length-set row (latch_number job own) (bit own))) (inr (set_right row own net latch one long now)) in
         ⊎_elim if_among if_not (cases_Bool (is_among nets net)) where
           or_right : (first second : Bool) → second ≡ true → (first || second) ≡ true
           or_right true second is = refl

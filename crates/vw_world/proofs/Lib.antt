@@ -13,4 +13,3 @@ pub mod Rounds
 pub mod FirstBoards
 pub mod LatchRows
 pub mod DoneBoards
-pub mod LatchCounts

@@ -6,7 +6,7 @@ ghost use Rattle.vw_world.specs.Kept.{IsKept};
 ghost use Rattle.vw_world.specs.Seen.{IsDone, start_of};
 ghost use Rattle.vw_world.specs.Worlds.{node_at, played, words_at};
 
-use crate::answering::{answer_of, latch_numbers};
+use crate::answering::answer_of;
 use crate::board::{finish, play};
 use crate::lanes::Lanes;
 use crate::making::first_nodes;
@@ -23,8 +23,6 @@ pub struct World<'a> {
     job: &'a Job,
     nodes: Vec<Node<'a>>,
     lanes: Lanes<'a>,
-    /// How many latches stand before each cell.
-    numbers: Vec<u32>,
     /// Room for the latch values of each clock.
     latches: Vec<Bits>,
     /// Room for those after the last.
@@ -44,7 +42,7 @@ impl<'a> Model for World<'a> {
     } };
 
     ghost invariant = { λ world. IsBoard world.job.now world.nodes.items world.lanes
-        × HasRoom world.job.now world.numbers.items world.latches.items world.last };
+        × HasRoom world.job.now world.latches.items world.last };
 }
 
 impl<'a> World<'a> {
@@ -56,7 +54,6 @@ impl<'a> World<'a> {
     {
         let nodes = first_nodes(alloc, programs, job)?;
         let lanes = Lanes::make(alloc, job)?;
-        let numbers = latch_numbers(alloc, job.checked().ordered().flat())?;
         let share = job.share(0);
         let latches = spare_rows(alloc, share.clocks, share.start.len())?;
         let last = Bits::of(vec![in alloc; false; share.start.len()]?);
@@ -64,7 +61,6 @@ impl<'a> World<'a> {
             job,
             nodes,
             lanes,
-            numbers,
             latches,
             last,
         })
@@ -105,12 +101,11 @@ impl<'a> World<'a> {
         let World {
             job,
             nodes,
-            numbers,
             latches,
             last,
             ..
         } = self;
-        answer_of(job, nodes, &numbers, latches, last)
+        answer_of(job, nodes, latches, last)
     }
 
     /// How many nodes there are: the host and each chip. It takes no memory.

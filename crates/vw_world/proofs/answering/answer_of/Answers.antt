@@ -1,7 +1,7 @@
-use Rattle.std.proofs.Common.{◌≡◌, ◌<◌, length, slice_get, ap, sym, subst, ◌∙◌, Some, arith}
+use Rattle.std.proofs.Common.{◌≡◌, ◌<◌, List, Bool, length, slice_get, ap, sym, subst, ◌∙◌, Some, arith}
 use Rattle.std.proofs.lemmas.Option.{slice_get-get_or}
 use Rattle.vw_world.specs.Answers.{HaveLatches, IsDoneBoard}
-use Rattle.vw_world.proofs.DoneBoards.{no_latches, outputs_told}
+use Rattle.vw_world.proofs.DoneBoards.{no_last, no_latches, outputs_told}
 use Rattle.vw_world.proofs.answering.answer_of.Goals as goal
 
 -- src/answering.rt
@@ -13,8 +13,8 @@ pub put_chips-requires-clause-latches : goal.put_chips-requires-clause-latches
 put_chips-requires-clause-latches c = subst (HaveLatches c.args.job.now 1) (sym c.deref_mut.ensures.value) (no_latches c.args.job.now c.args.latches.items c.requires.room.count c.requires.room.wide)
 
 -- src/answering.rt
-pub put_last-requires-clause-done : goal.put_last-requires-clause-done
-put_last-requires-clause-done c = subst (IsDoneBoard c.args.job.now) (sym c.deref-2.ensures.value) c.requires.done
+pub put_chips-requires-clause-last : goal.put_chips-requires-clause-last
+put_chips-requires-clause-last c = no_last c.args.job.now c.args.last c.requires.room.last
 
 -- src/answering.rt
 pub returns-clause-outputs : goal.returns-clause-outputs

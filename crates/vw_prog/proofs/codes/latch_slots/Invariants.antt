@@ -1,0 +1,8 @@
+-- those of the latches so far, and those of the rest
+use Rattle.std.proofs.Common.{◌≡◌, ◌++◌, drop, map}
+use Rattle.vw_prog.specs.declared.owners.OwnLatch.{OwnLatch}
+use Rattle.vw_prog.specs.Coding.{slot_in}
+use Rattle.vw_prog.proofs.codes.latch_slots.Given as goal
+
+abbrev pub invariant-loop-latch : goal.invariant-loop-latch
+invariant-loop-latch l = l.slots.items ++ map (λ (latch : OwnLatch). slot_in l.table latch.net) (drop l.latch-index l.own) ≡ map (λ (latch : OwnLatch). slot_in l.table latch.net) l.own

@@ -1,0 +1,82 @@
+-- The form in which the actions of a node run: the bits of nets are in slots, and each gate has the slots that it reads.
+-- Source: this project.
+use Rattle.std.specs.Prelude.{◌≡◌, ◌<◌, ◌-◌, ◌+◌, ℕ, suc, true, List, [], ◌∷◌, ◌++◌, length, map, take, slice_get, Option, Some, None, option_map, IsTrue, if◌then◌else◌, ◌==◌}
+use Rattle.std.specs.List.{All}
+use Rattle.vw_net.specs.declared.cell.Cell.{Cell}
+use Rattle.vw_net.specs.declared.cell.Cell.TheVariants.{Gate, Latch}
+use Rattle.vw_net.specs.declared.cover.Cover.{Cover}
+use Rattle.vw_net.specs.declared.flat.Flat.{Flat}
+use Rattle.vw_net.specs.Cells.{latch_count}
+use Rattle.vw_plan.specs.Nets.{driving_cell}
+use Rattle.vw_plan.specs.PlannedBoard.{PlannedBoard}
+use Rattle.vw_prog.specs.declared.action.Action.{Action}
+use Rattle.vw_prog.specs.declared.action.Action.TheVariants as action
+use Rattle.vw_prog.specs.declared.code.Code.{Code}
+use Rattle.vw_prog.specs.declared.code.Op.{Op}
+use Rattle.vw_prog.specs.declared.code.Op.TheVariants as op
+use Rattle.vw_prog.specs.declared.code.TableGate.{TableGate}
+use Rattle.vw_prog.specs.declared.code.WideGate.{WideGate}
+use Rattle.vw_prog.specs.Due.{is_source, own_latches, recorded}
+
+-- the slot of a net: its first place among the nets of slots
+abbrev pub slot_of : List ℕ → ℕ → Option ℕ
+slot_of [] net = None
+slot_of (first ∷ nets) net = if first == net then Some 0 else option_map suc (slot_of nets net)
+
+abbrev pub HasSlot : List ℕ → ℕ → Type 0
+HasSlot nets net = (slot : ℕ) × (slot_of nets net ≡ Some slot)
+
+-- the gate with a cell number by its truth table, with the slots of its inputs, and then any others that there are; and its own slot
+pub record IsTableGate (flat : Flat) (nets : List ℕ) (number : ℕ) (gate : TableGate) (slot : ℕ) : Type 0 where
+  pub ins : List ℕ
+  pub cover : Cover
+  pub cell : slice_get flat.cells number ≡ Some (Gate ins cover)
+  pub own : List ℕ
+  pub more : List ℕ
+  pub six : length gate.reads ≡ 6
+  pub reads : gate.reads ≡ own ++ more
+  pub slots : map (slot_of nets) ins ≡ map Some own
+  pub within : All (λ read. read < length nets) gate.reads
+  pub truth_table : gate.truth_table ≡ cover.truth_table
+  pub target : slot_of nets (flat.inputs + number) ≡ Some slot
+
+-- the gate with a cell number by its rows, with the slots of its inputs
+pub record IsWideGate (flat : Flat) (nets : List ℕ) (number : ℕ) (gate : WideGate) : Type 0 where
+  pub ins : List ℕ
+  pub cover : Cover
+  pub cell : slice_get flat.cells number ≡ Some (Gate ins cover)
+  pub same : gate.number ≡ number
+  pub slots : map (slot_of nets) ins ≡ map Some gate.reads
+  pub target : slot_of nets (flat.inputs + number) ≡ Some gate.target
+
+-- an op does this action first
+abbrev pub BeginsWith : Flat → Code → Action → Op → Type 0
+BeginsWith flat code (action.Evaluate number) (op.Run first end slot) = (first < end) × (gate : TableGate) × (slice_get code.gates.items first ≡ Some gate) × IsTableGate flat code.nets.items number gate slot
+BeginsWith flat code (action.Evaluate number) (op.Wide place) = (gate : WideGate) × (slice_get code.wide.items place ≡ Some gate) × IsWideGate flat code.nets.items number gate
+BeginsWith flat code (action.Send link pin net) (op.Send its_link its_pin its_net slot) = (its_link ≡ link) × (its_pin ≡ pin) × (its_net ≡ net) × (slot_of code.nets.items net ≡ Some slot)
+BeginsWith flat code (action.Take link pin net) (op.Take its_link slot) = (its_link ≡ link) × (slot_of code.nets.items net ≡ Some slot)
+BeginsWith flat code action.Step op.Step = IsTrue true
+BeginsWith flat code one other = ⊥
+
+-- the net that a latch takes its next bit from
+abbrev pub taken_net : Option Cell → ℕ
+taken_net None = 0
+taken_net (Some (Gate ins cover)) = 0
+taken_net (Some (Latch d init)) = d
+
+-- a code for the actions of a node
+pub record IsCode (planned : PlannedBoard) (node : ℕ) (program : List Action) (code : Code) : Type 0 where
+  -- an op for each action
+  pub count : length code.ops.items ≡ length program
+  pub begins : (place : ℕ) (action : Action) → slice_get program place ≡ Some action
+      → (one : Op) × (slice_get code.ops.items place ≡ Some one) × BeginsWith planned.ordered.flat code action one
+  -- a run of more gates than one goes on at the next action and the next slot
+  pub runs : (place first end slot : ℕ) → slice_get code.ops.items place ≡ Some (op.Run first end slot) → first + 1 < end → slice_get code.ops.items (place + 1) ≡ Some (op.Run (first + 1) end (slot + 1))
+  -- the inputs and latches of the node have slots, and the host's inputs the first ones
+  pub sources : (net : ℕ) → IsTrue (is_source planned node net) → HasSlot code.nets.items net
+  pub host : node ≡ 0 → (net : ℕ) → net < planned.ordered.flat.inputs → slot_of code.nets.items net ≡ Some net
+  -- the slots of what it records, of its latches, and of what these take; and the numbers of these
+  pub records : map (slot_of code.nets.items) (recorded planned node) ≡ map Some code.records.items
+  pub latches : map (slot_of code.nets.items) (own_latches planned node) ≡ map Some code.latches.items
+  pub inputs : map (λ net. slot_of code.nets.items (taken_net (driving_cell planned.ordered.flat net))) (own_latches planned node) ≡ map Some code.inputs.items
+  pub numbers : code.numbers.items ≡ map (λ net. latch_count (take (net - planned.ordered.flat.inputs) planned.ordered.flat.cells)) (own_latches planned node)

@@ -1,0 +1,229 @@
+//! The form in which the actions of nodes run.
+ghost use Rattle.std.specs.Prelude.{◌≡◌, ◌+◌, ◌-◌, ◌^◌, ◌==◌, ◌++◌, ◌∷◌, [], length, min, slice_get, IfOk, OnOk};
+ghost use Rattle.vw_prog.specs.declared.code.Op.TheVariants.{Run, Wide};
+ghost use Rattle.vw_prog.specs.Coding.{all_gates, all_ops, all_wide, action_gates, action_op, action_wide, cell_gates, cell_op, cell_wide, joined_op, joined_ops, read_at, slot_in, table_gate, wide_gate};
+
+use crate::action::Action;
+use crate::code::{Op, TableGate, WideGate};
+use crate::naming::{slot_at, slots_at};
+use std::alloc::{AllocError, Global};
+use vw_net::{Cell, Flat, Sequence, TRUTH_TABLE_INPUTS};
+
+/// The slot of the net at a place, and any slot where there is none.
+fn read_at(table: &[u32], ins: &[u32], place: usize) -> u32
+    ensures { result ≡ read_at table.now (slice_get ins.now place) }
+{
+    match ins.get(place) {
+        Some(net) => slot_at(table, *net),
+        None => 0,
+    }
+}
+
+/// A gate of at most six inputs.
+fn table_gate(table: &[u32], ins: &[u32], truth_table: u64) -> TableGate
+    ensures { result ≡ table_gate table.now ins.now truth_table }
+{
+    TableGate {
+        reads: [
+            read_at(table, ins, 0),
+            read_at(table, ins, 1),
+            read_at(table, ins, 2),
+            read_at(table, ins, 3),
+            read_at(table, ins, 4),
+            read_at(table, ins, 5),
+        ],
+        truth_table,
+    }
+}
+
+/// A wider gate, with its cell number and the net that it drives.
+fn wide_gate(
+    alloc: Global,
+    table: &[u32],
+    number: u32,
+    net: u32,
+    ins: &[u32],
+) -> Result<WideGate, AllocError>
+    ensures { IfOk result (λ gate. gate ≡ wide_gate table.now number net ins.now) }
+{
+    Ok(WideGate {
+        number,
+        reads: Sequence::of(slots_at(alloc, table, ins)?),
+        target: slot_at(table, net),
+    })
+}
+
+/// Keeps a gate of at most six inputs, and gives the op that works it out into a slot.
+fn keep_table_gate(gates: &mut Vec<TableGate>, gate: TableGate, slot: u32) -> Result<Op, AllocError>
+    ensures one { IfOk result (λ one. one
+        ≡ Run (length gates.old.items) (length gates.old.items + 1) slot) }
+    ensures gates { OnOk result (gates.new.items ≡ gates.old.items ++ gate ∷ []) }
+{
+    let first = gates.len();
+    gates.push(gate)?;
+    Ok(Op::Run {
+        first,
+        end: first + 1,
+        slot,
+    })
+}
+
+/// Keeps a wider gate, and gives the op that works it out.
+fn keep_wide_gate(wide: &mut Vec<WideGate>, gate: WideGate) -> Result<Op, AllocError>
+    ensures one { IfOk result (λ one. one ≡ Wide (length wide.old.items)) }
+    ensures wide { OnOk result (wide.new.items ≡ wide.old.items ++ gate ∷ []) }
+{
+    let place = wide.len();
+    wide.push(gate)?;
+    Ok(Op::Wide(place))
+}
+
+/// Keeps the gate with a cell number, and gives the op that works it out.
+fn cell_op(
+    alloc: Global,
+    flat: &Flat,
+    table: &[u32],
+    number: u32,
+    gates: &mut Vec<TableGate>,
+    wide: &mut Vec<WideGate>,
+) -> Result<Op, AllocError>
+    ensures one { IfOk result (λ one. one
+        ≡ cell_op (slot_in table.now (min (flat.now.inputs + number) (2 ^ 32 - 1)))
+        (length gates.old.items) (length wide.old.items) (slice_get flat.now.cells number)) }
+    ensures gates { OnOk result (gates.new.items ≡ gates.old.items
+        ++ cell_gates flat.now.inputs table.now number (slice_get flat.now.cells number)) }
+    ensures wide { OnOk result (wide.new.items ≡ wide.old.items
+        ++ cell_wide flat.now.inputs table.now number (slice_get flat.now.cells number)) }
+{
+    match flat.cells().get(number as usize) {
+        Some(Cell::Gate { ins, cover }) => {
+            let net = flat.inputs() + number;
+            if cover.inputs() <= TRUTH_TABLE_INPUTS {
+                let gate = table_gate(table, ins.as_slice(), cover.truth_table());
+                let one = keep_table_gate(gates, gate, slot_at(table, net))?;
+                return Ok(one);
+            }
+            let gate = wide_gate(alloc, table, number, net, ins.as_slice())?;
+            let one = keep_wide_gate(wide, gate)?;
+            Ok(one)
+        }
+        Some(Cell::Latch { .. }) => Ok(Op::Step),
+        None => Ok(Op::Step),
+    }
+}
+
+/// Keeps the gate of an action, and gives the op for it.
+fn action_op(
+    alloc: Global,
+    flat: &Flat,
+    table: &[u32],
+    action: &Action,
+    gates: &mut Vec<TableGate>,
+    wide: &mut Vec<WideGate>,
+) -> Result<Op, AllocError>
+    ensures one { IfOk result (λ one. one ≡ action_op flat.now table.now (length gates.old.items)
+        (length wide.old.items) action.now) }
+    ensures gates { OnOk result (gates.new.items
+        ≡ gates.old.items ++ action_gates flat.now table.now action.now) }
+    ensures wide { OnOk result (wide.new.items
+        ≡ wide.old.items ++ action_wide flat.now table.now action.now) }
+{
+    match *action {
+        Action::Evaluate(number) => {
+            let one = cell_op(alloc, flat, table, number, gates, wide)?;
+            Ok(one)
+        }
+        Action::Send { link, pin, net } => Ok(Op::Send {
+            link,
+            pin,
+            net,
+            slot: slot_at(table, net),
+        }),
+        Action::Take { link, net, .. } => Ok(Op::Take {
+            link,
+            slot: slot_at(table, net),
+        }),
+        Action::Step => Ok(Op::Step),
+    }
+}
+
+/// Whether a slot is the one behind another.
+fn follows(slot: u32, its: u32) -> bool
+    ensures { result ≡ (its == slot + 1) }
+{
+    match slot.checked_add(1) {
+        Some(next) => its == next,
+        None => false,
+    }
+}
+
+/// An op, where another one comes next: a run goes on with the next run.
+fn joined_op(one: Op, next: Option<Op>) -> Op
+    ensures { result ≡ joined_op one next }
+{
+    match next {
+        Some(
+            Op::Run {
+                first: next,
+                end: last,
+                slot: its,
+            },
+        ) => match one {
+            Op::Run { first, end, slot } => {
+                if next == end && follows(slot, its) {
+                    Op::Run {
+                        first,
+                        end: last,
+                        slot,
+                    }
+                } else {
+                    one
+                }
+            }
+            _ => one,
+        },
+        _ => one,
+    }
+}
+
+/// Joins the runs of ops.
+fn join_ops(ops: &mut [Op])
+    ensures { ops.new ≡ joined_ops ops.old }
+{
+    for place in (0..ops.len()).rev() {
+        let next = ops.get(place + 1).copied();
+        ops[place] = joined_op(ops[place], next);
+    }
+}
+
+/// What stands for the actions of a node: its ops and its gates.
+#[derive(Drop)]
+pub struct Parts {
+    pub ops: Vec<Op>,
+    pub gates: Vec<TableGate>,
+    pub wide: Vec<WideGate>,
+}
+
+/// The ops and the gates of actions, by a table of slots.
+pub fn parts_of(
+    alloc: Global,
+    flat: &Flat,
+    table: &[u32],
+    actions: &[Action],
+) -> Result<Parts, AllocError>
+    ensures ops { IfOk result (λ parts. parts.ops.items
+        ≡ joined_ops (all_ops flat.now table.now 0 0 actions.now)) }
+    ensures gates { IfOk result (λ parts. parts.gates.items
+        ≡ all_gates flat.now table.now actions.now) }
+    ensures wide { IfOk result (λ parts. parts.wide.items
+        ≡ all_wide flat.now table.now actions.now) }
+{
+    let mut ops = Vec::new(alloc);
+    let mut gates = Vec::new(alloc);
+    let mut wide = Vec::new(alloc);
+    for action in actions {
+        ops.push(action_op(alloc, flat, table, action, &mut gates, &mut wide)?)?;
+    }
+    join_ops(&mut ops);
+    Ok(Parts { ops, gates, wide })
+}
