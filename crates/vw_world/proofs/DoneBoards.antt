@@ -155,7 +155,7 @@ module _ (job : Job) where
           numbers = code.numbers;
           rows = holds.told ∙ ap (tabulate (λ clock. map (value_at job clock) (recorded planned node))) clock;
           last = bits_are there.code.now.nets.items there.slots.items (own_latches planned node) there.code.now.latches.items code.latches
-          ∙ map_among (bit_by there.code.now.nets.items there.slots.items) (value_at job (length job.rows)) (own_latches planned node) (λ net among.
+              ∙ map_among (bit_by there.code.now.nets.items there.slots.items) (value_at job (length job.rows)) (own_latches planned node) (λ net among.
               let latch = own_are node net among in
               let at = latch_net net latch in
               let own : is_source planned node net ≡ true = and_from (eqb (home planned net) node) (nat_lt net flat.inputs || is_latch (driving_cell flat net)) (eq-eqb (home planned net) node (own_home node net among)) (or_second (nat_lt net flat.inputs) (is_latch (driving_cell flat net)) latch) in

@@ -37,7 +37,6 @@ latch_more flat net =
     let whole : latch_count (take (net + 1 - flat.inputs) flat.cells) ≡ latch_count (take (net - flat.inputs) flat.cells) + one_if (is_latch (driving_cell flat net)) = omega (arith, kind, ap (λ (many : ℕ). latch_count (take many flat.cells)) next, count_next flat.cells (net - flat.inputs)) in whole in
     ⊎_elim if_input if_cell (cases_lt net flat.inputs)
 
-
 module _ (job : Job) where
   abbrev flat : Flat
   flat = job.checked.ordered.flat

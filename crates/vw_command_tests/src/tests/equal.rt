@@ -82,10 +82,19 @@ fn has_trace(
 ) -> Result<(), Fail> {
     let plan = written(alloc, &["plan", "d", "b"], &[("d", design), ("b", board)])?;
     let plan = slower(alloc, plan.as_str())?;
-    let texts = [("d", design), ("s", rows), ("b", board), ("p", plan.as_str())];
+    let texts = [
+        ("d", design),
+        ("s", rows),
+        ("b", board),
+        ("p", plan.as_str()),
+    ];
     let own = written(alloc, &["run", "d", "b", "s", "workers=1"], &texts)?;
     are_found(rt, own.as_bytes(), trace.as_bytes(), board);
-    let given = written(alloc, &["run", "d", "b", "s", "workers=1", "plan=p"], &texts)?;
+    let given = written(
+        alloc,
+        &["run", "d", "b", "s", "workers=1", "plan=p"],
+        &texts,
+    )?;
     are_found(rt, given.as_bytes(), trace.as_bytes(), board);
     Ok(())
 }
@@ -106,7 +115,14 @@ fn a_run_on_any_board_writes_what_the_simulator_writes(rt: HostRuntime) -> Resul
     let texts = [("d", design.as_str()), ("s", rows.as_str())];
     let trace = written(alloc, SIM, &texts)?;
     for board in BOARDS {
-        has_trace(&rt, alloc, design.as_str(), rows.as_str(), board, trace.as_str())?;
+        has_trace(
+            &rt,
+            alloc,
+            design.as_str(),
+            rows.as_str(),
+            board,
+            trace.as_str(),
+        )?;
     }
     Ok(())
 }

@@ -42,8 +42,7 @@ put_present-requires-clause-latches c =
 pub loop-node-preserved : goal.loop-node-preserved
 loop-node-preserved c =
     let there : slice_get c.args.nodes.now c.loop-node.node ≡ Some c.index-nodes-node.result = slice_get-get_or c.args.nodes.now c.loop-node.node c.index-nodes-node.result c.loop-node-test.true ∙ ap Some (sym c.index-nodes-node.is) in
-    let done = c.requires.done.1 c.loop-node.node c.index-nodes-node.result there in
-    (
+    let done = c.requires.done.1 c.loop-node.node c.index-nodes-node.result there in (
       rows_more c.args.job.now c.loop-node.node c.loop-node.auto.node c.index-nodes-node.result done c.loop-node.latches c.put_recorded.new.latches c.loop-node.invariant.0 c.put_recorded.ensures.count c.put_recorded.ensures.each,
       last_more c.args.job.now c.loop-node.node c.loop-node.auto.node c.index-nodes-node.result done c.loop-node.last c.put_present.new.row c.loop-node.invariant.1 c.put_present.ensures,
     )
