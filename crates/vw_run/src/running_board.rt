@@ -1,9 +1,8 @@
 //! A planned design that runs on its board, in one worker.
 ghost use Rattle.std.specs.Prelude.{◌≡◌, ◌+◌, length, IfOk};
-ghost use Rattle.vw_plan.specs.PlannedBoard.{planned_board};
-ghost use Rattle.vw_prog.specs.Actions.{ArePrograms};
 
 use std::alloc::{AllocError, Global};
+use std::marker::Model;
 use std::mem::replace;
 use vw_net::{Bits, Flat, Rows};
 use vw_plan::Checked;
@@ -11,13 +10,23 @@ use vw_prog::{Answer, Job, Programs};
 use vw_trace::{Batch, Engine};
 use vw_world::World;
 
-/// A board with the programs of its nodes, and the job that it has run last.
+/// A board with the programs of its nodes, and the job that it has run last. Contracts see the job.
 #[derive(Drop)]
 pub struct RunningBoard {
-    pub programs: Programs,
-    pub job: Job,
-    ghost theirs: { ArePrograms
-        (planned_board job.checked.ordered job.checked.board job.checked.plan) programs },
+    programs: Programs,
+    job: Job,
+}
+
+impl Model for RunningBoard {
+    ghost use Rattle.vw_prog.specs.Actions.{ArePrograms};
+    ghost use Rattle.vw_prog.specs.Scripts.{planned_of};
+    ghost use Rattle.vw_run.specs.Runs.{SeenRun};
+
+    ghost Value = { SeenRun };
+
+    ghost view = { λ board. record { job = board.job } };
+
+    ghost invariant = { λ board. ArePrograms (planned_of board.job) board.programs };
 }
 
 impl RunningBoard {
