@@ -9,7 +9,6 @@ use vw_top::virtual_wires;
 mod checks;
 mod claims;
 mod designs;
-mod equal;
 mod example;
 mod hierarchy;
 mod hostile;

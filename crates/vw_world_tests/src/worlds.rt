@@ -123,11 +123,12 @@ fn nodes_that_wait_for_a_word_stay_where_they_are(rt: HostRuntime) -> Result<(),
     is_flipped(&rt, rt.alloc(), &SLOW_FLIP, 0, 1, NONE)
 }
 
-/// Chip 2 is as far ahead as its link has room for: one word where a bit takes one microcycle, and three where it takes three.
+/// Chip 2 is as far ahead as its link has room for, one word where a bit takes one microcycle, and three where it takes three. It has
+/// worked out its gate in the clock in which the next word is refused.
 #[test]
 fn a_link_holds_a_word_for_each_microcycle_that_a_bit_takes(rt: HostRuntime) -> Result<(), Fail> {
-    const ONE: &[u64] = &[0, 0, 0, 0, 1, 0, 0, 0, 0, 1];
-    const THREE: &[u64] = &[0, 0, 0, 0, 3, 0, 0, 0, 0, 3];
+    const ONE: &[u64] = &[0, 0, 0, 0, 1, 1, 0, 0, 0, 1];
+    const THREE: &[u64] = &[0, 0, 0, 0, 3, 1, 0, 0, 0, 3];
     is_flipped(&rt, rt.alloc(), &FLIP, 2, 2, ONE)?;
     is_flipped(&rt, rt.alloc(), &SLOW_FLIP, 2, 2, THREE)
 }
