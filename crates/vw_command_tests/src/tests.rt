@@ -9,6 +9,7 @@ use vw_top::virtual_wires;
 mod checks;
 mod claims;
 mod designs;
+mod equal;
 mod example;
 mod hierarchy;
 mod hostile;

@@ -310,6 +310,43 @@ fn the_first_file_that_is_refused_ends_a_run(rt: HostRuntime) -> Result<(), Fail
     Ok(())
 }
 
+/// Texts that have nothing in them, rows that are held, and a board over whose last link a bit takes three microcycles: by a plan
+/// of its own and by the one that is given.
+#[test]
+fn small_runs_end_alike_by_both_plans(rt: HostRuntime) -> Result<(), Fail> {
+    const NOTHING: &str = ".model m\n";
+    const EMPTY_PLAN: &str = "plan 1 0 0 1\nchips\nend\n";
+    const FAR_CHAIN: &str =
+        "board 2\nchips 2\ncells 2\nsettle 0\npins 4\nlink 0 1 1 1\nlink 1 0 1 1\nlink 1 2 1 1\nlink 2 1 1 3\n";
+    const FAR_PLAN: &str = "plan 1 2 1 4\nchips 2 2\nwire 1 0 2\nhop 2 1 0 0\nhop 1 0 0 3\nend\n";
+    const TABLE: &[((&str, &str, &str, &str), &str)] = &[
+        (
+            (NOTHING, TRIANGLE, EMPTY_PLAN, "hold 3\n"),
+            "trace 1 0 0\n0 - -\n1 - -\n2 - -\nend 3 -\n",
+        ),
+        (
+            (NOTHING, TRIANGLE, EMPTY_PLAN, ""),
+            "trace 1 0 0\nend 0 -\n",
+        ),
+        (
+            (TOGGLE, TRIANGLE, TOGGLE_PLAN, ""),
+            "trace 1 1 1\nend 0 0\n",
+        ),
+        (
+            (TOGGLE, TRIANGLE, TOGGLE_PLAN, "hold 1\n1\nhold 0\n"),
+            "trace 1 1 1\n0 0 0\n1 0 0\nend 2 1\n",
+        ),
+        (
+            (FLIP, FAR_CHAIN, FAR_PLAN, "hold 4\n"),
+            "trace 1 1 1\n0 0 0\n1 1 1\n2 0 0\n3 1 1\nend 4 0\n",
+        ),
+    ];
+    for (texts, trace) in TABLE {
+        runs_end(&rt, rt.alloc(), *texts, (0, *trace, ""), (0, *trace, ""))?;
+    }
+    Ok(())
+}
+
 /// A chain of four gates behind an input.
 const FOUR_GATES: &str =
     ".model m\n.inputs n0\n.outputs n4\n.names n0 n1\n1 1\n.names n1 n2\n1 1\n.names n2 n3\n1 1\n.names n3 n4\n1 1\n.end\n";
