@@ -1,6 +1,7 @@
 //! What lies outside the program: texts that are read by their names, and places that bytes are written to.
 #![tactic(auto)]
 
+mod burst_gate;
 mod files;
 mod held;
 mod laws;
@@ -15,6 +16,7 @@ mod sure_sink;
 mod text;
 mod unwritten;
 
+pub use burst_gate::{BurstGate, OpenGate};
 pub use files::FileShelf;
 pub use held::Held;
 pub use laws::{no_read_fault_over_a_sure_shelf, no_write_fault_over_a_sure_sink};
