@@ -13,6 +13,7 @@ use Rattle.vw_node.specs.Left.{left}
 use Rattle.vw_node.specs.Moves.{Goes, Steps}
 use Rattle.vw_node.specs.Positions.{Agrees}
 use Rattle.vw_node.specs.States.{NodeState}
+use Rattle.vw_answer.proofs.SameLists.{same_lists}
 use Rattle.vw_world.specs.Able.{IsAble}
 use Rattle.vw_world.specs.Boards.{AreEnds, IsBoard, lefts, world_of}
 use Rattle.vw_world.specs.Kept.{IsKept, sent_at, taken_at}
@@ -21,13 +22,6 @@ use Rattle.vw_world.specs.Worlds.{WorldState, happens, node_at, played}
 use Rattle.vw_world.proofs.Goings.{Went, went}
 use Rattle.vw_world.proofs.KeptWorlds.{event_kept, played_kept}
 use Rattle.vw_world.proofs.Turns.{agree, ends_then, nodes_are}
-
--- lists with the same elements
-pub same_lists : {A : Type 0} (xs ys : List A) (default : A) → length xs ≡ length ys → ((place : ℕ) → place < length xs → get_or xs place default ≡ get_or ys place default) → xs ≡ ys
-same_lists [] [] default long each = refl
-same_lists [] (y ∷ ys) default long each = absurd (omega (arith, long))
-same_lists (x ∷ xs) [] default long each = absurd (omega (arith, long))
-same_lists (x ∷ xs) (y ∷ ys) default long each = ap₂ (λ (first : _) (rest : List _). first ∷ rest) (each 0 (omega arith)) (same_lists xs ys default (omega (arith, long)) (λ place below. each (suc place) (omega (arith, below))))
 
 -- how many actions are to come, after the state of one node was set
 lefts_set : (job : Job) (first : ℕ) (states : List NodeState) (place : ℕ) (new default : NodeState) → place < length states

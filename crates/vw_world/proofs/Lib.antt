@@ -11,5 +11,4 @@ pub mod Goings
 pub mod BoardSteps
 pub mod Rounds
 pub mod FirstBoards
-pub mod LatchRows
-pub mod DoneBoards
+pub mod FinishedBoards

@@ -4,4 +4,3 @@ pub mod Able
 pub mod Seen
 pub mod Lanes
 pub mod Boards
-pub mod Answers

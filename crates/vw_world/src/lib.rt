@@ -1,7 +1,6 @@
 //! The board itself, in a pure core: the nodes of a job and the words on its links, over every order of events.
 #![tactic(auto)]
 
-mod answering;
 mod board;
 mod lane;
 mod lanes;

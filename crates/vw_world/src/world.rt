@@ -6,14 +6,13 @@ ghost use Rattle.vw_world.specs.Kept.{IsKept};
 ghost use Rattle.vw_world.specs.Seen.{IsDone, start_of};
 ghost use Rattle.vw_world.specs.Worlds.{node_at, played, words_at};
 
-use crate::answering::answer_of;
 use crate::board::{finish, play};
 use crate::lanes::Lanes;
 use crate::making::first_nodes;
 use std::alloc::{AllocError, Global};
 use std::marker::Model;
-use vw_net::Bits;
-use vw_node::{Node, spare_rows};
+use vw_answer::{Room, answer_of};
+use vw_node::Node;
 use vw_prog::{Answer, Job, Programs};
 
 /// The nodes of a board in a job, and the words on its links. It borrows the job and the programs. Contracts see the job, the
@@ -23,14 +22,12 @@ pub struct World<'a> {
     job: &'a Job,
     nodes: Vec<Node<'a>>,
     lanes: Lanes<'a>,
-    /// Room for the latch values of each clock.
-    latches: Vec<Bits>,
-    /// Room for those after the last.
-    last: Bits,
+    /// Room for the latch values of its answer.
+    room: Room,
 }
 
 impl<'a> Model for World<'a> {
-    ghost use Rattle.vw_world.specs.Answers.{HasRoom};
+    ghost use Rattle.vw_answer.specs.Answers.{HasTold};
     ghost use Rattle.vw_world.specs.Boards.{IsBoard, world_of};
     ghost use Rattle.vw_world.specs.Seen.{SeenWorld};
 
@@ -42,7 +39,7 @@ impl<'a> Model for World<'a> {
     } };
 
     ghost invariant = { λ world. IsBoard world.job.now world.nodes.items world.lanes
-        × HasRoom world.job.now world.latches.items world.last };
+        × HasTold world.job.now 1 world.room };
 }
 
 impl<'a> World<'a> {
@@ -54,15 +51,12 @@ impl<'a> World<'a> {
     {
         let nodes = first_nodes(alloc, programs, job)?;
         let lanes = Lanes::make(alloc, job)?;
-        let share = job.share(0);
-        let latches = spare_rows(alloc, share.clocks, share.start.len())?;
-        let last = Bits::of(vec![in alloc; false; share.start.len()]?);
+        let room = Room::make(alloc, job)?;
         Ok(World {
             job,
             nodes,
             lanes,
-            latches,
-            last,
+            room,
         })
     }
 
@@ -101,11 +95,10 @@ impl<'a> World<'a> {
         let World {
             job,
             nodes,
-            latches,
-            last,
+            room,
             ..
         } = self;
-        answer_of(job, nodes, latches, last)
+        answer_of(job, nodes, room)
     }
 
     /// How many nodes there are: the host and each chip. It takes no memory.

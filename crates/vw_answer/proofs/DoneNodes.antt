@@ -1,12 +1,11 @@
--- A board that is done: what its nodes have recorded makes up the rows of the netlist's history.
-use Rattle.std.proofs.Common.{◌≡◌, ◌<◌, ◌≤◌, ◌+◌, ◌-◌, ◌∷◌, ◌&&◌, ◌||◌, ◌⊎◌, ℕ, zero, suc, Bool, true, false, List, [], length, map, take, get_or, set, eqb, nat_lt, slice_get, if◌then◌else◌, ap, ap₂, refl, sym, subst, ◌∙◌, ⊎_elim, inl, inr, eqb-true, eq-eqb, true≢false, lt-ltb, Some, None, arith}
+-- Nodes that are done: what they have recorded makes up the rows of the netlist's history.
+use Rattle.std.proofs.Common.{◌≡◌, ◌<◌, ◌≤◌, ◌+◌, ◌-◌, ◌∷◌, ◌&&◌, ◌||◌, ◌⊎◌, ℕ, zero, suc, Bool, true, false, List, [], length, map, take, get_or, eqb, nat_lt, slice_get, if◌then◌else◌, ap, ap₂, refl, sym, ◌∙◌, ⊎_elim, inl, inr, eqb-true, eq-eqb, true≢false, lt-ltb, None, arith}
 use Rattle.std.specs.List.{All, filter, range_with_len}
-use Rattle.std.proofs.lemmas.Bool.{and_from, and_parts, cases_eq, cases_lt, le-ltb, ne_eqb}
-use Rattle.std.proofs.lemmas.List.{get_or-map, get_or-set_other, get_or-set_same, get_or_default, length-map, length-set, take_all}
+use Rattle.std.proofs.lemmas.Bool.{and_from, and_parts, cases_lt, le-ltb, ne_eqb}
+use Rattle.std.proofs.lemmas.List.{get_or-map, get_or_default, length-map, take_all}
 use Rattle.std.proofs.lemmas.List.FromFn.{get_or-range_with_len, length-range_with_len}
 use Rattle.std.proofs.lemmas.List.Folds.{list_any_at}
 use Rattle.std.proofs.lemmas.Map.Views.{any-filter_same}
-use Rattle.std.proofs.lemmas.Option.{get_or_from_slice_get, slice_get-get_or, slice_get_within}
 use Rattle.vw_net.specs.declared.flat.Flat.{Flat}
 use Rattle.vw_net.specs.Cells.{latch_count}
 use Rattle.vw_net.specs.History.{next_state, outputs_of, state_after, states_of}
@@ -19,24 +18,21 @@ use Rattle.vw_prog.specs.declared.job.Job.{Job}
 use Rattle.vw_prog.specs.Due.{is_source, own_latches, recorded}
 use Rattle.vw_prog.specs.Scripts.{planned_of, state_at, value_at}
 use Rattle.vw_node.specs.declared.node.Node.{Node}
-use Rattle.vw_node.specs.Fits.{bit_by, bit_in, state_of}
+use Rattle.vw_node.specs.Fits.{bit_by, bit_in}
 use Rattle.vw_node.specs.Starts.{net_count}
 use Rattle.vw_node.proofs.SlotBits.{bits_are}
 use Rattle.vw_plan.specs.declared.checked.Checked.{Checked}
 use Rattle.vw_prog.specs.Actions.{actions}
 use Rattle.vw_prog.specs.Codes.{IsCode}
-use Rattle.vw_node.specs.Holding.{HoldsValues}
 use Rattle.vw_node.specs.Lists.{tabulate}
-use Rattle.vw_node.specs.States.{NodeState, latch_number, slot}
+use Rattle.vw_node.specs.States.{latch_number}
 use Rattle.vw_node.proofs.Clocks.{value-latch}
 use Rattle.vw_node.proofs.Held.{latch_is, latch_within}
 use Rattle.vw_node.proofs.Values.{get_or-tabulate, length-tabulate}
-use Rattle.vw_world.specs.Answers.{HasLatches, HaveLatches, IsDoneBoard, IsDoneNode, with_latches}
-use Rattle.vw_world.specs.Boards.{IsBoard, world_of}
-use Rattle.vw_world.specs.Lanes.{SeenLanes}
-use Rattle.vw_world.specs.Worlds.{node_at}
-use Rattle.vw_world.proofs.BoardSteps.{same_lists}
-use Rattle.vw_world.proofs.LatchRows.{latch_with, number_within, put_right, same_width}
+use Rattle.vw_answer.specs.Answers.{IsDoneNode, IsFinished}
+use Rattle.vw_answer.specs.Latches.{HasLatches, HaveLatches, with_latches}
+use Rattle.vw_answer.proofs.SameLists.{same_lists}
+use Rattle.vw_answer.proofs.LatchRows.{latch_with, number_within, put_right, same_width}
 
 -- ---- histories, clock by clock
 
@@ -138,34 +134,34 @@ module _ (job : Job) where
       let found = latch_with job place (omega (arith, below, wide)) in
       ap (λ (one : ℕ). get_or row one false) (sym found.1.1) ∙ right found.0 found.1.0 ∙ state_bit clock found.0 found.1.0 ∙ ap (λ (one : ℕ). get_or (state_at job clock) one false) found.1.1)
 
-  -- ---- what the nodes of a board that is done have
+  -- ---- what a node that is done has
 
-  pub done_board : (nodes : List Node) (all : SeenLanes) → IsBoard job nodes all → ((node : ℕ) → node < length (map state_of nodes) → (node_at (world_of nodes all) node).clock ≡ length job.rows) → IsDoneBoard job nodes
-  done_board nodes all board done = (sym (length-map nodes state_of) ∙ board.kept.count, λ node there is. each node there is) where
-    each : (node : ℕ) (there : Node) → slice_get nodes node ≡ Some there → IsDoneNode job node there
-    each node there is =
-        let within : node < length nodes = slice_get_within nodes node there is in
-        let inside : node < length (map state_of nodes) = omega (arith, within, length-map nodes state_of) in
-        let state : node_at (world_of nodes all) node ≡ state_of there = get_or-map state_of nodes node there _ within ∙ ap state_of (get_or_from_slice_get nodes node there there is) in
-        let clock : there.clock ≡ length job.rows = sym (ap (λ (one : NodeState). one.clock) state) ∙ done node inside in
-        let holds : HoldsValues job node (state_of there) = subst (HoldsValues job node) state (board.kept.nodes node inside) in
-        let fits = board.fits node there is in
-        let code : IsCode planned node (actions planned node) there.code.now = subst (λ (one : ℕ). IsCode planned one (actions planned one) there.code.now) (board.numbers node there is) fits.code in
-        record {
-          numbers = code.numbers;
-          rows = holds.told ∙ ap (tabulate (λ clock. map (value_at job clock) (recorded planned node))) clock;
-          last = bits_are there.code.now.nets.items there.slots.items (own_latches planned node) there.code.now.latches.items code.latches
-              ∙ map_among (bit_by there.code.now.nets.items there.slots.items) (value_at job (length job.rows)) (own_latches planned node) (λ net among.
-              let latch = own_are node net among in
-              let at = latch_net net latch in
-              let own : is_source planned node net ≡ true = and_from (eqb (home planned net) node) (nat_lt net flat.inputs || is_latch (driving_cell flat net)) (eq-eqb (home planned net) node (own_home node net among)) (or_second (nat_lt net flat.inputs) (is_latch (driving_cell flat net)) latch) in
-              let many : net_count there.share ≡ flat.inputs + length flat.cells = ap (λ (checked : Checked). checked.ordered.flat.inputs + length checked.ordered.flat.cells) fits.share.checked in
-              sym (get_or-tabulate (bit_by there.code.now.nets.items there.slots.items) (net_count there.share) net false (omega (arith, at.1, many)))
-              ∙ holds.latched net at.0 own ∙ ap (λ (one : ℕ). value_at job one net) clock);
-        } where
+  module _ (there : Node) (finished : IsFinished job there) where
+    abbrev own_nets : List ℕ
+    own_nets = own_latches planned there.share.node
+
+    abbrev code : IsCode planned there.share.node (actions planned there.share.node) there.code.now
+    code = finished.fits.code
+
+    own_bit : (net : ℕ) → is_among own_nets net ≡ true → bit_by there.code.now.nets.items there.slots.items net ≡ value_at job (length job.rows) net
+    own_bit net among =
+        let latch = own_are there.share.node net among in
+        let at = latch_net net latch in
+        let own : is_source planned there.share.node net ≡ true = and_from (eqb (home planned net) there.share.node) (nat_lt net flat.inputs || is_latch (driving_cell flat net)) (eq-eqb (home planned net) there.share.node (own_home there.share.node net among)) (or_second (nat_lt net flat.inputs) (is_latch (driving_cell flat net)) latch) in
+        let many : net_count there.share ≡ flat.inputs + length flat.cells = ap (λ (checked : Checked). checked.ordered.flat.inputs + length checked.ordered.flat.cells) finished.fits.share.checked in
+        sym (get_or-tabulate (bit_by there.code.now.nets.items there.slots.items) (net_count there.share) net false (omega (arith, at.1, many)))
+        ∙ finished.holds.latched net at.0 own ∙ ap (λ (one : ℕ). value_at job one net) finished.clock where
           or_second : (first second : Bool) → second ≡ true → (first || second) ≡ true
           or_second true second is = refl
           or_second false second is = is
+
+    pub done_node : IsDoneNode job there.share.node there
+    done_node = record {
+      numbers = code.numbers;
+      rows = finished.holds.told ∙ ap (tabulate (λ clock. map (value_at job clock) (recorded planned there.share.node))) finished.clock;
+      last = bits_are there.code.now.nets.items there.slots.items own_nets there.code.now.latches.items code.latches
+          ∙ map_among (bit_by there.code.now.nets.items there.slots.items) (value_at job (length job.rows)) own_nets own_bit;
+    }
 
   -- what a chip has recorded
   pub chip_nets : (node : ℕ) → 1 ≤ node → recorded planned node ≡ own_latches planned node

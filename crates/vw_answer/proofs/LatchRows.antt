@@ -1,5 +1,5 @@
 -- Rows of latches, filled by the nodes of the latches one after the other.
-use Rattle.std.proofs.Common.{◌≡◌, ◌<◌, ◌≤◌, ◌+◌, ◌-◌, ◌∷◌, ◌||◌, ◌⊎◌, ℕ, zero, suc, Bool, true, false, List, [], length, map, take, get_or, set, eqb, slice_get, if◌then◌else◌, ap, refl, sym, ◌∙◌, ⊎_elim, inl, inr, eqb-true, eq-eqb, true≢false, None, arith, lt-ltb, Option, nat_lt}
+use Rattle.std.proofs.Common.{◌≡◌, ◌<◌, ◌≤◌, ◌+◌, ◌-◌, ◌∷◌, ◌||◌, ◌⊎◌, ℕ, zero, suc, Bool, true, false, List, [], length, map, take, get_or, set, eqb, slice_get, if◌then◌else◌, ap, refl, sym, ◌∙◌, ⊎_elim, inl, inr, eqb-true, eq-eqb, true≢false, None, arith, lt-ltb}
 use Rattle.std.proofs.lemmas.Bool.{cases_Bool, cases_eq, cases_lt, le-ltb}
 use Rattle.std.proofs.lemmas.List.{get_or-set_other, get_or-set_same, length-set, take_all}
 use Rattle.vw_net.specs.Steps.Bits.{one_if}
@@ -12,7 +12,7 @@ use Rattle.vw_plan.specs.Nets.{driving_cell}
 use Rattle.vw_prog.specs.declared.job.Job.{Job}
 use Rattle.vw_node.specs.States.{latch_number}
 use Rattle.vw_node.proofs.Held.{latch_is, latch_within}
-use Rattle.vw_world.specs.Answers.{with_latches}
+use Rattle.vw_answer.specs.Latches.{with_latches}
 
 -- ---- the numbers of latches
 

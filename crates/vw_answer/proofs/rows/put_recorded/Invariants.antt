@@ -1,6 +1,6 @@
 use Rattle.std.proofs.Common.{◌≡◌, ◌<◌, ◌≤◌, ℕ, [], length, get_or}
-use Rattle.vw_world.specs.Answers.{with_latches}
-use Rattle.vw_world.proofs.answering.put_recorded.Given as goal
+use Rattle.vw_answer.specs.Latches.{with_latches}
+use Rattle.vw_answer.proofs.rows.put_recorded.Given as goal
 
 abbrev pub invariant-loop-clock : goal.invariant-loop-clock
 invariant-loop-clock l =

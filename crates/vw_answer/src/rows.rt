@@ -1,14 +1,11 @@
-//! What a world that is done has come to.
+//! Rows of all latches, filled by the nodes of the latches.
 ghost use Rattle.std.specs.Prelude.{◌≡◌, ◌<◌, ℕ, length, map, slice_index_or, []};
 ghost use Rattle.std.specs.List.{All};
-ghost use Rattle.vw_net.specs.Cells.{latch_count};
-ghost use Rattle.vw_net.specs.History.{outputs_of, state_after, states_of};
 ghost use Rattle.vw_node.specs.Fits.{bit_in};
-ghost use Rattle.vw_world.specs.Answers.{HasRoom, HasLatches, HaveLatches, IsDoneBoard, with_latches};
+ghost use Rattle.vw_answer.specs.Latches.{with_latches};
 
-use vw_net::{Bits, Rows};
+use vw_net::Bits;
 use vw_node::Node;
-use vw_prog::{Answer, Job};
 
 /// Puts bits into a row, each at its number.
 fn put_latches(numbers: &[u32], bits: &Bits, row: &mut Bits)
@@ -23,7 +20,7 @@ fn put_latches(numbers: &[u32], bits: &Bits, row: &mut Bits)
 }
 
 /// Puts the latches that a node has recorded into the rows of all latches.
-fn put_recorded(node: &Node<'_>, latches: &mut [Bits])
+pub fn put_recorded(node: &Node<'_>, latches: &mut [Bits])
     requires within { All (λ row. All (λ number. number < length row)
         node.now.code.now.numbers.items) latches.old }
     requires bits { All (λ bits. length bits ≡ length node.now.code.now.numbers.items)
@@ -41,7 +38,7 @@ fn put_recorded(node: &Node<'_>, latches: &mut [Bits])
 }
 
 /// Puts the bits that the latches of a node have now into a row of all latches.
-fn put_present(node: &Node<'_>, row: &mut Bits)
+pub fn put_present(node: &Node<'_>, row: &mut Bits)
     requires within { All (λ number. number < length row.old) node.now.code.now.numbers.items }
     requires latches { length node.now.code.now.latches.items
         ≡ length node.now.code.now.numbers.items }
@@ -51,42 +48,4 @@ fn put_present(node: &Node<'_>, row: &mut Bits)
     for (i, number) in node.numbers().iter().enumerate() {
         row.set(*number as usize, node.latch_bit(i));
     }
-}
-
-/// Puts the latches of all chips into the rows of all latches, and into the row of the end.
-fn put_chips(job: &Job, nodes: &[Node<'_>], latches: &mut [Bits], last: &mut Bits)
-    requires done { IsDoneBoard job.now nodes.now }
-    requires latches { HaveLatches job.now 1 latches.old }
-    requires last { HasLatches job.now (length job.now.rows) 1 last.old }
-    ensures latches { latches.new ≡ states_of job.now.checked.ordered.flat
-        job.now.start job.now.rows }
-    ensures last { last.new ≡ state_after job.now.checked.ordered.flat
-        job.now.start job.now.rows }
-{
-    for node in 1..nodes.len() {
-        let chip = &nodes[node];
-        put_recorded(chip, latches);
-        put_present(chip, last);
-    }
-}
-
-/// The answer of a job from nodes that are done. The rows of all latches are filled for it.
-pub fn answer_of(
-    job: &Job,
-    mut nodes: Vec<Node<'_>>,
-    mut latches: Vec<Bits>,
-    mut last: Bits,
-) -> Answer
-    requires done { IsDoneBoard job.now nodes.items }
-    requires room { HasRoom job.now latches.items last }
-    ensures outputs { result.outputs ≡ outputs_of job.now.checked.ordered.flat
-        job.now.start job.now.rows }
-    ensures latches { result.latches ≡ states_of job.now.checked.ordered.flat
-        job.now.start job.now.rows }
-    ensures last { result.last ≡ state_after job.now.checked.ordered.flat
-        job.now.start job.now.rows }
-{
-    put_chips(job, &nodes, &mut latches, &mut last);
-    let host = nodes.swap_remove(0);
-    Answer::make(Rows::of(host.into_rows()), Rows::of(latches), last)
 }

@@ -1,7 +1,7 @@
 use Rattle.std.proofs.Common.{◌≡◌, drop, length, map}
 use Rattle.vw_node.specs.Fits.{bit_in}
-use Rattle.vw_world.specs.Answers.{with_latches}
-use Rattle.vw_world.proofs.answering.put_present.Given as goal
+use Rattle.vw_answer.specs.Latches.{with_latches}
+use Rattle.vw_answer.proofs.rows.put_present.Given as goal
 
 abbrev pub invariant-loop-i : goal.invariant-loop-i
 invariant-loop-i l =

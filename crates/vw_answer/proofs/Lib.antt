@@ -1,0 +1,3 @@
+pub mod SameLists
+pub mod LatchRows
+pub mod DoneNodes
