@@ -1,0 +1,22 @@
+-- Groups after a round, of each of which it is known what it did.
+use Rattle.std.proofs.Common.{◌≡◌, ◌<◌, ◌∷◌, ℕ, suc, List, [], length, map, get_or, ap₂, refl, subst, arith}
+use Rattle.std.proofs.lemmas.Option.{get_or_from_slice_get, slice_get_within}
+use Rattle.vw_crew.specs.Groups.{AllAtWork, AllStay, AreAtWork, SeenGroup, Stays, marks_of, share_of}
+
+map_each : {X : Type 0} (part : SeenGroup → X) (old new : List SeenGroup) → length new ≡ length old → ((number : ℕ) (default : SeenGroup) → number < length old → part (get_or new number default) ≡ part (get_or old number default)) → map part new ≡ map part old
+map_each part [] [] long each = refl
+map_each part [] (group ∷ new) long each = absurd (omega (arith, long))
+map_each part (group ∷ old) [] long each = absurd (omega (arith, long))
+map_each part (group ∷ old) (other ∷ new) long each = ap₂ (λ (first : _) (rest : List _). first ∷ rest) (each 0 group (omega arith)) (map_each part old new (omega (arith, long)) (λ number default below. each (suc number) default (omega (arith, below))))
+
+module _ (old new : List SeenGroup) (long : length new ≡ length old) (each : (number : ℕ) (default : SeenGroup) → number < length old → AreAtWork (get_or new number default) × Stays (get_or old number default) (get_or new number default)) where
+  pub round_works : AllAtWork new
+  round_works number group is =
+      let within : number < length old = omega (arith, slice_get_within new number group is, long) in
+      subst AreAtWork (get_or_from_slice_get new number group group is) (each number group within).0
+
+  pub round_stays : AllStay old new
+  round_stays = record {
+    shares = map_each (λ (group : SeenGroup). map share_of group.nodes) old new long (λ number default below. (each number default below).1.shares);
+    marks = map_each (λ (group : SeenGroup). map marks_of group.ends) old new long (λ number default below. (each number default below).1.marks);
+  }

@@ -1,0 +1,14 @@
+pub mod Places
+pub mod OwnEnds
+pub mod Goings
+pub mod Members
+pub mod Dealt
+pub mod Carried
+pub mod Laid
+pub mod LayingOn
+pub mod Filling
+pub mod NoScripts
+pub mod CrewStays
+pub mod AfterRounds
+pub mod Sending
+pub mod CrewEnds

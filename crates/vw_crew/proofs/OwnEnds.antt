@@ -1,0 +1,138 @@
+-- The ends of a node after a call of one of them.
+use Rattle.std.proofs.Common.{◌≡◌, ◌<◌, ◌+◌, ℕ, Bool, true, false, List, length, get_or, set, slice_get, ap, ap₂, sym, ◌∙◌, Option, Some, None, true≢false}
+use Rattle.std.specs.Prelude.{unwrap_or}
+use Rattle.std.proofs.lemmas.List.{length-set}
+use Rattle.std.proofs.lemmas.Option.{none-some}
+use Rattle.vw_prog.specs.declared.job.Job.{Job}
+use Rattle.vw_prog.specs.declared.word.Word.{Word}
+use Rattle.vw_prog.specs.Ends.{Puts, Takes, counted, one_more, refused}
+use Rattle.vw_prog.specs.Fabric.{PutsOne, SeenPutEnd, SeenTakeEnd, TakesOne}
+use Rattle.vw_prog.specs.Scripts.{script}
+use Rattle.vw_crew.specs.Ends.{AreOwn, SeenOwn, empty_of, ends_of, full_of, kept_of, put_at, sent_of, take_at, taken_of}
+use Rattle.vw_crew.proofs.Places.{place_within, set_changes, set_fine, set_stays}
+
+module _ (own : SeenOwn) (are : AreOwn own) (link : ℕ) where
+  abbrev words : ℕ → List Word
+  words other = script own.job other
+
+  abbrev links : ℕ
+  links = length own.job.checked.board.links
+
+  -- ---- an end comes or goes
+
+  pub with_put : (within : link < length own.puts) (new : Option SeenPutEnd) → ((end : SeenPutEnd) → new ≡ Some end → (end.link ≡ link) × (end.words ≡ words link)) → AreOwn (record own { puts = set own.puts link new })
+  with_put within new fine = record {
+    puts_long = length-set own.puts link new ∙ are.puts_long;
+    takes_long = are.takes_long;
+    puts = set_fine own.puts link within new (λ other end. (end.link ≡ other) × (end.words ≡ words other)) fine are.puts;
+    takes = are.takes;
+  }
+
+  pub with_take : (within : link < length own.takes) (new : Option SeenTakeEnd) → ((end : SeenTakeEnd) → new ≡ Some end → (end.link ≡ link) × (end.words ≡ words link)) → AreOwn (record own { takes = set own.takes link new })
+  with_take within new fine = record {
+    puts_long = are.puts_long;
+    takes_long = length-set own.takes link new ∙ are.takes_long;
+    puts = are.puts;
+    takes = set_fine own.takes link within new (λ other end. (end.link ≡ other) × (end.words ≡ words other)) fine are.takes;
+  }
+
+  -- ---- a put
+
+  module _ (end : SeenPutEnd) (there : put_at own link ≡ Some end) where
+    put_within : link < length own.puts
+    put_within = place_within own.puts link end there
+
+    abbrev then_puts : SeenPutEnd → SeenOwn
+    then_puts after = record own { puts = set own.puts link (Some after) }
+
+    put_fine : (after : SeenPutEnd) → after.link ≡ end.link → after.words ≡ end.words → AreOwn (then_puts after)
+    put_fine after same script_same = with_put put_within (Some after) (λ one is.
+        let its : after ≡ one = ap (λ (place : Option _). unwrap_or place after) is in
+        let old = are.puts link end there in
+        (sym (ap (λ (any : SeenPutEnd). any.link) its) ∙ same ∙ old.0, sym (ap (λ (any : SeenPutEnd). any.words) its) ∙ script_same ∙ old.1))
+
+    pub put_done : (answer : Bool) (after : SeenPutEnd) → PutsOne end after answer → AreOwn (then_puts after) × Puts link (ends_of own) (ends_of (then_puts after)) answer
+    put_done true after puts = (
+      put_fine after (ap (λ (any : SeenPutEnd). any.link) puts.ends) (ap (λ (any : SeenPutEnd). any.words) puts.ends),
+      record { ends = all; room = λ told. absurd (true≢false (sym told)) },
+    ) where
+      sent : (ends_of (then_puts after)).sent ≡ counted link (ends_of own).sent
+      sent = set_changes own.puts link put_within (Some after) (λ other place. sent_of (words other) place) (λ count. count + 1) (ap (λ (any : SeenPutEnd). any.sent) puts.ends ∙ ap (λ (place : Option SeenPutEnd). sent_of (words link) place + 1) (sym there))
+
+      full : (ends_of (then_puts after)).full ≡ (ends_of own).full
+      full = set_stays own.puts link put_within (Some after) (λ other place. full_of place) (ap (λ (any : SeenPutEnd). any.full) puts.ends ∙ ap full_of (sym there))
+
+      all : ends_of (then_puts after) ≡ record (ends_of own) { sent = counted link (ends_of own).sent }
+      all = ap₂ (λ (sent full : ℕ → ℕ). record (ends_of own) { sent = sent; full = full }) sent full
+    put_done false after puts = (
+      put_fine after (ap (λ (any : SeenPutEnd). any.link) puts.ends) (ap (λ (any : SeenPutEnd). any.words) puts.ends),
+      record { ends = all; room = λ told. absurd (true≢false (sym told)) },
+    ) where
+      sent : (ends_of (then_puts after)).sent ≡ (ends_of own).sent
+      sent = set_stays own.puts link put_within (Some after) (λ other place. sent_of (words other) place) (ap (λ (any : SeenPutEnd). any.sent) puts.ends ∙ ap (sent_of (words link)) (sym there))
+
+      full : (ends_of (then_puts after)).full ≡ refused link (ends_of own).full
+      full = set_changes own.puts link put_within (Some after) (λ other place. full_of place) one_more (ap (λ (any : SeenPutEnd). any.full) puts.ends ∙ ap (λ (place : Option SeenPutEnd). one_more (full_of place)) (sym there))
+
+      all : ends_of (then_puts after) ≡ record (ends_of own) { full = refused link (ends_of own).full }
+      all = ap₂ (λ (sent full : ℕ → ℕ). record (ends_of own) { sent = sent; full = full }) sent full
+
+  -- ---- a take
+
+  module _ (end : SeenTakeEnd) (there : take_at own link ≡ Some end) where
+    take_within : link < length own.takes
+    take_within = place_within own.takes link end there
+
+    abbrev then_takes : SeenTakeEnd → SeenOwn
+    then_takes after = record own { takes = set own.takes link (Some after) }
+
+    take_fine : (after : SeenTakeEnd) → after.link ≡ end.link → after.words ≡ end.words → AreOwn (then_takes after)
+    take_fine after same script_same = with_take take_within (Some after) (λ one is.
+        let its : after ≡ one = ap (λ (place : Option _). unwrap_or place after) is in
+        let old = are.takes link end there in
+        (sym (ap (λ (any : SeenTakeEnd). any.link) its) ∙ same ∙ old.0, sym (ap (λ (any : SeenTakeEnd). any.words) its) ∙ script_same ∙ old.1))
+
+    pub take_done : (answer : Option Word) (after : SeenTakeEnd) → TakesOne end after answer → AreOwn (then_takes after) × Takes link (ends_of own) (ends_of (then_takes after)) answer
+    take_done (Some word) after (is, next) = (
+      take_fine after (ap (λ (any : SeenTakeEnd). any.link) is) (ap (λ (any : SeenTakeEnd). any.words) is),
+      (all, its, λ told. absurd (true≢false (sym told))),
+    ) where
+      taken : (ends_of (then_takes after)).taken ≡ counted link (ends_of own).taken
+      taken = set_changes own.takes link take_within (Some after) (λ other place. taken_of (words other) place) (λ count. count + 1) (ap (λ (any : SeenTakeEnd). any.taken) is ∙ ap (λ (place : Option SeenTakeEnd). taken_of (words link) place + 1) (sym there))
+
+      empty : (ends_of (then_takes after)).empty ≡ (ends_of own).empty
+      empty = set_stays own.takes link take_within (Some after) (λ other place. empty_of place) (ap (λ (any : SeenTakeEnd). any.empty) is ∙ ap empty_of (sym there))
+
+      kept : (ends_of (then_takes after)).room ≡ (ends_of own).room
+      kept = set_stays own.takes link take_within (Some after) (λ other place. kept_of place) (ap (λ (any : SeenTakeEnd). kept_of (Some any)) is ∙ ap kept_of (sym there))
+
+      all : ends_of (then_takes after) ≡ record (ends_of own) { taken = counted link (ends_of own).taken }
+      all = λ i. record { job = own.job; node = own.node; sent = (ends_of own).sent; taken = taken i; full = (ends_of own).full; empty = empty i; room = kept i; told = false }
+
+      its : slice_get (words link) (taken_of (words link) (take_at own link)) ≡ Some word
+      its = ap (λ (place : Option SeenTakeEnd). slice_get (words link) (taken_of (words link) place)) there ∙ ap (λ (list : List Word). slice_get list end.taken) (sym (are.takes link end there).1) ∙ next
+    take_done None after is = (
+      take_fine after (ap (λ (any : SeenTakeEnd). any.link) is) (ap (λ (any : SeenTakeEnd). any.words) is),
+      (all, λ told. absurd (true≢false (sym told))),
+    ) where
+      taken : (ends_of (then_takes after)).taken ≡ (ends_of own).taken
+      taken = set_stays own.takes link take_within (Some after) (λ other place. taken_of (words other) place) (ap (λ (any : SeenTakeEnd). any.taken) is ∙ ap (taken_of (words link)) (sym there))
+
+      empty : (ends_of (then_takes after)).empty ≡ refused link (ends_of own).empty
+      empty = set_changes own.takes link take_within (Some after) (λ other place. empty_of place) one_more (ap (λ (any : SeenTakeEnd). any.empty) is ∙ ap (λ (place : Option SeenTakeEnd). one_more (empty_of place)) (sym there))
+
+      kept : (ends_of (then_takes after)).room ≡ (ends_of own).room
+      kept = set_stays own.takes link take_within (Some after) (λ other place. kept_of place) (ap (λ (any : SeenTakeEnd). kept_of (Some any)) is ∙ ap kept_of (sym there))
+
+      all : ends_of (then_takes after) ≡ record (ends_of own) { empty = refused link (ends_of own).empty }
+      all = λ i. record { job = own.job; node = own.node; sent = (ends_of own).sent; taken = taken i; full = (ends_of own).full; empty = empty i; room = kept i; told = false }
+
+-- no ends yet
+pub no_own : (job : Job) (node : ℕ) (puts : List (Option SeenPutEnd)) (takes : List (Option SeenTakeEnd)) → length puts ≡ length job.checked.board.links → length takes ≡ length job.checked.board.links
+    → ((link : ℕ) → get_or puts link None ≡ None) → ((link : ℕ) → get_or takes link None ≡ None) → AreOwn (record { job = job; node = node; puts = puts; takes = takes })
+no_own job node puts takes puts_long takes_long no_puts no_takes = record {
+  puts_long = puts_long;
+  takes_long = takes_long;
+  puts = λ link end is. absurd (none-some end (sym (no_puts link) ∙ is));
+  takes = λ link end is. absurd (none-some end (sym (no_takes link) ∙ is));
+}

@@ -1,0 +1,55 @@
+-- Places with something or nothing in them.
+use Rattle.std.proofs.Common.{◌≡◌, ◌<◌, ◌∷◌, ◌⊎◌, ℕ, zero, suc, Bool, true, false, List, [], length, map, get_or, set, replicate, eqb, if◌then◌else◌, ap, refl, sym, subst, ◌∙◌, ⊎_elim, inl, inr, eqb-true, Option, Some, None, arith}
+use Rattle.std.proofs.Math.Path.{fun_ext}
+use Rattle.std.proofs.lemmas.Bool.{cases_eq, eqb-false}
+use Rattle.std.specs.Option.{option_map}
+use Rattle.std.proofs.Math.ListN.{get_or-map as get_or_map}
+use Rattle.std.proofs.lemmas.List.{get_or-replicate, get_or-set_other, get_or-set_same, length-map, length-replicate}
+use Rattle.std.proofs.lemmas.Option.{none-some}
+
+-- a place with something in it is there
+pub place_within : {A : Type 0} (places : List (Option A)) (place : ℕ) (one : A) → get_or places place None ≡ Some one → place < length places
+place_within [] place one is = absurd (none-some one is)
+place_within (first ∷ places) zero one is = omega arith
+place_within (first ∷ places) (suc place) one is = omega (arith, place_within places place one is)
+
+module _ {A : Type 0} (places : List (Option A)) (link : ℕ) (within : link < length places) (new : Option A) where
+  -- what holds of what is put into a place, and of what was in the others, holds of all
+  pub set_fine : (P : ℕ → A → Type 0) → ((one : A) → new ≡ Some one → P link one) → ((other : ℕ) (one : A) → get_or places other None ≡ Some one → P other one) → (other : ℕ) (one : A) → get_or (set places link new) other None ≡ Some one → P other one
+  set_fine P fine before other one is =
+      let if_same = λ (same : other ≡ link). subst (λ (place : ℕ). P place one) (sym same) (fine one (sym (get_or-set_same places link new None within) ∙ ap (λ (place : ℕ). get_or (set places link new) place None) (sym same) ∙ is)) in
+      let if_other = λ (apart : other ≡ link → ⊥). before other one (sym (get_or-set_other places link other new None apart) ∙ is) in
+      ⊎_elim if_same if_other (cases_eq other link)
+
+  module _ (value : ℕ → Option A → ℕ) where
+    -- values of the places, where the one at the link is another
+    pub set_changes : (change : ℕ → ℕ) → value link new ≡ change (value link (get_or places link None))
+        → ◌≡◌ {A = ℕ → ℕ} (λ other. value other (get_or (set places link new) other None)) (λ other. if eqb other link then change (value other (get_or places other None)) else value other (get_or places other None))
+    set_changes change is = fun_ext (λ other. by other (eqb other link) refl) where
+      by : (other : ℕ) (own : Bool) → eqb other link ≡ own → value other (get_or (set places link new) other None) ≡ (if own then change (value other (get_or places other None)) else value other (get_or places other None))
+      by other true own =
+          let same = eqb-true other link own in
+          ap (λ (place : ℕ). value place (get_or (set places link new) place None)) same ∙ ap (value link) (get_or-set_same places link new None within) ∙ is ∙ ap (λ (place : ℕ). change (value place (get_or places place None))) (sym same)
+      by other false apart = ap (value other) (get_or-set_other places link other new None (eqb-false other link apart))
+
+    -- where it is the same
+    pub set_stays : value link new ≡ value link (get_or places link None) → ◌≡◌ {A = ℕ → ℕ} (λ other. value other (get_or (set places link new) other None)) (λ other. value other (get_or places other None))
+    set_stays is = fun_ext (λ other. by other (cases_eq other link)) where
+      by : (other : ℕ) → (other ≡ link) ⊎ (other ≡ link → ⊥) → value other (get_or (set places link new) other None) ≡ value other (get_or places other None)
+      by other (inl same) = ap (λ (place : ℕ). value place (get_or (set places link new) place None)) same ∙ ap (value link) (get_or-set_same places link new None within) ∙ is ∙ ap (λ (place : ℕ). value place (get_or places place None)) (sym same)
+      by other (inr apart) = ap (value other) (get_or-set_other places link other new None apart)
+
+abbrev nothing : {A : Type 0} → Option A
+nothing = None
+
+-- places in which nothing is, whatever is made of what is in them
+pub none_mapped : {A B : Type 0} (make : A → B) (places : List (Option A)) (count : ℕ) → places ≡ replicate count None → (length (map (option_map make) places) ≡ count) × ((link : ℕ) → get_or (map (option_map make) places) link None ≡ None)
+none_mapped {A = A} make places count are = (
+  length-map places (option_map make) ∙ ap (λ (list : List (Option A)). length list) are ∙ length-replicate count (nothing {A = A}),
+  λ link. get_or_map (option_map make) places link None ∙ ap (λ (list : List (Option A)). option_map make (get_or list link None)) are ∙ ap (option_map make) (none link (get_or (replicate count None) link None) refl),
+) where
+  none : (link : ℕ) (found : Option A) → get_or (replicate count None) link None ≡ found → get_or (replicate count (nothing {A = A})) link None ≡ None
+  none link None is = is
+  none link (Some one) is =
+      let within = place_within (replicate count None) link one is in
+      absurd (none-some one (sym (get_or-replicate count link None None (omega (arith, within, length-replicate count (nothing {A = A})))) ∙ is))

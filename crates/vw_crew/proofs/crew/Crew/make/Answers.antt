@@ -1,0 +1,27 @@
+use Rattle.std.proofs.Common.{◌≡◌, List, Bool, true, false, length, ap, sym, subst, ◌∙◌, true≢false, arith}
+use Rattle.std.specs.Option.{is_some}
+use Rattle.std.proofs.lemmas.List.{with_items_is}
+use Rattle.vw_answer.specs.Answers.{HasTold}
+use Rattle.vw_crew.specs.Groups.{SeenGroup}
+use Rattle.vw_crew.specs.Laying.{AreThrough, IsBare, IsCrew}
+use Rattle.vw_crew.proofs.Filling.{bare_groups}
+use Rattle.vw_crew.proofs.crew.Crew.make.Goals as goal
+
+-- src/crew.rt
+pub lay_all-requires-after_bounds : goal.lay_all-requires-after_bounds
+lay_all-requires-after_bounds g c κs within =
+    subst (IsBare c.args.job.now) (sym c.deref_mut.ensures.value)
+    (bare_groups c.args.job.now c.in_ok-groups.groups.items c.min-count.result c.in_ok-groups.ensures.count (omega (arith, c.min-count.ensures, c.requires.some)) c.in_ok-groups.ensures.each)
+
+-- src/crew.rt
+pub invariant_of-result : goal.invariant_of-result
+invariant_of-result g c =
+    let job = c.args.job.now in
+    let told = is_some (g.F.Fabric.carried c.args.fabric.now) in
+    let keeps = is_some (g.F.Fabric.carried c.of-laid_by.result.value) in
+    let new = c.lay_all.new.groups in
+    let long : length new ≡ c.in_ok-groups.groups.len = c.lay_all.auto.groups ∙ ap (λ (groups : List SeenGroup). length groups) c.deref_mut.ensures.value ∙ sym c.in_ok-groups.groups.ok.0 in
+    let items = with_items_is c.in_ok-groups.groups new long in
+    let same : told ≡ keeps = ap (λ (fabric : _). is_some (g.F.Fabric.carried fabric)) (sym c.of-laid_by.ensures) in
+    let crew : IsCrew job keeps new = subst (λ (one : Bool). IsCrew job one new) same c.in_ok-lay_all.ensures.ready in
+    subst (λ (groups : List SeenGroup). IsCrew job keeps groups × HasTold job 1 c.in_ok-room.room × (false ≡ true → AreThrough job groups)) (sym items) (crew, c.in_ok-room.ensures, λ none. absurd (true≢false (sym none)))

@@ -1,0 +1,26 @@
+use Rattle.std.proofs.Common.{◌≡◌, ◌<◌, List, length, map, set, ap, sym, subst, ◌∙◌, Option, Some, arith}
+use Rattle.std.specs.Prelude.{unwrap_or}
+use Rattle.std.specs.Option.{option_map}
+use Rattle.std.proofs.lemmas.List.{map-set}
+use Rattle.vw_prog.specs.Fabric.{SeenTakeEnd}
+use Rattle.vw_prog.specs.Scripts.{script}
+use Rattle.vw_crew.specs.Ends.{AreOwn, SeenOwn}
+use Rattle.vw_crew.proofs.OwnEnds.{with_take}
+use Rattle.vw_crew.proofs.ends.NodeEnds.place_take.Goals as goal
+
+-- src/ends.rt
+pub invariant_of-self : goal.invariant_of-self
+invariant_of-self g c =
+    let own : SeenOwn = record { job = c.self.inside.job.value; node = c.self.inside.node; puts = map (option_map g.T.PutEnd.seen) c.self.inside.puts.items; takes = map (option_map g.U.TakeEnd.seen) c.self.inside.takes.items } in
+    let same : own ≡ c.args.self.now = c.self.view_is in
+    let within : c.args.link < length own.takes = omega (arith, c.requires.0, c.self.invariant.takes_long, ap (λ (one : SeenOwn). length one.job.checked.board.links) same) in
+    subst (λ (takes : List (Option SeenTakeEnd)). AreOwn (record { job = c.self.inside.job.value; node = c.self.inside.node; puts = map (option_map g.T.PutEnd.seen) c.self.inside.puts.items; takes = takes })) (sym (map-set (option_map g.U.TakeEnd.seen) c.self.inside.takes.items c.args.link (Some c.args.end)))
+    (with_take own c.self.invariant c.args.link within (Some (g.U.TakeEnd.seen c.args.end)) (λ end is.
+    let its : g.U.TakeEnd.seen c.args.end ≡ end = ap (λ (place : Option SeenTakeEnd). unwrap_or place end) is in
+    (sym (ap (λ (one : SeenTakeEnd). one.link) its) ∙ c.requires.1, sym (ap (λ (one : SeenTakeEnd). one.words) its) ∙ c.requires.2 ∙ ap (λ (one : SeenOwn). script one.job c.args.link) (sym same))))
+
+-- src/ends.rt
+pub returns : goal.returns
+returns g c =
+    ap (λ (takes : List (Option SeenTakeEnd)). record { job = c.self.inside.job.value; node = c.self.inside.node; puts = map (option_map g.T.PutEnd.seen) c.self.inside.puts.items; takes = takes }) (map-set (option_map g.U.TakeEnd.seen) c.self.inside.takes.items c.args.link (Some c.args.end))
+    ∙ ap (λ (own : SeenOwn). record own { takes = set own.takes c.args.link (Some (g.U.TakeEnd.seen c.args.end)) }) c.self.view_is

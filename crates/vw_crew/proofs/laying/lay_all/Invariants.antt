@@ -1,0 +1,11 @@
+use Rattle.std.proofs.Common.{◌≡◌}
+use Rattle.std.specs.Option.{is_some}
+use Rattle.vw_crew.proofs.LayingOn.{IsLaying}
+use Rattle.vw_crew.proofs.laying.lay_all.Given as goal
+
+-- the links below the number are laid
+abbrev pub invariant-loop-number : goal.invariant-loop-number
+invariant-loop-number g l = record {
+  laying : IsLaying l.fn.job (is_some (g.F.Fabric.carried l.fn.fabric)) l.groups l.number;
+  same : g.F.Fabric.carried l.fabric ≡ g.F.Fabric.carried l.fn.fabric;
+}

@@ -1,0 +1,89 @@
+-- The ends of links that a node has, by the numbers of the links. No public clause cites it.
+use Rattle.std.specs.Prelude.{◌≡◌, ◌<◌, ◌+◌, ℕ, false, List, length, slice_index_or, Option, Some, None, if◌then◌else◌}
+use Rattle.vw_prog.specs.declared.job.Job.{Job}
+use Rattle.vw_prog.specs.declared.word.Word.{Word}
+use Rattle.vw_prog.specs.Ends.{SeenEnds}
+use Rattle.vw_prog.specs.Fabric.{SeenPutEnd, SeenTakeEnd}
+use Rattle.vw_prog.specs.Scripts.{script}
+
+-- a job, a node, and for each link of the job its end at which words are put in, and its end at which they are taken out, where
+-- the node has it
+pub record SeenOwn : Type 0 where
+  pub job : Job
+  pub node : ℕ
+  pub puts : List (Option SeenPutEnd)
+  pub takes : List (Option SeenTakeEnd)
+
+abbrev pub put_at : SeenOwn → ℕ → Option SeenPutEnd
+put_at own link = slice_index_or own.puts link None
+
+abbrev pub take_at : SeenOwn → ℕ → Option SeenTakeEnd
+take_at own link = slice_index_or own.takes link None
+
+-- each end is that of its link, and has the job's script
+pub record AreOwn (own : SeenOwn) : Type 0 where
+  pub puts_long : length own.puts ≡ length own.job.checked.board.links
+  pub takes_long : length own.takes ≡ length own.job.checked.board.links
+  pub puts : (link : ℕ) (end : SeenPutEnd) → put_at own link ≡ Some end → (end.link ≡ link) × (end.words ≡ script own.job link)
+  pub takes : (link : ℕ) (end : SeenTakeEnd) → take_at own link ≡ Some end → (end.link ≡ link) × (end.words ≡ script own.job link)
+
+-- how many words were sent; behind the script's end where no end is, so that no word is to come there
+abbrev pub sent_of : List Word → Option SeenPutEnd → ℕ
+sent_of words None = length words + 1
+sent_of words (Some end) = end.sent
+
+-- the same for words taken
+abbrev pub taken_of : List Word → Option SeenTakeEnd → ℕ
+taken_of words None = length words + 1
+taken_of words (Some end) = end.taken
+
+-- how many puts were refused, and how many takes
+abbrev pub full_of : Option SeenPutEnd → ℕ
+full_of None = 0
+full_of (Some end) = end.full
+
+abbrev pub empty_of : Option SeenTakeEnd → ℕ
+empty_of None = 0
+empty_of (Some end) = end.empty
+
+-- whether words are kept, as a number
+abbrev pub kept_of : Option SeenTakeEnd → ℕ
+kept_of None = 0
+kept_of (Some end) = if end.keeps then 1 else 0
+
+-- what the ends of a node tell. Nothing is told of how many words a link holds; in its place stands whether the words that are
+-- taken are kept, since no put and no take changes it
+abbrev pub ends_of : SeenOwn → SeenEnds
+ends_of own = record {
+  job = own.job;
+  node = own.node;
+  sent = λ link. sent_of (script own.job link) (put_at own link);
+  taken = λ link. taken_of (script own.job link) (take_at own link);
+  full = λ link. full_of (put_at own link);
+  empty = λ link. empty_of (take_at own link);
+  room = λ link. kept_of (take_at own link);
+  told = false;
+}
+
+-- ---- ends that come and go
+
+-- an end at which words are put into a link, or taken from it, for the job of a node
+abbrev pub FitsPut : SeenOwn → ℕ → SeenPutEnd → Type 0
+FitsPut own link end = (link < length own.job.checked.board.links) × (end.link ≡ link) × (end.words ≡ script own.job link)
+
+abbrev pub FitsTake : SeenOwn → ℕ → SeenTakeEnd → Type 0
+FitsTake own link end = (link < length own.job.checked.board.links) × (end.link ≡ link) × (end.words ≡ script own.job link)
+
+-- the node has such an end
+abbrev pub HasPut : SeenOwn → ℕ → Type 0
+HasPut own link = (end : SeenPutEnd) × (put_at own link ≡ Some end)
+
+abbrev pub HasTake : SeenOwn → ℕ → Type 0
+HasTake own link = (end : SeenTakeEnd) × (take_at own link ≡ Some end)
+
+-- it was this one
+abbrev pub GivesPut : SeenOwn → ℕ → SeenPutEnd → Type 0
+GivesPut own link end = (put_at own link ≡ Some end) × (end.link ≡ link) × (end.words ≡ script own.job link)
+
+abbrev pub GivesTake : SeenOwn → ℕ → SeenTakeEnd → Type 0
+GivesTake own link end = (take_at own link ≡ Some end) × (end.link ≡ link) × (end.words ≡ script own.job link)

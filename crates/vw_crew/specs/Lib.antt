@@ -1,0 +1,4 @@
+pub mod Ends
+pub mod Groups
+pub mod Laying
+pub mod Seen

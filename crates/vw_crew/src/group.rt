@@ -1,0 +1,221 @@
+ghost use Rattle.std.specs.Prelude.{◌≡◌, ◌≤◌, ◌<◌, ℕ, length, slice_get, slice_set, Some, None, IfOk};
+ghost use Rattle.std.specs.Bool.{OnTrue};
+ghost use Rattle.vw_prog.specs.Actions.{ArePrograms};
+ghost use Rattle.vw_prog.specs.Scripts.{planned_of};
+ghost use Rattle.vw_node.specs.declared.node.Node.{Node};
+ghost use Rattle.vw_crew.specs.Ends.{FitsPut, FitsTake, GivesPut, GivesTake, HasPut, HasTake, SeenOwn};
+ghost use Rattle.vw_crew.specs.Groups.{AreAtWork, IsFirstGroup, Stays};
+
+use crate::ends::NodeEnds;
+use crate::patience::Patience;
+use std::alloc::{AllocError, Global};
+use std::marker::Model;
+use std::sync::atomic::{AtomicBool, Ordering};
+use vw_node::Node;
+use vw_prog::{Job, Programs, PutEnd, TakeEnd};
+
+/// How often each node of a group that isn't done is refused in one burst.
+const REFUSALS: u32 = 256;
+
+/// Some nodes of a crew, each with the ends of its links. Of so many groups the one with a number has the nodes whose numbers
+/// have that rest, in order: the node at a place has the number `place * groups + number`.
+#[derive(Drop)]
+pub struct Group<'a, T: PutEnd, U: TakeEnd> {
+    number: u32,
+    nodes: Vec<Node<'a>>,
+    ends: Vec<NodeEnds<T, U>>,
+}
+
+/// Whether a node stands elsewhere than after so many clocks and actions.
+fn has_moved(node: &Node<'_>, clock: u64, made: u64) -> bool {
+    node.clock != clock || node.made != made
+}
+
+impl<'a, T: PutEnd, U: TakeEnd> Model for Group<'a, T, U> {
+    ghost use Rattle.std.specs.Prelude.{◌≡◌, length};
+    ghost use Rattle.vw_crew.specs.Groups.{SeenGroup};
+
+    ghost Value = { SeenGroup };
+
+    ghost view = { λ group. record { nodes = group.nodes.items; ends = group.ends.items } };
+
+    ghost invariant = { λ group. length group.nodes.items ≡ length group.ends.items };
+}
+
+impl<'a, T: PutEnd, U: TakeEnd> Group<'a, T, U> {
+    /// The group with a number, before any action of its nodes, and without ends. It takes the memory of its nodes.
+    pub fn make(
+        alloc: Global,
+        programs: &'a Programs,
+        job: &'a Job,
+        number: u32,
+        groups: u32,
+    ) -> Result<Self, AllocError>
+        requires programs { ArePrograms (planned_of job.now) programs.now }
+        requires number { number < groups }
+        requires few { groups ≤ 64 }
+        ensures { IfOk result (IsFirstGroup job.now groups number) }
+    {
+        let all = job.checked().board().chips() + 1;
+        let mut nodes = Vec::new(alloc);
+        let mut ends = Vec::new(alloc);
+        let mut node = number;
+        while node < all {
+            nodes.push(Node::make(alloc, programs, job.share(node))?)?;
+            ends.push(NodeEnds::make(alloc, job, node)?)?;
+            node += groups;
+        }
+        Ok(Group {
+            number,
+            nodes,
+            ends,
+        })
+    }
+
+    /// The number of the group.
+    pub fn number(&self) -> u32 {
+        self.number
+    }
+
+    /// The node at a place.
+    pub fn node(&self, place: usize) -> &Node<'a>
+        requires { place < length self.now.nodes }
+        ensures { slice_get self.now.nodes place ≡ Some result.now }
+    {
+        &self.nodes[place]
+    }
+
+    /// The first node, given up.
+    pub fn into_first(self) -> Node<'a>
+        requires { 0 < length self.nodes }
+        ensures { slice_get self.entry.nodes 0 ≡ Some result }
+    {
+        let Group { mut nodes, .. } = self;
+        nodes.swap_remove(0)
+    }
+
+    /// Whether the nodes have finished so many clocks.
+    pub fn is_done(&self, clocks: u64) -> bool
+        ensures { OnTrue result ((place : ℕ) (node : Node)
+            → slice_get self.now.nodes place ≡ Some node → node.clock ≡ clocks) }
+    {
+        for node in &self.nodes {
+            if node.clock != clocks {
+                return false;
+            }
+        }
+        true
+    }
+
+    /// Gives the node at a place the end at which words are put into a link.
+    pub fn place_put(&mut self, place: usize, link: u32, end: T)
+        requires { (own : SeenOwn) × (slice_get self.old.ends place ≡ Some own)
+            × FitsPut own link (T.seen end) }
+        ensures { (own : SeenOwn) → slice_get self.old.ends place ≡ Some own
+            → self.new ≡ record self.old {
+              ends = slice_set self.old.ends place (record own {
+                puts = slice_set own.puts link (Some (T.seen end));
+              });
+            } }
+    {
+        self.ends[place].place_put(link, end);
+    }
+
+    /// Gives the node at a place the end at which words are taken from a link.
+    pub fn place_take(&mut self, place: usize, link: u32, end: U)
+        requires { (own : SeenOwn) × (slice_get self.old.ends place ≡ Some own)
+            × FitsTake own link (U.seen end) }
+        ensures { (own : SeenOwn) → slice_get self.old.ends place ≡ Some own
+            → self.new ≡ record self.old {
+              ends = slice_set self.old.ends place (record own {
+                takes = slice_set own.takes link (Some (U.seen end));
+              });
+            } }
+    {
+        self.ends[place].place_take(link, end);
+    }
+
+    /// The end at which the node at a place puts words into a link, given up.
+    pub fn lift_put(&mut self, place: usize, link: u32) -> T
+        requires { (own : SeenOwn) × (slice_get self.old.ends place ≡ Some own) × HasPut own link }
+        ensures end { (own : SeenOwn) → slice_get self.old.ends place ≡ Some own
+            → GivesPut own link (T.seen result) }
+        ensures rest { (own : SeenOwn) → slice_get self.old.ends place ≡ Some own
+            → self.new ≡ record self.old {
+              ends = slice_set self.old.ends place (record own {
+                puts = slice_set own.puts link None;
+              });
+            } }
+    {
+        self.ends[place].lift_put(link)
+    }
+
+    /// The end at which the node at a place takes words from a link, given up.
+    pub fn lift_take(&mut self, place: usize, link: u32) -> U
+        requires { (own : SeenOwn) × (slice_get self.old.ends place ≡ Some own) × HasTake own link }
+        ensures end { (own : SeenOwn) → slice_get self.old.ends place ≡ Some own
+            → GivesTake own link (U.seen result) }
+        ensures rest { (own : SeenOwn) → slice_get self.old.ends place ≡ Some own
+            → self.new ≡ record self.old {
+              ends = slice_set self.old.ends place (record own {
+                takes = slice_set own.takes link None;
+              });
+            } }
+    {
+        self.ends[place].lift_take(link)
+    }
+
+    /// The node at a place goes on until it is refused or done. Says whether it made an action.
+    fn go(&mut self, place: usize) -> bool
+        requires work { AreAtWork self.old }
+        requires place { place < length self.old.nodes }
+        ensures work { AreAtWork self.new }
+        ensures stays { Stays self.old self.new }
+    {
+        let node = &mut self.nodes[place];
+        let clock = node.clock;
+        let made = node.made;
+        let _ = node.go(&mut self.ends[place]);
+        has_moved(node, clock, made)
+    }
+
+    /// Each node goes on, one after the other. Says whether one of them made an action.
+    fn turn(&mut self) -> bool
+        requires { AreAtWork self.old }
+        ensures work { AreAtWork self.new }
+        ensures stays { Stays self.old self.new }
+    {
+        let mut moved = false;
+        for place in 0..self.nodes.len() {
+            moved |= self.go(place);
+        }
+        moved
+    }
+
+    /// Turns until each of its nodes is done or was refused so often.
+    fn turns(&mut self, clocks: u64, ended: &AtomicBool)
+        requires { AreAtWork self.old }
+        ensures work { AreAtWork self.new }
+        ensures stays { Stays self.old self.new }
+    {
+        let mut patience = Patience::new();
+        for _ in 0..REFUSALS {
+            patience.wait(ended);
+            patience.count(self.turn());
+            if self.is_done(clocks) {
+                return;
+            }
+        }
+    }
+
+    /// Goes round its nodes until each of them is done or was refused so often, and waits in between as long as no other group
+    /// has ended its burst. It takes no memory.
+    pub fn burst(&mut self, clocks: u64, ended: &AtomicBool)
+        requires { AreAtWork self.old }
+        ensures work { AreAtWork self.new }
+        ensures stays { Stays self.old self.new }
+    {
+        self.turns(clocks, ended);
+        ended.store(true, Ordering::SeqCst);
+    }
+}

@@ -1,0 +1,12 @@
+//! Nodes in groups on threads: the board at work, with its words on links that a fabric lays.
+#![tactic(auto)]
+
+mod crew;
+mod ends;
+mod group;
+mod groups;
+mod laying;
+mod patience;
+mod rounds;
+
+pub use crew::Crew;

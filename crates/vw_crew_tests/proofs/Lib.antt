@@ -1,0 +1,2 @@
+pub mod ScriptSlots
+pub mod LaidEnds

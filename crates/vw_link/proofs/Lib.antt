@@ -1,0 +1,4 @@
+pub mod WordParts
+pub mod RuleSteps
+pub mod ScriptLengths
+pub mod Lifts

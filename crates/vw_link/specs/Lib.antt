@@ -1,0 +1,5 @@
+pub mod Rule
+pub mod Ends
+pub mod Chains
+pub mod Counts
+pub mod Laid
