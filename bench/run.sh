@@ -438,12 +438,22 @@ halves 65536 7919 >design.blif
 planned "halves of halves, 65,536 cells, mixed" 65536 4 8 8
 
 echo
-echo "| design | chips | clocks | hops a cell | period | sim, seconds | run, seconds | run : sim | run, peak MB |"
-echo "|---|---|---|---|---|---|---|---|---|"
+echo "| design | chips | clocks | hops a cell | period | sim | run, 1 worker | 2 | 4 | 1 : sim | 2 : 1 | 4 : 1 | peak MB, 1 worker | load |"
+echo "|---|---|---|---|---|---|---|---|---|---|---|---|---|---|"
+# by WORKERS: runs design.blif on mesh.board, and says how many seconds it took
+by() {
+  measured run design.blif mesh.board rows.stim plan=made.plan workers="$1"
+  expect 0 ""
+  cmp -s out trace.sim || echo "another trace with $1 workers" >&2
+}
+# speed CELLS CLOCKS SECONDS: million cells a second; ratio A B: how many times as fast as B seconds A seconds are
+speed() { awk -v n="$1" -v c="$2" -v s="$3" 'BEGIN { printf "%.0f", n * c / (s > 0 ? s : 0.01) / 1e6 }'; }
+ratio() { awk -v a="$1" -v b="$2" 'BEGIN { printf "%.2f", b / (a > 0 ? a : 0.01) }'; }
 # ran NAME CELLS ROWS COLUMNS CLOCKS WIDTH: one line of the table of runs of design.blif on a mesh by a plan that was made before,
-# over so many clocks of so many columns; both write the same trace
+# over so many clocks of so many columns, all in one go. Speeds are in million cells a second, with reading and writing; ratios are of
+# speeds. All write the same trace
 ran() {
-  local chips=$(($3 * $4)) hops period alone
+  local chips=$(($3 * $4)) hops period sim one two four memory
   mesh "$3" "$4" $((($2 * 103 + 100 * chips - 1) / (100 * chips))) 8 1 >mesh.board
   clocks "$5" "$6" >rows.stim
   measured plan design.blif mesh.board
@@ -453,12 +463,15 @@ ran() {
   read -r _ _ hops period <out
   measured sim design.blif rows.stim
   expect 0 ""
-  alone=$seconds
+  sim=$seconds
   mv out trace.sim
-  measured run design.blif mesh.board rows.stim plan=made.plan workers=1
-  expect 0 ""
-  cmp -s out trace.sim || echo "another trace: $1 on $chips chips" >&2
-  echo "| $1 | $chips | $5 | $(awk -v h="$hops" -v c="$2" 'BEGIN { printf "%.3f", h / c }') | $period | $alone | $seconds | $(awk -v r="$seconds" -v s="$alone" 'BEGIN { printf "%.1f", r / s }') | $peak |"
+  by 1
+  one=$seconds memory=$peak
+  by 2
+  two=$seconds
+  by 4
+  four=$seconds
+  echo "| $1 | $chips | $5 | $(awk -v h="$hops" -v c="$2" 'BEGIN { printf "%.3f", h / c }') | $period | $(speed "$2" "$5" "$sim") | $(speed "$2" "$5" "$one") | $(speed "$2" "$5" "$two") | $(speed "$2" "$5" "$four") | $(ratio "$one" "$sim") | $(ratio "$two" "$one") | $(ratio "$four" "$one") | $memory | $(cut -d ' ' -f 1 /proc/loadavg) |"
 }
 for chips in "2 2" "4 4"; do
   grid 63 1 >design.blif

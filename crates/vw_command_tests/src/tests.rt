@@ -4,7 +4,7 @@ use std::alloc::{AllocError, Global};
 use std::process::Abort;
 use std::test::Fail;
 use vw_outside::{Held, MemShelf, MemSink, Name};
-use vw_top::virtual_wires;
+use vw_top::alone;
 
 mod checks;
 mod claims;
@@ -116,7 +116,10 @@ fn numbers_of(fault: Fault) -> (u64, u64, u64) {
     }
 }
 
-/// The program, on what it is given in memory.
+/// What stands for a status where words ask for several workers.
+const SEVERAL: u8 = 99;
+
+/// The program, on what it is given in memory, where no words ask for several workers.
 fn program(
     alloc: Global,
     words: &[Name],
@@ -124,7 +127,7 @@ fn program(
     out: &mut MemSink,
     err: &mut MemSink,
 ) -> u8 {
-    virtual_wires(alloc, words, shelf, out, err)
+    alone(alloc, words, shelf, out, err).unwrap_or(SEVERAL)
 }
 
 /// A call over these files.

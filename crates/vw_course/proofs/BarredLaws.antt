@@ -1,11 +1,11 @@
 -- A file that is absent, behind files of any kind.
-use Rattle.std.proofs.Common.{◌≡◌, ◌⊎◌, ℕ, List, [], ◌∷◌, Ok, Err, inl, inr, refl, sym, ap, subst}
-use Rattle.vw_outside.specs.Told.{Told, absent, held, IsTextOf}
+use Rattle.std.proofs.Common.{◌≡◌, ◌⊎◌, ℕ, List, ◌∷◌, Ok, Err, inl, inr, refl, sym, subst}
+use Rattle.vw_outside.specs.Told.{Told, absent, IsTextOf}
 use Rattle.vw_course.specs.declared.unfinished.Unfinished.TheVariants.{ReadFault, WriteFault, NoMemory, Refused}
 use Rattle.vw_course.specs.Vocabulary.{Vocabulary}
 use Rattle.vw_course.specs.Outside.{SeenOutside}
-use Rattle.vw_course.specs.Course.{Course, works, refuses, reads, makes, Judged, Kind, judges, stage}
-use Rattle.vw_course.specs.Follows.{May, Answer, EndsRefused, EndsReading, EndsHere, Follows}
+use Rattle.vw_course.specs.Course.{Course, works, refuses, reads, makes, Kind, stage}
+use Rattle.vw_course.specs.Follows.{Answer, EndsRefused, EndsReading, Follows}
 use Rattle.vw_course.specs.Endings.{SeenCall, Ends, IsCallOf}
 use Rattle.vw_course.specs.Places.{IsOneOf}
 use Rattle.vw_course.specs.Statuses.{NothingDone, IsUnworked}

@@ -1,5 +1,5 @@
 -- What the answer of a call says of its course, whichever course it is.
-use Rattle.std.proofs.Common.{◌≡◌, ◌<◌, ◌⊎◌, ℕ, List, Ok, Err, refl, sym, ap, subst, inl, inr}
+use Rattle.std.proofs.Common.{◌≡◌, ◌⊎◌, ℕ, List, Ok, Err, refl, ap, inl, inr}
 use Rattle.vw_outside.specs.Told.{Told}
 use Rattle.vw_outside.specs.Reads.{CountsFault}
 use Rattle.vw_course.specs.declared.unfinished.Unfinished.TheVariants.{ReadFault, WriteFault, NoMemory, Refused}

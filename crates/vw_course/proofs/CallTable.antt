@@ -1,16 +1,16 @@
 -- The table of statuses of a call, whichever its course.
-use Rattle.std.proofs.Common.{◌≡◌, ◌<◌, ◌⊎◌, ℕ, List, Ok, Err, refl, sym, ◌∙◌, subst, inl, inr, lit<, arith}
+use Rattle.std.proofs.Common.{◌≡◌, ◌<◌, ℕ, List, Ok, Err, refl, inl, inr, arith}
 use Rattle.vw_course.specs.declared.unfinished.Unfinished.TheVariants.{ReadFault, WriteFault, NoMemory, Refused}
 use Rattle.vw_outside.specs.Told.{Told}
 use Rattle.vw_course.specs.Vocabulary.{Vocabulary}
-use Rattle.vw_course.specs.Outside.{SeenOutside, Work, DidPart}
+use Rattle.vw_course.specs.Outside.{Work}
 use Rattle.vw_course.specs.Course.{Course, works, refuses, reads, makes}
 use Rattle.vw_course.specs.Follows.{May, Answer, Follows}
 use Rattle.vw_course.specs.Endings.{SeenCall, Ends, IsCallOf}
-use Rattle.vw_course.specs.Places.{Files, WorksHere, RefusesHere, StandsAt, IsToWork, IsToRefuse, IsToMiss}
-use Rattle.vw_course.specs.Statuses.{DidSome, IsDone, IsRefusedFor, IsReadStop, IsWriteStop, IsMemoryStop, IsStopped, IsCarriedOut, IsRefused, IsReadFault, MayDo, Statuses}
+use Rattle.vw_course.specs.Places.{Files, WorksHere, RefusesHere, StandsAt, IsToWork, IsToRefuse}
+use Rattle.vw_course.specs.Statuses.{IsDone, IsWriteStop, IsMemoryStop, IsRefused, IsReadFault, MayDo, Statuses}
 use Rattle.vw_course.proofs.Inductions.{of_held, stands_on}
-use Rattle.vw_course.proofs.CallLaws.{shelf_alone, done_by, refused_by, read_by, write_by, memory_by}
+use Rattle.vw_course.proofs.CallLaws.{done_by, refused_by, read_by, write_by, memory_by}
 use Rattle.vw_course.proofs.StandLaws.{does_work, call_works, call_refused, call_misses}
 
 module _ {V : Vocabulary} (course : Course V) (call : SeenCall V.Word) where

@@ -1,12 +1,11 @@
 -- What a call that was to do work leaves, and when it is carried out.
-use Rattle.std.proofs.Common.{◌≡◌, ◌⊎◌, ℕ, List, [], ◌∷◌, length, inl, inr, refl, sym, ◌∙◌, ap, subst, arith}
+use Rattle.std.proofs.Common.{◌≡◌, ◌⊎◌, ℕ, List, [], ◌∷◌, length, inl, inr, sym, ◌∙◌, ap, subst, arith}
 use Rattle.std.proofs.Math.Seq.{take-length}
 use Rattle.vw_outside.specs.Reads.{CountsFault}
-use Rattle.vw_outside.specs.Writes.{SeenSink, appended, WrotePart}
+use Rattle.vw_outside.specs.Writes.{SeenSink, appended}
 use Rattle.vw_outside.proofs.PiecesWritten.{appended-nil}
 use Rattle.vw_course.specs.Vocabulary.{Vocabulary}
-use Rattle.vw_course.specs.Outside.{SeenOutside, Work, with_all}
-use Rattle.vw_course.specs.Course.{writing}
+use Rattle.vw_course.specs.Outside.{SeenOutside, Work}
 use Rattle.vw_course.specs.Endings.{SeenCall}
 use Rattle.vw_course.specs.Places.{IsOneOf, Files}
 use Rattle.vw_course.specs.Statuses.{DidSome, IsDone, IsWriteStop, IsMemoryStop, IsCarriedOut, IsOneMore, NoFaultAt, CompletesAt, LeavesPart}
@@ -62,15 +61,15 @@ module _ {Word : Type 0} (What Other : Work Word → Type 0) (also : (did : Work
   memory_as stop = record { status = stop.status; shelf = stop.shelf; part = some_as stop.part; message = stop.message }
 
 -- where one text alone may be written, out has a part of it
-module _ (V : Vocabulary) (text : List ℕ) (call : SeenCall V.Word) where
+module _ (V : Vocabulary) (What : Work V.Word → Type 0) (text : List ℕ) (its : (did : Work V.Word) → What did → did.text ≡ text) (call : SeenCall V.Word) where
   -- out as it was has the empty part of any text
   none_written : call.after.out ≡ call.before.out → LeavesPart text call.before.out call.after.out
   none_written same = inl (0, omega arith, same ∙ sym (appended-nil call.before.out))
 
-  of_text : SomePart V (λ did. did ≡ writing text) call → LeavesPart text call.before.out call.after.out
+  of_text : SomePart V What call → LeavesPart text call.before.out call.after.out
   of_text (inl same) = none_written same
   of_text (inr (did, is, part)) =
-      subst (λ (w : Work V.Word). LeavesPart w.text call.before.out call.after.out) is part
+      subst (λ (t : List ℕ). LeavesPart t call.before.out call.after.out) (its did is) part
 
-  pub text_part : (files : Files V) → IsCarriedOut V (λ did. did ≡ writing text) files call → LeavesPart text call.before.out call.after.out
-  text_part files out = of_text (part_left V (λ did. did ≡ writing text) call files out)
+  pub text_part : (files : Files V) → IsCarriedOut V What files call → LeavesPart text call.before.out call.after.out
+  text_part files out = of_text (part_left V What call files out)

@@ -1,8 +1,8 @@
 -- What holds at every place of a course, and what it says of a call.
-use Rattle.std.proofs.Common.{◌≡◌, ◌≢◌, ◌<◌, ◌⊎◌, ℕ, List, [], ◌∷◌, inl, inr, refl, sym, ◌∙◌, subst, arith}
-use Rattle.vw_outside.specs.Told.{Told, untold, absent, held, IsTextOf}
+use Rattle.std.proofs.Common.{◌≡◌, ◌≢◌, ◌<◌, ◌⊎◌, ℕ, List, [], inl, inr, sym, ◌∙◌, subst}
+use Rattle.vw_outside.specs.Told.{Told, held}
 use Rattle.vw_course.specs.Vocabulary.{Vocabulary}
-use Rattle.vw_course.specs.Outside.{SeenOutside, Work, DidPart, ShelfAlone}
+use Rattle.vw_course.specs.Outside.{Work, DidPart, ShelfAlone}
 use Rattle.vw_course.specs.Course.{Again, once, again, Course, works, refuses, reads, makes, Judged, Kind, Making, judges, made, stage}
 use Rattle.vw_course.specs.Follows.{May, IsAgain, BreaksOff}
 use Rattle.vw_course.specs.Endings.{SeenCall, IsCallOf}

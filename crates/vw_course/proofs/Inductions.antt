@@ -1,5 +1,5 @@
 -- From a course to its places: one induction for each way to say something of a place.
-use Rattle.std.proofs.Common.{◌≡◌, ◌⊎◌, ℕ, List, inl, inr, subst, sym, refl}
+use Rattle.std.proofs.Common.{◌≡◌, ℕ, List, inl, inr, subst, sym, refl}
 use Rattle.vw_outside.specs.Told.{Told, untold, absent, held, IsTextOf}
 use Rattle.vw_course.specs.Vocabulary.{Vocabulary}
 use Rattle.vw_course.specs.Course.{Course, works, refuses, reads, makes}

@@ -7,3 +7,4 @@ pub mod StageLaws
 pub mod BarredLaws
 pub mod GoesLaws
 pub mod CarriedOut
+pub mod PartLaws

@@ -1,17 +1,16 @@
 -- A line of a course: a file that is read and judged, or something that is made. How one goes past it, and back from
 -- what a call did to it.
-use Rattle.std.proofs.Common.{◌≡◌, ◌≢◌, ◌<◌, ◌⊎◌, ℕ, List, [], ◌∷◌, inl, inr, refl, sym, ◌∙◌, subst, ⊎_elim}
-use Rattle.vw_outside.specs.Told.{Told, untold, absent, held, IsTextOf}
+use Rattle.std.proofs.Common.{◌≡◌, ◌≢◌, ◌<◌, ◌⊎◌, ℕ, List, inl, inr, sym, ◌∙◌, subst}
+use Rattle.vw_outside.specs.Told.{Told, absent, held, IsTextOf}
 use Rattle.vw_course.specs.Vocabulary.{Vocabulary}
-use Rattle.vw_course.specs.Outside.{SeenOutside, Work, with_all, DidPart}
-use Rattle.vw_course.specs.Course.{Again, once, again, Course, works, refuses, reads, makes, Judged, Kind, Making, judges, made, stage}
-use Rattle.vw_course.specs.Follows.{May, BreaksOff}
+use Rattle.vw_course.specs.Outside.{Work, DidPart}
+use Rattle.vw_course.specs.Course.{Course, works, refuses, reads, makes, Judged, Kind, Making, judges, made, stage}
+use Rattle.vw_course.specs.Follows.{May}
 use Rattle.vw_course.specs.Endings.{SeenCall, IsCallOf}
-use Rattle.vw_course.specs.Places.{IsOneOf, Files, WorksHere, BreaksHere, ReadsAgainHere, RefusesHere, StandsAt, IsToWork, IsToRefuse, IsToMiss}
-use Rattle.vw_course.specs.Statuses.{IsDone, IsRefusedFor, IsRefused, MayDo, Statuses}
+use Rattle.vw_course.specs.Places.{IsOneOf, Files, WorksHere, BreaksHere, ReadsAgainHere, RefusesHere, StandsAt, IsToRefuse, IsToMiss}
+use Rattle.vw_course.specs.Statuses.{IsRefusedFor, IsRefused}
 use Rattle.vw_course.proofs.Inductions.{its_text, some_place}
 use Rattle.vw_course.proofs.CallTable.{call_table}
-use Rattle.vw_course.proofs.EveryPlace.{Every, every_place, IsNever, no_refusal, no_break}
 
 -- ---- past a line, to where the course stands
 

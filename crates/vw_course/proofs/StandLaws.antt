@@ -1,15 +1,15 @@
 -- What the place to which a course comes says of a call, whichever course it is.
-use Rattle.std.proofs.Common.{◌≡◌, ◌⊎◌, ℕ, List, Ok, Err, refl, sym, ◌∙◌, ap, subst, inl, inr}
-use Rattle.vw_outside.specs.Told.{Told, untold, absent, held, IsTextOf}
+use Rattle.std.proofs.Common.{◌≡◌, ◌⊎◌, ℕ, List, Ok, Err, refl, sym, ap, subst, inl, inr}
+use Rattle.vw_outside.specs.Told.{Told, held}
 use Rattle.vw_course.specs.declared.unfinished.Unfinished.TheVariants.{ReadFault, WriteFault, NoMemory, Refused}
 use Rattle.vw_course.specs.Vocabulary.{Vocabulary}
-use Rattle.vw_course.specs.Outside.{SeenOutside, Work, with_all, DidPart}
+use Rattle.vw_course.specs.Outside.{SeenOutside, Work}
 use Rattle.vw_course.specs.Course.{Again, once, again, Course, works, refuses, reads, makes}
 use Rattle.vw_course.specs.Follows.{May, Answer, IsDoneBy, Does, IsAgain, BreaksOff, EndsWorking, EndsRefused, EndsReading, EndsHere}
 use Rattle.vw_course.specs.Endings.{SeenCall, Ends, IsCallOf}
 use Rattle.vw_course.specs.Places.{IsOneOf, Files, StandsAt, IsHeldAgain, IsToWork, IsToRefuse, IsToMiss}
-use Rattle.vw_course.specs.Statuses.{NothingDone, DidSome, NoWork, IsDone, IsRefusedFor, IsReadStop, IsWriteStop, IsMemoryStop, IsStopped, IsCarriedOut}
-use Rattle.vw_course.proofs.Inductions.{its_text, no_text, not_untold, stands}
+use Rattle.vw_course.specs.Statuses.{DidSome, NoWork, IsRefusedFor, IsStopped, IsCarriedOut}
+use Rattle.vw_course.proofs.Inductions.{no_text, not_untold, stands}
 use Rattle.vw_course.proofs.CallLaws.{nothing_done, shelf_alone}
 
 -- ---- a file that is read again and is held

@@ -1,6 +1,6 @@
 -- What a command does: the files that it reads, one after the other, and for their texts why it refuses, or what work
 -- it does.
-use Rattle.std.specs.Prelude.{◌≡◌, ℕ, List, None}
+use Rattle.std.specs.Prelude.{◌≡◌, ℕ, List, [], None}
 use Rattle.vw_course.specs.Vocabulary.{Vocabulary}
 use Rattle.vw_course.specs.Outside.{Work}
 
@@ -70,3 +70,7 @@ made {A = A} making next =
 -- a file is read and its text judged, and it goes on by what is good for it
 abbrev pub stage : {V : Vocabulary} {A : Type 0} → Kind V A → List ℕ → (A → Course V) → Course V
 stage kind name next = reads kind.file name (λ text. judges (kind.judged text) next)
+
+-- a course that is cut off here: nothing more is done, read or made
+abbrev pub cut : {V : Vocabulary} → Course V
+cut = makes (Unit {0}) (λ x. ⊥) (λ reason. ⊥) ⊥ (λ x reason good bad. bad) (λ reason comes bad. bad) (λ x good. writes [])

@@ -1,6 +1,6 @@
 -- Where a course comes to, and what holds at each of its places.
 use Rattle.std.specs.Prelude.{◌≡◌, ◌⊎◌, ℕ, List, [], ◌∷◌}
-use Rattle.vw_outside.specs.Told.{Told, absent, held, IsTextOf}
+use Rattle.vw_outside.specs.Told.{Told, absent, held}
 use Rattle.vw_course.specs.Vocabulary.{Vocabulary}
 use Rattle.vw_course.specs.Outside.{Work}
 use Rattle.vw_course.specs.Course.{Again, once, again, Course, works, refuses, reads, makes}

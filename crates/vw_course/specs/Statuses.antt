@@ -1,6 +1,6 @@
 -- What each status of a call means, when it comes, what it leaves, and which message it has.
 use Rattle.std.specs.Prelude.{◌≡◌, ◌<◌, ◌⊎◌, ℕ, List, [], ◌∷◌, ⊤}
-use Rattle.vw_outside.specs.Told.{Told, absent, held}
+use Rattle.vw_outside.specs.Told.{absent, held}
 use Rattle.vw_outside.specs.Faults.{one_more}
 use Rattle.vw_outside.specs.Reads.{CountsFault}
 use Rattle.vw_outside.specs.Writes.{SeenSink, WrotePart, FailedAfterPart}

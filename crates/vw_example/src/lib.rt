@@ -6,7 +6,7 @@ ghost use Rattle.vw_example.specs.SimulateStatuses.{SimulateStatuses};
 
 use std::alloc::{AllocError, Global};
 use vw_outside::{Held, MemShelf, MemSink, Name};
-use vw_top::{call_statuses, sim_statuses, virtual_wires};
+use vw_top::{alone, call_statuses, sim_statuses};
 
 /// How a call ended, and what it wrote.
 #[derive(Drop)]
@@ -44,7 +44,9 @@ pub fn simulate(alloc: Global, design: Vec<u8>, stimulus: Vec<u8>) -> Result<Sim
     let mut shelf = MemShelf::new(files, 65_536, Vec::new(alloc));
     let mut out = MemSink::new(alloc, 65_536, Vec::new(alloc));
     let mut err = MemSink::new(alloc, 65_536, Vec::new(alloc));
-    let status = virtual_wires(alloc, &words, &mut shelf, &mut out, &mut err);
+    let Some(status) = alone(alloc, &words, &mut shelf, &mut out, &mut err) else {
+        unreachable!()
+    };
     call_statuses();
     sim_statuses();
     if err.faults > 0 {

@@ -1,3 +1,5 @@
 pub mod ShortRoutes
 pub mod GoodPlans
 pub mod Fits
+pub mod JoinedTraffic
+pub mod LinkWords

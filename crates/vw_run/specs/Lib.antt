@@ -2,3 +2,4 @@ pub mod Shortest
 pub mod Compiled
 pub mod Messages
 pub mod Runs
+pub mod Traffic

@@ -6,12 +6,40 @@ ghost use Rattle.vw_trace.specs.FlatTrace.{flat_trace};
 ghost use Rattle.vw_trace.specs.Streamed.{Streams};
 ghost use Rattle.vw_run.specs.Runs.{without_count};
 
-use crate::running_board::RunningBoard;
-use std::alloc::Global;
+use crate::running_board::{RunningBoard, batch_of};
+use std::alloc::{AllocError, Global};
+use vw_net::{Bits, Flat, Rows};
 use vw_outside::{Shelf, Sink};
 use vw_plan::Checked;
 use vw_rows::Stimulus;
-use vw_trace::{RunFault, write_trace_by};
+use vw_trace::{Batch, Engine, RunFault, write_trace_by};
+use vw_world::World;
+
+/// By itself a board runs in one worker: each batch is a job of its world.
+impl Engine for RunningBoard {
+    ghost use Rattle.std.specs.Prelude.{◌+◌, length, Some};
+
+    ghost netlist = { λ board. board.job.checked.ordered.flat };
+
+    ghost done = { λ board. Some (board.job.first + length board.job.rows) };
+
+    fn flat(&self) -> &Flat {
+        self.flat()
+    }
+
+    fn run(
+        &mut self,
+        alloc: Global,
+        first: u64,
+        rows: Rows,
+        state: &mut Bits,
+    ) -> Result<Batch, AllocError> {
+        self.take_job(alloc, first, rows, state);
+        let mut world = World::make(alloc, self.programs(), self.job())?;
+        world.finish();
+        Ok(batch_of(world.into_answer(), state))
+    }
+}
 
 /// Runs a planned design on its board over a checked stimulus, of which nothing was given, and appends the trace of the
 /// unpartitioned design. Free latches start at `unknown`. It answers the number of clocks.
@@ -34,8 +62,8 @@ pub fn run_alone<S: Shelf, O: Sink>(
     requires stands { (text : List ℕ) → (S.seen shelf.old).told stimulus.old.name ≡ held text
         → StandsIn stimulus.old text }
     ensures streams { Streams stimulus.old.name stimulus.old.width
-        (flat_trace unknown checked.ordered.flat) (S.seen shelf.old) (O.seen out.old)
-        (S.seen shelf.new) (O.seen out.new) (without_count result) }
+        (flat_trace unknown checked.ordered.flat) (λ rows. Unit {0}) (S.seen shelf.old)
+        (O.seen out.old) (S.seen shelf.new) (O.seen out.new) (without_count result) }
     ensures clocks { IfOk result (λ clocks. clocks ≡ stimulus.old.clocks) }
     ensures done { IfOk result (λ clocks. stimulus.new.done ≡ clocks) }
 {

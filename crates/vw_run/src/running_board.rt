@@ -1,5 +1,9 @@
-//! A planned design that runs on its board, in one worker.
-ghost use Rattle.std.specs.Prelude.{◌≡◌, ◌+◌, length, IfOk};
+//! A planned design that is ready to run on its board.
+ghost use Rattle.std.specs.Prelude.{◌≡◌, ◌+◌, ◌<◌, ◌^◌, length, IfOk};
+ghost use Rattle.std.specs.List.{All};
+ghost use Rattle.vw_net.specs.Cells.{latch_count};
+ghost use Rattle.vw_prog.specs.Actions.{ArePrograms};
+ghost use Rattle.vw_prog.specs.Scripts.{planned_of};
 
 use std::alloc::{AllocError, Global};
 use std::marker::Model;
@@ -7,8 +11,7 @@ use std::mem::replace;
 use vw_net::{Bits, Flat, Rows};
 use vw_plan::Checked;
 use vw_prog::{Answer, Job, Programs};
-use vw_trace::{Batch, Engine};
-use vw_world::World;
+use vw_trace::Batch;
 
 /// A board with the programs of its nodes, and the job that it has run last. Contracts see the job.
 #[derive(Drop)]
@@ -44,39 +47,58 @@ impl RunningBoard {
             job: Job::make(checked, 0, start, rows),
         })
     }
-}
 
-impl Engine for RunningBoard {
-    ghost use Rattle.std.specs.Prelude.{◌+◌, length, Some};
-
-    ghost netlist = { λ board. board.job.checked.ordered.flat };
-
-    ghost done = { λ board. Some (board.job.first + length board.job.rows) };
-
-    fn flat(&self) -> &Flat {
-        self.job.checked().ordered().flat()
-    }
-
-    fn run(
-        &mut self,
-        alloc: Global,
-        first: u64,
-        rows: Rows,
-        state: &mut Bits,
-    ) -> Result<Batch, AllocError> {
+    /// Makes these rows its job, of which the first has the number `first`, counted from 0. The start bits are taken out of
+    /// `state`. It takes no memory.
+    pub fn take_job(&mut self, alloc: Global, first: u64, rows: Rows, state: &mut Bits)
+        requires columns { All (λ row. length row ≡ self.old.job.checked.ordered.flat.inputs) rows }
+        requires latches { length state.old ≡ latch_count self.old.job.checked.ordered.flat.cells }
+        requires few { first + length rows < 2 ^ 32 }
+        ensures checked { self.new.job.checked ≡ self.old.job.checked }
+        ensures first { self.new.job.first ≡ first }
+        ensures start { self.new.job.start ≡ state.old }
+        ensures rows { self.new.job.rows ≡ rows }
+    {
         let start = replace(state, Bits::of(Vec::new(alloc)));
         self.job.renew(first, start, rows);
-        let mut world = World::make(alloc, &self.programs, &self.job)?;
-        world.finish();
-        let Answer {
-            outputs,
-            latches,
-            last,
-        } = world.into_answer();
-        *state = last;
-        Ok(Batch {
-            outputs,
-            states: latches,
-        })
+    }
+
+    /// The programs of its nodes.
+    pub fn programs(&self) -> &Programs
+        ensures { ArePrograms (planned_of self.now.job) result.now }
+    {
+        &self.programs
+    }
+
+    /// The job that it has run last, or is to run.
+    pub fn job(&self) -> &Job
+        ensures { result.now ≡ self.now.job }
+    {
+        &self.job
+    }
+
+    /// The netlist of the design.
+    pub fn flat(&self) -> &Flat
+        ensures { result.now ≡ self.now.job.checked.ordered.flat }
+    {
+        self.job.checked().ordered().flat()
+    }
+}
+
+/// What a job came to, as a batch of clocks. The latch values after the last are written over `state`.
+pub fn batch_of(answer: Answer, state: &mut Bits) -> Batch
+    ensures outputs { result.outputs ≡ answer.outputs }
+    ensures states { result.states ≡ answer.latches }
+    ensures state { state.new ≡ answer.last }
+{
+    let Answer {
+        outputs,
+        latches,
+        last,
+    } = answer;
+    *state = last;
+    Batch {
+        outputs,
+        states: latches,
     }
 }

@@ -9,6 +9,7 @@ use Rattle.vw_course.proofs.CallTable.{call_table}
 use Rattle.vw_course.proofs.StandLaws.{call_works}
 use Rattle.vw_course.proofs.EveryPlace.{never_status, fault_at}
 use Rattle.vw_course.proofs.CarriedOut.{completes, text_part, done_as, write_as, memory_as}
+use Rattle.vw_plan.specs.declared.board.Board.{Board}
 use Rattle.vw_plan.specs.declared.plan.Plan.{Plan}
 use Rattle.vw_top.specs.Messages.{vocabulary, Call, CallWork}
 use Rattle.vw_top.specs.Commands.{sound_text, check_course}
@@ -21,20 +22,20 @@ module _ (design board plan : List ℕ) (call : Call) where
   course = check_course design board plan
 
   -- behind the sound plan its size is written
-  abbrev rest : Ordered → Plan → Course vocabulary
-  rest ordered its = writes (sound_text its)
+  abbrev rest : Ordered → Board → Plan → Course vocabulary
+  rest ordered on its = writes (sound_text its)
 
   abbrev all : Files vocabulary
   all = its_files design board plan
 
   not_status : IsCallOf course call → (number : ℕ) → 0 < number → number < 7 → 1 ≢ number → 3 ≢ number → 4 ≢ number → call.status ≢ number
   not_status is number some few no_one no_three no_four = never_status course call is number
-      (never_planned design board plan rest number (λ ordered its. tt) no_one no_three no_four) (unbroken_planned design board plan rest number (λ ordered its. tt)) some few
+      (never_planned design board plan rest number (λ ordered on its. tt) no_one no_three no_four) (unbroken_planned design board plan rest number (λ ordered on its. tt)) some few
 
   size_by : (d b p : List ℕ) → HoldTexts design board plan call d b p → (did : CallWork) → MayDo course call did → IsSize d b p did
   size_by d b p hold did may =
       let work = work_planned design board plan rest call d b p hold did may in
-      (work.1, work.2, work.3)
+      (work.2, work.3, work.4)
 
   works : IsCallOf course call → (d b p : List ℕ) → HoldTexts design board plan call d b p → (its : Plan) → IsSoundPlan d b p its
       → IsCarriedOut vocabulary (λ did. did ≡ writing (sound_text its)) all call
@@ -42,16 +43,16 @@ module _ (design board plan : List ℕ) (call : Call) where
       let What : CallWork → Type 0 = λ did. did ≡ writing (sound_text its) in
       call_works vocabulary all call What course is
       (to_rest design board plan rest call d b p hold all (inl refl) (inr (inl refl)) (inr (inr (inl refl))) (IsToWork call.before.shelf.told all What) its of
-      (λ ordered that netlist same. (tt, ap (λ (one : Plan). writing (sound_text one)) same)))
+      (λ ordered this that are same sound. (tt, ap (λ (one : Plan). writing (sound_text one)) same)))
 
   pub check_table : IsCallOf course call → CheckStatuses design board plan call
   check_table is =
       let table : Statuses course call = call_table course call is in
       record {
         done = λ d b p hold status. done_as (MayDo course call) (IsSize d b p) (size_by d b p hold) call (table.done status);
-        planned = planned_table design board plan rest call (λ number one ordered its. tt) (λ number one ordered its. tt) is;
+        planned = planned_table design board plan rest call (λ number one ordered on its. tt) (λ number one ordered on its. tt) is;
         read_fault = fault_at course call is all
-            (reads_planned design board plan rest all (inl refl) (inr (inl refl)) (inr (inr (inl refl))) (λ ordered its. tt)) (once_planned design board plan rest (λ ordered its. tt));
+            (reads_planned design board plan rest all (inl refl) (inr (inl refl)) (inr (inr (inl refl))) (λ ordered on its. tt)) (once_planned design board plan rest (λ ordered on its. tt));
         write_fault = λ d b p hold status. write_as (MayDo course call) (IsSize d b p) (size_by d b p hold) call (table.write_fault status);
         want_of_memory = λ d b p hold status. memory_as (MayDo course call) (IsSize d b p) (size_by d b p hold) call (table.want_of_memory status);
         others = (
@@ -60,6 +61,6 @@ module _ (design board plan : List ℕ) (call : Call) where
           not_status is 6 (lit< tt) (lit< tt) (λ one. omega (arith, one)) (λ three. omega (arith, three)) (λ four. omega (arith, four)),
         );
         accepted = λ d b p its hold of. works is d b p hold its of;
-        part = λ d b p its hold of. text_part vocabulary (sound_text its) call all (works is d b p hold its of);
+        part = λ d b p its hold of. text_part vocabulary (λ did. did ≡ writing (sound_text its)) (sound_text its) (λ did is. ap (λ (w : CallWork). w.text) is) call all (works is d b p hold its of);
         complete = λ d b p its hold of. completes vocabulary (λ did. did ≡ writing (sound_text its)) call all (works is d b p hold its of);
       }

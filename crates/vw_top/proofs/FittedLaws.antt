@@ -26,12 +26,12 @@ use Rattle.vw_top.specs.declared.vocabulary.Reason.TheVariants as reasons
 use Rattle.vw_top.specs.Messages.{reason_status, vocabulary, Call, CallWork}
 use Rattle.vw_top.specs.Kinds.{netlist_kind, board_kind, planning, IsBadDesign, IsBadBoard, IsBadFit}
 use Rattle.vw_top.specs.OnBoards.{AreSpelledOn}
-use Rattle.vw_top.specs.FittedStatuses.{IsGoodPlan, HaveRoom, HaveNoRoom, IsNoFit, HoldTexts, its_design, its_files, FittedStatuses}
+use Rattle.vw_top.specs.FittedStatuses.{IsGoodPlan, HaveRoom, HaveNoRoom, IsNoFit, MaySpell, HoldTexts, its_design, its_files, FittedStatuses}
 use Rattle.vw_top.proofs.OnBoards.{no_room_same, has_room_same}
 
-module _ (design board : List ℕ) (rest : Ordered → Plan → Course vocabulary) where
+module _ (design board : List ℕ) (rest : Ordered → Board → Plan → Course vocabulary) where
   abbrev pub making : Ordered → Board → Course vocabulary
-  making ordered its = made (planning ordered its) (rest ordered)
+  making ordered its = made (planning ordered its) (rest ordered its)
 
   abbrev pub next : Ordered → Course vocabulary
   next ordered = stage board_kind board (making ordered)
@@ -42,23 +42,23 @@ module _ (design board : List ℕ) (rest : Ordered → Plan → Course vocabular
   -- ---- every place
 
   module _ (files : Files vocabulary) (at_design : IsOneOf files (kinds.Design, design)) (at_board : IsOneOf files (kinds.Board, board)) where
-    pub reads_fitted : ((ordered : Ordered) (its : Plan) → Every (ReadsOnly files) (rest ordered its)) → Every (ReadsOnly files) course
+    pub reads_fitted : ((ordered : Ordered) (on : Board) (its : Plan) → Every (ReadsOnly files) (rest ordered on its)) → Every (ReadsOnly files) course
     reads_fitted all = reads_stage files netlist_kind design next at_design
-        (λ ordered. reads_stage files board_kind board (making ordered) at_board (λ its. (tt, λ plan good. all ordered plan)))
+        (λ ordered. reads_stage files board_kind board (making ordered) at_board (λ its. (tt, λ plan good. all ordered its plan)))
 
-  pub once_fitted : ((ordered : Ordered) (its : Plan) → Every IsOnce (rest ordered its)) → Every IsOnce course
-  once_fitted all = once_stage netlist_kind design next (λ ordered. once_stage board_kind board (making ordered) (λ its. (tt, λ plan good. all ordered plan)))
+  pub once_fitted : ((ordered : Ordered) (on : Board) (its : Plan) → Every IsOnce (rest ordered on its)) → Every IsOnce course
+  once_fitted all = once_stage netlist_kind design next (λ ordered. once_stage board_kind board (making ordered) (λ its. (tt, λ plan good. all ordered its plan)))
 
-  pub unbroken_fitted : (number : ℕ) → ((ordered : Ordered) (its : Plan) → Every (IsUnbroken number) (rest ordered its)) → Every (IsUnbroken number) course
+  pub unbroken_fitted : (number : ℕ) → ((ordered : Ordered) (on : Board) (its : Plan) → Every (IsUnbroken number) (rest ordered on its)) → Every (IsUnbroken number) course
   unbroken_fitted number all = unbroken_stage number netlist_kind design next
-      (λ ordered. unbroken_stage number board_kind board (making ordered) (λ its. (tt, λ plan good. all ordered plan)))
+      (λ ordered. unbroken_stage number board_kind board (making ordered) (λ its. (tt, λ plan good. all ordered its plan)))
 
-  pub held_fitted : (told : List ℕ → Told) → ((ordered : Ordered) (its : Plan) → Every (IsHeldThere told) (rest ordered its)) → Every (IsHeldThere told) course
-  held_fitted told all = held_stage told netlist_kind design next (λ ordered. held_stage told board_kind board (making ordered) (λ its. (tt, λ plan good. all ordered plan)))
+  pub held_fitted : (told : List ℕ → Told) → ((ordered : Ordered) (on : Board) (its : Plan) → Every (IsHeldThere told) (rest ordered on its)) → Every (IsHeldThere told) course
+  held_fitted told all = held_stage told netlist_kind design next (λ ordered. held_stage told board_kind board (making ordered) (λ its. (tt, λ plan good. all ordered its plan)))
 
-  module _ (number : ℕ) (never : (ordered : Ordered) (its : Plan) → Every (IsNever number) (rest ordered its)) where
+  module _ (number : ℕ) (never : (ordered : Ordered) (on : Board) (its : Plan) → Every (IsNever number) (rest ordered on its)) where
     never_making : 6 ≢ number → (ordered : Ordered) (its : Board) → Every (IsNever number) (making ordered its)
-    never_making no_six ordered its = never_made number (planning ordered its) (rest ordered) no_six (never ordered)
+    never_making no_six ordered its = never_made number (planning ordered its) (rest ordered its) no_six (never ordered its)
 
     never_board : 3 ≢ number → 6 ≢ number → (ordered : Ordered) → Every (IsNever number) (next ordered)
     never_board no_three no_six ordered = never_stage number board_kind board (making ordered) no_three (never_making no_six ordered)
@@ -72,30 +72,35 @@ module _ (design board : List ℕ) (rest : Ordered → Plan → Course vocabular
 
     -- ---- the rest
 
-    pub barred_fitted : (numbers : List ℕ) → IsOneOf numbers 1 → IsOneOf numbers 3 → IsOneOf numbers 6 → ((ordered : Ordered) (its : Plan) → IsBarred told numbers (rest ordered its)) → IsBarred told numbers course
+    pub barred_fitted : (numbers : List ℕ) → IsOneOf numbers 1 → IsOneOf numbers 3 → IsOneOf numbers 6 → ((ordered : Ordered) (on : Board) (its : Plan) → IsBarred told numbers (rest ordered on its)) → IsBarred told numbers course
     barred_fitted numbers one three six bars = barred_later told numbers netlist_kind design next one
         (λ ordered. barred_later told numbers board_kind board (making ordered) three
-        (λ its. (λ reason bad. subst (IsOneOf numbers) (sym (ap reason_status bad.0)) six, λ plan good. bars ordered plan)))
+        (λ its. (λ reason bad. subst (IsOneOf numbers) (sym (ap reason_status bad.0)) six, λ plan good. bars ordered its plan)))
 
     -- what holds where nothing is read or made, but for what has another status, holds in the rest
     pub behind_fitted : (number : ℕ) (P : Course vocabulary → Type 0) → IsBehind number P → 1 ≢ number → 3 ≢ number → 6 ≢ number → May told P course
-        → (text : List ℕ) × IsTextOf (told design) text × (ordered : Ordered) × IsNetlistOf text ordered × (its : Plan) × May told P (rest ordered its)
+        → (ordered : Ordered) × (on : Board) × (its : Plan) × MaySpell design board told ordered on its × May told P (rest ordered on its)
     behind_fitted number P passes no_one no_three no_six may =
         let one = stage_behind told number P passes netlist_kind design next no_one may in
         let two = stage_behind told number P passes board_kind board (making one.2) no_three one.4 in
-        let three = made_behind told number P passes (planning one.2 two.2) (rest one.2) no_six two.4 in
-        (one.0, one.1, one.2, one.3, three.0, three.2)
+        let three = made_behind told number P passes (planning one.2 two.2) (rest one.2 two.2) no_six two.4 in (
+          one.2,
+          two.2,
+          three.0,
+          record { d = one.0; design_of = one.1; b = two.0; board_of = two.1; are = record { netlist = one.3; board_is = two.3 }; good = three.1 },
+          three.2,
+        )
 
     module _ (d b : List ℕ) (hold : HoldTexts design board call d b) where
       -- the work is that of the rest, behind a good plan of the texts
-      pub work_fitted : (did : CallWork) → MayDo course call did → (ordered : Ordered) × (its : Plan) × IsGoodPlan d b its × May told (WorksHere told did) (rest ordered its)
+      pub work_fitted : (did : CallWork) → MayDo course call did → (ordered : Ordered) × (on : Board) × (its : Plan) × IsGoodPlan d b its × May told (WorksHere told did) (rest ordered on its)
       work_fitted did may =
           let one = work_past told netlist_kind design next d hold.design_held did may in
           let two = work_past told board_kind board (making one.0) b hold.board_held did one.2 in
           ⊎_elim
           (λ (none : ⊥). absurd none)
-          (λ (more : (its : Plan) × IsGood (planned_board one.0 two.0 its) × May told (WorksHere told did) (rest one.0 its)).
-          (one.0, more.0, record { ordered = one.0; board = two.0; are = record { netlist = one.1; board_is = two.1 }; good = more.1 }, more.2))
+          (λ (more : (its : Plan) × IsGood (planned_board one.0 two.0 its) × May told (WorksHere told did) (rest one.0 two.0 its)).
+          (one.0, two.0, more.0, record { ordered = one.0; board = two.0; are = record { netlist = one.1; board_is = two.1 }; good = more.1 }, more.2))
           two.2
 
       module _ (files : Files vocabulary) (at_design : IsOneOf files (kinds.Design, design)) (at_board : IsOneOf files (kinds.Board, board)) (P : Course vocabulary → Type 0) where
@@ -109,11 +114,11 @@ module _ (design board : List ℕ) (rest : Ordered → Plan → Course vocabular
             (λ this so. there other this (record { netlist = is; board_is = so })))
 
         -- the cells have room, and the rest comes next
-        pub to_fitted_rest : HaveRoom d b → ((ordered : Ordered) (its : Plan) → IsNetlistOf d ordered → IsGoodPlan d b its → StandsAt told files P (rest ordered its)) → StandsAt told files P course
+        pub to_fitted_rest : HaveRoom d b → ((ordered : Ordered) (this : Board) (its : Plan) → AreSpelledOn d b ordered this → IsGood (planned_board ordered this its) → StandsAt told files P (rest ordered this its)) → StandsAt told files P course
         to_fitted_rest have there = to_making have.ordered have.board have.are
-            (λ other this so. past_made told files P (planning other this) (rest other)
+            (λ other this so. past_made told files P (planning other this) (rest other this)
             (has_room_same d b have.ordered other have.board this have.are so have.room)
-            (λ its good. there other its so.netlist (record { ordered = other; board = this; are = so; good = good })))
+            (λ its good. there other this its so good))
 
     -- ---- the table
 
@@ -128,7 +133,7 @@ module _ (design board : List ℕ) (rest : Ordered → Plan → Course vocabular
         let bad : IsBadFit other this (reasons.Fit (TooManyCells (length other.flat.cells) (this.chips * this.cells))) = (refl, no_room_same d b have.ordered other have.board this have.are so have.none) in
         inl ((reasons.Fit (TooManyCells (length other.flat.cells) (this.chips * this.cells)), bad), λ reason why. record { ordered = other; board = this; are = so; bad = why })
 
-    module _ (never : (number : ℕ) → IsOneOf (1 ∷ 3 ∷ 6 ∷ []) number → (ordered : Ordered) (its : Plan) → Every (IsNever number) (rest ordered its)) where
+    module _ (never : (number : ℕ) → IsOneOf (1 ∷ 3 ∷ 6 ∷ []) number → (ordered : Ordered) (on : Board) (its : Plan) → Every (IsNever number) (rest ordered on its)) where
       design_why : (d : List ℕ) → told design ≡ held d → (reason : Reason) → reason_status reason ≡ 1 → May told (RefusesHere reason) course → IsBadDesign d reason
       design_why d held_d reason same may =
           ⊎_elim
@@ -156,13 +161,13 @@ module _ (design board : List ℕ) (rest : Ordered → Plan → Course vocabular
           (λ (two : (x : Board) × SpellsBoard b x × May told (RefusesHere reason) (making one.0 x)).
           ⊎_elim
           (λ (bad : IsBadFit one.0 two.0 reason). record { ordered = one.0; board = two.0; are = record { netlist = one.1; board_is = two.1 }; bad = bad })
-          (λ (more : (its : Plan) × IsGood (planned_board one.0 two.0 its) × May told (RefusesHere reason) (rest one.0 its)).
-          absurd (no_refusal told 6 (rest one.0 more.0) (never 6 (inr (inr (inl refl))) one.0 more.0) reason same more.2))
+          (λ (more : (its : Plan) × IsGood (planned_board one.0 two.0 its) × May told (RefusesHere reason) (rest one.0 two.0 its)).
+          absurd (no_refusal told 6 (rest one.0 two.0 more.0) (never 6 (inr (inr (inl refl))) one.0 two.0 more.0) reason same more.2))
           two.2)
           (refused_past told board_kind board (making one.0) b hold.board_held reason one.2))
           (refused_past told netlist_kind design next d hold.design_held reason may)
 
-      pub fitted_table : ((number : ℕ) → IsOneOf (1 ∷ 3 ∷ 6 ∷ []) number → (ordered : Ordered) (its : Plan) → Every (IsUnbroken number) (rest ordered its)) → IsCallOf course call → FittedStatuses design board call
+      pub fitted_table : ((number : ℕ) → IsOneOf (1 ∷ 3 ∷ 6 ∷ []) number → (ordered : Ordered) (on : Board) (its : Plan) → Every (IsUnbroken number) (rest ordered on its)) → IsCallOf course call → FittedStatuses design board call
       fitted_table whole is =
           let unbroken = λ (number : ℕ) (one : IsOneOf (1 ∷ 3 ∷ 6 ∷ []) number). no_break told number course (unbroken_fitted number (whole number one)) in
           record {

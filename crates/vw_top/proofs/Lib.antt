@@ -1,7 +1,9 @@
 pub mod OnBoards
 pub mod FlatTraces
 pub mod StreamedTraces
+pub mod ReadyLaws
 pub mod TracedLaws
+pub mod LinkTraffic
 pub mod SimLaws
 pub mod FittedLaws
 pub mod PlanLaws
@@ -10,3 +12,4 @@ pub mod CheckLaws
 pub mod RunLaws
 pub mod RunGivenLaws
 pub mod UsageLaws
+pub mod HeadlineLaw

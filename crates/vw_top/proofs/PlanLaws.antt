@@ -9,6 +9,7 @@ use Rattle.vw_course.proofs.CallTable.{call_table}
 use Rattle.vw_course.proofs.StandLaws.{call_works}
 use Rattle.vw_course.proofs.EveryPlace.{never_status, fault_at}
 use Rattle.vw_course.proofs.CarriedOut.{completes, done_as, write_as, memory_as}
+use Rattle.vw_plan.specs.declared.board.Board.{Board}
 use Rattle.vw_plan.specs.declared.plan.Plan.{Plan}
 use Rattle.vw_top.specs.Messages.{vocabulary, Call, CallWork}
 use Rattle.vw_top.specs.Commands.{text_of_plan, plan_course}
@@ -21,33 +22,33 @@ module _ (design board : List ℕ) (call : Call) where
   course = plan_course design board
 
   -- behind a good plan its text is written
-  abbrev rest : Ordered → Plan → Course vocabulary
-  rest ordered its = writes (text_of_plan its)
+  abbrev rest : Ordered → Board → Plan → Course vocabulary
+  rest ordered on its = writes (text_of_plan its)
 
   abbrev both : Files vocabulary
   both = its_files design board
 
   not_status : IsCallOf course call → (number : ℕ) → 0 < number → number < 7 → 1 ≢ number → 3 ≢ number → 6 ≢ number → call.status ≢ number
   not_status is number some few no_one no_three no_six = never_status course call is number
-      (never_fitted design board rest number (λ ordered its. tt) no_one no_three no_six) (unbroken_fitted design board rest number (λ ordered its. tt)) some few
+      (never_fitted design board rest number (λ ordered on its. tt) no_one no_three no_six) (unbroken_fitted design board rest number (λ ordered on its. tt)) some few
 
   text_by : (d b : List ℕ) → HoldTexts design board call d b → (did : CallWork) → MayDo course call did → IsPlanText d b did
   text_by d b hold did may =
       let work = work_fitted design board rest call d b hold did may in
-      (work.1, work.2, work.3)
+      (work.2, work.3, work.4)
 
   works : IsCallOf course call → (d b : List ℕ) → HoldTexts design board call d b → HaveRoom d b → IsCarriedOut vocabulary (IsPlanText d b) both call
   works is d b hold have = call_works vocabulary both call (IsPlanText d b) course is
       (to_fitted_rest design board rest call d b hold both (inl refl) (inr (inl refl)) (IsToWork call.before.shelf.told both (IsPlanText d b)) have
-      (λ ordered its netlist good. (tt, (its, good, refl))))
+      (λ ordered this its are good. (tt, (its, record { ordered = ordered; board = this; are = are; good = good }, refl))))
 
   pub plan_table : IsCallOf course call → PlanStatuses design board call
   plan_table is =
       let table : Statuses course call = call_table course call is in
       record {
         done = λ d b hold status. done_as (MayDo course call) (IsPlanText d b) (text_by d b hold) call (table.done status);
-        fitted = fitted_table design board rest call (λ number one ordered its. tt) (λ number one ordered its. tt) is;
-        read_fault = fault_at course call is both (reads_fitted design board rest both (inl refl) (inr (inl refl)) (λ ordered its. tt)) (once_fitted design board rest (λ ordered its. tt));
+        fitted = fitted_table design board rest call (λ number one ordered on its. tt) (λ number one ordered on its. tt) is;
+        read_fault = fault_at course call is both (reads_fitted design board rest both (inl refl) (inr (inl refl)) (λ ordered on its. tt)) (once_fitted design board rest (λ ordered on its. tt));
         write_fault = λ d b hold status. write_as (MayDo course call) (IsPlanText d b) (text_by d b hold) call (table.write_fault status);
         want_of_memory = λ d b hold status. memory_as (MayDo course call) (IsPlanText d b) (text_by d b hold) call (table.want_of_memory status);
         others = (

@@ -32,7 +32,7 @@ use Rattle.vw_top.specs.declared.vocabulary.Reason.TheVariants as reasons
 use Rattle.vw_top.specs.Messages.{reason_status, vocabulary, Call, CallWork}
 use Rattle.vw_top.specs.Kinds.{netlist_kind, board_kind, plan_kind, soundness, IsBadDesign, IsBadBoard, IsBadPlanText, IsBadPlan}
 use Rattle.vw_top.specs.OnBoards.{AreSpelledOn}
-use Rattle.vw_top.specs.PlannedStatuses.{AreSpelled, HasPlanFault, IsUnsound, IsNoPlan, IsSoundPlan, HoldTexts, its_design, its_board, its_files, PlannedStatuses}
+use Rattle.vw_top.specs.PlannedStatuses.{AreSpelled, HasPlanFault, IsUnsound, IsNoPlan, IsSoundPlan, MaySpell, HoldTexts, its_design, its_board, its_files, PlannedStatuses}
 use Rattle.vw_top.proofs.OnBoards.{netlist_same}
 
 -- a plan has the same fault for each netlist, board and plan of the same texts
@@ -42,12 +42,12 @@ fault_of_texts d b p ordered other board its_board plan its_plan are its =
     fault_same board plan ordered other (netlist_same d ordered other are.on.netlist its.on.netlist)
     ∙ ap₂ (λ (one : Board) (two : Plan). plan_fault (planned_board other one two)) (accepted_once b board its_board are.on.board_is its.on.board_is) (spelled_once p plan its_plan are.plan_is its.plan_is)
 
-module _ (design board plan : List ℕ) (rest : Ordered → Plan → Course vocabulary) where
-  abbrev pub behind : Ordered → Plan → Unit {0} → Course vocabulary
-  behind ordered its done = rest ordered its
+module _ (design board plan : List ℕ) (rest : Ordered → Board → Plan → Course vocabulary) where
+  abbrev pub behind : Ordered → Board → Plan → Unit {0} → Course vocabulary
+  behind ordered its content done = rest ordered its content
 
   abbrev pub judging : Ordered → Board → Plan → Course vocabulary
-  judging ordered its content = judges (soundness (planned_board ordered its content)) (behind ordered content)
+  judging ordered its content = judges (soundness (planned_board ordered its content)) (behind ordered its content)
 
   abbrev pub later : Ordered → Board → Course vocabulary
   later ordered its = stage plan_kind plan (judging ordered its)
@@ -61,26 +61,26 @@ module _ (design board plan : List ℕ) (rest : Ordered → Plan → Course voca
   -- ---- every place
 
   module _ (files : Files vocabulary) (at_design : IsOneOf files (kinds.Design, design)) (at_board : IsOneOf files (kinds.Board, board)) (at_plan : IsOneOf files (kinds.Plan, plan)) where
-    pub reads_planned : ((ordered : Ordered) (its : Plan) → Every (ReadsOnly files) (rest ordered its)) → Every (ReadsOnly files) course
+    pub reads_planned : ((ordered : Ordered) (on : Board) (its : Plan) → Every (ReadsOnly files) (rest ordered on its)) → Every (ReadsOnly files) course
     reads_planned all = reads_stage files netlist_kind design next at_design
-        (λ ordered. reads_stage files board_kind board (later ordered) at_board (λ its. reads_stage files plan_kind plan (judging ordered its) at_plan (λ content. (tt, λ done is. all ordered content))))
+        (λ ordered. reads_stage files board_kind board (later ordered) at_board (λ its. reads_stage files plan_kind plan (judging ordered its) at_plan (λ content. (tt, λ done is. all ordered its content))))
 
-  pub once_planned : ((ordered : Ordered) (its : Plan) → Every IsOnce (rest ordered its)) → Every IsOnce course
+  pub once_planned : ((ordered : Ordered) (on : Board) (its : Plan) → Every IsOnce (rest ordered on its)) → Every IsOnce course
   once_planned all = once_stage netlist_kind design next
-      (λ ordered. once_stage board_kind board (later ordered) (λ its. once_stage plan_kind plan (judging ordered its) (λ content. (tt, λ done is. all ordered content))))
+      (λ ordered. once_stage board_kind board (later ordered) (λ its. once_stage plan_kind plan (judging ordered its) (λ content. (tt, λ done is. all ordered its content))))
 
-  pub unbroken_planned : (number : ℕ) → ((ordered : Ordered) (its : Plan) → Every (IsUnbroken number) (rest ordered its)) → Every (IsUnbroken number) course
+  pub unbroken_planned : (number : ℕ) → ((ordered : Ordered) (on : Board) (its : Plan) → Every (IsUnbroken number) (rest ordered on its)) → Every (IsUnbroken number) course
   unbroken_planned number all = unbroken_stage number netlist_kind design next
-      (λ ordered. unbroken_stage number board_kind board (later ordered) (λ its. unbroken_stage number plan_kind plan (judging ordered its) (λ content. (tt, λ done is. all ordered content))))
+      (λ ordered. unbroken_stage number board_kind board (later ordered) (λ its. unbroken_stage number plan_kind plan (judging ordered its) (λ content. (tt, λ done is. all ordered its content))))
 
-  pub held_planned : (told : List ℕ → Told) → ((ordered : Ordered) (its : Plan) → Every (IsHeldThere told) (rest ordered its)) → Every (IsHeldThere told) course
+  pub held_planned : (told : List ℕ → Told) → ((ordered : Ordered) (on : Board) (its : Plan) → Every (IsHeldThere told) (rest ordered on its)) → Every (IsHeldThere told) course
   held_planned told all = held_stage told netlist_kind design next
-      (λ ordered. held_stage told board_kind board (later ordered) (λ its. held_stage told plan_kind plan (judging ordered its) (λ content. (tt, λ done is. all ordered content))))
+      (λ ordered. held_stage told board_kind board (later ordered) (λ its. held_stage told plan_kind plan (judging ordered its) (λ content. (tt, λ done is. all ordered its content))))
 
-  module _ (number : ℕ) (never : (ordered : Ordered) (its : Plan) → Every (IsNever number) (rest ordered its)) where
+  module _ (number : ℕ) (never : (ordered : Ordered) (on : Board) (its : Plan) → Every (IsNever number) (rest ordered on its)) where
     never_plan : 4 ≢ number → (ordered : Ordered) (its : Board) → Every (IsNever number) (later ordered its)
     never_plan no_four ordered its = never_stage number plan_kind plan (judging ordered its) no_four
-        (λ content. never_judges number (soundness (planned_board ordered its content)) (behind ordered content) no_four (λ done. never ordered content))
+        (λ content. never_judges number (soundness (planned_board ordered its content)) (behind ordered its content) no_four (λ done. never ordered its content))
 
     never_board : 3 ≢ number → 4 ≢ number → (ordered : Ordered) → Every (IsNever number) (next ordered)
     never_board no_three no_four ordered = never_stage number board_kind board (later ordered) no_three (never_plan no_four ordered)
@@ -94,33 +94,47 @@ module _ (design board plan : List ℕ) (rest : Ordered → Plan → Course voca
 
     -- ---- the rest
 
-    pub barred_planned : (numbers : List ℕ) → IsOneOf numbers 1 → IsOneOf numbers 3 → IsOneOf numbers 4 → ((ordered : Ordered) (its : Plan) → IsBarred told numbers (rest ordered its)) → IsBarred told numbers course
+    pub barred_planned : (numbers : List ℕ) → IsOneOf numbers 1 → IsOneOf numbers 3 → IsOneOf numbers 4 → ((ordered : Ordered) (on : Board) (its : Plan) → IsBarred told numbers (rest ordered on its)) → IsBarred told numbers course
     barred_planned numbers one three four bars = barred_later told numbers netlist_kind design next one
         (λ ordered. barred_later told numbers board_kind board (later ordered) three
         (λ its. barred_later told numbers plan_kind plan (judging ordered its) four
-        (λ content. (λ reason bad. subst (IsOneOf numbers) (sym (ap reason_status bad.1)) four, λ done is_sound. bars ordered content))))
+        (λ content. (λ reason bad. subst (IsOneOf numbers) (sym (ap reason_status bad.1)) four, λ done is_sound. bars ordered its content))))
 
     -- what holds where nothing is read or judged, but for what has another status, holds in the rest
     pub behind_planned : (number : ℕ) (P : Course vocabulary → Type 0) → IsBehind number P → 1 ≢ number → 3 ≢ number → 4 ≢ number → May told P course
-        → (text : List ℕ) × IsTextOf (told design) text × (ordered : Ordered) × IsNetlistOf text ordered × (its : Plan) × May told P (rest ordered its)
+        → (ordered : Ordered) × (on : Board) × (its : Plan) × MaySpell design board plan told ordered on its × May told P (rest ordered on its)
     behind_planned number P passes no_one no_three no_four may =
         let one = stage_behind told number P passes netlist_kind design next no_one may in
         let two = stage_behind told number P passes board_kind board (later one.2) no_three one.4 in
         let three = stage_behind told number P passes plan_kind plan (judging one.2 two.2) no_four two.4 in
-        let four = judged_behind told number P passes (soundness (planned_board one.2 two.2 three.2)) (behind one.2 three.2) no_four three.4 in
-        (one.0, one.1, one.2, one.3, three.2, four.2)
+        let four = judged_behind told number P passes (soundness (planned_board one.2 two.2 three.2)) (behind one.2 two.2 three.2) no_four three.4 in (
+          one.2,
+          two.2,
+          three.2,
+          record {
+            d = one.0;
+            design_of = one.1;
+            b = two.0;
+            board_of = two.1;
+            p = three.0;
+            plan_of = three.1;
+            are = record { on = record { netlist = one.3; board_is = two.3 }; plan_is = three.3 };
+            sound = four.1;
+          },
+          four.2,
+        )
 
     module _ (d b p : List ℕ) (hold : HoldTexts design board plan call d b p) where
       -- the work is that of the rest, behind the sound plan of the texts
-      pub work_planned : (did : CallWork) → MayDo course call did → (ordered : Ordered) × (its : Plan) × IsSoundPlan d b p its × May told (WorksHere told did) (rest ordered its)
+      pub work_planned : (did : CallWork) → MayDo course call did → (ordered : Ordered) × (on : Board) × (its : Plan) × IsSoundPlan d b p its × May told (WorksHere told did) (rest ordered on its)
       work_planned did may =
           let one = work_past told netlist_kind design next d hold.design_held did may in
           let two = work_past told board_kind board (later one.0) b hold.board_held did one.2 in
           let three = work_past told plan_kind plan (judging one.0 two.0) p hold.plan_held did two.2 in
           ⊎_elim
           (λ (none : ⊥). absurd none)
-          (λ (more : Unit {0} × IsSound (planned_board one.0 two.0 three.0) × May told (WorksHere told did) (rest one.0 three.0)).
-          (one.0, three.0, record { ordered = one.0; board = two.0; are = record { on = record { netlist = one.1; board_is = two.1 }; plan_is = three.1 }; sound = more.1 }, more.2))
+          (λ (more : Unit {0} × IsSound (planned_board one.0 two.0 three.0) × May told (WorksHere told did) (rest one.0 two.0 three.0)).
+          (one.0, two.0, three.0, record { ordered = one.0; board = two.0; are = record { on = record { netlist = one.1; board_is = two.1 }; plan_is = three.1 }; sound = more.1 }, more.2))
           three.2
 
       module _ (files : Files vocabulary) (at_design : IsOneOf files (kinds.Design, design)) (at_board : IsOneOf files (kinds.Board, board)) (at_plan : IsOneOf files (kinds.Plan, plan)) (P : Course vocabulary → Type 0) where
@@ -137,11 +151,11 @@ module _ (design board plan : List ℕ) (rest : Ordered → Plan → Course voca
             (λ that so. there other this that (record { on = on; plan_is = so })))
 
         -- the plan of the texts is sound, and the rest comes next
-        pub to_rest : (its : Plan) → IsSoundPlan d b p its → ((ordered : Ordered) (that : Plan) → IsNetlistOf d ordered → that ≡ its → StandsAt told files P (rest ordered that)) → StandsAt told files P course
+        pub to_rest : (its : Plan) → IsSoundPlan d b p its → ((ordered : Ordered) (this : Board) (that : Plan) → AreSpelled d b p ordered this that → that ≡ its → IsSound (planned_board ordered this that) → StandsAt told files P (rest ordered this that)) → StandsAt told files P course
         to_rest its of there = to_sound of.ordered of.board its of.are
-            (λ other this that so. past_judged told files P (soundness (planned_board other this that)) (behind other that)
+            (λ other this that so. past_judged told files P (soundness (planned_board other this that)) (behind other this that)
             (tt, sound (planned_board other this that) (sym (fault_of_texts d b p of.ordered other of.board this its that of.are so) ∙ faultless (planned_board of.ordered of.board its) of.sound))
-            (λ done is_sound. there other that so.on.netlist (spelled_once p that its so.plan_is of.are.plan_is)))
+            (λ done is_sound. there other this that so (spelled_once p that its so.plan_is of.are.plan_is) is_sound))
 
     -- ---- the table
 
@@ -160,7 +174,7 @@ module _ (design board plan : List ℕ) (rest : Ordered → Plan → Course voca
       λ reason bad. record { ordered = other; board = this; plan = that; are = so; bad = bad },
     )
 
-    module _ (never : (number : ℕ) → IsOneOf (1 ∷ 3 ∷ 4 ∷ []) number → (ordered : Ordered) (its : Plan) → Every (IsNever number) (rest ordered its)) where
+    module _ (never : (number : ℕ) → IsOneOf (1 ∷ 3 ∷ 4 ∷ []) number → (ordered : Ordered) (on : Board) (its : Plan) → Every (IsNever number) (rest ordered on its)) where
       design_why : (d : List ℕ) → told design ≡ held d → (reason : Reason) → reason_status reason ≡ 1 → May told (RefusesHere reason) course → IsBadDesign d reason
       design_why d held_d reason same may =
           ⊎_elim
@@ -192,14 +206,14 @@ module _ (design board plan : List ℕ) (rest : Ordered → Plan → Course voca
           ⊎_elim
           (λ (bad : IsBadPlan (planned_board one.0 two.0 three.0) reason).
           inr (record { ordered = one.0; board = two.0; plan = three.0; are = record { on = record { netlist = one.1; board_is = two.1 }; plan_is = three.1 }; bad = bad }))
-          (λ (more : Unit {0} × IsSound (planned_board one.0 two.0 three.0) × May told (RefusesHere reason) (rest one.0 three.0)).
-          absurd (no_refusal told 4 (rest one.0 three.0) (never 4 (inr (inr (inl refl))) one.0 three.0) reason same more.2))
+          (λ (more : Unit {0} × IsSound (planned_board one.0 two.0 three.0) × May told (RefusesHere reason) (rest one.0 two.0 three.0)).
+          absurd (no_refusal told 4 (rest one.0 two.0 three.0) (never 4 (inr (inr (inl refl))) one.0 two.0 three.0) reason same more.2))
           three.2)
           (refused_past told plan_kind plan (judging one.0 two.0) p hold.plan_held reason two.2))
           (refused_past told board_kind board (later one.0) b hold.board_held reason one.2))
           (refused_past told netlist_kind design next d hold.design_held reason may)
 
-      pub planned_table : ((number : ℕ) → IsOneOf (1 ∷ 3 ∷ 4 ∷ []) number → (ordered : Ordered) (its : Plan) → Every (IsUnbroken number) (rest ordered its)) → IsCallOf course call → PlannedStatuses design board plan call
+      pub planned_table : ((number : ℕ) → IsOneOf (1 ∷ 3 ∷ 4 ∷ []) number → (ordered : Ordered) (on : Board) (its : Plan) → Every (IsUnbroken number) (rest ordered on its)) → IsCallOf course call → PlannedStatuses design board plan call
       planned_table whole is =
           let unbroken = λ (number : ℕ) (one : IsOneOf (1 ∷ 3 ∷ 4 ∷ []) number). no_break told number course (unbroken_planned number (whole number one)) in
           record {

@@ -16,9 +16,9 @@ use Rattle.vw_top.specs.declared.vocabulary.Reason.{Reason}
 use Rattle.vw_top.specs.declared.vocabulary.Reason.TheVariants as reasons
 use Rattle.vw_top.specs.Messages.{reason_status, vocabulary, Call}
 use Rattle.vw_top.specs.Kinds.{design_kind, IsBadDesign}
-use Rattle.vw_top.specs.Commands.{trace_of, sim_course, design_course}
+use Rattle.vw_top.specs.Commands.{trace_of, no_links, sim_course, design_course}
 use Rattle.vw_top.specs.TracedStatuses.{HoldTexts}
-use Rattle.vw_top.specs.SimStatuses.{its_design, its_files, SimStatuses}
+use Rattle.vw_top.specs.SimStatuses.{UsesNone, its_design, its_files, SimStatuses}
 use Rattle.vw_top.proofs.TracedLaws.{ComesToRows, reads_rows, unbroken_rows, never_rows, held_rows, barred_rows, traced_table}
 
 module _ (design stimulus : List ℕ) (unknown : Bool) (call : Call) where
@@ -26,7 +26,7 @@ module _ (design stimulus : List ℕ) (unknown : Bool) (call : Call) where
   course = sim_course design stimulus unknown
 
   abbrev next : Design → Course vocabulary
-  next = design_course stimulus unknown
+  next = design_course stimulus unknown no_links
 
   abbrev told : List ℕ → Told
   told = call.before.shelf.told
@@ -38,10 +38,10 @@ module _ (design stimulus : List ℕ) (unknown : Bool) (call : Call) where
   width_of its = length (columns its)
 
   whole : (number : ℕ) → 5 ≢ number → Every (IsUnbroken number) course
-  whole number no_five = unbroken_stage number design_kind design next (λ its. unbroken_rows stimulus (width_of its) (trace_of unknown its) number no_five)
+  whole number no_five = unbroken_stage number design_kind design next (λ its. unbroken_rows stimulus (width_of its) (trace_of unknown its) no_links number no_five)
 
   never_behind : (number : ℕ) → 5 ≢ number → (its : Design) → Every (IsNever number) (next its)
-  never_behind number no_five its = never_rows stimulus (width_of its) (trace_of unknown its) number no_five
+  never_behind number no_five its = never_rows stimulus (width_of its) (trace_of unknown its) no_links number no_five
 
   not_status : IsCallOf course call → (number : ℕ) → 0 < number → number < 7 → 1 ≢ number → 5 ≢ number → call.status ≢ number
   not_status is number some few no_one no_five =
@@ -56,13 +56,15 @@ module _ (design stimulus : List ℕ) (unknown : Bool) (call : Call) where
       (refused_past told design_kind design next d held_d reason may)
 
   -- the rows of the stimulus come behind the design
-  to_rows : ComesToRows course call both design stimulus unknown (HoldTexts design stimulus unknown)
+  to_rows : ComesToRows course call both design stimulus unknown (HoldTexts design stimulus unknown) UsesNone
   to_rows = record {
-    reads = reads_stage both design_kind design next (inl refl) (λ its. reads_rows stimulus (width_of its) (trace_of unknown its) both (inr (inl refl)));
-    held_again = λ s held_s. held_stage told design_kind design next (λ its. held_rows stimulus (width_of its) (trace_of unknown its) told s held_s);
-    behind = λ P behind may. stage_behind told 5 P behind design_kind design next (λ is. omega (arith, is)) may;
+    reads = reads_stage both design_kind design next (inl refl) (λ its. reads_rows stimulus (width_of its) (trace_of unknown its) no_links both (inr (inl refl)));
+    held_again = λ s held_s. held_stage told design_kind design next (λ its. held_rows stimulus (width_of its) (trace_of unknown its) no_links told s held_s);
+    behind = λ P behind may.
+        let later = stage_behind told 5 P behind design_kind design next (λ is. omega (arith, is)) may in
+        (later.0, later.1, later.2, later.3, no_links, refl, later.4);
     comes = λ P d s hold its is stands. past told both P design_kind design next d (inl refl) hold.design_held (its, is)
-        (λ other so. subst (λ (one : Design). StandsAt told both P (next one)) (spells_once d its other is.spelled so.spelled) stands);
+        (λ other so. subst (λ (one : Design). StandsAt told both P (next one)) (spells_once d its other is.spelled so.spelled) (stands no_links refl));
     ready_held = λ d s hold. hold.stimulus_held;
     one = inr (inl refl);
   }
@@ -73,7 +75,7 @@ module _ (design stimulus : List ℕ) (unknown : Bool) (call : Call) where
     no_design_comes = λ d held_d none.
         call_refused vocabulary (its_design design stimulus unknown) call (IsBadDesign d) course is
         (at_bad told (its_design design stimulus unknown) design_kind design next d (IsBadDesign d) (inl refl) held_d (λ reason bad. bad) (reasons.Design none.0, (none.0, refl, none.1)));
-    traced = traced_table course call both design stimulus unknown (HoldTexts design stimulus unknown) to_rows is;
+    traced = traced_table course call both design stimulus unknown (HoldTexts design stimulus unknown) UsesNone to_rows is;
     others = (
       not_status is 2 (lit< tt) (lit< tt) (λ one. omega (arith, one)) (λ five. omega (arith, five)),
       not_status is 3 (lit< tt) (lit< tt) (λ one. omega (arith, one)) (λ five. omega (arith, five)),
@@ -82,5 +84,5 @@ module _ (design stimulus : List ℕ) (unknown : Bool) (call : Call) where
     );
     absent_design = λ gone. call_misses vocabulary (its_design design stimulus unknown) call course is (at_absent told (its_design design stimulus unknown) design_kind design next (inl refl) gone);
     absent_stimulus = λ gone. call_barred (1 ∷ []) course call is
-        (barred_later told (1 ∷ []) design_kind design next (inl refl) (λ its. barred_rows stimulus (width_of its) (trace_of unknown its) told (1 ∷ []) gone));
+        (barred_later told (1 ∷ []) design_kind design next (inl refl) (λ its. barred_rows stimulus (width_of its) (trace_of unknown its) no_links told (1 ∷ []) gone));
   }

@@ -8,14 +8,16 @@ use Rattle.vw_design.specs.Preorder.{latches}
 use Rattle.vw_design.specs.NetReads.{root_outputs}
 use Rattle.vw_design.specs.Clocks.{columns}
 use Rattle.vw_design.specs.PathHistory.{path_history}
-use Rattle.vw_course.specs.Course.{again, Course, works, refuses, writing, writes, judges, made, stage}
+use Rattle.vw_course.specs.Course.{again, Course, works, refuses, writes, judges, made, stage}
 use Rattle.vw_plan.specs.declared.board.Board.{Board}
 use Rattle.vw_plan.specs.declared.plan.Plan.{Plan}
-use Rattle.vw_plan.specs.PlannedBoard.{planned_board}
+use Rattle.vw_plan.specs.PlannedBoard.{PlannedBoard, planned_board}
 use Rattle.vw_plan.specs.HopCounts.{hop_count}
 use Rattle.vw_plantext.specs.Content.{content_of}
 use Rattle.vw_plantext.specs.Grammar.{spelling}
+use Rattle.vw_prog.specs.declared.word.Word.{Word}
 use Rattle.vw_rows.specs.Trace.{trace_text}
+use Rattle.vw_run.specs.Traffic.{scripts_of, traffic}
 use Rattle.vw_trace.specs.FlatTrace.{flat_trace}
 use Rattle.vw_top.specs.declared.vocabulary.File.TheVariants as files
 use Rattle.vw_top.specs.declared.vocabulary.Reason.TheVariants.{Usage}
@@ -31,33 +33,46 @@ abbrev pub trace_of : Bool → Design → List (List Bool) → List ℕ
 trace_of unknown design rows =
     trace_text (length (root_outputs design)) (length (latches design)) (path_history design unknown rows)
 
--- a trace over some rows of this width
-abbrev pub IsSomeTrace : ℕ → (List (List Bool) → List ℕ) → CallWork → Type 0
-IsSomeTrace width trace did =
-    (rows : List (List Bool)) × All (λ row. length row ≡ width) rows × (did ≡ writing (trace rows))
+-- the words that each link carries for such rows, where links are used; and no links
+abbrev pub Scripts : Type 0
+Scripts = List (List Bool) → Option (ℕ → List Word)
+
+abbrev pub no_links : Scripts
+no_links rows = None
+
+-- a trace is written, and links carry their words meanwhile
+abbrev pub tracing : (List (List Bool) → List ℕ) → Scripts → List (List Bool) → CallWork
+tracing trace scripts rows = record { text = trace rows; scripts = scripts rows }
+
+-- so over some rows of this width
+abbrev pub IsSomeTrace : ℕ → (List (List Bool) → List ℕ) → Scripts → CallWork → Type 0
+IsSomeTrace width trace scripts did =
+    (rows : List (List Bool)) × All (λ row. length row ≡ width) rows × (did ≡ tracing trace scripts rows)
 
 -- the trace over the rows of the stimulus is written, while it is read again
-abbrev pub trace_course : List ℕ → ℕ → (List (List Bool) → List ℕ) → List (List Bool) → Course vocabulary
-trace_course stimulus width trace rows =
-    works (again files.Stimulus stimulus IsBadAgain (IsSomeTrace width trace)) (writing (trace rows))
+abbrev pub trace_course : List ℕ → ℕ → (List (List Bool) → List ℕ) → Scripts → List (List Bool) → Course vocabulary
+trace_course stimulus width trace scripts rows =
+    works (again files.Stimulus stimulus IsBadAgain (IsSomeTrace width trace scripts)) (tracing trace scripts rows)
 
 -- the stimulus is read before, which has rows of this width
-abbrev pub rows_course : List ℕ → ℕ → (List (List Bool) → List ℕ) → Course vocabulary
-rows_course stimulus width trace = stage (rows_kind width) stimulus (trace_course stimulus width trace)
+abbrev pub rows_course : List ℕ → ℕ → (List (List Bool) → List ℕ) → Scripts → Course vocabulary
+rows_course stimulus width trace scripts =
+    stage (rows_kind width) stimulus (trace_course stimulus width trace scripts)
 
 -- so for a design, and for a netlist
-abbrev pub design_course : List ℕ → Bool → Design → Course vocabulary
-design_course stimulus unknown design = rows_course stimulus (length (columns design)) (trace_of unknown design)
+abbrev pub design_course : List ℕ → Bool → Scripts → Design → Course vocabulary
+design_course stimulus unknown scripts design =
+    rows_course stimulus (length (columns design)) (trace_of unknown design) scripts
 
-abbrev pub netlist_course : List ℕ → Bool → Ordered → Course vocabulary
-netlist_course stimulus unknown ordered =
-    rows_course stimulus ordered.flat.inputs (flat_trace unknown ordered.flat)
+abbrev pub netlist_course : List ℕ → Bool → Scripts → Ordered → Course vocabulary
+netlist_course stimulus unknown scripts ordered =
+    rows_course stimulus ordered.flat.inputs (flat_trace unknown ordered.flat) scripts
 
 -- ---- sim
 
 -- the design first
 abbrev pub sim_course : List ℕ → List ℕ → Bool → Course vocabulary
-sim_course design stimulus unknown = stage design_kind design (design_course stimulus unknown)
+sim_course design stimulus unknown = stage design_kind design (design_course stimulus unknown no_links)
 
 -- ---- check
 
@@ -103,36 +118,40 @@ plan_course design board = stage netlist_kind design (plan_board_course board)
 
 -- ---- run
 
--- the netlist is run on a good plan that is made: what is written is the trace of the netlist, which knows no plan
-abbrev pub run_made_course : List ℕ → Bool → Ordered → Board → Course vocabulary
-run_made_course stimulus unknown ordered board =
-    made (planning ordered board) (λ plan. netlist_course stimulus unknown ordered)
+-- what comes behind a planned board
+abbrev pub Rest : Type 1
+Rest = Ordered → Board → Plan → Course vocabulary
 
--- or on a plan that is given, which is judged
-abbrev pub run_sound_course : List ℕ → Bool → Ordered → Board → Plan → Course vocabulary
-run_sound_course stimulus unknown ordered board plan =
-    judges (soundness (planned_board ordered board plan)) (λ done. netlist_course stimulus unknown ordered)
+-- a plan that is given is judged
+abbrev pub given_sound_course : Rest → Ordered → Board → Plan → Course vocabulary
+given_sound_course rest ordered board plan =
+    judges (soundness (planned_board ordered board plan)) (λ done. rest ordered board plan)
 
--- and read before
-abbrev pub run_given_course : List ℕ → List ℕ → Bool → Ordered → Board → Course vocabulary
-run_given_course plan stimulus unknown ordered board =
-    stage plan_kind plan (run_sound_course stimulus unknown ordered board)
-
--- whichever the words ask for
-abbrev pub run_on_board_course : Option (List ℕ) → List ℕ → Bool → Ordered → Board → Course vocabulary
-run_on_board_course None stimulus unknown ordered board = run_made_course stimulus unknown ordered board
-run_on_board_course (Some plan) stimulus unknown ordered board =
-    run_given_course plan stimulus unknown ordered board
+-- a plan is made, which is good; or one is given, and read before it is judged
+abbrev pub with_plan_course : Option (List ℕ) → Rest → Ordered → Board → Course vocabulary
+with_plan_course None rest ordered board = made (planning ordered board) (rest ordered board)
+with_plan_course (Some plan) rest ordered board = stage plan_kind plan (given_sound_course rest ordered board)
 
 -- the board before it
-abbrev pub run_board_course : List ℕ → Option (List ℕ) → List ℕ → Bool → Ordered → Course vocabulary
-run_board_course board plan stimulus unknown ordered =
-    stage board_kind board (run_on_board_course plan stimulus unknown ordered)
+abbrev pub on_board_course : List ℕ → Option (List ℕ) → Rest → Ordered → Course vocabulary
+on_board_course board given rest ordered = stage board_kind board (with_plan_course given rest ordered)
 
 -- the design first
-abbrev pub run_course : List ℕ → List ℕ → Option (List ℕ) → List ℕ → Bool → Course vocabulary
-run_course design board plan stimulus unknown =
-    stage netlist_kind design (run_board_course board plan stimulus unknown)
+abbrev pub ready_course : List ℕ → List ℕ → Option (List ℕ) → Rest → Course vocabulary
+ready_course design board given rest = stage netlist_kind design (on_board_course board given rest)
+
+-- the words that the links of a planned board carry: none with one worker, which uses no link
+abbrev pub board_scripts : ℕ → Bool → PlannedBoard → Scripts
+board_scripts workers unknown planned rows = scripts_of workers (traffic planned unknown rows)
+
+-- a planned board runs: what is written is the trace of its netlist, which knows no plan
+abbrev pub board_course : List ℕ → ℕ → Bool → Rest
+board_course stimulus workers unknown ordered board plan =
+    netlist_course stimulus unknown (board_scripts workers unknown (planned_board ordered board plan)) ordered
+
+abbrev pub run_course : List ℕ → List ℕ → Option (List ℕ) → List ℕ → ℕ → Bool → Course vocabulary
+run_course design board given stimulus workers unknown =
+    ready_course design board given (board_course stimulus workers unknown)
 
 -- ---- all commands
 
@@ -144,5 +163,6 @@ abbrev pub course_of : Spelled → Course vocabulary
 course_of (words.sim design stimulus unknown) = sim_course design stimulus unknown
 course_of (words.check design board plan) = check_course design board plan
 course_of (words.plan design board) = plan_course design board
-course_of (words.run design board stimulus given unknown) = run_course design board given stimulus unknown
+course_of (words.run design board stimulus given workers unknown) =
+    run_course design board given stimulus workers unknown
 course_of (words.nothing place) = usage_course place

@@ -2,6 +2,7 @@
 -- whatever comes behind.
 use Rattle.std.specs.Prelude.{◌≡◌, ◌<◌, ◌⊎◌, ◌*◌, ℕ, List, [], ◌∷◌, length}
 use Rattle.vw_net.specs.declared.ordered.Ordered.{Ordered}
+use Rattle.vw_outside.specs.Told.{Told, IsTextOf}
 use Rattle.vw_course.specs.Places.{Files}
 use Rattle.vw_course.specs.Statuses.{IsRefusedFor, IsStopped, Holds, IsAbsent, IsUnworked}
 use Rattle.vw_front.specs.Designs.{Runs, IsNoDesign}
@@ -50,6 +51,15 @@ module _ (design board : List ℕ) where
 
   abbrev pub its_files : Files vocabulary
   its_files = (files.Design, design) ∷ (files.Board, board) ∷ []
+
+  -- texts that both names may have spell these, and the plan is good
+  pub record MaySpell (told : List ℕ → Told) (ordered : Ordered) (its_board : Board) (its : Plan) : Type 0 where
+    pub d : List ℕ
+    pub design_of : IsTextOf (told design) d
+    pub b : List ℕ
+    pub board_of : IsTextOf (told board) b
+    pub are : AreSpelledOn d b ordered its_board
+    pub good : IsGood (planned_board ordered its_board its)
 
   -- both texts are held
   pub record HoldTexts (call : Call) (d b : List ℕ) : Type 0 where

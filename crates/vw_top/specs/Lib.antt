@@ -3,6 +3,8 @@ pub mod Messages
 pub mod Kinds
 pub mod Commands
 pub mod TracedStatuses
+pub mod LinkTraffic
+pub mod Headline
 pub mod SimStatuses
 pub mod UsageStatuses
 pub mod OnBoards

@@ -1,5 +1,5 @@
 -- The files of commands and the reasons for which they refuse, with their statuses and message lines.
-use Rattle.std.specs.Prelude.{◌<◌, ℕ, List, [], ◌∷◌, ◌++◌, codes, ⊤}
+use Rattle.std.specs.Prelude.{◌<◌, ℕ, List, [], ◌∷◌, ◌++◌, codes}
 use Rattle.std.specs.Fmt.{decimal}
 use Rattle.std.proofs.Common.{lit<}
 use Rattle.vw_course.specs.Vocabulary.{Vocabulary, vocabulary_of}
@@ -9,6 +9,7 @@ use Rattle.vw_front.specs.Messages.{fault_text as design_fault_text}
 use Rattle.vw_board.specs.Messages.{fault_text as board_fault_text}
 use Rattle.vw_plantext.specs.Messages.{fault_text as plan_text_fault_text}
 use Rattle.vw_check.specs.Messages.{fault_text as plan_fault_text}
+use Rattle.vw_prog.specs.declared.word.Word.{Word}
 use Rattle.vw_run.specs.Messages.{fault_text as compile_fault_text}
 use Rattle.vw_rows.specs.Messages.{fault_text as stimulus_fault_text}
 use Rattle.vw_top.specs.declared.vocabulary.File.{File}
@@ -63,9 +64,9 @@ reason_few (Plan fault) = lit< tt
 reason_few (Stimulus fault) = lit< tt
 reason_few (Fit fault) = lit< tt
 
--- what the courses of commands speak of; no command uses links, so these carry no words
+-- what the courses of commands speak of
 abbrev pub vocabulary : Vocabulary
-vocabulary = vocabulary_of File Reason ⊤ file_line reason_status reason_line reason_some reason_few
+vocabulary = vocabulary_of File Reason Word file_line reason_status reason_line reason_some reason_few
 
 -- what is seen of a call, and the work of one
 abbrev pub Call : Type 0

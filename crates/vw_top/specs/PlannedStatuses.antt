@@ -2,6 +2,7 @@
 -- plan is sound, whatever comes behind.
 use Rattle.std.specs.Prelude.{◌≡◌, ◌⊎◌, ℕ, List, [], ◌∷◌, Some}
 use Rattle.vw_net.specs.declared.ordered.Ordered.{Ordered}
+use Rattle.vw_outside.specs.Told.{Told, IsTextOf}
 use Rattle.vw_course.specs.Places.{Files}
 use Rattle.vw_course.specs.Statuses.{IsRefusedFor, IsStopped, Holds, IsAbsent, IsUnworked}
 use Rattle.vw_front.specs.Designs.{Runs, IsNoDesign}
@@ -65,6 +66,17 @@ module _ (design board plan : List ℕ) where
 
   abbrev pub its_files : Files vocabulary
   its_files = (files.Design, design) ∷ (files.Board, board) ∷ (files.Plan, plan) ∷ []
+
+  -- texts that the three names may have spell these, and the plan is sound
+  pub record MaySpell (told : List ℕ → Told) (ordered : Ordered) (its_board : Board) (its : Plan) : Type 0 where
+    pub d : List ℕ
+    pub design_of : IsTextOf (told design) d
+    pub b : List ℕ
+    pub board_of : IsTextOf (told board) b
+    pub p : List ℕ
+    pub plan_of : IsTextOf (told plan) p
+    pub are : AreSpelled d b p ordered its_board its
+    pub sound : IsSound (planned_board ordered its_board its)
 
   -- the three texts are held
   pub record HoldTexts (call : Call) (d b p : List ℕ) : Type 0 where

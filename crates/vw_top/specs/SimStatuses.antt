@@ -6,7 +6,12 @@ use Rattle.vw_front.specs.Designs.{IsNoDesign}
 use Rattle.vw_top.specs.declared.vocabulary.File.TheVariants as files
 use Rattle.vw_top.specs.Messages.{vocabulary, Call}
 use Rattle.vw_top.specs.Kinds.{IsBadDesign}
+use Rattle.vw_top.specs.Commands.{Scripts, no_links}
 use Rattle.vw_top.specs.TracedStatuses.{HoldTexts, TracedStatuses}
+
+-- no link is used
+abbrev pub UsesNone : Scripts → Type 0
+UsesNone scripts = scripts ≡ no_links
 
 module _ (design stimulus : List ℕ) (unknown : Bool) where
   -- the files of `sim`
@@ -22,8 +27,8 @@ module _ (design stimulus : List ℕ) (unknown : Bool) where
         → IsRefusedFor vocabulary (IsBadDesign d) call
     pub no_design_comes : (d : List ℕ) → Holds call design d → IsNoDesign d
         → IsRefusedFor vocabulary (IsBadDesign d) call ⊎ IsStopped vocabulary its_design call
-    -- 0, 5, 7, 8 and 9, and that it completes; nothing comes between the design and the stimulus
-    pub traced : TracedStatuses design stimulus unknown its_files (HoldTexts design stimulus unknown) call
+    -- 0, 5, 7, 8 and 9, and that it completes; nothing comes between the design and the stimulus, and no link is used
+    pub traced : TracedStatuses design stimulus unknown its_files (HoldTexts design stimulus unknown) UsesNone call
     -- these aren't statuses of `sim`
     pub others : (call.status ≢ 2) × (call.status ≢ 3) × (call.status ≢ 4) × (call.status ≢ 6)
     -- a file that is told to be absent is a read fault, unless memory runs out, or the design is refused before

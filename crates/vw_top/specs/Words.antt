@@ -1,16 +1,16 @@
 -- The words of commands: a keyword, names of files, and then settings.
-use Rattle.std.specs.Prelude.{ℕ, Bool, false, List, [], ◌∷◌, map, codes, Option, Some, None, option_map, option_and_then, unwrap_or}
+use Rattle.std.specs.Prelude.{ℕ, Bool, false, List, [], ◌∷◌, map, codes, Option, Some, None, option_and_then, unwrap_or}
 use Rattle.std.specs.List.{find}
 use Rattle.vw_words.specs.Forms.{Place, keyword, any, name, bit, number, Setting, Form}
 use Rattle.vw_words.specs.Matched.{has_form, first_wrong}
-use Rattle.vw_words.specs.Values.{name_given, bit_given}
+use Rattle.vw_words.specs.Values.{name_given, bit_given, number_given}
 
 -- a command with its files and settings; or none, and the number of the first word, from 1, that no command has there
 pub data Spelled : Type 0 where
   sim : (design stimulus : List ℕ) (unknown : Bool) → Spelled
   check : (design board plan : List ℕ) → Spelled
   plan : (design board : List ℕ) → Spelled
-  run : (design board stimulus : List ℕ) (given : Option (List ℕ)) (unknown : Bool) → Spelled
+  run : (design board stimulus : List ℕ) (given : Option (List ℕ)) (workers : ℕ) (unknown : Bool) → Spelled
   nothing : (place : ℕ) → Spelled
 
 -- a command: the form of its words, and what words of this form spell
@@ -30,9 +30,9 @@ unknown_setting = record { name = codes "unknown"; value = bit; times = 1 }
 abbrev pub plan_setting : Setting
 plan_setting = record { name = codes "plan"; value = name; times = 1 }
 
--- how many workers run the nodes of a board: one, and no other number so far
+-- how many workers run the nodes of a board
 abbrev pub workers_setting : Setting
-workers_setting = record { name = codes "workers"; value = number 1 1; times = 1 }
+workers_setting = record { name = codes "workers"; value = number 1 64; times = 1 }
 
 -- sim DESIGN STIM [unknown=0|1]
 abbrev pub sim_of : List (List ℕ) → Option Spelled
@@ -58,10 +58,10 @@ plan_of words = None
 abbrev pub plan_words : CommandWords
 plan_words = record { form = record { places = keyword (codes "plan") ∷ file ∷ file ∷ []; settings = [] }; spells = plan_of }
 
--- run DESIGN BOARD STIM [plan=FILE] workers=1 [unknown=0|1]. Without workers, a word is missing behind the last one
+-- run DESIGN BOARD STIM [plan=FILE] [workers=N] [unknown=0|1]
 abbrev pub run_of : List (List ℕ) → Option Spelled
 run_of (verb ∷ design ∷ board ∷ stimulus ∷ settings) =
-    option_map (λ workers. run design board stimulus (name_given plan_setting settings) (bit_given unknown_setting false settings)) (name_given workers_setting settings)
+    Some (run design board stimulus (name_given plan_setting settings) (number_given workers_setting 4 settings) (bit_given unknown_setting false settings))
 run_of words = None
 
 abbrev pub run_words : CommandWords
@@ -84,3 +84,11 @@ forms = map (λ command. command.form) commands
 abbrev pub spelled_by : List (List ℕ) → Spelled
 spelled_by words =
     unwrap_or (option_and_then (λ command. command.spells words) (find (λ command. has_form words command.form) commands)) (nothing (first_wrong forms words))
+
+-- how many workers they ask for: one, where no board is run
+abbrev pub workers_of : Spelled → ℕ
+workers_of (sim design stimulus unknown) = 1
+workers_of (check design board its_plan) = 1
+workers_of (plan design board) = 1
+workers_of (run design board stimulus given workers unknown) = workers
+workers_of (nothing place) = 1

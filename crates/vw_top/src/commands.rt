@@ -1,25 +1,32 @@
-//! The public call, and how it ends.
-ghost use Rattle.vw_course.specs.Goes.{Goes, IsCalled, IsFollowed};
+//! The public calls, and how they end.
+ghost use Rattle.std.specs.Prelude.{◌≡◌, ◌<◌, ◌≤◌, MatchOption};
+ghost use Rattle.vw_course.specs.Endings.{IsCallOf};
+ghost use Rattle.vw_course.specs.Goes.{Goes, GoesOver, IsCalled, IsFollowed, MovedFrom, Unmoved, seen_call, seen_outside};
 ghost use Rattle.vw_top.specs.Commands.{course_of};
 ghost use Rattle.vw_top.specs.Messages.{vocabulary};
-ghost use Rattle.vw_top.specs.Words.{spelled_by};
+ghost use Rattle.vw_top.specs.Words.{spelled_by, workers_of};
 
 use crate::check::check;
 use crate::plan::plan;
-use crate::run::run;
+use crate::run::{run_by_one, run_by_several};
 use crate::sim::sim;
 use crate::vocabulary::{Reason, Unfinished};
-use crate::words::{Command, command_of};
+use crate::words::{Command, command_of, workers_of};
 use std::alloc::Global;
+use std::marker::Sync;
+use std::sync::Wait;
+use std::thread::Threads;
 use vw_course::{Outside, report};
-use vw_outside::{Name, Shelf, Sink};
+use vw_outside::{BurstGate, Name, Shelf, Sink};
+use vw_prog::Fabric;
 
-/// Carries out the command that words spell, up to its message.
+/// Carries out the command that words spell, up to its message. They don't ask for several workers.
 fn carry_out<S: Shelf, O: Sink>(
     alloc: Global,
     words: &[Name],
     outside: &mut Outside<'_, '_, S, O>,
 ) -> Result<(), Unfinished>
+    requires { workers_of (spelled_by words.now) ≤ 1 }
     ensures { Goes S.seen O.seen vocabulary (course_of (spelled_by words.now)) outside.old
         outside.new
         result }
@@ -42,8 +49,38 @@ fn carry_out<S: Shelf, O: Sink>(
             stimulus,
             plan,
             unknown,
-        } => run(alloc, design, board, plan, stimulus, unknown, outside),
+            ..
+        } => run_by_one(alloc, design, board, plan, stimulus, unknown, outside),
         Command::Nothing(place) => Err(Unfinished::Refused(Reason::Usage(place))),
+    }
+}
+
+/// Carries out the run with several workers that words spell, up to its message.
+fn carry_out_together<R: Threads + Wait + Sync, S: Shelf, F: Fabric, G: BurstGate, O: Sink>(
+    rt: &R,
+    alloc: Global,
+    words: &[Name],
+    fabric: &mut F,
+    gate: &G,
+    outside: &mut Outside<'_, '_, S, O>,
+) -> Result<(), Unfinished>
+    requires { 1 < workers_of (spelled_by words.now) }
+    ensures { GoesOver S.seen O.seen vocabulary
+        (MovedFrom (F.carried fabric.old) (F.carried fabric.new))
+        (course_of (spelled_by words.now)) outside.old outside.new result }
+{
+    match command_of(words) {
+        Command::Run {
+            design,
+            board,
+            stimulus,
+            plan,
+            workers,
+            unknown,
+        } => run_by_several(
+            rt, alloc, design, board, plan, stimulus, workers, unknown, fabric, gate, outside,
+        ),
+        _ => unreachable!(),
     }
 }
 
@@ -54,33 +91,111 @@ fn follow<S: Shelf, O: Sink>(
     shelf: &mut S,
     out: &mut O,
 ) -> Result<(), Unfinished>
-    ensures { IsFollowed vocabulary (course_of (spelled_by words.now)) (S.seen shelf.old)
-        (O.seen out.old) (S.seen shelf.new) (O.seen
-        out.new) result }
+    requires { workers_of (spelled_by words.now) ≤ 1 }
+    ensures { IsFollowed vocabulary Unmoved (course_of (spelled_by words.now)) (S.seen shelf.old)
+        (O.seen out.old) (S.seen shelf.new) (O.seen out.new) result }
 {
     let mut outside = Outside { shelf, out };
     carry_out(alloc, words, &mut outside)
 }
 
-/// Carries out the command that the words after the program's name spell, and gives the exit status. After each
-/// status but 0 one message line goes to `err`. What each status means, when it comes and what it leaves, the laws
-/// `call_statuses`, `sim_statuses`, `check_statuses`, `plan_statuses`, `run_statuses`, `run_given_statuses` and
-/// `usage_statuses` say.
-pub fn virtual_wires<S: Shelf, O: Sink, E: Sink>(
+/// The same for a run with several workers.
+fn follow_together<R: Threads + Wait + Sync, S: Shelf, F: Fabric, G: BurstGate, O: Sink>(
+    rt: &R,
+    alloc: Global,
+    words: &[Name],
+    shelf: &mut S,
+    fabric: &mut F,
+    gate: &G,
+    out: &mut O,
+) -> Result<(), Unfinished>
+    requires { 1 < workers_of (spelled_by words.now) }
+    ensures { IsFollowed vocabulary (MovedFrom (F.carried fabric.old) (F.carried fabric.new))
+        (course_of (spelled_by words.now)) (S.seen shelf.old) (O.seen out.old)
+        (S.seen shelf.new) (O.seen out.new) result }
+{
+    let mut outside = Outside { shelf, out };
+    carry_out_together(rt, alloc, words, fabric, gate, &mut outside)
+}
+
+/// Carries out the command that the words after the program's name spell, in this thread and without a runtime, and gives
+/// the exit status. So it returns, whatever is outside. It answers nothing exactly where the words ask for several
+/// workers; then nothing was read or written. Of all else it says what `virtual_wires` says.
+pub fn alone<S: Shelf, O: Sink, E: Sink>(
     alloc: Global,
     words: &[Name],
     shelf: &mut S,
     out: &mut O,
     err: &mut E,
-) -> u8
-    // It follows the course of the command, and ends with the status and the message of its answer.
-    ensures { IsCalled vocabulary (course_of (spelled_by words.now))
+) -> Option<u8>
+    ensures { MatchOption result
+        ((1 < workers_of (spelled_by words.now))
+        × (shelf.new ≡ shelf.old) × (out.new ≡ out.old) × (err.new ≡ err.old))
+        (λ status. (workers_of (spelled_by words.now) ≤ 1)
+        × IsCalled vocabulary (course_of (spelled_by words.now))
         (S.seen shelf.old) (O.seen out.old) (E.seen err.old)
         (S.seen shelf.new) (O.seen out.new) (E.seen err.new)
-        result }
+        status) }
 {
-    match follow(alloc, words, shelf, out) {
+    if workers_of(words) > 1 {
+        return None;
+    }
+    let status = match follow(alloc, words, shelf, out) {
         Ok(()) => 0,
         Err(unfinished) => report(alloc, &unfinished, err),
+    };
+    Some(status)
+}
+
+/// Carries out a run with several workers, and gives the exit status.
+fn together<R: Threads + Wait + Sync, S: Shelf, F: Fabric, G: BurstGate, O: Sink, E: Sink>(
+    rt: &R,
+    alloc: Global,
+    words: &[Name],
+    shelf: &mut S,
+    fabric: &mut F,
+    gate: &G,
+    out: &mut O,
+    err: &mut E,
+) -> u8
+    requires { 1 < workers_of (spelled_by words.now) }
+    ensures { IsCallOf (course_of (spelled_by words.now)) (seen_call
+        (seen_outside (S.seen shelf.old) (O.seen out.old) (F.carried fabric.old)) (E.seen err.old)
+        (seen_outside (S.seen shelf.new) (O.seen out.new) (F.carried fabric.new)) (E.seen err.new)
+        result) }
+{
+    match follow_together(rt, alloc, words, shelf, fabric, gate, out) {
+        Ok(()) => 0,
+        Err(unfinished) => report(alloc, &unfinished, err),
+    }
+}
+
+/// Carries out the command that the words after the program's name spell, and gives the exit status. After each
+/// status but 0 one message line goes to `err`. What each status means, when it comes and what it leaves, the laws
+/// `headline`, `call_statuses`, `sim_statuses`, `check_statuses`, `plan_statuses`, `run_statuses`, `run_given_statuses`
+/// and `usage_statuses` say.
+///
+/// A run with several workers has the nodes of the board in groups on threads of the runtime. The words between them go
+/// over links of the fabric, and each group passes the gate before each of its bursts. That such a run ends isn't
+/// promised; where it ends, all that is said here holds. Every other call is one of `alone`.
+pub fn virtual_wires<R: Threads + Wait + Sync, S: Shelf, F: Fabric, G: BurstGate, O: Sink, E: Sink>(
+    rt: &R,
+    alloc: Global,
+    words: &[Name],
+    shelf: &mut S,
+    fabric: &mut F,
+    gate: &G,
+    out: &mut O,
+    err: &mut E,
+) -> u8
+    // It follows the course of the command, and ends with the status and the message of its answer.
+    ensures { IsCallOf (course_of (spelled_by words.now)) (seen_call
+        (seen_outside (S.seen shelf.old) (O.seen out.old) (F.carried fabric.old)) (E.seen err.old)
+        (seen_outside (S.seen shelf.new) (O.seen out.new) (F.carried fabric.new)) (E.seen err.new)
+        result) }
+{
+    match alone(alloc, words, shelf, out, err) {
+        Some(status) => status,
+        None => together(rt, alloc, words, shelf, fabric, gate, out, err),
     }
 }

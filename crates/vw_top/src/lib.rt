@@ -6,15 +6,16 @@ mod checked;
 mod commands;
 mod files;
 mod plan;
+mod ready;
 mod run;
 mod sim;
 mod statuses;
 mod vocabulary;
 mod words;
 
-pub use commands::virtual_wires;
+pub use commands::{alone, virtual_wires};
 pub use statuses::{
-    call_statuses, check_statuses, plan_statuses, run_given_statuses, run_statuses, sim_statuses,
-    usage_statuses,
+    call_statuses, check_statuses, headline, plan_statuses, run_given_statuses, run_statuses,
+    sim_statuses, usage_statuses,
 };
 pub use vocabulary::{File, Reason, Unfinished};

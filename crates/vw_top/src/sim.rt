@@ -1,6 +1,6 @@
 //! The command `sim`.
 ghost use Rattle.vw_course.specs.Goes.{Goes};
-ghost use Rattle.vw_top.specs.Commands.{netlist_course, sim_course};
+ghost use Rattle.vw_top.specs.Commands.{netlist_course, no_links, sim_course};
 ghost use Rattle.vw_top.specs.Messages.{vocabulary};
 
 use crate::files::{check_rows, read_design, run_answer};
@@ -19,7 +19,7 @@ fn sim_netlist<S: Shelf, O: Sink>(
     unknown: bool,
     outside: &mut Outside<'_, '_, S, O>,
 ) -> Result<(), Unfinished>
-    ensures { Goes S.seen O.seen vocabulary (netlist_course stimulus.now unknown ordered)
+    ensures { Goes S.seen O.seen vocabulary (netlist_course stimulus.now unknown no_links ordered)
         outside.old outside.new result }
 {
     let mut rows = check_rows(alloc, outside.shelf, stimulus, &ordered)?;

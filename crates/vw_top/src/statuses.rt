@@ -1,16 +1,27 @@
 //! Laws of the commands, as contracts of functions that do nothing.
-ghost use Rattle.std.specs.Prelude.{ℕ, Bool, List, Some, None};
+ghost use Rattle.std.specs.Prelude.{◌≡◌, ℕ, Bool, List, Option, Some, None};
 ghost use Rattle.vw_course.specs.Endings.{IsCallOf};
-ghost use Rattle.vw_course.specs.Statuses.{Statuses};
+ghost use Rattle.vw_course.specs.Statuses.{Holds, Statuses};
 ghost use Rattle.vw_top.specs.Words.{Spelled};
 ghost use Rattle.vw_top.specs.Commands.{check_course, course_of, plan_course, run_course, sim_course, usage_course};
 ghost use Rattle.vw_top.specs.Messages.{Call};
+ghost use Rattle.vw_top.specs.Headline.{WritesTrace};
 ghost use Rattle.vw_top.specs.UsageStatuses.{UsageStatuses};
 ghost use Rattle.vw_top.specs.SimStatuses.{SimStatuses};
 ghost use Rattle.vw_top.specs.CheckStatuses.{CheckStatuses};
 ghost use Rattle.vw_top.specs.PlanStatuses.{PlanStatuses};
 ghost use Rattle.vw_top.specs.RunStatuses.{RunStatuses};
 ghost use Rattle.vw_top.specs.RunGivenStatuses.{RunGivenStatuses};
+
+/// The headline. Whatever the board, the plan and the number of workers, and in whatever order the workers have run: where
+/// the texts of design and stimulus are held and the status of `run` is 0, out has exactly the trace of the unpartitioned
+/// design over the rows of the stimulus.
+pub fn headline()
+    ensures { (design board stimulus : List ℕ) (given : Option (List ℕ)) (workers : ℕ) (unknown : Bool)
+        (call : Call) → IsCallOf (run_course design board given stimulus workers unknown) call
+        → (d s : List ℕ) → Holds call design d → Holds call stimulus s
+        → call.status ≡ 0 → WritesTrace unknown d s call }
+{}
 
 /// What each status of a call means, when it comes, what it leaves, and which message it has, whatever the words spell.
 pub fn call_statuses()
@@ -39,19 +50,19 @@ pub fn plan_statuses()
 {}
 
 /// What each status of `run` says of its files, where it makes its plan itself: after status 0, out has the trace of the
-/// unpartitioned design.
+/// unpartitioned design, and with several workers each link has carried exactly its words of one good plan.
 pub fn run_statuses()
-    ensures { (design board stimulus : List ℕ) (unknown : Bool) (call : Call)
-        → IsCallOf (run_course design board None stimulus unknown) call
-        → RunStatuses design board stimulus unknown call }
+    ensures { (design board stimulus : List ℕ) (workers : ℕ) (unknown : Bool) (call : Call)
+        → IsCallOf (run_course design board None stimulus workers unknown) call
+        → RunStatuses design board stimulus workers unknown call }
 {}
 
 /// What each status of `run` says of its files, where it is given a plan: after status 0, the plan is sound, and out has
-/// the trace of the unpartitioned design.
+/// the trace of the unpartitioned design; with several workers each link has carried exactly its words of that plan.
 pub fn run_given_statuses()
-    ensures { (design board plan stimulus : List ℕ) (unknown : Bool) (call : Call)
-        → IsCallOf (run_course design board (Some plan) stimulus unknown) call
-        → RunGivenStatuses design board plan stimulus unknown call }
+    ensures { (design board plan stimulus : List ℕ) (workers : ℕ) (unknown : Bool) (call : Call)
+        → IsCallOf (run_course design board (Some plan) stimulus workers unknown) call
+        → RunGivenStatuses design board plan stimulus workers unknown call }
 {}
 
 /// What each status says of words that spell no command.

@@ -1,11 +1,12 @@
 ghost use Rattle.std.specs.Prelude.{◌≡◌, option_map};
-ghost use Rattle.vw_top.specs.Words.{spelled_by, sim_of, check_of, plan_of, run_of};
+ghost use Rattle.vw_top.specs.Words.{spelled_by, workers_of, sim_of, check_of, plan_of, run_of};
 ghost use Rattle.vw_top.specs.Steps.Commands.{command_view, spelled_as};
 
 use vw_outside::Name;
 use vw_words::{Form, Place, Setting, Value, first_wrong, form_of};
 
 /// What words spell: a command, with the names of its files and its settings, or none.
+#[derive(Drop)]
 pub enum Command<'a> {
     /// Runs a design over a stimulus, and writes its trace.
     Sim {
@@ -25,13 +26,15 @@ pub enum Command<'a> {
         design: &'a Name,
         board: &'a Name,
     },
-    /// Runs a design on a board over a stimulus, and writes its trace. One worker runs all nodes.
+    /// Runs a design on a board over a stimulus, and writes its trace.
     Run {
         design: &'a Name,
         board: &'a Name,
         stimulus: &'a Name,
         /// The name of the plan, where one is given.
         plan: Option<&'a [u8]>,
+        /// How many workers run the nodes of the board.
+        workers: u64,
         /// The value that free latches start at.
         unknown: bool,
     },
@@ -56,12 +59,14 @@ const PLAN: Setting = Setting {
     times: 1,
 };
 
-/// How many workers run the nodes of a board.
+/// How many workers run the nodes of a board, and how many where none are given.
 const WORKERS: Setting = Setting {
     name: b"workers",
-    value: Value::Number { least: 1, most: 1 },
+    value: Value::Number { least: 1, most: 64 },
     times: 1,
 };
+
+const DEFAULT_WORKERS: u64 = 4;
 
 /// The forms of the commands.
 const FORMS: [Form; 4] = [
@@ -121,21 +126,19 @@ fn plan_of(words: &[Name]) -> Option<Command<'_>>
     }
 }
 
-/// The command that words of the form of `run` spell: none without the number of workers, which has no default yet.
+/// The command that words of the form of `run` spell.
 fn run_of(words: &[Name]) -> Option<Command<'_>>
     ensures { option_map command_view result ≡ run_of words.now }
 {
     match words {
-        [_, design, board, stimulus, settings @ ..] => {
-            WORKERS.name(settings)?;
-            Some(Command::Run {
-                design,
-                board,
-                stimulus,
-                plan: PLAN.name(settings),
-                unknown: UNKNOWN.bit(settings, false),
-            })
-        }
+        [_, design, board, stimulus, settings @ ..] => Some(Command::Run {
+            design,
+            board,
+            stimulus,
+            plan: PLAN.name(settings),
+            workers: WORKERS.number(settings, DEFAULT_WORKERS),
+            unknown: UNKNOWN.bit(settings, false),
+        }),
         _ => None,
     }
 }
@@ -160,5 +163,15 @@ pub fn command_of(words: &[Name]) -> Command<'_>
     match spelled_as(form_of(&FORMS, words), words) {
         Some(command) => command,
         None => Command::Nothing(first_wrong(&FORMS, words)),
+    }
+}
+
+/// How many workers the words ask for: one, where they don't run a board.
+pub fn workers_of(words: &[Name]) -> u64
+    ensures { result ≡ workers_of (spelled_by words.now) }
+{
+    match command_of(words) {
+        Command::Run { workers, .. } => workers,
+        _ => 1,
     }
 }

@@ -1,5 +1,6 @@
 -- A trace, written while a checked stimulus is read again.
 use Rattle.std.proofs.Common.{◌≡◌, ◌++◌, ℕ, Bool, List, [], length, Result, Ok, Err, refl, sym, ap₂, subst, append-nil, arith}
+use Rattle.std.proofs.lemmas.List.{take_all}
 use Rattle.std.proofs.lemmas.List.Elements.{All-nil}
 use Rattle.vw_net.specs.declared.flat.Flat.{Flat}
 use Rattle.vw_net.specs.Cells.{latch_count}
@@ -33,16 +34,16 @@ pub some_rows : (stimulus : Stimulus) (told : Told) → ((text : List ℕ) → t
 some_rows stimulus told stands = begin_with told stimulus.width [] (λ text is. ((stands text is).rows, (stands text is).accepted))
     (record { wide = All-nil (λ row. length row ≡ stimulus.width); same = λ text all is said. refl })
 
-module _ (stimulus : Stimulus) (flat : Flat) (start : List Bool) (shelf : SeenShelf) (out : SeenSink) where
+module _ (stimulus : Stimulus) (flat : Flat) (start : List Bool) (Done : List (List Bool) → Type 0) (shelf : SeenShelf) (out : SeenSink) where
   abbrev head : List ℕ
   head = head_text (length flat.outputs) (latch_count flat.cells)
 
   abbrev Traces : SeenShelf → SeenSink → Result (Unit {0}) RunFault → Type 0
-  Traces shelf_after after answer = Streams stimulus.name stimulus.width (trace_from start flat) shelf out shelf_after after answer
+  Traces shelf_after after answer = Streams stimulus.name stimulus.width (trace_from start flat) Done shelf out shelf_after after answer
 
   -- the first line wasn't written whole
-  pub no_head : ((text : List ℕ) → shelf.told stimulus.name ≡ held text → StandsIn stimulus text) → (why : Unwritten) (after : SeenSink) → WritesOut head out after (Err why) → Traces shelf after (Err (run_fault_of why))
-  no_head stands why after failed =
+  pub no_head : ((text : List ℕ) → shelf.told stimulus.name ≡ held text → StandsIn stimulus text) → Done [] → (why : Unwritten) (after : SeenSink) → WritesOut head out after (Err why) → Traces shelf after (Err (run_fault_of why))
+  no_head stands none why after failed =
       let some = some_rows stimulus (shelf.told stimulus.name) stands in
       let text = trace_from start flat some.whole in
       record {
@@ -50,6 +51,7 @@ module _ (stimulus : Stimulus) (flat : Flat) (start : List Bool) (shelf : SeenSh
         are = some.are;
         ends = ends_unwritten stimulus.name text shelf out shelf after why refl
             (unwritten_in_piece out text out after head (clock_lines flat 0 start some.whole ++ last_line start flat some.whole) why (head_left start flat some.whole out) failed);
+        meanwhile = (0, none);
       }
 
   module _ (mid : SeenSink) (headed : mid ≡ appended out head) where
@@ -58,15 +60,16 @@ module _ (stimulus : Stimulus) (flat : Flat) (start : List Bool) (shelf : SeenSh
         written_further out (trace_from start flat rows) out mid head (clock_lines flat 0 start rows ++ last_line start flat rows) (head_left start flat rows out) headed
 
     -- the clocks weren't finished
-    pub no_clocks : (fault : RunFault) (last : List Bool) (shelf_after : SeenShelf) (after : SeenSink) → StreamsClocks stimulus flat start last shelf mid shelf_after after (Err fault) → Traces shelf_after after (Err fault)
+    pub no_clocks : (fault : RunFault) (last : List Bool) (shelf_after : SeenShelf) (after : SeenSink) → StreamsClocks stimulus flat start last Done shelf mid shelf_after after (Err fault) → Traces shelf_after after (Err fault)
     no_clocks fault last shelf_after after streams = record {
       rows = streams.rows;
       are = streams.are;
       ends = stops_in_piece stimulus.name (trace_from start flat streams.rows) shelf out mid shelf_after after (clock_lines flat 0 start streams.rows) (last_line start flat streams.rows)
           (clocks_left streams.rows) fault streams.ends;
+      meanwhile = streams.meanwhile;
     }
 
-    module _ (last : List Bool) (shelf_after : SeenShelf) (then after : SeenSink) (streams : StreamsClocks stimulus flat start last shelf mid shelf_after then (Ok tt)) where
+    module _ (last : List Bool) (shelf_after : SeenShelf) (then after : SeenSink) (streams : StreamsClocks stimulus flat start last Done shelf mid shelf_after then (Ok tt)) where
       end_left : IsLeft out (trace_from start flat streams.rows) then (end_text stimulus.clocks last)
       end_left = subst (λ (rest : List ℕ). IsLeft out (trace_from start flat streams.rows) then rest) (ap₂ end_text streams.all.0 (sym streams.all.1))
           (written_further out (trace_from start flat streams.rows) mid then (clock_lines flat 0 start streams.rows) (last_line start flat streams.rows) (clocks_left streams.rows) streams.ends.1)
@@ -79,6 +82,7 @@ module _ (stimulus : Stimulus) (flat : Flat) (start : List Bool) (shelf : SeenSh
         ends = ends_unwritten stimulus.name (trace_from start flat streams.rows) shelf out shelf_after after why streams.ends.0
             (unwritten_in_piece out (trace_from start flat streams.rows) then after (end_text stimulus.clocks last) [] why
             (subst (λ (rest : List ℕ). IsLeft out (trace_from start flat streams.rows) then rest) (sym (append-nil (end_text stimulus.clocks last))) end_left) failed);
+        meanwhile = (length streams.rows, subst Done (sym (take_all (length streams.rows) streams.rows (omega arith))) streams.meanwhile);
       }
 
       -- all was written
@@ -87,11 +91,12 @@ module _ (stimulus : Stimulus) (flat : Flat) (start : List Bool) (shelf : SeenSh
         rows = streams.rows;
         are = streams.are;
         ends = (streams.ends.0, last_piece out (trace_from start flat streams.rows) then after (end_text stimulus.clocks last) end_left all);
+        meanwhile = streams.meanwhile;
       }
 
--- memory ran out before anything was written
-pub nothing_streamed : (stimulus : Stimulus) (Text : List (List Bool) → List ℕ) (shelf : SeenShelf) (out : SeenSink) → ((text : List ℕ) → shelf.told stimulus.name ≡ held text → StandsIn stimulus text)
-    → Streams stimulus.name stimulus.width Text shelf out shelf out (Err NoMemory)
-nothing_streamed stimulus Text shelf out stands =
+-- memory ran out before anything was written or done
+pub nothing_streamed : (stimulus : Stimulus) (Text : List (List Bool) → List ℕ) (Done : List (List Bool) → Type 0) (shelf : SeenShelf) (out : SeenSink)
+    → ((text : List ℕ) → shelf.told stimulus.name ≡ held text → StandsIn stimulus text) → Done [] → Streams stimulus.name stimulus.width Text Done shelf out shelf out (Err NoMemory)
+nothing_streamed stimulus Text Done shelf out stands none =
     let some = some_rows stimulus (shelf.told stimulus.name) stands in
-    record { rows = some.whole; are = some.are; ends = (refl, (0, omega arith, sym (appended-nil out))) }
+    record { rows = some.whole; are = some.are; ends = (refl, (0, omega arith, sym (appended-nil out))); meanwhile = (0, none) }

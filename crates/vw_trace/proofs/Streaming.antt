@@ -1,5 +1,5 @@
 -- The lines of clocks, written while a checked stimulus is read again.
-use Rattle.std.proofs.Common.{◌≡◌, ◌≢◌, ◌+◌, ℕ, Bool, false, true≢false, List, [], ◌++◌, length, take, drop, Ok, Err, refl, sym, ◌∙◌, ap, ap₂, subst, arith, append_assoc, append-nil, length-append}
+use Rattle.std.proofs.Common.{◌≡◌, ◌≢◌, ◌+◌, ℕ, Bool, false, true≢false, List, [], ◌++◌, length, take, drop, Result, Ok, Err, refl, sym, ◌∙◌, ap, ap₂, subst, arith, append_assoc, append-nil, length-append}
 use Rattle.std.specs.List.{All}
 use Rattle.std.proofs.Math.Seq.{take-add}
 use Rattle.std.proofs.lemmas.List.{take-append-drop, take_at, take_all}
@@ -20,7 +20,7 @@ use Rattle.vw_rows.specs.declared.stimulus.Stimulus.{Stimulus}
 use Rattle.vw_rows.specs.Stimulus.{stimulus_rows, is_text_fault}
 use Rattle.vw_rows.specs.Standing.{StandsIn, GaveMore}
 use Rattle.vw_trace.specs.RunFaults.{run_fault_of, run_fault_of_rows}
-use Rattle.vw_trace.specs.Streamed.{IsNotHeld, MayBeRows, EndsStreaming}
+use Rattle.vw_trace.specs.Streamed.{IsNotHeld, MayBeRows, EndsStreaming, DoneFor}
 use Rattle.vw_trace.specs.Steps.StreamedClocks.{clock_lines, StreamsClocks}
 use Rattle.vw_trace.proofs.TraceLines.{HistoriesJoin, clock_lines-append}
 
@@ -138,6 +138,24 @@ module _ (flat : Flat) (join : HistoriesJoin flat) (start : List Bool) (before :
           ∙ appended-appended before (clock_lines flat 0 start rows) (clock_lines flat done state next) ∙ ap (appended before) (sym (lines_more next));
     }
 
+-- ---- what is done meanwhile
+
+-- what was done for the first of some rows
+pub done_for_front : (Done : List (List Bool) → Type 0) (rows more whole : List (List Bool)) → whole ≡ rows ++ more → Done rows → (count : ℕ) × Done (take count whole)
+done_for_front Done rows more whole split done =
+    (length rows, subst Done (sym (ap (take (length rows)) split ∙ take_at rows more (length rows) refl)) done)
+
+-- what was done for all of them, whatever the answer
+pub done_for_all : {Fault : Type 0} (Done : List (List Bool) → Type 0) (rows : List (List Bool)) (answer : Result (Unit {0}) Fault) → Done rows → DoneFor Done rows answer
+done_for_all Done rows (Ok done) all = all
+done_for_all Done rows (Err fault) all = (length rows, subst Done (sym (take_all (length rows) rows (omega arith))) all)
+
+-- the first rows of a batch, behind those before it
+batch_split : (rows next more whole : List (List Bool)) (count : ℕ) → whole ≡ (rows ++ next) ++ more → whole ≡ (rows ++ take count next) ++ (drop count next ++ more)
+batch_split rows next more whole count split =
+    split ∙ ap (λ (n : List (List Bool)). (rows ++ n) ++ more) (sym (take-append-drop count next))
+    ∙ ap (λ (r : List (List Bool)). r ++ more) (sym (append_assoc rows (take count next) (drop count next))) ∙ append_assoc (rows ++ take count next) (drop count next) more
+
 -- ---- how it ends
 
 module _ (name text : List ℕ) (shelf : SeenShelf) (out : SeenSink) (shelf_after : SeenShelf) (out_after : SeenSink) where
@@ -160,8 +178,9 @@ module _ (name text : List ℕ) (shelf : SeenShelf) (out : SeenSink) (shelf_afte
 
 -- ---- underway
 
--- so many rows were read and their lines written; where a text is held, the stimulus stands in it; all else is as it was
-pub record IsUnderway (stimulus : Stimulus) (flat : Flat) (start : List Bool) (shelf : SeenShelf) (out : SeenSink)
+-- so many rows were read and their lines written, and what else is done for them was done; where a text is held, the stimulus
+-- stands in it; all else is as it was
+pub record IsUnderway (stimulus : Stimulus) (flat : Flat) (start : List Bool) (Done : List (List Bool) → Type 0) (shelf : SeenShelf) (out : SeenSink)
     (now : Stimulus) (state : List Bool) (shelf_now : SeenShelf) (out_now : SeenSink) : Type 0 where
   pub rows : List (List Bool)
   pub front : IsFrontOfRows (shelf.told stimulus.name) stimulus.width rows
@@ -172,11 +191,12 @@ pub record IsUnderway (stimulus : Stimulus) (flat : Flat) (start : List Bool) (s
   pub shelf_is : shelf_now ≡ shelf
   pub stands : (text : List ℕ) → shelf.told stimulus.name ≡ held text → StandsIn now text
   pub latches : length state ≡ latch_count flat.cells
+  pub meanwhile : Done rows
 
 -- before the first batch
-pub begins : (stimulus : Stimulus) (flat : Flat) (start : List Bool) (shelf : SeenShelf) (out : SeenSink) → stimulus.done ≡ 0 → ((text : List ℕ) → shelf.told stimulus.name ≡ held text → StandsIn stimulus text)
-    → length start ≡ latch_count flat.cells → IsUnderway stimulus flat start shelf out stimulus start shelf out
-begins stimulus flat start shelf out fresh stands latches = record {
+pub begins : (stimulus : Stimulus) (flat : Flat) (start : List Bool) (Done : List (List Bool) → Type 0) (shelf : SeenShelf) (out : SeenSink) → stimulus.done ≡ 0 → ((text : List ℕ) → shelf.told stimulus.name ≡ held text → StandsIn stimulus text)
+    → length start ≡ latch_count flat.cells → Done [] → IsUnderway stimulus flat start Done shelf out stimulus start shelf out
+begins stimulus flat start Done shelf out fresh stands latches none = record {
   rows = [];
   front = record { wide = All-nil (λ row. length row ≡ stimulus.width); same = λ text all is said. refl };
   wrote = subst (λ (n : ℕ). WroteLines flat start out [] n start out) (sym fresh) (no_lines flat start out);
@@ -186,10 +206,11 @@ begins stimulus flat start shelf out fresh stands latches = record {
   shelf_is = refl;
   stands = stands;
   latches = latches;
+  meanwhile = none;
 }
 
-module _ (stimulus : Stimulus) (flat : Flat) (join : HistoriesJoin flat) (start : List Bool) (shelf : SeenShelf) (out : SeenSink) (now : Stimulus) (state : List Bool) (shelf_now : SeenShelf) (out_now : SeenSink)
-    (underway : IsUnderway stimulus flat start shelf out now state shelf_now out_now) where
+module _ (stimulus : Stimulus) (flat : Flat) (join : HistoriesJoin flat) (start : List Bool) (Done : List (List Bool) → Type 0) (shelf : SeenShelf) (out : SeenSink) (now : Stimulus) (state : List Bool) (shelf_now : SeenShelf) (out_now : SeenSink)
+    (underway : IsUnderway stimulus flat start Done shelf out now state shelf_now out_now) where
   abbrev told : Told
   told = shelf.told stimulus.name
 
@@ -211,7 +232,7 @@ module _ (stimulus : Stimulus) (flat : Flat) (join : HistoriesJoin flat) (start 
 
   -- rows weren't read
   pub unread : (fault : StimFault) (last : List Bool) (shelf_after : SeenShelf) → (fault ≡ rows_faults.ReadFault → CountsFault now.name shelf_now shelf_after) → (fault ≢ rows_faults.ReadFault → shelf_after ≡ shelf_now)
-      → ((text : List ℕ) → shelf_now.told now.name ≡ held text → is_text_fault fault ≡ false) → StreamsClocks stimulus flat start last shelf out shelf_after out_now (Err (run_fault_of_rows fault))
+      → ((text : List ℕ) → shelf_now.told now.name ≡ held text → is_text_fault fault ≡ false) → StreamsClocks stimulus flat start last Done shelf out shelf_after out_now (Err (run_fault_of_rows fault))
   unread fault last shelf_after counts kept sure =
       let begun = begin_with told stimulus.width rows_then has underway.front in
       let left = lines_left flat join start out rows_then now.done state out_now underway.wrote begun.whole begun.more begun.split in
@@ -223,6 +244,7 @@ module _ (stimulus : Stimulus) (flat : Flat) (join : HistoriesJoin flat) (start 
         ends = ends_unread stimulus.name (clock_lines flat 0 start begun.whole) shelf out shelf_after out_now fault
             (part_written out (clock_lines flat 0 start begun.whole) out_now (clock_lines flat now.done state begun.more) left)
             counted (λ is. kept is ∙ underway.shelf_is) (λ text is. sure text (told_then ∙ is));
+        meanwhile = done_for_front Done rows_then begun.more begun.whole begun.split underway.meanwhile;
         all = tt;
       }
 
@@ -234,39 +256,50 @@ module _ (stimulus : Stimulus) (flat : Flat) (join : HistoriesJoin flat) (start 
         (λ text all is said. are_next text all (told_then ∙ is) (ap (λ (n : ℕ). stimulus_rows n text) underway.width ∙ said)
         ∙ ap (λ (n : ℕ). take 256 (drop n all)) (sym underway.wrote.count))
 
-    -- the lines of a batch weren't written whole
-    pub unwritten_lines : (why : Unwritten) (last : List Bool) → WritesOut (clock_lines flat now.done state next) out_now out_after (Err why)
-        → StreamsClocks stimulus flat start last shelf out shelf_after out_after (Err (run_fault_of why))
-    unwritten_lines why last failed =
-        let begun = begin_with told stimulus.width (rows_then ++ next) has front_then in
-        let left = batch_left flat join start out rows_then now.done state out_now underway.wrote next begun.whole begun.more begun.split in
-        record {
-          rows = begun.whole;
-          are = begun.are;
-          ends = ends_unwritten stimulus.name (clock_lines flat 0 start begun.whole) shelf out shelf_after out_after why (same ∙ underway.shelf_is)
-              (unwritten_in_piece out (clock_lines flat 0 start begun.whole) out_now out_after (clock_lines flat now.done state next)
-              (clock_lines flat (now.done + length next) (state_after flat state next) begun.more) why left failed);
-          all = tt;
-        }
+    -- what is done meanwhile for further rows
+    module _ (Ran : ℕ → List Bool → List (List Bool) → Type 0) (DoneAfter : List (List Bool) → Type 0)
+        (joins : (more : List (List Bool)) → Ran (0 + length rows_then) (state_after flat start rows_then) more → DoneAfter (rows_then ++ more)) where
+      done_then : (more : List (List Bool)) → Ran now.done state more → DoneAfter (rows_then ++ more)
+      done_then more ran =
+          let place : now.done ≡ 0 + length rows_then = omega (arith, underway.wrote.count) in
+          joins more (subst (λ (n : ℕ). Ran n (state_after flat start rows_then) more) place (subst (λ (s : List Bool). Ran now.done s more) underway.wrote.state_is ran))
 
-    -- one batch more
-    pub further : (new : Stimulus) (state_new : List Bool) → GaveMore (length next) now new → ((text : List ℕ) → shelf_now.told now.name ≡ held text → StandsIn new text)
-        → state_new ≡ state_after flat state next → out_after ≡ appended out_now (clock_lines flat now.done state next)
-        → IsUnderway stimulus flat start shelf out new state_new shelf_after out_after
-    further new state_new gave stands state_is wrote = record {
-      rows = rows_then ++ next;
-      front = front_then;
-      wrote = lines_further flat join start out rows_then now.done state out_now underway.wrote next new.done state_new out_after gave.done state_is wrote;
-      name = gave.name ∙ underway.name;
-      width = gave.width ∙ underway.width;
-      clocks = gave.clocks ∙ underway.clocks;
-      shelf_is = same ∙ underway.shelf_is;
-      stands = λ text is. stands text (told_then ∙ is);
-      latches = ap (λ (s : List Bool). length s) state_is ∙ length-state_after flat state next underway.latches;
-    }
+      -- the lines of a batch weren't written whole
+      pub unwritten_lines : (why : Unwritten) (last : List Bool) → WritesOut (clock_lines flat now.done state next) out_now out_after (Err why) → (count : ℕ) → Ran now.done state (take count next)
+          → StreamsClocks stimulus flat start last DoneAfter shelf out shelf_after out_after (Err (run_fault_of why))
+      unwritten_lines why last failed count ran =
+          let begun = begin_with told stimulus.width (rows_then ++ next) has front_then in
+          let left = batch_left flat join start out rows_then now.done state out_now underway.wrote next begun.whole begun.more begun.split in
+          record {
+            rows = begun.whole;
+            are = begun.are;
+            ends = ends_unwritten stimulus.name (clock_lines flat 0 start begun.whole) shelf out shelf_after out_after why (same ∙ underway.shelf_is)
+                (unwritten_in_piece out (clock_lines flat 0 start begun.whole) out_now out_after (clock_lines flat now.done state next)
+                (clock_lines flat (now.done + length next) (state_after flat state next) begun.more) why left failed);
+            meanwhile = done_for_front DoneAfter (rows_then ++ take count next) (drop count next ++ begun.more) begun.whole
+                (batch_split rows_then next begun.more begun.whole count begun.split) (done_then (take count next) ran);
+            all = tt;
+          }
+
+      -- one batch more
+      pub further : (new : Stimulus) (state_new : List Bool) → GaveMore (length next) now new → ((text : List ℕ) → shelf_now.told now.name ≡ held text → StandsIn new text)
+          → state_new ≡ state_after flat state next → out_after ≡ appended out_now (clock_lines flat now.done state next) → Ran now.done state next
+          → IsUnderway stimulus flat start DoneAfter shelf out new state_new shelf_after out_after
+      further new state_new gave stands state_is wrote ran = record {
+        rows = rows_then ++ next;
+        front = front_then;
+        wrote = lines_further flat join start out rows_then now.done state out_now underway.wrote next new.done state_new out_after gave.done state_is wrote;
+        name = gave.name ∙ underway.name;
+        width = gave.width ∙ underway.width;
+        clocks = gave.clocks ∙ underway.clocks;
+        shelf_is = same ∙ underway.shelf_is;
+        stands = λ text is. stands text (told_then ∙ is);
+        latches = ap (λ (s : List Bool). length s) state_is ∙ length-state_after flat state next underway.latches;
+        meanwhile = done_then next ran;
+      }
 
   -- all rows were given
-  pub all_given : now.done ≡ now.clocks → StreamsClocks stimulus flat start state shelf out shelf_now out_now (Ok tt)
+  pub all_given : now.done ≡ now.clocks → StreamsClocks stimulus flat start state Done shelf out shelf_now out_now (Ok tt)
   all_given all_done = record {
     rows = rows_then;
     are = record {
@@ -278,5 +311,6 @@ module _ (stimulus : Stimulus) (flat : Flat) (join : HistoriesJoin flat) (start 
       wide = λ none. underway.front.wide;
     };
     ends = (underway.shelf_is, underway.wrote.wrote);
+    meanwhile = underway.meanwhile;
     all = (underway.wrote.count ∙ all_done ∙ underway.clocks, underway.wrote.state_is);
   }

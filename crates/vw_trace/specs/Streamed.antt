@@ -1,5 +1,5 @@
 -- A text that is written while a checked stimulus is read again.
-use Rattle.std.specs.Prelude.{◌≡◌, ℕ, Bool, true, List, length, Result, Ok, Err}
+use Rattle.std.specs.Prelude.{◌≡◌, ℕ, Bool, true, List, length, take, Result, Ok, Err}
 use Rattle.std.specs.List.{All}
 use Rattle.vw_outside.specs.Told.{Told, held}
 use Rattle.vw_outside.specs.Reads.{SeenShelf, CountsFault}
@@ -27,9 +27,15 @@ EndsStreaming name text shelf out shelf_after out_after (Err ReadFault) = Counts
 EndsStreaming name text shelf out shelf_after out_after (Err (Stimulus fault)) =
     IsNotHeld (shelf.told name) × (is_text_fault fault ≡ true) × (shelf_after ≡ shelf) × WrotePart text out out_after
 
--- the text that belongs to such rows was written, or a part of it
-pub record Streams (name : List ℕ) (width : ℕ) (Text : List (List Bool) → List ℕ) (shelf : SeenShelf) (out : SeenSink)
-    (shelf_after : SeenShelf) (out_after : SeenSink) (answer : Result (Unit {0}) RunFault) : Type 0 where
+-- what is done row by row was done for all rows, or after a fault for the first of them alone
+abbrev pub DoneFor : {Fault : Type 0} → (List (List Bool) → Type 0) → List (List Bool) → Result (Unit {0}) Fault → Type 0
+DoneFor Done rows (Ok done) = Done rows
+DoneFor Done rows (Err fault) = (count : ℕ) × Done (take count rows)
+
+-- the text that belongs to such rows was written, or a part of it; and what else is done for them was done meanwhile
+pub record Streams (name : List ℕ) (width : ℕ) (Text : List (List Bool) → List ℕ) (Done : List (List Bool) → Type 0)
+    (shelf : SeenShelf) (out : SeenSink) (shelf_after : SeenShelf) (out_after : SeenSink) (answer : Result (Unit {0}) RunFault) : Type 0 where
   pub rows : List (List Bool)
   pub are : MayBeRows (shelf.told name) width rows
   pub ends : EndsStreaming name (Text rows) shelf out shelf_after out_after answer
+  pub meanwhile : DoneFor Done rows answer

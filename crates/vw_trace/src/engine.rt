@@ -31,7 +31,8 @@ pub trait Engine {
     /// Works out the clocks of some rows, of which the first has the number `first`, counted from 0. `state` has the
     /// value of each latch before the first clock, in the order of the cells, and gets those after the last.
     ///
-    /// It takes memory for these clocks, all of it before the first. Where there is none, nothing is known of `state`.
+    /// It takes memory for these clocks, all of it before the first. Where there is none, no clock was worked out, and
+    /// nothing is known of `state`.
     fn run(
         &mut self,
         alloc: Global,

@@ -9,4 +9,4 @@ mod trace;
 
 pub use engine::{Batch, Engine};
 pub use fault::RunFault;
-pub use trace::{write_trace, write_trace_by};
+pub use trace::{BATCH, write_end, write_head, write_trace, write_trace_by};

@@ -21,7 +21,7 @@ use vw_outside::{Shelf, Sink, Unwritten, put_text};
 use vw_rows::{Stimulus, trace_end, trace_head, trace_rows};
 
 /// How many clocks are worked out before their lines are written.
-const BATCH: u32 = 256;
+pub const BATCH: u32 = 256;
 
 /// Works out the clocks of some rows from a state on, where so many are done, and writes their lines.
 fn write_batch<E: Engine, O: Sink>(
@@ -63,8 +63,8 @@ fn write_clocks<E: Engine, S: Shelf, O: Sink>(
     requires latches { length state.old ≡ latch_count (E.netlist engine.old).cells }
     requires unstarted { IsCount (E.done engine.old) 0 }
     ensures streams { StreamsClocks stimulus.old (E.netlist engine.old) state.old state.new
-        (S.seen shelf.old) (O.seen out.old) (S.seen shelf.new) (O.seen out.new)
-        result }
+        (λ rows. Unit {0}) (S.seen shelf.old) (O.seen out.old)
+        (S.seen shelf.new) (O.seen out.new) result }
     ensures done { OnOk result (stimulus.new.done ≡ stimulus.old.clocks) }
     ensures all { OnOk result (IsCount (E.done engine.new) stimulus.old.clocks) }
 {
@@ -77,8 +77,9 @@ fn write_clocks<E: Engine, S: Shelf, O: Sink>(
     Ok(())
 }
 
-/// Writes the first line of a trace, whose latches have these values at first.
-fn write_head<O: Sink>(
+/// Writes the first line of a trace, whose latches have these values at first. It takes memory for the line. Where a write
+/// fails or there is no memory, a front of the line was appended.
+pub fn write_head<O: Sink>(
     alloc: Global,
     flat: &Flat,
     state: &Bits,
@@ -92,8 +93,14 @@ fn write_head<O: Sink>(
     put_text(head, out)
 }
 
-/// Writes the last line of a trace.
-fn write_end<O: Sink>(alloc: Global, clocks: u64, last: &Bits, out: &mut O) -> Result<(), Unwritten>
+/// Writes the last line of a trace: the number of clocks, and the value of each latch after them, in the order of the cells.
+/// It takes memory for the line. Where a write fails or there is no memory, a front of the line was appended.
+pub fn write_end<O: Sink>(
+    alloc: Global,
+    clocks: u64,
+    last: &Bits,
+    out: &mut O,
+) -> Result<(), Unwritten>
     ensures { WritesOut (end_text clocks last.now) (O.seen out.old) (O.seen out.new) result }
 {
     let end = trace_end(alloc, clocks, last);
@@ -116,8 +123,8 @@ fn write_lines<E: Engine, S: Shelf, O: Sink>(
     requires latches { length state.old ≡ latch_count (E.netlist engine.old).cells }
     requires unstarted { IsCount (E.done engine.old) 0 }
     ensures streams { Streams stimulus.old.name stimulus.old.width
-        (trace_from state.old (E.netlist engine.old)) (S.seen shelf.old) (O.seen out.old)
-        (S.seen shelf.new) (O.seen out.new) result }
+        (trace_from state.old (E.netlist engine.old)) (λ rows. Unit {0})
+        (S.seen shelf.old) (O.seen out.old) (S.seen shelf.new) (O.seen out.new) result }
     ensures done { OnOk result (stimulus.new.done ≡ stimulus.old.clocks) }
     ensures all { OnOk result (IsCount (E.done engine.new) stimulus.old.clocks) }
 {
@@ -132,8 +139,9 @@ fn write_lines<E: Engine, S: Shelf, O: Sink>(
 /// netlist. Free latches start at `unknown`. The stimulus is read again in batches of 256 clocks, and memory is taken for
 /// one batch at a time: all but that of its lines before its first clock. Where a read or a write fails or memory runs
 /// out, a front of the trace was appended. Where nothing is told of the text of the stimulus, it may have changed since it
-/// was checked: then it may be found at fault, or the trace is that of other rows with the same width. An engine that
-/// numbers its clocks begins with the first, and has done them all after a success.
+/// was checked: then it may be found at fault, or the trace is that of other rows with the same width. The engine works
+/// out each clock once, in order: all of them before a success, and the first ones alone before a fault. Where it numbers
+/// its clocks, it begins with the first, and has done them all after a success.
 pub fn write_trace_by<E: Engine, S: Shelf, O: Sink>(
     alloc: Global,
     engine: &mut E,
@@ -148,8 +156,9 @@ pub fn write_trace_by<E: Engine, S: Shelf, O: Sink>(
         → StandsIn stimulus.old text }
     requires unstarted { IsCount (E.done engine.old) 0 }
     ensures streams { Streams stimulus.old.name stimulus.old.width
-        (flat_trace unknown (E.netlist engine.old)) (S.seen shelf.old) (O.seen out.old)
-        (S.seen shelf.new) (O.seen out.new) result }
+        (flat_trace unknown (E.netlist engine.old))
+        (λ rows. Unit {0})
+        (S.seen shelf.old) (O.seen out.old) (S.seen shelf.new) (O.seen out.new) result }
     ensures done { OnOk result (stimulus.new.done ≡ stimulus.old.clocks) }
     ensures all { OnOk result (IsCount (E.done engine.new) stimulus.old.clocks) }
 {
@@ -175,7 +184,7 @@ pub fn write_trace<S: Shelf, O: Sink>(
     requires stands { (text : List ℕ) → (S.seen shelf.old).told stimulus.old.name ≡ held text
         → StandsIn stimulus.old text }
     ensures streams { Streams stimulus.old.name stimulus.old.width
-        (flat_trace unknown ordered.now.flat) (S.seen shelf.old) (O.seen out.old)
+        (flat_trace unknown ordered.now.flat) (λ rows. Unit {0}) (S.seen shelf.old) (O.seen out.old)
         (S.seen shelf.new) (O.seen out.new) result }
     ensures done { OnOk result (stimulus.new.done ≡ stimulus.old.clocks) }
 {

@@ -3,9 +3,13 @@
 
 use std::alloc::{AllocError, Global};
 use std::env::{Env, FillError};
+use std::marker::{Send, Sync};
 use std::process::ExitCode;
+use std::sync::Wait;
+use std::thread::Threads;
 use vw_course::report;
-use vw_outside::{ErrSink, FileShelf, Name, OutSink};
+use vw_link::Links;
+use vw_outside::{ErrSink, FileShelf, Name, OpenGate, OutSink};
 use vw_top::{Unfinished, virtual_wires};
 
 /// The bytes that are first taken for a word.
@@ -44,18 +48,33 @@ fn words(alloc: Global, environment: &impl Env) -> Result<Vec<Name>, AllocError>
     Ok(words)
 }
 
-/// Carries out the command of these words over the files of the machine, and gives the exit status.
-fn exit_status(rt: &HostRuntime, words: &[Name]) -> u8 {
+/// Carries out the command of these words over the files of the machine, with workers on these threads, and gives the exit
+/// status.
+fn exit_status<T: Threads + Wait + Copy + Send + Sync>(
+    rt: &HostRuntime,
+    threads: &T,
+    words: &[Name],
+) -> u8 {
     let alloc = rt.alloc();
     let mut shelf = FileShelf::new(alloc, rt);
     let mut out = OutSink::new(rt);
     let mut err = ErrSink::new(rt);
-    virtual_wires(alloc, words, &mut shelf, &mut out, &mut err)
+    let mut links = Links::new(*threads, false);
+    virtual_wires(
+        threads,
+        alloc,
+        words,
+        &mut shelf,
+        &mut links,
+        &OpenGate::new(),
+        &mut out,
+        &mut err,
+    )
 }
 
 fn main(rt: HostRuntime) -> ExitCode {
     let status = match words(rt.alloc(), &rt) {
-        Ok(words) => exit_status(&rt, &words),
+        Ok(words) => exit_status(&rt, &rt, &words),
         Err(_) => report(rt.alloc(), &Unfinished::NoMemory, &mut ErrSink::new(&rt)),
     };
     ExitCode::from(status)

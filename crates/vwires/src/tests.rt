@@ -19,16 +19,25 @@ const EARLY: &[u8] =
     b"plan 1 2 4 2\nchips 1 2\nwire 0 1 1\nhop 0 1 0 0\nwire 1 2 1\nhop 1 2 0 0\nwire 2 0 1\nhop 2 0 0 0\nwire 2 1 1\nhop 2 1 0 0\nend\n";
 
 /// The exit status of these words.
-fn status(rt: &HostRuntime, words: &[&[u8]]) -> Result<u8, AllocError> {
+fn status<T: Threads + Wait + Copy + Send + Sync>(
+    rt: &HostRuntime,
+    threads: &T,
+    words: &[&[u8]],
+) -> Result<u8, AllocError> {
     let mut names = Vec::new(rt.alloc());
     for word in words {
         names.push(Name::of(word.to_vec(rt.alloc())?))?;
     }
-    Ok(exit_status(rt, &names))
+    Ok(exit_status(rt, threads, &names))
 }
 
 /// The exit status of a command on files of the machine with these texts.
-fn status_on(rt: &HostRuntime, command: &[u8], texts: &[&[u8]]) -> Result<u8, Fail> {
+fn status_on<T: Threads + Wait + Copy + Send + Sync>(
+    rt: &HostRuntime,
+    threads: &T,
+    command: &[u8],
+    texts: &[&[u8]],
+) -> Result<u8, Fail> {
     let number = process::id(rt.process());
     let mut names = Vec::new(rt.alloc());
     names.push(Name::of(command.to_vec(rt.alloc())?))?;
@@ -37,7 +46,7 @@ fn status_on(rt: &HostRuntime, command: &[u8], texts: &[&[u8]]) -> Result<u8, Fa
         fs::write(rt, path.as_str(), *text)?;
         names.push(Name::of(path.into_bytes()))?;
     }
-    let found = exit_status(rt, &names);
+    let found = exit_status(rt, threads, &names);
     for place in 0..texts.len() {
         let path = format!(in rt.alloc(); "/tmp/vwires_{number}_{place}")?;
         fs::remove_file(rt, path.as_str())?;
@@ -47,25 +56,44 @@ fn status_on(rt: &HostRuntime, command: &[u8], texts: &[&[u8]]) -> Result<u8, Fa
 
 #[test]
 fn designs_and_stimuli_in_files_have_their_statuses(rt: HostRuntime) -> Result<(), Fail> {
-    assert_eq!(rt; status_on(&rt, b"sim", &[TOGGLE, b"1\n1\n0\n"])?, 0);
-    assert_eq!(rt; status_on(&rt, b"sim", &[b"no design\n", b"1\n"])?, 1);
-    assert_eq!(rt; status_on(&rt, b"sim", &[TOGGLE, b"10\n"])?, 5);
+    assert_eq!(rt; status_on(&rt, &rt, b"sim", &[TOGGLE, b"1\n1\n0\n"])?, 0);
+    assert_eq!(rt; status_on(&rt, &rt, b"sim", &[b"no design\n", b"1\n"])?, 1);
+    assert_eq!(rt; status_on(&rt, &rt, b"sim", &[TOGGLE, b"10\n"])?, 5);
     Ok(())
 }
 
 #[test]
 fn boards_and_plans_in_files_have_their_statuses(rt: HostRuntime) -> Result<(), Fail> {
-    assert_eq!(rt; status_on(&rt, b"check", &[TOGGLE, TRIANGLE, PLAN])?, 0);
-    assert_eq!(rt; status_on(&rt, b"check", &[TOGGLE, b"board 2\n", PLAN])?, 3);
-    assert_eq!(rt; status_on(&rt, b"check", &[TOGGLE, TRIANGLE, EARLY])?, 4);
-    assert_eq!(rt; status_on(&rt, b"plan", &[TOGGLE, TRIANGLE])?, 0);
-    assert_eq!(rt; status_on(&rt, b"plan", &[TOGGLE, SMALL])?, 6);
+    assert_eq!(rt;
+        status_on(&rt, &rt, b"check", &[TOGGLE, TRIANGLE, PLAN])?,
+        0
+    );
+    assert_eq!(rt;
+        status_on(&rt, &rt, b"check", &[TOGGLE, b"board 2\n", PLAN])?,
+        3
+    );
+    assert_eq!(rt;
+        status_on(&rt, &rt, b"check", &[TOGGLE, TRIANGLE, EARLY])?,
+        4
+    );
+    assert_eq!(rt; status_on(&rt, &rt, b"plan", &[TOGGLE, TRIANGLE])?, 0);
+    assert_eq!(rt; status_on(&rt, &rt, b"plan", &[TOGGLE, SMALL])?, 6);
+    Ok(())
+}
+
+/// By four workers, since no word says how many.
+#[test]
+fn a_run_over_files_has_its_status(rt: HostRuntime) -> Result<(), Fail> {
+    assert_eq!(rt;
+        status_on(&rt, &rt, b"run", &[TOGGLE, TRIANGLE, b"1\n1\n0\n"])?,
+        0
+    );
     Ok(())
 }
 
 #[test]
 fn wrong_words_and_a_folder_have_their_statuses(rt: HostRuntime) -> Result<(), Fail> {
-    assert_eq!(rt; status(&rt, &[b"fly"])?, 2);
-    assert_eq!(rt; status(&rt, &[b"sim", b"/tmp", b"/dev/null"])?, 7);
+    assert_eq!(rt; status(&rt, &rt, &[b"fly"])?, 2);
+    assert_eq!(rt; status(&rt, &rt, &[b"sim", b"/tmp", b"/dev/null"])?, 7);
     Ok(())
 }

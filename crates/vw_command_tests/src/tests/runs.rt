@@ -117,17 +117,7 @@ fn wrong_words_of_a_run_are_named_by_their_place(rt: HostRuntime) -> Result<(), 
             "",
             "usage: word 2\n",
         ),
-        // without workers, a word is missing behind the last one
-        (&["run", "d", "b", "s"], 2, "", "usage: word 5\n"),
-        (&["run", "d", "b", "workers=1"], 2, "", "usage: word 5\n"),
-        (&["run", "d", "b", "s", "plan=p"], 2, "", "usage: word 6\n"),
-        (
-            &["run", "d", "b", "s", "plan=p", "unknown=1"],
-            2,
-            "",
-            "usage: word 7\n",
-        ),
-        // no other number of workers so far
+        // one worker to sixty-four
         (
             &["run", "d", "b", "s", "workers=0"],
             2,
@@ -135,13 +125,7 @@ fn wrong_words_of_a_run_are_named_by_their_place(rt: HostRuntime) -> Result<(), 
             "usage: word 5\n",
         ),
         (
-            &["run", "d", "b", "s", "workers=2"],
-            2,
-            "",
-            "usage: word 5\n",
-        ),
-        (
-            &["run", "d", "b", "s", "workers=64"],
+            &["run", "d", "b", "s", "workers=65"],
             2,
             "",
             "usage: word 5\n",
@@ -160,7 +144,7 @@ fn wrong_words_of_a_run_are_named_by_their_place(rt: HostRuntime) -> Result<(), 
         ),
         (&["run", "d", "b", "s", "workers"], 2, "", "usage: word 5\n"),
         (
-            &["run", "d", "b", "s", "plan=p", "workers=2"],
+            &["run", "d", "b", "s", "plan=p", "workers=100"],
             2,
             "",
             "usage: word 6\n",
@@ -206,6 +190,20 @@ fn wrong_words_of_a_run_are_named_by_their_place(rt: HostRuntime) -> Result<(), 
         // the other commands have no such settings
         (&["sim", "d", "s", "workers=1"], 2, "", "usage: word 4\n"),
         (&["plan", "d", "b", "plan=p"], 2, "", "usage: word 4\n"),
+    ];
+    words_end(&rt, rt.alloc(), TOGGLE_TEXTS, TABLE)
+}
+
+/// The call that has no runtime leaves runs with several workers to the other one, and reads and writes nothing.
+#[test]
+fn a_run_with_several_workers_is_not_done_alone(rt: HostRuntime) -> Result<(), Fail> {
+    const TABLE: &[(&[&str], u8, &str, &str)] = &[
+        (&["run", "gone", "b", "s"], SEVERAL, "", ""),
+        (&["run", "d", "b", "s", "plan=p"], SEVERAL, "", ""),
+        (&["run", "d", "b", "s", "workers=2"], SEVERAL, "", ""),
+        (&["run", "d", "b", "s", "workers=64"], SEVERAL, "", ""),
+        // in the place of a name a setting is a name
+        (&["run", "d", "b", "workers=1"], SEVERAL, "", ""),
     ];
     words_end(&rt, rt.alloc(), TOGGLE_TEXTS, TABLE)
 }

@@ -137,7 +137,7 @@ fn change_ends(
     let mut out = sink(alloc, MOST, 0)?;
     let mut err = sink(alloc, MOST, 0)?;
     let names = names_of(alloc, SIM)?;
-    let status = virtual_wires(alloc, &names, &mut shelf, &mut out, &mut err);
+    let status = alone(alloc, &names, &mut shelf, &mut out, &mut err).unwrap_or(SEVERAL);
     let ran = Ran { status, out, err };
     has_ended(rt, &ran, second, end);
     Ok(())

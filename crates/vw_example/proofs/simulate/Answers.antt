@@ -10,6 +10,7 @@ use Rattle.vw_course.specs.Outside.{SeenOutside, Work, with_all}
 use Rattle.vw_course.specs.Endings.{IsReported, IsCallOf}
 use Rattle.vw_course.specs.Statuses.{LeavesPart, Statuses}
 use Rattle.vw_course.specs.Goes.{seen_outside}
+use Rattle.vw_prog.specs.declared.word.Word.{Word}
 use Rattle.vw_top.specs.Words.{Spelled, spelled_by}
 use Rattle.vw_top.specs.Words as words
 use Rattle.vw_top.specs.Messages.{reason_line, Call, CallWork}
@@ -69,7 +70,7 @@ module _ (design stimulus out err : List ℕ) (call : Call) (hold : HoldTexts (c
     (table : SimStatuses (codes "design") (codes "stimulus") false call) where
   no_trace : call.after ≡ call.before → out ≡ []
   no_trace same =
-      let told : Some out ≡ Some [] = sym some ∙ ap (λ (o : SeenOutside (Unit {0})). o.out.told) same ∙ none in cc
+      let told : Some out ≡ Some [] = sym some ∙ ap (λ (o : SeenOutside Word). o.out.told) same ∙ none in cc
 
   line_is : (line : List ℕ) → IsReported line call.err_before call.err_after → err ≡ line
   line_is line reported = whole_line call.err_before call.err_after line err unsaid said reported
@@ -84,7 +85,7 @@ module _ (design stimulus out err : List ℕ) (call : Call) (hold : HoldTexts (c
         rows = trace.rows;
         is = trace.are.design;
         read = trace.are.rows_are;
-        trace = whole_text call.before.out call.after.out done.did.text out none some (ap (λ (o : SeenOutside (Unit {0})). o.out) done.leaves) ∙ ap (λ (did : CallWork). did.text) trace.text;
+        trace = whole_text call.before.out call.after.out done.did.text out none some (ap (λ (o : SeenOutside Word). o.out) done.leaves) ∙ ap (λ (did : CallWork). did.text) trace.is;
         no_message = cc;
       }
 
@@ -119,23 +120,23 @@ module _ (design stimulus out err : List ℕ) (call : Call) (hold : HoldTexts (c
 
 pub returns : goal.returns
 returns c =
-    let no_links : Option (ℕ → List (Unit {0})) = None in
+    let no_links : Option (ℕ → List Word) = None in
     let call : Call = record {
       before = seen_outside (seen_shelf c.new-shelf.result) (seen_sink c.new-out.result) no_links;
-      after = seen_outside (seen_shelf c.virtual_wires-status.new.shelf) (seen_sink c.virtual_wires-status.new.out) no_links;
+      after = seen_outside (seen_shelf c.alone.new.shelf) (seen_sink c.alone.new.out) no_links;
       err_before = seen_sink c.new-err.result;
-      err_after = seen_sink c.virtual_wires-status.new.err;
-      status = c.virtual_wires-status.result;
+      err_after = seen_sink c.alone.new.err;
+      status = c.in-Some.status;
     } in
     let words_are : c.deref.result.now ≡ codes "sim" ∷ codes "design" ∷ codes "stimulus" ∷ [] = cc (c.in_ok-owned_name-3.ensures, c.in_ok-owned_name-4.ensures, c.in_ok-owned_name-5.ensures, c.in_ok-words.ensures.items) in
-    let its_call : IsCallOf (course_of its_sim) call = subst (λ (spelled : Spelled). IsCallOf (course_of spelled) call) (ap spelled_by words_are ∙ spells_sim) (c.virtual_wires-status.ensures no_links) in
+    let its_call : IsCallOf (course_of its_sim) call = subst (λ (spelled : Spelled). IsCallOf (course_of spelled) call) (ap spelled_by words_are ∙ spells_sim) (c.in-Some.ensures.1 no_links) in
     let files_are : c.new-shelf.result.files.items ≡ c.make.result ∷ c.make-2.result ∷ [] = c.new-shelf.ensures.files ∙ c.in_ok-files.ensures.items in
     let both = hold_both c.new-shelf.result.files.items c.make.result c.make-2.result c.args.design.items c.args.stimulus.items files_are (c.make.ensures.name ∙ c.in_ok-owned_name.ensures) (c.make-2.ensures.name ∙ c.in_ok-owned_name-2.ensures) c.make.ensures.bytes c.make-2.ensures.bytes in
     let copied : c.in_ok-to_vec.field-0.items ≡ c.bytes.result.now = search rules in
-    let out : c.virtual_wires-status.new.out.written.items ≡ c.in_ok-to_vec.field-0.items = sym (copied ∙ c.bytes.ensures) in
+    let out : c.alone.new.out.written.items ≡ c.in_ok-to_vec.field-0.items = sym (copied ∙ c.bytes.ensures) in
     let copied_err : c.in_ok-to_vec-2.field-0.items ≡ c.bytes-2.result.now = search rules in
-    let err : c.virtual_wires-status.new.err.written.items ≡ c.in_ok-to_vec-2.field-0.items = sym (copied_err ∙ c.bytes-2.ensures) in
-    let no_fault : c.virtual_wires-status.new.err.faults ≡ 0 = omega (arith, c.if-err-gt0.false) in
+    let err : c.alone.new.err.written.items ≡ c.in_ok-to_vec-2.field-0.items = sym (copied_err ∙ c.bytes-2.ensures) in
+    let no_fault : c.alone.new.err.faults ≡ 0 = omega (arith, c.if-err-gt0.false) in
     outcome c.args.design.items c.args.stimulus.items c.in_ok-to_vec.field-0.items c.in_ok-to_vec-2.field-0.items call (record { design_held = both.design_held; stimulus_held = both.stimulus_held })
     (ap Some c.new-out.ensures.written) (ap Some out) (ap₂ seen_bytes c.new-err.ensures.written c.new-err.ensures.faults) (ap₂ seen_bytes err no_fault)
     (c.sim_statuses.ensures (codes "design") (codes "stimulus") false call its_call) (c.call_statuses.ensures its_sim call its_call)

@@ -10,8 +10,8 @@ abbrev pub command_view : Command → Spelled
 command_view (Sim design stimulus unknown) = words.sim design.now stimulus.now unknown
 command_view (Check design board plan) = words.check design.now board.now plan.now
 command_view (Plan design board) = words.plan design.now board.now
-command_view (Run design board stimulus plan unknown) =
-    words.run design.now board.now stimulus.now (option_copied plan) unknown
+command_view (Run design board stimulus plan workers unknown) =
+    words.run design.now board.now stimulus.now (option_copied plan) workers unknown
 command_view (Nothing place) = words.nothing place
 
 -- what words spell that have the form of the command with a number

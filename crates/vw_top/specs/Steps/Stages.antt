@@ -1,11 +1,20 @@
 -- What the stages of commands make.
-use Rattle.std.specs.Prelude.{◌≡◌, IsTrue, Result, Ok, Err}
+use Rattle.std.specs.Prelude.{◌≡◌, ℕ, List, Option, Some, None, IsTrue, Result, Ok, Err}
+use Rattle.vw_net.specs.declared.ordered.Ordered.{Ordered}
+use Rattle.vw_outside.specs.Told.{Told, IsTextOf}
+use Rattle.vw_front.specs.Designs.{IsNetlistOf}
+use Rattle.vw_board.specs.BoardText.{Spells as SpellsBoard}
+use Rattle.vw_plantext.specs.PlanText.{Spells as SpellsPlan}
+use Rattle.vw_plan.specs.declared.board.Board.{Board}
+use Rattle.vw_plan.specs.declared.plan.Plan.{Plan}
+use Rattle.vw_plan.specs.Good.{IsGood}
 use Rattle.vw_check.specs.declared.fault.PlanFault.{PlanFault}
 use Rattle.vw_check.specs.Answers.{is_plan_fault}
+use Rattle.vw_course.specs.Course.{cut}
 use Rattle.vw_course.specs.declared.unfinished.Unfinished.{Unfinished}
 use Rattle.vw_course.specs.declared.unfinished.Unfinished.TheVariants.{ReadFault, WriteFault, NoMemory, Refused}
 use Rattle.vw_plan.specs.declared.checked.Checked.{Checked}
-use Rattle.vw_plan.specs.PlannedBoard.{PlannedBoard}
+use Rattle.vw_plan.specs.PlannedBoard.{PlannedBoard, planned_board}
 use Rattle.vw_plan.specs.Sound.{IsSound}
 use Rattle.vw_trace.specs.declared.fault.RunFault.{RunFault}
 use Rattle.vw_trace.specs.declared.fault.RunFault.TheVariants as runs
@@ -13,11 +22,13 @@ use Rattle.vw_top.specs.declared.vocabulary.File.{File}
 use Rattle.vw_top.specs.declared.vocabulary.File.TheVariants as files
 use Rattle.vw_top.specs.declared.vocabulary.Reason.{Reason}
 use Rattle.vw_top.specs.declared.vocabulary.Reason.TheVariants as reasons
+use Rattle.vw_top.specs.Commands.{Rest}
 
--- the design and the plan of the planned, which is sound
+-- the design, the board and the plan of the planned, which is sound
 pub record IsCheckedPlan (planned : PlannedBoard) (checked : Checked) : Type 0 where
   pub sound : IsSound planned
   pub ordered : checked.ordered ≡ planned.ordered
+  pub board : checked.board ≡ planned.board
   pub plan : checked.plan ≡ planned.plan
 
 -- the command refuses for the fault of the plan; for want of memory, and for nothing else, it is stopped
@@ -34,3 +45,39 @@ run_answer (Err runs.ReadFault) = Err (ReadFault files.Stimulus)
 run_answer (Err runs.WriteFault) = Err WriteFault
 run_answer (Err (runs.Stimulus fault)) = Err (Refused (reasons.Stimulus fault))
 run_answer (Err runs.NoMemory) = Err NoMemory
+
+-- ---- a planned board that is ready to run
+
+-- behind a board, nothing more
+abbrev pub cut_there : Rest
+cut_there ordered board plan = cut
+
+-- the plan is good, or it is that of a text that the given name may have, and sound
+abbrev pub IsPlanBy : (List ℕ → Told) → Option (List ℕ) → Ordered → Board → Plan → Type 0
+IsPlanBy told None ordered board plan = IsGood (planned_board ordered board plan)
+IsPlanBy told (Some name) ordered board plan =
+    (text : List ℕ) × IsTextOf (told name) text × SpellsPlan text plan × IsSound (planned_board ordered board plan)
+
+-- this netlist on this board, with such a plan
+pub record IsPlanned (told : List ℕ → Told) (given : Option (List ℕ)) (ordered : Ordered) (board : Board) (checked : Checked) : Type 0 where
+  pub its_ordered : checked.ordered ≡ ordered
+  pub its_board : checked.board ≡ board
+  pub plan : IsPlanBy told given ordered board checked.plan
+
+-- this netlist on the board of a text that the name may have
+pub record IsOnBoard (told : List ℕ → Told) (board : List ℕ) (given : Option (List ℕ)) (ordered : Ordered) (checked : Checked) : Type 0 where
+  pub its_ordered : checked.ordered ≡ ordered
+  pub b : List ℕ
+  pub board_of : IsTextOf (told board) b
+  pub board_is : SpellsBoard b checked.board
+  pub plan : IsPlanBy told given ordered checked.board checked.plan
+
+-- the netlist of a text that the name may have
+pub record IsReadyBoard (told : List ℕ → Told) (design board : List ℕ) (given : Option (List ℕ)) (checked : Checked) : Type 0 where
+  pub d : List ℕ
+  pub design_of : IsTextOf (told design) d
+  pub netlist : IsNetlistOf d checked.ordered
+  pub b : List ℕ
+  pub board_of : IsTextOf (told board) b
+  pub board_is : SpellsBoard b checked.board
+  pub plan : IsPlanBy told given checked.ordered checked.board checked.plan

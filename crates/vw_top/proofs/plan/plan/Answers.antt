@@ -1,4 +1,5 @@
 use Rattle.std.proofs.Common.{refl}
+use Rattle.vw_course.specs.Goes.{Unmoved}
 use Rattle.vw_course.proofs.GoesLaws.{goes_on}
 use Rattle.vw_top.specs.Messages.{vocabulary}
 use Rattle.vw_top.specs.Kinds.{netlist_kind}
@@ -7,5 +8,5 @@ use Rattle.vw_top.proofs.plan.plan.Goals as goal
 
 pub returns : goal.returns
 returns g c =
-    goes_on g.S.Shelf.seen g.O.Sink.seen vocabulary netlist_kind c.args.design.now (plan_board_course c.args.board.now) c.in_ok-ordered.ordered
+    goes_on g.S.Shelf.seen g.O.Sink.seen vocabulary Unmoved netlist_kind c.args.design.now (plan_board_course c.args.board.now) c.in_ok-ordered.ordered
     (record { shelf = refl; out = refl }) refl c.in_ok-ordered.ensures c.plan_netlist.ensures

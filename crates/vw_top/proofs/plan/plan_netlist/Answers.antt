@@ -1,4 +1,5 @@
 use Rattle.std.proofs.Common.{refl}
+use Rattle.vw_course.specs.Goes.{Unmoved}
 use Rattle.vw_course.proofs.GoesLaws.{goes_on}
 use Rattle.vw_top.specs.Messages.{vocabulary}
 use Rattle.vw_top.specs.Kinds.{board_kind}
@@ -7,5 +8,5 @@ use Rattle.vw_top.proofs.plan.plan_netlist.Goals as goal
 
 pub returns : goal.returns
 returns g c =
-    goes_on g.S.Shelf.seen g.O.Sink.seen vocabulary board_kind c.args.board.now (good_course c.args.ordered) c.in_ok-board.board
+    goes_on g.S.Shelf.seen g.O.Sink.seen vocabulary Unmoved board_kind c.args.board.now (good_course c.args.ordered) c.in_ok-board.board
     (record { shelf = refl; out = refl }) refl c.in_ok-board.ensures c.plan_on_board.ensures

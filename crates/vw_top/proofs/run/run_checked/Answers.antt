@@ -1,8 +1,13 @@
 use Rattle.std.proofs.Common.{refl}
 use Rattle.std.proofs.lemmas.Result.{err_from_is_err_and}
+use Rattle.vw_course.specs.Goes.{Unmoved}
+use Rattle.vw_course.proofs.GoesLaws.{unmoved_still}
 use Rattle.vw_run.specs.Runs.{without_count}
 use Rattle.vw_trace.specs.FlatTrace.{flat_trace}
-use Rattle.vw_top.proofs.StreamedTraces.{goes_unchecked, goes_streaming, stands_held}
+use Rattle.vw_top.specs.Messages.{vocabulary}
+use Rattle.vw_top.specs.Commands.{no_links}
+use Rattle.vw_top.proofs.StreamedTraces.{goes_unchecked, goes_streaming, stands_held, no_parts, without_links}
+use Rattle.vw_top.proofs.LinkTraffic.{goes_alone}
 use Rattle.vw_top.proofs.run.run_checked.Goals as goal
 
 pub run_alone-ran-requires-clause-stands : goal.run_alone-ran-requires-clause-stands
@@ -11,17 +16,22 @@ run_alone-ran-requires-clause-stands g c =
     stands_held (g.S.Shelf.seen c.args.outside.now.shelf.now) (g.S.Shelf.seen c.check_rows.new.shelf) c.args.stimulus.now judged.1 c.in_ok-rows.rows judged.0 c.in_ok-rows.ensures.starts.its_name judged.2 judged.3
 
 pub returns-in_err-rows : goal.returns-in_err-rows
-returns-in_err-rows g c =
+returns-in_err-rows g c = λ workers few.
     let p = err_from_is_err_and c.from_residual.result c.from_residual.ensures.1 in
-    let ordered = c.args.checked.ordered in
+    let checked = c.args.checked in
+    let ordered = checked.ordered in
     rw (p.1, p.2)
-    (goes_unchecked g.S.Shelf.seen g.O.Sink.seen c.args.stimulus.now ordered.flat.inputs (flat_trace c.args.unknown ordered.flat) c.args.outside.now _ (record { shelf = refl; out = refl }) refl
-    c.in_err-rows.field-0.0 c.in_err-rows.ensures.judges)
+    (goes_alone g.S.Shelf.seen g.O.Sink.seen Unmoved c.args.stimulus.now c.args.unknown ordered checked.board checked.plan workers few
+    (goes_unchecked g.S.Shelf.seen g.O.Sink.seen Unmoved c.args.stimulus.now ordered.flat.inputs (flat_trace c.args.unknown ordered.flat) no_links c.args.outside.now _ (record { shelf = refl; out = refl }) refl
+    (unmoved_still vocabulary) c.in_err-rows.field-0.0 c.in_err-rows.ensures.judges))
 
 pub returns : goal.returns
-returns g c =
-    let ordered = c.args.checked.ordered in
+returns g c = λ workers few.
+    let checked = c.args.checked in
+    let ordered = checked.ordered in
     let mid = record c.args.outside.now { shelf = record c.args.outside.now.shelf { now = c.check_rows.new.shelf } } in
     rw c.clocks_answer.ensures
-    (goes_streaming g.S.Shelf.seen g.O.Sink.seen c.args.stimulus.now ordered.flat.inputs (flat_trace c.args.unknown ordered.flat) c.args.outside.now mid (record { shelf = refl; out = refl }) refl
-    _ c.in_ok-rows.rows (without_count c.run_alone-ran.result) (record { shelf = refl; out = refl }) c.in_ok-rows.ensures.judges c.in_ok-rows.ensures.starts c.run_alone-ran.ensures.streams)
+    (goes_alone g.S.Shelf.seen g.O.Sink.seen Unmoved c.args.stimulus.now c.args.unknown ordered checked.board checked.plan workers few
+    (goes_streaming g.S.Shelf.seen g.O.Sink.seen Unmoved c.args.stimulus.now ordered.flat.inputs (flat_trace c.args.unknown ordered.flat) no_links c.args.outside.now mid (record { shelf = refl; out = refl }) refl
+    no_parts _ c.in_ok-rows.rows (without_count c.run_alone-ran.result) (record { shelf = refl; out = refl }) c.in_ok-rows.ensures.judges c.in_ok-rows.ensures.starts
+    (without_links c.run_alone-ran.ensures.streams)))

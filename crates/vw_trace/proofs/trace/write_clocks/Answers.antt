@@ -19,13 +19,14 @@ pub loop-alloc-init : goal.loop-alloc-init
 loop-alloc-init g c = record {
   done = subst (λ (count : ℕ). IsCount (g.E.Engine.done c.args.engine.now) count) (sym c.requires.fresh) c.requires.unstarted;
   netlist = refl;
-  underway = begins c.args.stimulus.now (g.E.Engine.netlist c.args.engine.now) c.args.state.now (g.S.Shelf.seen c.args.shelf.now) (g.O.Sink.seen c.args.out.now) c.requires.fresh c.requires.stands c.requires.latches;
+  underway = begins c.args.stimulus.now (g.E.Engine.netlist c.args.engine.now) c.args.state.now (λ rows. Unit {0}) (g.S.Shelf.seen c.args.shelf.now) (g.O.Sink.seen c.args.out.now)
+      c.requires.fresh c.requires.stands c.requires.latches tt;
 }
 
 pub next_batch-requires-clause-stands : goal.next_batch-requires-clause-stands
 next_batch-requires-clause-stands g c =
     let flat = g.E.Engine.netlist c.args.engine.now in
-    stands_then c.args.stimulus.now flat (c.histories_join.ensures flat) c.args.state.now (g.S.Shelf.seen c.args.shelf.now) (g.O.Sink.seen c.args.out.now)
+    stands_then c.args.stimulus.now flat (c.histories_join.ensures flat) c.args.state.now (λ rows. Unit {0}) (g.S.Shelf.seen c.args.shelf.now) (g.O.Sink.seen c.args.out.now)
     c.loop-alloc.stimulus c.loop-alloc.state (g.S.Shelf.seen c.loop-alloc.shelf) (g.O.Sink.seen c.loop-alloc.out) c.loop-alloc.invariant.underway
 
 pub returns-in_err-rows-clause-streams : goal.returns-in_err-rows-clause-streams
@@ -34,7 +35,7 @@ returns-in_err-rows-clause-streams g c =
     let p = err_from_is_err_and c.from_residual.result c.from_residual.ensures.1 in
     let e = c.in_err-rows.ensures in
     rw (p.1, p.2)
-    (unread c.args.stimulus.now flat (c.histories_join.ensures flat) c.args.state.now (g.S.Shelf.seen c.args.shelf.now) (g.O.Sink.seen c.args.out.now)
+    (unread c.args.stimulus.now flat (c.histories_join.ensures flat) c.args.state.now (λ rows. Unit {0}) (g.S.Shelf.seen c.args.shelf.now) (g.O.Sink.seen c.args.out.now)
     c.loop-alloc.stimulus c.loop-alloc.state (g.S.Shelf.seen c.loop-alloc.shelf) (g.O.Sink.seen c.loop-alloc.out) c.loop-alloc.invariant.underway
     c.in_err-rows.field-0.0 c.loop-alloc.state (g.S.Shelf.seen c.next_batch.new.shelf) (λ same. e.fault (ap (λ (fault : StimFault). Err fault) same)) (λ differs. e.kept (λ same. differs (let is = same in cc))) e.sure)
 
@@ -76,11 +77,15 @@ returns-in_err-write_batch-clause-streams g c =
     let rows = c.in_ok-rows.rows in
     let p = err_from_is_err_and c.from_residual-in_err-write_batch.result c.from_residual-in_err-write_batch.ensures.1 in
     rw (p.1, p.2)
-    (unwritten_lines c.args.stimulus.now flat (c.histories_join.ensures flat) c.args.state.now (g.S.Shelf.seen c.args.shelf.now) (g.O.Sink.seen c.args.out.now)
+    (unwritten_lines c.args.stimulus.now flat (c.histories_join.ensures flat) c.args.state.now (λ rows. Unit {0}) (g.S.Shelf.seen c.args.shelf.now) (g.O.Sink.seen c.args.out.now)
     c.loop-alloc.stimulus c.loop-alloc.state (g.S.Shelf.seen c.loop-alloc.shelf) (g.O.Sink.seen c.loop-alloc.out) c.loop-alloc.invariant.underway
-    rows (g.S.Shelf.seen c.next_batch.new.shelf) (g.O.Sink.seen c.write_batch.new.out) next.wide next.same next.are c.in_err-write_batch.field-0.0 c.write_batch.new.state
+    rows (g.S.Shelf.seen c.next_batch.new.shelf) (g.O.Sink.seen c.write_batch.new.out) next.wide next.same next.are
+    (λ first state rows. Unit {0}) (λ rows. Unit {0})
+    (λ more ran. tt)
+    c.in_err-write_batch.field-0.0 c.write_batch.new.state
     (subst (λ (text : List ℕ). WritesOut text (g.O.Sink.seen c.loop-alloc.out) (g.O.Sink.seen c.write_batch.new.out) (Err c.in_err-write_batch.field-0.0))
-    (ap₂ (λ (one : Flat) (done : ℕ). clock_lines one done c.loop-alloc.state rows) c.loop-alloc.invariant.netlist c.done-done.ensures) c.in_err-write_batch.ensures.writes))
+    (ap₂ (λ (one : Flat) (done : ℕ). clock_lines one done c.loop-alloc.state rows) c.loop-alloc.invariant.netlist c.done-done.ensures) c.in_err-write_batch.ensures.writes)
+    0 tt)
 
 pub loop-alloc-smaller : goal.loop-alloc-smaller
 loop-alloc-smaller g c =
@@ -98,11 +103,15 @@ loop-alloc-preserved g c =
     record {
       done = subst (λ (n : ℕ). IsCount (g.E.Engine.done c.write_batch.new.engine) n) count c.in_ok-write_batch.ensures.done;
       netlist = c.in_ok-write_batch.ensures.netlist ∙ same;
-      underway = further c.args.stimulus.now flat (c.histories_join.ensures flat) c.args.state.now (g.S.Shelf.seen c.args.shelf.now) (g.O.Sink.seen c.args.out.now)
+      underway = further c.args.stimulus.now flat (c.histories_join.ensures flat) c.args.state.now (λ rows. Unit {0}) (g.S.Shelf.seen c.args.shelf.now) (g.O.Sink.seen c.args.out.now)
           c.loop-alloc.stimulus c.loop-alloc.state (g.S.Shelf.seen c.loop-alloc.shelf) (g.O.Sink.seen c.loop-alloc.out) c.loop-alloc.invariant.underway
-          rows (g.S.Shelf.seen c.next_batch.new.shelf) (g.O.Sink.seen c.write_batch.new.out) next.wide next.same next.are c.next_batch.new.self c.write_batch.new.state
+          rows (g.S.Shelf.seen c.next_batch.new.shelf) (g.O.Sink.seen c.write_batch.new.out) next.wide next.same next.are
+          (λ first state rows. Unit {0}) (λ rows. Unit {0})
+          (λ more ran. tt)
+          c.next_batch.new.self c.write_batch.new.state
           c.in_ok-rows.ensures.gave c.in_ok-rows.ensures.stands (c.in_ok-write_batch.ensures.state ∙ ap (λ (one : Flat). state_after one c.loop-alloc.state rows) same)
-          (c.in_ok-write_batch.ensures.writes ∙ ap₂ (λ (one : Flat) (done : ℕ). appended (g.O.Sink.seen c.loop-alloc.out) (clock_lines one done c.loop-alloc.state rows)) same c.done-done.ensures);
+          (c.in_ok-write_batch.ensures.writes ∙ ap₂ (λ (one : Flat) (done : ℕ). appended (g.O.Sink.seen c.loop-alloc.out) (clock_lines one done c.loop-alloc.state rows)) same c.done-done.ensures)
+          tt;
     }
 
 -- as many clocks are done as there are
@@ -113,7 +122,7 @@ all_done g c =
 pub returns-clause-streams : goal.returns-clause-streams
 returns-clause-streams g c =
     let flat = g.E.Engine.netlist c.args.engine.now in
-    all_given c.args.stimulus.now flat (c.histories_join.ensures flat) c.args.state.now (g.S.Shelf.seen c.args.shelf.now) (g.O.Sink.seen c.args.out.now)
+    all_given c.args.stimulus.now flat (c.histories_join.ensures flat) c.args.state.now (λ rows. Unit {0}) (g.S.Shelf.seen c.args.shelf.now) (g.O.Sink.seen c.args.out.now)
     c.loop-alloc.stimulus c.loop-alloc.state (g.S.Shelf.seen c.loop-alloc.shelf) (g.O.Sink.seen c.loop-alloc.out) c.loop-alloc.invariant.underway
     (omega (arith, c.loop-alloc.stimulus.some_left, c.loop-alloc-test.false, c.done.ensures, c.clocks.ensures))
 

@@ -8,7 +8,7 @@ abbrev pub invariant-loop-alloc : goal.invariant-loop-alloc
 invariant-loop-alloc g l = record {
   done : IsCount (g.E.Engine.done l.engine) l.stimulus.done;
   netlist : g.E.Engine.netlist l.engine ≡ g.E.Engine.netlist l.fn.engine;
-  underway : IsUnderway l.fn.stimulus (g.E.Engine.netlist l.fn.engine) l.fn.state (g.S.Shelf.seen l.fn.shelf) (g.O.Sink.seen l.fn.out)
+  underway : IsUnderway l.fn.stimulus (g.E.Engine.netlist l.fn.engine) l.fn.state (λ rows. Unit {0}) (g.S.Shelf.seen l.fn.shelf) (g.O.Sink.seen l.fn.out)
       l.stimulus l.state (g.S.Shelf.seen l.shelf) (g.O.Sink.seen l.out);
 }
 

@@ -1,0 +1,147 @@
+-- From a planned board that is ready to run to the course of a command that runs it.
+use Rattle.std.proofs.Common.{◌≡◌, ◌⊎◌, ℕ, List, Option, Some, None, Result, Ok, Err, refl, sym, ◌∙◌, ap, ap₂, subst, inl, inr}
+use Rattle.vw_net.specs.declared.ordered.Ordered.{Ordered}
+use Rattle.vw_outside.specs.Told.{Told, IsTextOf}
+use Rattle.vw_outside.specs.Reads.{SeenShelf}
+use Rattle.vw_outside.specs.Writes.{SeenSink}
+use Rattle.vw_course.specs.declared.outside.Outside.{Outside}
+use Rattle.vw_course.specs.declared.unfinished.Unfinished.{Unfinished}
+use Rattle.vw_course.specs.Outside.{SeenOutside, Carried}
+use Rattle.vw_course.specs.Course.{Course, cut}
+use Rattle.vw_course.specs.Follows.{Answer, May, EndsHere, Follows}
+use Rattle.vw_course.specs.Goes.{seen_outside, IsSame, GoesOver, EndsPart}
+use Rattle.vw_course.proofs.GoesLaws.{IsStill}
+use Rattle.vw_course.proofs.PartLaws.{EndsIn, IsNoMemory, at_cut, stage_part, made_part, judged_part, part_ends}
+use Rattle.vw_front.specs.Designs.{IsNetlistOf}
+use Rattle.vw_board.specs.BoardText.{Spells as SpellsBoard}
+use Rattle.vw_plan.specs.declared.board.Board.{Board}
+use Rattle.vw_plan.specs.declared.checked.Checked.{Checked}
+use Rattle.vw_plan.specs.declared.plan.Plan.{Plan}
+use Rattle.vw_plan.specs.PlannedBoard.{planned_board}
+use Rattle.vw_plan.specs.Good.{IsGood}
+use Rattle.vw_plan.specs.Sound.{IsSound}
+use Rattle.vw_plantext.specs.PlanText.{Spells as SpellsPlan}
+use Rattle.vw_run.specs.Compiled.{IsCompiled}
+use Rattle.vw_top.specs.declared.vocabulary.File.{File}
+use Rattle.vw_top.specs.declared.vocabulary.Reason.{Reason}
+use Rattle.vw_top.specs.Messages.{vocabulary}
+use Rattle.vw_top.specs.Kinds.{netlist_kind, board_kind, plan_kind, soundness, planning}
+use Rattle.vw_top.specs.Commands.{Rest, given_sound_course, with_plan_course, on_board_course, ready_course}
+use Rattle.vw_top.specs.Steps.Stages.{cut_there, IsCheckedPlan, IsPlanBy, IsPlanned, IsOnBoard, IsReadyBoard}
+
+-- ---- what was made, in the words of the next function
+
+pub planned_given : (told : List ℕ → Told) (plan : List ℕ) (ordered : Ordered) (board : Board) (its : Plan) (checked : Checked) (text : List ℕ) → IsTextOf (told plan) text → SpellsPlan text its
+    → IsCheckedPlan (planned_board ordered board its) checked → IsPlanned told (Some plan) ordered board checked
+planned_given told plan ordered board its checked text of spelled is = record {
+  its_ordered = is.ordered;
+  its_board = is.board;
+  plan = (text, of, subst (SpellsPlan text) (sym is.plan) spelled, subst (λ (one : Plan). IsSound (planned_board ordered board one)) (sym is.plan) is.sound);
+}
+
+pub planned_made : (told : List ℕ → Told) (ordered : Ordered) (board : Board) (checked : Checked) → IsCompiled ordered board checked → IsPlanned told None ordered board checked
+planned_made told ordered board checked is = record { its_ordered = is.ordered_same; its_board = is.board_same; plan = is.good }
+
+-- the shelf tells what it told before
+module _ (shelf mid : SeenShelf) (same : mid ≡ shelf) where
+  pub planned_on_board : (board : List ℕ) (given : Option (List ℕ)) (ordered : Ordered) (its : Board) (checked : Checked) (text : List ℕ) → IsTextOf (shelf.told board) text → SpellsBoard text its
+      → IsPlanned mid.told given ordered its checked → IsOnBoard shelf.told board given ordered checked
+  planned_on_board board given ordered its checked text of spelled is = record {
+    its_ordered = is.its_ordered;
+    b = text;
+    board_of = of;
+    board_is = subst (SpellsBoard text) (sym is.its_board) spelled;
+    plan = subst (λ (on : Board). IsPlanBy shelf.told given ordered on checked.plan) (sym is.its_board)
+        (subst (λ (s : SeenShelf). IsPlanBy s.told given ordered its checked.plan) same is.plan);
+  }
+
+  pub board_of_design : (design board : List ℕ) (given : Option (List ℕ)) (ordered : Ordered) (checked : Checked) (text : List ℕ) → IsTextOf (shelf.told design) text → IsNetlistOf text ordered
+      → IsOnBoard mid.told board given ordered checked → IsReadyBoard shelf.told design board given checked
+  board_of_design design board given ordered checked text of netlist is = record {
+    d = text;
+    design_of = of;
+    netlist = subst (IsNetlistOf text) (sym is.its_ordered) netlist;
+    b = is.b;
+    board_of = subst (λ (s : SeenShelf). IsTextOf (s.told board) is.b) same is.board_of;
+    board_is = is.board_is;
+    plan = subst (λ (one : Ordered). IsPlanBy shelf.told given one checked.board checked.plan) (sym is.its_ordered)
+        (subst (λ (s : SeenShelf). IsPlanBy s.told given ordered checked.board checked.plan) same is.plan);
+  }
+
+-- what was made may be said in other words
+pub part_as : {A : Type 0} (part : Course vocabulary) (Made Other : A → Type 0) (before after : SeenShelf) → ((x : A) → Made x → Other x)
+    → (answer : Result A (Unfinished File Reason)) → EndsPart vocabulary part Made before after answer → EndsPart vocabulary part Other before after answer
+part_as part Made Other before after also (Ok x) (same, is) = (same, also x is)
+part_as part Made Other before after also (Err unfinished) ends = ends
+
+-- ---- the rest behind it
+
+module _ (rest : Rest) (before after : SeenOutside vocabulary.Word) where
+  abbrev Comes : Answer vocabulary → Course vocabulary → Type 0
+  Comes answer course = Follows course before after answer
+
+  module _ (answer : Answer vocabulary) where
+    with_plan : (given : Option (List ℕ)) (ordered : Ordered) (board : Board) (plan : Plan) → IsPlanBy before.shelf.told given ordered board plan
+        → Comes answer (rest ordered board plan) → Comes answer (with_plan_course given rest ordered board)
+    with_plan None ordered board plan good goes = inr (plan, good, goes)
+    with_plan (Some name) ordered board plan (text, of, spelled, sound) goes = inr (text, of, inr (plan, spelled, inr (tt, sound, goes)))
+
+    -- a planned board is ready, and the rest is followed
+    pub ready_rest : (design board : List ℕ) (given : Option (List ℕ)) (checked : Checked) → IsReadyBoard before.shelf.told design board given checked
+        → Comes answer (rest checked.ordered checked.board checked.plan) → Comes answer (ready_course design board given rest)
+    ready_rest design board given checked is goes =
+        inr (is.d, is.design_of, inr (checked.ordered, is.netlist, inr (is.b, is.board_of, inr (checked.board, is.board_is, with_plan given checked.ordered checked.board checked.plan is.plan goes))))
+
+  module _ (unfinished : Unfinished File Reason) where
+    abbrev Ends : Course vocabulary → Type 0
+    Ends = EndsIn vocabulary before after unfinished
+
+    abbrev Out : Type 0
+    Out = IsNoMemory vocabulary before after unfinished
+
+    cut_out : (course : Course vocabulary) → Ends (cut {V = vocabulary}) → Ends course ⊎ Out
+    cut_out course ends = inr (at_cut vocabulary before after unfinished ends)
+
+    plan_part : (given : Option (List ℕ)) (ordered : Ordered) (board : Board) → Ends (with_plan_course given cut_there ordered board) → Ends (with_plan_course given rest ordered board) ⊎ Out
+    plan_part None ordered board ends = made_part vocabulary before after unfinished (planning ordered board) (cut_there ordered board) (rest ordered board) (λ plan. cut_out (rest ordered board plan)) ends
+    plan_part (Some name) ordered board ends = stage_part vocabulary before after unfinished plan_kind name (given_sound_course cut_there ordered board) (given_sound_course rest ordered board)
+        (λ plan. judged_part vocabulary before after unfinished (soundness (planned_board ordered board plan)) (λ done. cut_there ordered board plan) (λ done. rest ordered board plan) (λ done. cut_out (rest ordered board plan))) ends
+
+    -- the call ended before it
+    pub ready_ends : (design board : List ℕ) (given : Option (List ℕ)) → Ends (ready_course design board given cut_there) → Ends (ready_course design board given rest)
+    ready_ends design board given ends = part_ends vocabulary before after unfinished netlist_kind design (on_board_course board given rest)
+        (stage_part vocabulary before after unfinished netlist_kind design (on_board_course board given cut_there) (on_board_course board given rest)
+        (λ ordered. stage_part vocabulary before after unfinished board_kind board (with_plan_course given cut_there ordered) (with_plan_course given rest ordered) (plan_part given ordered)) ends)
+
+-- ---- over the shelf and out
+
+module _ {S O : Type 0} (seen_shelf : S → SeenShelf) (seen_out : O → SeenSink) (Moved : Carried vocabulary.Word → Carried vocabulary.Word → Type 0)
+    (rest : Rest) (design board : List ℕ) (given : Option (List ℕ)) (before mid : Outside S O) (same : IsSame seen_shelf seen_out before mid) (out : mid.out.now ≡ before.out.now) where
+  abbrev Part : Result Checked (Unfinished File Reason) → Type 0
+  Part answer = EndsPart vocabulary (ready_course design board given cut_there) (IsReadyBoard (seen_shelf before.shelf.now).told design board given) (seen_shelf before.shelf.now) (seen_shelf mid.shelf.now) answer
+
+  pub goes_unready : IsStill vocabulary Moved → (unfinished : Unfinished File Reason) → Part (Err unfinished)
+      → GoesOver seen_shelf seen_out vocabulary Moved (ready_course design board given rest) before mid (Err unfinished)
+  goes_unready still unfinished ends = record {
+    same = same;
+    leads = record {
+      follows = λ links after moved.
+          subst (λ (l : Carried vocabulary.Word). Follows (ready_course design board given rest) (seen_outside (seen_shelf before.shelf.now) (seen_out before.out.now) links) (seen_outside (seen_shelf mid.shelf.now) (seen_out mid.out.now) l) (Err unfinished)) (sym (still links after moved))
+          (subst (λ (o : O). Follows (ready_course design board given rest) (seen_outside (seen_shelf before.shelf.now) (seen_out before.out.now) links) (seen_outside (seen_shelf mid.shelf.now) (seen_out o) links) (Err unfinished)) (sym out)
+          (ready_ends rest (seen_outside (seen_shelf before.shelf.now) (seen_out before.out.now) links) (seen_outside (seen_shelf mid.shelf.now) (seen_out before.out.now) links) unfinished design board given (ends (seen_out before.out.now) links)));
+    };
+  }
+
+  pub goes_ready : (checked : Checked) (after : Outside S O) (answer : Answer vocabulary) → Part (Ok checked)
+      → GoesOver seen_shelf seen_out vocabulary Moved (rest checked.ordered checked.board checked.plan) mid after answer
+      → GoesOver seen_shelf seen_out vocabulary Moved (ready_course design board given rest) before after answer
+  goes_ready checked after answer (still, is) goes = record {
+    same = record { shelf = goes.same.shelf ∙ same.shelf; out = goes.same.out ∙ same.out };
+    leads = record {
+      follows = λ links links_after moved.
+          ready_rest rest (seen_outside (seen_shelf before.shelf.now) (seen_out before.out.now) links) (seen_outside (seen_shelf after.shelf.now) (seen_out after.out.now) links_after) answer design board given checked is
+          (subst (λ (s : SeenShelf). Follows (rest checked.ordered checked.board checked.plan) (seen_outside s (seen_out before.out.now) links) (seen_outside (seen_shelf after.shelf.now) (seen_out after.out.now) links_after) answer) still
+          (subst (λ (o : O). Follows (rest checked.ordered checked.board checked.plan) (seen_outside (seen_shelf mid.shelf.now) (seen_out o) links) (seen_outside (seen_shelf after.shelf.now) (seen_out after.out.now) links_after) answer) out
+          (goes.leads.follows links links_after moved)));
+    };
+  }

@@ -1,0 +1,30 @@
+-- What the tables of `run` say of the words that links carry.
+use Rattle.std.specs.Prelude.{◌≡◌, ℕ, Bool, List}
+use Rattle.vw_net.specs.declared.ordered.Ordered.{Ordered}
+use Rattle.vw_design.specs.declared.design.Design.{Design}
+use Rattle.vw_course.specs.Outside.{carried}
+use Rattle.vw_plan.specs.declared.board.Board.{Board}
+use Rattle.vw_plan.specs.declared.plan.Plan.{Plan}
+use Rattle.vw_plan.specs.PlannedBoard.{planned_board}
+use Rattle.vw_top.specs.Messages.{Call}
+use Rattle.vw_top.specs.Commands.{Scripts, board_scripts}
+use Rattle.vw_top.specs.TracedStatuses.{AreSpelled}
+
+-- links are used as some planned board of this kind uses them
+pub record UsesBoard (workers : ℕ) (unknown : Bool) (Is : Ordered → Board → Plan → Type 0) (scripts : Scripts) : Type 0 where
+  pub ordered : Ordered
+  pub board : Board
+  pub plan : Plan
+  pub is : Is ordered board plan
+  pub are : scripts ≡ board_scripts workers unknown (planned_board ordered board plan)
+
+-- each link has carried, behind what it had before, exactly its words of such a planned board, over all rows of the stimulus
+pub record CarriesAll (workers : ℕ) (unknown : Bool) (d s : List ℕ) (Is : Ordered → Board → Plan → Type 0) (call : Call) : Type 0 where
+  pub spelled : Design
+  pub rows : List (List Bool)
+  pub are : AreSpelled d s spelled rows
+  pub ordered : Ordered
+  pub board : Board
+  pub plan : Plan
+  pub is : Is ordered board plan
+  pub links : call.after.links ≡ carried (board_scripts workers unknown (planned_board ordered board plan) rows) call.before.links
