@@ -3,14 +3,18 @@
 
     bench/threads.py PROGRAM RUNS [SEED]
 
-PROGRAM is a built vwires. Designs, boards and stimuli are made by chance from SEED. A run that takes longer than a minute counts as
-one that hangs. It ends with 1 where a run differs or hangs. Let something else keep the processors busy beside it.
+PROGRAM is a built vwires. Designs, boards and stimuli are made by chance from SEED. A run that takes longer than a minute is stopped
+and counts as one that hangs. The texts of each run that differs or hangs are kept in a folder whose name is printed. At the end it
+prints how much longer the runs took than those of one worker, all in all and at the most, and ends with 1 where a run differs or
+hangs. Let something else keep the processors busy beside it.
 """
 import os
 import random
+import shutil
 import subprocess
 import sys
 import tempfile
+import time
 
 
 def design(chance, cells, inputs):
@@ -64,38 +68,61 @@ def rows(chance, inputs):
 
 
 def call(program, words, folder):
-    return subprocess.run([program, *words], cwd=folder, capture_output=True, timeout=60)
+    """What a call answers, and how many seconds it took. A call that is too long is killed."""
+    begun = time.monotonic()
+    ended = subprocess.run([program, *words], cwd=folder, capture_output=True, timeout=60)
+    return ended, time.monotonic() - begun
+
+
+def write(folder, name, text):
+    with open(os.path.join(folder, name), "wb") as file:
+        file.write(text)
+
+
+def make_texts(chance, folder):
+    cells, inputs = chance.choice([3, 20, 100, 400]), chance.choice([1, 4, 12])
+    write(folder, "d", design(chance, cells, inputs).encode())
+    write(folder, "b", board(chance, cells).encode())
+    write(folder, "s", rows(chance, inputs).encode())
+
+
+def fault_of(program, words, folder, alone):
+    """What is wrong with a run, or an empty text, and its seconds."""
+    try:
+        ran, seconds = call(program, words, folder)
+    except subprocess.TimeoutExpired:
+        return "hangs", 60.0
+    if ran.returncode:
+        return f"ends with {ran.returncode}: {ran.stderr.decode()}", seconds
+    return "" if ran.stdout == alone.stdout else "differs", seconds
 
 
 def main():
     program, runs = os.path.abspath(sys.argv[1]), int(sys.argv[2])
     chance = random.Random(int(sys.argv[3]) if len(sys.argv) > 3 else 1)
     done = bad = 0
+    times, times_alone, longest = 0.0, 0.0, (0.0, "")
     with tempfile.TemporaryDirectory() as folder:
         while done < runs:
-            cells, inputs = chance.choice([3, 20, 100, 400]), chance.choice([1, 4, 12])
-            for name, text in (("d", design(chance, cells, inputs)), ("b", board(chance, cells)), ("s", rows(chance, inputs))):
-                with open(os.path.join(folder, name), "w") as file:
-                    file.write(text)
-            plan = call(program, ["plan", "d", "b"], folder)
-            alone = call(program, ["run", "d", "b", "s", "workers=1"], folder)
+            make_texts(chance, folder)
+            plan, _ = call(program, ["plan", "d", "b"], folder)
+            alone, seconds_alone = call(program, ["run", "d", "b", "s", "workers=1"], folder)
             if plan.returncode or alone.returncode:
                 sys.exit(f"not accepted: {plan.stderr} {alone.stderr}")
-            with open(os.path.join(folder, "p"), "wb") as file:
-                file.write(plan.stdout)
+            write(folder, "p", plan.stdout)
             for workers in [2, 3, 4, 64, chance.randint(2, 64)]:
                 for given in [[], ["plan=p"]]:
                     words = ["run", "d", "b", "s", f"workers={workers}", *given]
-                    try:
-                        ran = call(program, words, folder)
-                        same = ran.returncode == 0 and ran.stdout == alone.stdout
-                    except subprocess.TimeoutExpired:
-                        same = False
+                    fault, seconds = fault_of(program, words, folder, alone)
                     done += 1
-                    if not same:
+                    times, times_alone = times + seconds, times_alone + seconds_alone
+                    longest = max(longest, (seconds / seconds_alone, " ".join(words)))
+                    if fault:
                         bad += 1
-                        print("differs or hangs:", *words)
-    print(f"{done} runs, {bad} of them differ or hang")
+                        kept = shutil.copytree(folder, tempfile.mkdtemp(prefix="vwires-threads-"), dirs_exist_ok=True)
+                        print(f"{fault}: {' '.join(words)} in {kept}", flush=True)
+    print(f"{done} runs, {bad} of them differ, fail or hang")
+    print(f"{times:.1f} s, {times / times_alone:.1f} times as long as with one worker; at the most {longest[0]:.1f} times ({longest[1]})")
     sys.exit(1 if bad else 0)
 
 

@@ -1,7 +1,9 @@
 -- Groups after a round, of each of which it is known what it did.
-use Rattle.std.proofs.Common.{◌≡◌, ◌<◌, ◌∷◌, ℕ, suc, List, [], length, map, get_or, ap₂, refl, subst, arith}
+use Rattle.std.proofs.Common.{◌≡◌, ◌<◌, ◌∷◌, ℕ, suc, List, [], length, map, get_or, set, ap₂, refl, sym, subst, ⊎_elim, arith}
+use Rattle.std.proofs.Math.Seq.{map-set_same}
 use Rattle.std.proofs.lemmas.Option.{get_or_from_slice_get, slice_get_within}
 use Rattle.vw_crew.specs.Groups.{AllAtWork, AllStay, AreAtWork, SeenGroup, Stays, marks_of, share_of}
+use Rattle.vw_crew.proofs.Members.{got_set}
 
 map_each : {X : Type 0} (part : SeenGroup → X) (old new : List SeenGroup) → length new ≡ length old → ((number : ℕ) (default : SeenGroup) → number < length old → part (get_or new number default) ≡ part (get_or old number default)) → map part new ≡ map part old
 map_each part [] [] long each = refl
@@ -19,4 +21,15 @@ module _ (old new : List SeenGroup) (long : length new ≡ length old) (each : (
   round_stays = record {
     shares = map_each (λ (group : SeenGroup). map share_of group.nodes) old new long (λ number default below. (each number default below).1.shares);
     marks = map_each (λ (group : SeenGroup). map marks_of group.ends) old new long (λ number default below. (each number default below).1.marks);
+  }
+
+-- one group has gone on
+module _ (groups : List SeenGroup) (number : ℕ) (new : SeenGroup) where
+  pub turned_works : AllAtWork groups → AreAtWork new → AllAtWork (set groups number new)
+  turned_works work gone other group is = ⊎_elim (λ here. subst AreAtWork (sym here.1) gone) (λ old. work other group old) (got_set groups number new other group is)
+
+  pub turned_stay : (default : SeenGroup) → Stays (get_or groups number default) new → AllStay groups (set groups number new)
+  turned_stay default stays = record {
+    shares = map-set_same (λ (group : SeenGroup). map share_of group.nodes) groups number new default stays.shares;
+    marks = map-set_same (λ (group : SeenGroup). map marks_of group.ends) groups number new default stays.marks;
   }

@@ -7,6 +7,7 @@ ghost use Rattle.vw_prog.specs.Scripts.{planned_of, script};
 use crate::group::Group;
 use crate::groups::{first_groups, into_host, node};
 use crate::laying::{lay_all, lift_all};
+use crate::pace::Pace;
 use crate::rounds::finish;
 use std::alloc::{AllocError, Global};
 use std::marker::{Model, Sync};
@@ -86,14 +87,20 @@ impl<'a, F: Fabric> Crew<'a, F> {
     }
 
     /// Brings all nodes to the end, by rounds in which all groups work at the same time, each in a thread of its own where one
-    /// can be started. It may wait for ever. It takes no memory.
-    pub fn finish<R: Threads + Wait + Sync, G: BurstGate>(&mut self, rt: &R, gate: &G)
+    /// can be started. Where the pace of the run says that rounds aren't worth their threads, the calling thread makes the
+    /// actions of all nodes between two rounds. It may wait for ever. It takes no memory.
+    pub fn finish<R: Threads + Wait + Sync, G: BurstGate>(
+        &mut self,
+        rt: &R,
+        gate: &G,
+        pace: &mut Pace,
+    )
         ensures job { self.new.job ≡ self.old.job }
         ensures keeps { self.new.keeps ≡ self.old.keeps }
         ensures done { self.new.done ≡ true }
     {
         let clocks = self.job.share(0).clocks;
-        finish(rt, gate, &mut self.groups, clocks);
+        finish(rt, gate, pace, &mut self.groups, clocks);
         self.done = true;
     }
 

@@ -1,5 +1,5 @@
 ghost use Rattle.std.specs.Prelude.{◌≡◌, ◌≤◌, ◌<◌, ℕ, length, slice_get, slice_set, Some, None, IfOk};
-ghost use Rattle.std.specs.Bool.{OnTrue};
+ghost use Rattle.std.specs.Bool.{OnFalse, OnTrue};
 ghost use Rattle.vw_prog.specs.Actions.{ArePrograms};
 ghost use Rattle.vw_prog.specs.Scripts.{planned_of};
 ghost use Rattle.vw_node.specs.declared.node.Node.{Node};
@@ -7,10 +7,9 @@ ghost use Rattle.vw_crew.specs.Ends.{FitsPut, FitsTake, GivesPut, GivesTake, Has
 ghost use Rattle.vw_crew.specs.Groups.{AreAtWork, IsFirstGroup, Stays};
 
 use crate::ends::NodeEnds;
-use crate::patience::Patience;
+use crate::patience::{Patience, Round};
 use std::alloc::{AllocError, Global};
 use std::marker::Model;
-use std::sync::atomic::{AtomicBool, Ordering};
 use vw_node::Node;
 use vw_prog::{Job, Programs, PutEnd, TakeEnd};
 
@@ -26,9 +25,10 @@ pub struct Group<'a, T: PutEnd, U: TakeEnd> {
     ends: Vec<NodeEnds<T, U>>,
 }
 
-/// Whether a node stands elsewhere than after so many clocks and actions.
-fn has_moved(node: &Node<'_>, clock: u64, made: u64) -> bool {
-    node.clock != clock || node.made != made
+/// How many actions a node has made from the start, up to a multiple of 2^64.
+fn position(node: &Node<'_>) -> u64 {
+    let whole = node.clock.wrapping_mul(node.code.ops.len() as u64);
+    whole.wrapping_add(node.made)
 }
 
 impl<'a, T: PutEnd, U: TakeEnd> Model for Group<'a, T, U> {
@@ -96,8 +96,10 @@ impl<'a, T: PutEnd, U: TakeEnd> Group<'a, T, U> {
 
     /// Whether the nodes have finished so many clocks.
     pub fn is_done(&self, clocks: u64) -> bool
-        ensures { OnTrue result ((place : ℕ) (node : Node)
+        ensures done { OnTrue result ((place : ℕ) (node : Node)
             → slice_get self.now.nodes place ≡ Some node → node.clock ≡ clocks) }
+        ensures rest { OnFalse result ((place : ℕ) × ((node : Node)
+            × ((slice_get self.now.nodes place ≡ Some node) × (node.clock ≡ clocks → ⊥)))) }
     {
         for node in &self.nodes {
             if node.clock != clocks {
@@ -165,57 +167,60 @@ impl<'a, T: PutEnd, U: TakeEnd> Group<'a, T, U> {
         self.ends[place].lift_take(link)
     }
 
-    /// The node at a place goes on until it is refused or done. Says whether it made an action.
-    fn go(&mut self, place: usize) -> bool
+    /// The node at a place goes on until it is refused or done. Says how many actions it made.
+    fn go(&mut self, place: usize) -> u64
         requires work { AreAtWork self.old }
         requires place { place < length self.old.nodes }
         ensures work { AreAtWork self.new }
         ensures stays { Stays self.old self.new }
     {
         let node = &mut self.nodes[place];
-        let clock = node.clock;
-        let made = node.made;
+        let before = position(node);
         let _ = node.go(&mut self.ends[place]);
-        has_moved(node, clock, made)
+        position(node).wrapping_sub(before)
     }
 
-    /// Each node goes on, one after the other. Says whether one of them made an action.
-    fn turn(&mut self) -> bool
+    /// Each node goes on until it is refused or done, one after the other. Says how many actions they made. It takes no memory.
+    pub fn turn(&mut self) -> u64
         requires { AreAtWork self.old }
         ensures work { AreAtWork self.new }
         ensures stays { Stays self.old self.new }
     {
-        let mut moved = false;
+        let mut made = 0u64;
         for place in 0..self.nodes.len() {
-            moved |= self.go(place);
+            made = made.wrapping_add(self.go(place));
         }
-        moved
+        made
     }
 
-    /// Turns until each of its nodes is done or was refused so often.
-    fn turns(&mut self, clocks: u64, ended: &AtomicBool)
+    /// Turns until each of its nodes is done or was refused so often. Says how many actions they made.
+    fn turns(&mut self, clocks: u64, round: &Round) -> u64
         requires { AreAtWork self.old }
         ensures work { AreAtWork self.new }
         ensures stays { Stays self.old self.new }
     {
         let mut patience = Patience::new();
+        let mut made = 0u64;
         for _ in 0..REFUSALS {
-            patience.wait(ended);
-            patience.count(self.turn());
+            patience.wait(round);
+            let now = self.turn();
+            patience.count(now > 0);
+            made = made.wrapping_add(now);
             if self.is_done(clocks) {
-                return;
+                break;
             }
         }
+        made
     }
 
     /// Goes round its nodes until each of them is done or was refused so often, and waits in between as long as no other group
     /// has ended its burst. It takes no memory.
-    pub fn burst(&mut self, clocks: u64, ended: &AtomicBool)
+    pub fn burst(&mut self, clocks: u64, round: &Round)
         requires { AreAtWork self.old }
         ensures work { AreAtWork self.new }
         ensures stays { Stays self.old self.new }
     {
-        self.turns(clocks, ended);
-        ended.store(true, Ordering::SeqCst);
+        let made = self.turns(clocks, round);
+        round.end(made);
     }
 }

@@ -1,11 +1,11 @@
 //! All groups of a crew, and the node with a number in them.
 ghost use Rattle.std.specs.Prelude.{◌≡◌, ◌<◌, ◌≤◌, ℕ, length, slice_get, slice_set, Some, None, IfOk};
-ghost use Rattle.std.specs.Bool.{OnTrue};
+ghost use Rattle.std.specs.Bool.{OnFalse, OnTrue};
 ghost use Rattle.vw_prog.specs.Actions.{ArePrograms};
 ghost use Rattle.vw_prog.specs.Scripts.{planned_of};
 ghost use Rattle.vw_node.specs.declared.node.Node.{Node};
 ghost use Rattle.vw_crew.specs.Ends.{FitsPut, FitsTake, GivesPut, GivesTake, HasPut, HasTake, SeenOwn};
-ghost use Rattle.vw_crew.specs.Groups.{Changes, IsFirstGroup, SeenGroup, node_at, own_at};
+ghost use Rattle.vw_crew.specs.Groups.{AllAtWork, AllStay, Changes, IsFirstGroup, SeenGroup, node_at, own_at};
 
 use crate::group::Group;
 use std::alloc::{AllocError, Global};
@@ -88,6 +88,17 @@ pub fn lift_take<T: PutEnd, U: TakeEnd>(groups: &mut [Group<'_, T, U>], node: u3
     groups[node as usize % count].lift_take(node as usize / count, link)
 }
 
+/// Each node of the group with a number goes on until it is refused or done, one after the other. Says how many actions they
+/// made. It takes no memory.
+pub fn turn<T: PutEnd, U: TakeEnd>(groups: &mut [Group<'_, T, U>], number: usize) -> u64
+    requires work { AllAtWork groups.old }
+    requires number { number < length groups.old }
+    ensures work { AllAtWork groups.new }
+    ensures stay { AllStay groups.old groups.new }
+{
+    groups[number].turn()
+}
+
 /// The node with a number.
 pub fn node<'s, 'a, T: PutEnd, U: TakeEnd>(groups: &'s [Group<'a, T, U>], node: u32) -> &'s Node<'a>
     requires { (there : Node) × (node_at groups.now node ≡ Some there) }
@@ -107,9 +118,12 @@ pub fn into_host<'a, T: PutEnd, U: TakeEnd>(mut groups: Vec<Group<'a, T, U>>) ->
 
 /// Whether all nodes have finished so many clocks.
 pub fn are_done<T: PutEnd, U: TakeEnd>(groups: &[Group<'_, T, U>], clocks: u64) -> bool
-    ensures { OnTrue result ((number place : ℕ) (group : SeenGroup) (node : Node)
+    ensures done { OnTrue result ((number place : ℕ) (group : SeenGroup) (node : Node)
         → slice_get groups.now number ≡ Some group → slice_get group.nodes place ≡ Some node
         → node.clock ≡ clocks) }
+    ensures rest { OnFalse result ((number : ℕ) × ((group : SeenGroup) × ((place : ℕ) × ((node : Node)
+        × ((slice_get groups.now number ≡ Some group) × ((slice_get group.nodes place ≡ Some node)
+        × (node.clock ≡ clocks → ⊥))))))) }
 {
     for group in groups {
         if !group.is_done(clocks) {

@@ -6,7 +6,9 @@ mod ends;
 mod group;
 mod groups;
 mod laying;
+mod pace;
 mod patience;
 mod rounds;
 
 pub use crew::Crew;
+pub use pace::Pace;

@@ -11,7 +11,7 @@ use std::alloc::{AllocError, Global};
 use std::marker::Sync;
 use std::sync::Wait;
 use std::thread::Threads;
-use vw_crew::Crew;
+use vw_crew::{Crew, Pace};
 use vw_net::{Bits, Flat, Rows};
 use vw_outside::BurstGate;
 use vw_prog::{Answer, Fabric};
@@ -25,6 +25,7 @@ pub struct CrewedBoard<'b, 'r, 'f, 'g, R, F, G> {
     pub fabric: &'f mut F,
     pub gate: &'g G,
     pub workers: u32,
+    pub pace: Pace,
     ghost some: { 1 ≤ workers },
     ghost few: { workers ≤ 64 },
 }
@@ -60,7 +61,7 @@ impl<R: Threads + Wait + Sync, F: Fabric, G: BurstGate> CrewedBoard<'_, '_, '_, 
             self.fabric,
             self.workers,
         )?;
-        crew.finish(self.rt, self.gate);
+        crew.finish(self.rt, self.gate, &mut self.pace);
         Ok(crew.close(self.fabric))
     }
 

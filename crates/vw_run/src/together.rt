@@ -25,6 +25,7 @@ use std::alloc::Global;
 use std::marker::Sync;
 use std::sync::Wait;
 use std::thread::Threads;
+use vw_crew::Pace;
 use vw_net::{Bits, Rows, histories_join};
 use vw_outside::{BurstGate, Shelf, Sink, Unwritten, put_text};
 use vw_plan::Checked;
@@ -180,6 +181,7 @@ fn run_board<R: Threads + Wait + Sync, S: Shelf, F: Fabric, G: BurstGate, O: Sin
         fabric,
         gate,
         workers,
+        pace: Pace::new(),
     };
     write_trace(alloc, &mut crewed, unknown, stimulus, shelf, out)
 }

@@ -19,7 +19,15 @@ loop-node-preserved g c = λ place node is below.
     ⊎_elim if_before if_last (cases_lt place c.loop-node.node-index)
 
 -- src/group.rt
-pub returns : goal.returns
-returns g c = λ place node is.
+pub returns-then-node-clocks-clause-rest : goal.returns-then-node-clocks-clause-rest
+returns-then-node-clocks-clause-rest g c =
+    let nodes = c.deref-node-items.result.now in
+    let here : slice_get nodes c.loop-node.node-index ≡ Some c.node-item.result = slice_get-get_or nodes c.loop-node.node-index c.node-item.result c.loop-node-test.true ∙ ap Some (sym c.node-item.is) in
+    let there : slice_get c.args.self.now.nodes c.loop-node.node-index ≡ Some c.node-item.result = sym (ap (λ (list : List Node). slice_get list c.loop-node.node-index) c.deref-node-items.ensures.value ∙ ap (λ (group : SeenGroup). slice_get group.nodes c.loop-node.node-index) c.self.view_is) ∙ here in
+    (c.loop-node.node-index, (c.node-item.result, (there, c.if-node-clocks.true)))
+
+-- src/group.rt
+pub returns-clause-done : goal.returns-clause-done
+returns-clause-done g c = λ place node is.
     let there : slice_get c.deref-node-items.result.now place ≡ Some node = ap (λ (list : List Node). slice_get list place) c.deref-node-items.ensures.value ∙ ap (λ (group : SeenGroup). slice_get group.nodes place) c.self.view_is ∙ is in
     c.loop-node.invariant place node there (omega (arith, slice_get_within c.deref-node-items.result.now place node there, c.loop-node-test.false))

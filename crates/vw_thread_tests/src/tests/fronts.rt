@@ -1,0 +1,78 @@
+//! What is left where a read, a write or want of memory stops several workers.
+use super::*;
+
+/// Asserts that what a call wrote is a front of the toggle's trace, and what each link has carried is a front of its words.
+fn are_fronts<R: Abort>(
+    rt: &R,
+    alloc: Global,
+    ended: &Ended,
+    links: &Links<R>,
+) -> Result<(), AllocError> {
+    assert!(rt; TOGGLE_TRACE.as_bytes().starts_with(ended.out.bytes()));
+    for (link, words) in TOGGLE_WORDS.iter().enumerate() {
+        let found = carried(alloc, links, link as u32)?;
+        assert!(rt; words.as_bytes().starts_with(found.as_bytes()));
+    }
+    Ok(())
+}
+
+/// The status of a run of the toggle with three workers, of which the read and the write with these numbers fail.
+fn status_of<R: Threads + Wait + Abort + Copy + Send + Sync>(
+    rt: &R,
+    alloc: Global,
+    read: u64,
+    write: u64,
+) -> Result<u8, AllocError> {
+    let call = Call {
+        words: &["run", "d", "b", "s", "plan=p", "workers=3"],
+        texts: &TOGGLE_TEXTS,
+        most: 10,
+        read,
+        write,
+    };
+    let mut links = Links::new(*rt, true);
+    let ended = ended(rt, alloc, &call, &OpenGate::new(), &mut links)?;
+    are_fronts(rt, alloc, &ended, &links)?;
+    Ok(ended.status)
+}
+
+/// Asserts that the first so many reads or writes end a run with this status where they fail, and that there are no more.
+fn each_stops<R: Threads + Wait + Abort + Copy + Send + Sync>(
+    rt: &R,
+    alloc: Global,
+    count: u64,
+    faults: (u64, u64),
+    status: u8,
+) -> Result<(), AllocError> {
+    let (read, write) = faults;
+    for number in 1..count + 2 {
+        let found = status_of(rt, alloc, number * read, number * write)?;
+        let wanted = if number <= count { status } else { 0 };
+        are_found(rt, &[found], &[wanted], "fault");
+    }
+    Ok(())
+}
+
+/// A read gives at most ten bytes: the design of 78 bytes has 8 reads and one that finds its end, the board of 106 bytes has 12, and
+/// the plan of 119 bytes has 13. Of the four of the stimulus the first asks for a byte past the limit, two check the text, and
+/// one reads its rows again.
+#[test]
+fn each_read_may_fail(rt: HostRuntime) -> Result<(), Fail> {
+    each_stops(&rt, rt.alloc(), 38, (1, 0), 7)?;
+    Ok(())
+}
+
+/// The first line has two writes of at most ten bytes, the lines of the three clocks have two, and the last line has one.
+#[test]
+fn each_write_may_fail(rt: HostRuntime) -> Result<(), Fail> {
+    each_stops(&rt, rt.alloc(), 5, (0, 1), 8)?;
+    Ok(())
+}
+
+/// Where memory is wanting, a call with three workers ends with 9, and leaves fronts. With memory enough it ends with 0.
+#[test]
+fn memory_may_be_wanting(rt: HostRuntime) -> Result<(), Fail> {
+    let status = status_of(&rt, rt.alloc(), 0, 0)?;
+    assert!(rt; status == 0 || status == 9);
+    Ok(())
+}

@@ -1,0 +1,51 @@
+//! That groups work at the same time.
+use super::*;
+use std::hint::spin_loop;
+use std::sync::atomic::{AtomicBool, AtomicU64, Ordering};
+
+/// A gate that holds the group that comes first until another one has come, or for ten million turns.
+#[derive(Drop)]
+struct HoldsFirst {
+    /// A bit for each group that has come.
+    come: AtomicU64,
+    /// Whether nobody came in time.
+    given_up: AtomicBool,
+}
+
+impl BurstGate for HoldsFirst {
+    fn enter(&self, worker: u32) {
+        let group = 1u64 << (worker % 64);
+        if self.come.fetch_or(group, Ordering::SeqCst) != 0 {
+            return;
+        }
+        for _ in 0..10_000_000u32 {
+            if self.come.load(Ordering::SeqCst) != group {
+                return;
+            }
+            spin_loop();
+        }
+        self.given_up.store(true, Ordering::SeqCst);
+    }
+}
+
+/// Groups that run one after the other would never let the first one through.
+#[test]
+fn groups_work_at_the_same_time(rt: HostRuntime) -> Result<(), Fail> {
+    let call = Call {
+        words: &["run", "d", "b", "s", "plan=p", "workers=2"],
+        texts: &TOGGLE_TEXTS,
+        most: 4096,
+        read: 0,
+        write: 0,
+    };
+    let gate = HoldsFirst {
+        come: AtomicU64::new(0),
+        given_up: AtomicBool::new(false),
+    };
+    let mut links = Links::new(rt, true);
+    let ended = ended(&rt, rt.alloc(), &call, &gate, &mut links)?;
+    has_ended(&rt, &ended, (0, TOGGLE_TRACE, ""), "gate");
+    assert!(rt; !gate.given_up.load(Ordering::SeqCst));
+    assert_eq!(rt; gate.come.load(Ordering::SeqCst), 3);
+    Ok(())
+}
