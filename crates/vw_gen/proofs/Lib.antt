@@ -1,0 +1,4 @@
+pub mod WrittenRanges
+pub mod StatesAfter
+pub mod WrittenCells
+pub mod WrittenTexts

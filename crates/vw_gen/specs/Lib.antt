@@ -1,0 +1,5 @@
+pub mod Draws
+pub mod Nets
+pub mod Design
+pub mod Board
+pub mod Stimulus

@@ -1,0 +1,29 @@
+//! Numbers and names of nets, as they stand in texts.
+ghost use Rattle.std.specs.Prelude.{◌≡◌, ◌++◌, OnOk};
+ghost use Rattle.std.specs.Fmt.{decimal};
+ghost use Rattle.vw_gen.specs.Nets.{net_name};
+
+use itoa::Buffer;
+use std::alloc::AllocError;
+
+/// Appends a number.
+pub(crate) fn push_number(text: &mut Vec<u8>, number: u32) -> Result<(), AllocError>
+    ensures { OnOk result (text.new.items ≡ text.old.items ++ decimal number) }
+{
+    let mut buffer = Buffer::new();
+    text.extend_from_slice(buffer.format(number).as_bytes())?;
+    Ok(())
+}
+
+/// Appends the name of a net.
+pub(crate) fn push_net(text: &mut Vec<u8>, net: u32) -> Result<(), AllocError>
+    ensures { OnOk result (text.new.items ≡ text.old.items ++ net_name net) }
+{
+    if net < 8 {
+        text.push(b'i')?;
+        push_number(text, net)
+    } else {
+        text.push(b'c')?;
+        push_number(text, net - 8)
+    }
+}
