@@ -8,6 +8,7 @@ use vw_top::alone;
 
 mod checks;
 mod claims;
+mod demos;
 mod designs;
 mod equal;
 mod example;

@@ -8,3 +8,4 @@ pub mod BarredLaws
 pub mod GoesLaws
 pub mod CarriedOut
 pub mod PartLaws
+pub mod OnTexts

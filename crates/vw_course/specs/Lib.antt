@@ -7,3 +7,4 @@ pub mod Places
 pub mod Statuses
 pub mod Stages
 pub mod Goes
+pub mod OnTexts

@@ -13,3 +13,5 @@ pub mod RunLaws
 pub mod RunGivenLaws
 pub mod UsageLaws
 pub mod HeadlineLaw
+pub mod DemoRuns
+pub mod DemoLaws

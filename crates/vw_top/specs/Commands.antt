@@ -1,5 +1,5 @@
 -- The course of each command.
-use Rattle.std.specs.Prelude.{◌≡◌, ◌++◌, ℕ, Bool, List, [], ◌∷◌, length, codes, Option, Some, None}
+use Rattle.std.specs.Prelude.{◌≡◌, ◌++◌, ℕ, Bool, false, List, [], ◌∷◌, length, codes, Option, Some, None}
 use Rattle.std.specs.List.{All}
 use Rattle.std.specs.Fmt.{decimal}
 use Rattle.vw_net.specs.declared.ordered.Ordered.{Ordered}
@@ -9,6 +9,7 @@ use Rattle.vw_design.specs.NetReads.{root_outputs}
 use Rattle.vw_design.specs.Clocks.{columns}
 use Rattle.vw_design.specs.PathHistory.{path_history}
 use Rattle.vw_course.specs.Course.{again, Course, works, refuses, writes, judges, made, stage}
+use Rattle.vw_course.specs.OnTexts.{on_texts}
 use Rattle.vw_plan.specs.declared.board.Board.{Board}
 use Rattle.vw_plan.specs.declared.plan.Plan.{Plan}
 use Rattle.vw_plan.specs.PlannedBoard.{PlannedBoard, planned_board}
@@ -23,6 +24,7 @@ use Rattle.vw_top.specs.declared.vocabulary.File.TheVariants as files
 use Rattle.vw_top.specs.declared.vocabulary.Reason.TheVariants.{Usage}
 use Rattle.vw_top.specs.Words.{Spelled}
 use Rattle.vw_top.specs.Words as words
+use Rattle.vw_top.specs.Demo.{board_name, design_name, generated, stimulus_name, summary}
 use Rattle.vw_top.specs.Messages.{vocabulary, CallWork}
 use Rattle.vw_top.specs.Kinds.{design_kind, netlist_kind, rows_kind, IsBadAgain, board_kind, plan_kind, soundness, planning}
 
@@ -153,6 +155,16 @@ abbrev pub run_course : List ℕ → List ℕ → Option (List ℕ) → List ℕ
 run_course design board given stimulus workers unknown =
     ready_course design board given (board_course stimulus workers unknown)
 
+-- ---- demo
+
+-- the run of a demo: free latches start at 0
+abbrev pub demo_run : ℕ → Course vocabulary
+demo_run workers = run_course design_name board_name None stimulus_name workers false
+
+-- it goes over the generated texts, and a summary of its trace is written
+abbrev pub demo_course : ℕ → ℕ → Course vocabulary
+demo_course cells workers = on_texts (generated cells) (summary cells) (demo_run workers)
+
 -- ---- all commands
 
 -- words that spell no command: the first wrong one is at this place
@@ -165,4 +177,5 @@ course_of (words.check design board plan) = check_course design board plan
 course_of (words.plan design board) = plan_course design board
 course_of (words.run design board stimulus given workers unknown) =
     run_course design board given stimulus workers unknown
+course_of (words.demo cells workers) = demo_course cells workers
 course_of (words.nothing place) = usage_course place

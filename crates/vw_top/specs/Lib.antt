@@ -1,6 +1,7 @@
 pub mod Words
 pub mod Messages
 pub mod Kinds
+pub mod Demo
 pub mod Commands
 pub mod TracedStatuses
 pub mod LinkTraffic
@@ -14,4 +15,5 @@ pub mod PlannedStatuses
 pub mod CheckStatuses
 pub mod RunStatuses
 pub mod RunGivenStatuses
+pub mod DemoStatuses
 pub mod Steps

@@ -1,9 +1,9 @@
 -- The words of commands: a keyword, names of files, and then settings.
-use Rattle.std.specs.Prelude.{ℕ, Bool, false, List, [], ◌∷◌, map, codes, Option, Some, None, option_and_then, unwrap_or}
+use Rattle.std.specs.Prelude.{ℕ, max, min, Bool, false, List, [], ◌∷◌, map, codes, Option, Some, None, option_and_then, unwrap_or}
 use Rattle.std.specs.List.{find}
 use Rattle.vw_words.specs.Forms.{Place, keyword, any, name, bit, number, Setting, Form}
 use Rattle.vw_words.specs.Matched.{has_form, first_wrong}
-use Rattle.vw_words.specs.Values.{name_given, bit_given, number_given}
+use Rattle.vw_words.specs.Values.{name_given, bit_given, number_given, number_or_zero}
 
 -- a command with its files and settings; or none, and the number of the first word, from 1, that no command has there
 pub data Spelled : Type 0 where
@@ -11,6 +11,7 @@ pub data Spelled : Type 0 where
   check : (design board plan : List ℕ) → Spelled
   plan : (design board : List ℕ) → Spelled
   run : (design board stimulus : List ℕ) (given : Option (List ℕ)) (workers : ℕ) (unknown : Bool) → Spelled
+  demo : (cells workers : ℕ) → Spelled
   nothing : (place : ℕ) → Spelled
 
 -- a command: the form of its words, and what words of this form spell
@@ -73,9 +74,28 @@ run_words = record {
   spells = run_of;
 }
 
+-- how many cells a demo may have, from 1
+abbrev pub most_cells : ℕ
+most_cells = 20000
+
+-- the number of cells that a word spells: the form lets no other number through than 1 to the most
+abbrev pub cells_given : List ℕ → ℕ
+cells_given word = max 1 (min (number_or_zero word) most_cells)
+
+-- demo N [workers=N]
+abbrev pub demo_of : List (List ℕ) → Option Spelled
+demo_of (verb ∷ cells ∷ settings) = Some (demo (cells_given cells) (number_given workers_setting 4 settings))
+demo_of words = None
+
+abbrev pub demo_words : CommandWords
+demo_words = record {
+  form = record { places = keyword (codes "demo") ∷ any (number 1 most_cells) ∷ []; settings = workers_setting ∷ [] };
+  spells = demo_of;
+}
+
 -- all commands
 abbrev pub commands : List CommandWords
-commands = sim_words ∷ check_words ∷ plan_words ∷ run_words ∷ []
+commands = sim_words ∷ check_words ∷ plan_words ∷ run_words ∷ demo_words ∷ []
 
 abbrev pub forms : List Form
 forms = map (λ command. command.form) commands
@@ -91,4 +111,5 @@ workers_of (sim design stimulus unknown) = 1
 workers_of (check design board its_plan) = 1
 workers_of (plan design board) = 1
 workers_of (run design board stimulus given workers unknown) = workers
+workers_of (demo cells workers) = workers
 workers_of (nothing place) = 1

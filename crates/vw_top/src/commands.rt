@@ -7,6 +7,7 @@ ghost use Rattle.vw_top.specs.Messages.{vocabulary};
 ghost use Rattle.vw_top.specs.Words.{spelled_by, workers_of};
 
 use crate::check::check;
+use crate::demo::{demo_by_one, demo_by_several};
 use crate::plan::plan;
 use crate::run::{run_by_one, run_by_several};
 use crate::sim::sim;
@@ -51,11 +52,12 @@ fn carry_out<S: Shelf, O: Sink>(
             unknown,
             ..
         } => run_by_one(alloc, design, board, plan, stimulus, unknown, outside),
+        Command::Demo { size, .. } => demo_by_one(alloc, size, outside),
         Command::Nothing(place) => Err(Unfinished::Refused(Reason::Usage(place))),
     }
 }
 
-/// Carries out the run with several workers that words spell, up to its message.
+/// Carries out the command with several workers that words spell, up to its message.
 fn carry_out_together<R: Threads + Wait + Sync, S: Shelf, F: Fabric, G: BurstGate, O: Sink>(
     rt: &R,
     alloc: Global,
@@ -80,6 +82,9 @@ fn carry_out_together<R: Threads + Wait + Sync, S: Shelf, F: Fabric, G: BurstGat
         } => run_by_several(
             rt, alloc, design, board, plan, stimulus, workers, unknown, fabric, gate, outside,
         ),
+        Command::Demo { size, workers } => {
+            demo_by_several(rt, alloc, size, workers, fabric, gate, outside)
+        }
         _ => unreachable!(),
     }
 }
@@ -172,8 +177,8 @@ fn together<R: Threads + Wait + Sync, S: Shelf, F: Fabric, G: BurstGate, O: Sink
 
 /// Carries out the command that the words after the program's name spell, and gives the exit status. After each
 /// status but 0 one message line goes to `err`. What each status means, when it comes and what it leaves, the laws
-/// `headline`, `call_statuses`, `sim_statuses`, `check_statuses`, `plan_statuses`, `run_statuses`, `run_given_statuses`
-/// and `usage_statuses` say.
+/// `headline`, `call_statuses`, `sim_statuses`, `check_statuses`, `plan_statuses`, `run_statuses`, `run_given_statuses`,
+/// `demo_statuses` and `usage_statuses` say.
 ///
 /// A run with several workers has the nodes of the board in groups on threads of the runtime. The words between them go
 /// over links of the fabric, and each group passes the gate before each of its bursts. That such a run ends isn't

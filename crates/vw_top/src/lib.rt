@@ -4,18 +4,21 @@
 mod check;
 mod checked;
 mod commands;
+mod demo;
 mod files;
 mod plan;
 mod ready;
 mod run;
 mod sim;
+mod size;
 mod statuses;
+mod summary;
 mod vocabulary;
 mod words;
 
 pub use commands::{alone, virtual_wires};
 pub use statuses::{
-    call_statuses, check_statuses, headline, plan_statuses, run_given_statuses, run_statuses,
-    sim_statuses, usage_statuses,
+    call_statuses, check_statuses, demo_statuses, headline, plan_statuses, run_given_statuses,
+    run_statuses, sim_statuses, usage_statuses,
 };
 pub use vocabulary::{File, Reason, Unfinished};

@@ -3,7 +3,7 @@ ghost use Rattle.std.specs.Prelude.{◌≡◌, ℕ, Bool, List, Option, Some, No
 ghost use Rattle.vw_course.specs.Endings.{IsCallOf};
 ghost use Rattle.vw_course.specs.Statuses.{Holds, Statuses};
 ghost use Rattle.vw_top.specs.Words.{Spelled};
-ghost use Rattle.vw_top.specs.Commands.{check_course, course_of, plan_course, run_course, sim_course, usage_course};
+ghost use Rattle.vw_top.specs.Commands.{check_course, course_of, demo_course, plan_course, run_course, sim_course, usage_course};
 ghost use Rattle.vw_top.specs.Messages.{Call};
 ghost use Rattle.vw_top.specs.Headline.{WritesTrace};
 ghost use Rattle.vw_top.specs.UsageStatuses.{UsageStatuses};
@@ -12,6 +12,7 @@ ghost use Rattle.vw_top.specs.CheckStatuses.{CheckStatuses};
 ghost use Rattle.vw_top.specs.PlanStatuses.{PlanStatuses};
 ghost use Rattle.vw_top.specs.RunStatuses.{RunStatuses};
 ghost use Rattle.vw_top.specs.RunGivenStatuses.{RunGivenStatuses};
+ghost use Rattle.vw_top.specs.DemoStatuses.{DemoStatuses};
 
 /// The headline. Whatever the board, the plan and the number of workers, and in whatever order the workers have run: where
 /// the texts of design and stimulus are held and the status of `run` is 0, out has exactly the trace of the unpartitioned
@@ -63,6 +64,13 @@ pub fn run_given_statuses()
     ensures { (design board plan stimulus : List ℕ) (workers : ℕ) (unknown : Bool) (call : Call)
         → IsCallOf (run_course design board (Some plan) stimulus workers unknown) call
         → RunGivenStatuses design board plan stimulus workers unknown call }
+{}
+
+/// What each status of `demo` says of its texts: after status 0, out has the summary of the trace of the unpartitioned
+/// generated design, and with several workers each link has carried exactly its words of one good plan.
+pub fn demo_statuses()
+    ensures { (cells workers : ℕ) (call : Call) → IsCallOf (demo_course cells workers) call
+        → DemoStatuses cells workers call }
 {}
 
 /// What each status says of words that spell no command.

@@ -1,9 +1,10 @@
 ghost use Rattle.std.specs.Prelude.{◌≡◌, option_map};
-ghost use Rattle.vw_top.specs.Words.{spelled_by, workers_of, sim_of, check_of, plan_of, run_of};
+ghost use Rattle.vw_top.specs.Words.{spelled_by, workers_of, sim_of, check_of, plan_of, run_of, demo_of, cells_given};
 ghost use Rattle.vw_top.specs.Steps.Commands.{command_view, spelled_as};
 
+use crate::size::Size;
 use vw_outside::Name;
-use vw_words::{Form, Place, Setting, Value, first_wrong, form_of};
+use vw_words::{Form, Place, Setting, Value, first_wrong, form_of, number_or_zero};
 
 /// What words spell: a command, with the names of its files and its settings, or none.
 #[derive(Drop)]
@@ -38,6 +39,12 @@ pub enum Command<'a> {
         /// The value that free latches start at.
         unknown: bool,
     },
+    /// Runs a generated design on a generated board, and writes a summary of its trace.
+    Demo {
+        size: Size,
+        /// How many workers run the nodes of the board.
+        workers: u64,
+    },
     /// No command; the number of the first wrong word, from 1.
     Nothing(u64),
 }
@@ -68,8 +75,17 @@ const WORKERS: Setting = Setting {
 
 const DEFAULT_WORKERS: u64 = 4;
 
+/// How many cells a demo has at most.
+const MOST_CELLS: u64 = 20_000;
+
+/// The number of cells of a demo.
+const CELLS: Value = Value::Number {
+    least: 1,
+    most: MOST_CELLS,
+};
+
 /// The forms of the commands.
-const FORMS: [Form; 4] = [
+const FORMS: [Form; 5] = [
     Form {
         places: &[Place::Keyword(b"sim"), FILE, FILE],
         settings: &[UNKNOWN],
@@ -85,6 +101,10 @@ const FORMS: [Form; 4] = [
     Form {
         places: &[Place::Keyword(b"run"), FILE, FILE, FILE],
         settings: &[PLAN, WORKERS, UNKNOWN],
+    },
+    Form {
+        places: &[Place::Keyword(b"demo"), Place::Any(CELLS)],
+        settings: &[WORKERS],
     },
 ];
 
@@ -143,6 +163,28 @@ fn run_of(words: &[Name]) -> Option<Command<'_>>
     }
 }
 
+/// The number of cells that a word spells. The form of the words lets no other number through.
+fn size_of(word: &Name) -> Size
+    ensures { result.cells ≡ cells_given word.now }
+{
+    Size {
+        cells: number_or_zero(word).min(MOST_CELLS).max(1) as u32,
+    }
+}
+
+/// The command that words of the form of `demo` spell.
+fn demo_of(words: &[Name]) -> Option<Command<'_>>
+    ensures { option_map command_view result ≡ demo_of words.now }
+{
+    match words {
+        [_, cells, settings @ ..] => Some(Command::Demo {
+            size: size_of(cells),
+            workers: WORKERS.number(settings, DEFAULT_WORKERS),
+        }),
+        _ => None,
+    }
+}
+
 /// The command that words spell which have the form with a number.
 fn spelled_as(number: Option<usize>, words: &[Name]) -> Option<Command<'_>>
     ensures { option_map command_view result ≡ spelled_as number words.now }
@@ -152,6 +194,7 @@ fn spelled_as(number: Option<usize>, words: &[Name]) -> Option<Command<'_>>
         1 => check_of(words),
         2 => plan_of(words),
         3 => run_of(words),
+        4 => demo_of(words),
         _ => None,
     }
 }
@@ -171,7 +214,7 @@ pub fn workers_of(words: &[Name]) -> u64
     ensures { result ≡ workers_of (spelled_by words.now) }
 {
     match command_of(words) {
-        Command::Run { workers, .. } => workers,
+        Command::Run { workers, .. } | Command::Demo { workers, .. } => workers,
         _ => 1,
     }
 }

@@ -179,3 +179,16 @@ fn links_are_laid_anew_for_each_batch(rt: HostRuntime) -> Result<(), Fail> {
     );
     Ok(())
 }
+
+#[test]
+fn a_demo_has_the_same_summary_whatever_the_workers(rt: HostRuntime) -> Result<(), Fail> {
+    const DEMOS: [&[&str]; 4] = [
+        &["demo", "1000", "workers=1"],
+        &["demo", "1000"],
+        &["demo", "1000", "workers=4"],
+        &["demo", "1000", "workers=17"],
+    ];
+    let wanted = (0, "demo 1000 300 44563 1543114685\n", "");
+    calls_end(&rt, rt.alloc(), &DEMOS, &TOGGLE_TEXTS, wanted, &[])?;
+    Ok(())
+}

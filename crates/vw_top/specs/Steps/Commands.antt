@@ -2,7 +2,7 @@
 use Rattle.std.specs.Prelude.{ℕ, List, Option, option_and_then, slice_get}
 use Rattle.std.specs.Option.{option_copied}
 use Rattle.vw_top.specs.declared.words.Command.{Command}
-use Rattle.vw_top.specs.declared.words.Command.TheVariants.{Sim, Check, Plan, Run, Nothing}
+use Rattle.vw_top.specs.declared.words.Command.TheVariants.{Sim, Check, Plan, Run, Demo, Nothing}
 use Rattle.vw_top.specs.Words.{Spelled, commands}
 use Rattle.vw_top.specs.Words as words
 
@@ -12,6 +12,7 @@ command_view (Check design board plan) = words.check design.now board.now plan.n
 command_view (Plan design board) = words.plan design.now board.now
 command_view (Run design board stimulus plan workers unknown) =
     words.run design.now board.now stimulus.now (option_copied plan) workers unknown
+command_view (Demo size workers) = words.demo size.cells workers
 command_view (Nothing place) = words.nothing place
 
 -- what words spell that have the form of the command with a number

@@ -14,3 +14,11 @@ returns-in-Run g c =
     let few : c.in-Run.workers ≤ 1 = subst (λ (spelled : Spelled). workers_of spelled ≤ 1) is c.requires in
     subst (λ (spelled : Spelled). Goes g.S.Shelf.seen g.O.Sink.seen vocabulary (course_of spelled) c.args.outside.now c.run_by_one.new.outside c.run_by_one.result) (sym is)
     (c.run_by_one.ensures c.in-Run.workers few)
+
+-- and so is this demo
+pub returns-in-Demo : goal.returns-in-Demo
+returns-in-Demo g c =
+    let is : spelled_by c.args.words.now ≡ words.demo c.in-Demo.size.cells c.in-Demo.workers = c.in-Demo.ensures in
+    let few : c.in-Demo.workers ≤ 1 = subst (λ (spelled : Spelled). workers_of spelled ≤ 1) is c.requires in
+    subst (λ (spelled : Spelled). Goes g.S.Shelf.seen g.O.Sink.seen vocabulary (course_of spelled) c.args.outside.now c.demo_by_one.new.outside c.demo_by_one.result) (sym is)
+    (c.demo_by_one.ensures c.in-Demo.workers few)
