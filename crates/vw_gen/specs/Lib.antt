@@ -3,3 +3,4 @@ pub mod Nets
 pub mod Design
 pub mod Board
 pub mod Stimulus
+pub mod Summary

@@ -109,8 +109,8 @@ fn shelf(alloc: Global, call: &Call) -> Result<MemShelf, AllocError> {
     Ok(MemShelf::new(held, call.most.max(1), vec![in alloc; call.read]?))
 }
 
-/// A call past this gate.
-fn ended<R: Threads + Wait + Sync, G: BurstGate>(
+/// Carries out a call past this gate.
+fn carry_out<R: Threads + Wait + Sync, G: BurstGate>(
     rt: &R,
     alloc: Global,
     call: &Call,

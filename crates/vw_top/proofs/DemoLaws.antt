@@ -11,8 +11,9 @@ use Rattle.vw_course.specs.Goes.{seen_call}
 use Rattle.vw_course.proofs.OnTexts.{done_inside, memory_inside, no_read, refused_inside, texts_before, write_inside}
 use Rattle.vw_gen.specs.Design.{design_text}
 use Rattle.vw_gen.specs.Stimulus.{stimulus_text}
+use Rattle.vw_gen.specs.Summary.{summary}
 use Rattle.vw_top.specs.Messages.{vocabulary, Call}
-use Rattle.vw_top.specs.Demo.{board_name, design_name, generated, stimulus_name, summary}
+use Rattle.vw_top.specs.Demo.{board_name, design_name, generated, stimulus_name}
 use Rattle.vw_top.specs.Commands.{demo_course, demo_run}
 use Rattle.vw_top.specs.LinkTraffic.{CarriesAll}
 use Rattle.vw_top.specs.RunStatuses.{AreGood}

@@ -24,7 +24,8 @@ use Rattle.vw_top.specs.declared.vocabulary.File.TheVariants as files
 use Rattle.vw_top.specs.declared.vocabulary.Reason.TheVariants.{Usage}
 use Rattle.vw_top.specs.Words.{Spelled}
 use Rattle.vw_top.specs.Words as words
-use Rattle.vw_top.specs.Demo.{board_name, design_name, generated, stimulus_name, summary}
+use Rattle.vw_top.specs.Demo.{board_name, design_name, generated, stimulus_name}
+use Rattle.vw_gen.specs.Summary.{summary}
 use Rattle.vw_top.specs.Messages.{vocabulary, CallWork}
 use Rattle.vw_top.specs.Kinds.{design_kind, netlist_kind, rows_kind, IsBadAgain, board_kind, plan_kind, soundness, planning}
 

@@ -5,8 +5,9 @@ use Rattle.vw_gen.specs.Design.{design_text}
 use Rattle.vw_gen.specs.Stimulus.{stimulus_text}
 use Rattle.vw_outside.specs.Told.{held}
 use Rattle.vw_outside.specs.Writes.{appended}
+use Rattle.vw_gen.specs.Summary.{summary}
 use Rattle.vw_top.specs.Messages.{Call}
-use Rattle.vw_top.specs.Demo.{board_name, design_name, generated, stimulus_name, summary}
+use Rattle.vw_top.specs.Demo.{board_name, design_name, generated, stimulus_name}
 use Rattle.vw_top.specs.Commands.{trace_of}
 use Rattle.vw_top.specs.TracedStatuses.{AreSpelled}
 use Rattle.vw_top.specs.LinkTraffic.{CarriesAll}

@@ -5,19 +5,19 @@ ghost use Rattle.vw_course.specs.OnTexts.{EndsSummed};
 ghost use Rattle.vw_outside.specs.Memory.{seen_sink};
 ghost use Rattle.vw_outside.specs.Sure.{seen_sure, sure_text};
 ghost use Rattle.vw_top.specs.Commands.{demo_course, demo_run, run_course};
-ghost use Rattle.vw_top.specs.Demo.{board_name, design_name, generated, stimulus_name, summary};
+ghost use Rattle.vw_top.specs.Demo.{board_name, design_name, generated, stimulus_name};
+ghost use Rattle.vw_gen.specs.Summary.{summary};
 ghost use Rattle.vw_top.specs.Messages.{vocabulary};
 
 use crate::run::{run_by_one, run_by_several};
 use crate::size::Size;
-use crate::summary::summary;
 use crate::vocabulary::Unfinished;
 use std::alloc::{AllocError, Global};
 use std::marker::Sync;
 use std::sync::Wait;
 use std::thread::Threads;
 use vw_course::{Outside, answer_of};
-use vw_gen::{board, design, stimulus};
+use vw_gen::{board, design, stimulus, summary};
 use vw_outside::{
     BurstGate, MemSink, Name, Shelf, Sink, SureShelf, no_read_fault_over_a_sure_shelf, put_text,
 };

@@ -12,7 +12,6 @@ mod run;
 mod sim;
 mod size;
 mod statuses;
-mod summary;
 mod vocabulary;
 mod words;
 

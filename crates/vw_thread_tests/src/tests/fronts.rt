@@ -31,7 +31,7 @@ fn status_of<R: Threads + Wait + Abort + Copy + Send + Sync>(
         write,
     };
     let mut links = Links::new(*rt, true);
-    let ended = ended(rt, alloc, &call, &OpenGate::new(), &mut links)?;
+    let ended = carry_out(rt, alloc, &call, &OpenGate::new(), &mut links)?;
     are_fronts(rt, alloc, &ended, &links)?;
     Ok(ended.status)
 }

@@ -43,7 +43,7 @@ fn groups_work_at_the_same_time(rt: HostRuntime) -> Result<(), Fail> {
         given_up: AtomicBool::new(false),
     };
     let mut links = Links::new(rt, true);
-    let ended = ended(&rt, rt.alloc(), &call, &gate, &mut links)?;
+    let ended = carry_out(&rt, rt.alloc(), &call, &gate, &mut links)?;
     has_ended(&rt, &ended, (0, TOGGLE_TRACE, ""), "gate");
     assert!(rt; !gate.given_up.load(Ordering::SeqCst));
     assert_eq!(rt; gate.come.load(Ordering::SeqCst), 3);

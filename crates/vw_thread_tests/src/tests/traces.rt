@@ -19,7 +19,7 @@ fn call_ends<R: Threads + Wait + Abort + Copy + Send + Sync>(
     };
     let on = words.last().copied().unwrap_or("no words");
     let mut links = Links::new(*rt, true);
-    let ended = ended(rt, alloc, &call, &OpenGate::new(), &mut links)?;
+    let ended = carry_out(rt, alloc, &call, &OpenGate::new(), &mut links)?;
     has_ended(rt, &ended, wanted, on);
     have_carried(rt, alloc, &links, carried, on)
 }
@@ -164,7 +164,7 @@ fn links_are_laid_anew_for_each_batch(rt: HostRuntime) -> Result<(), Fail> {
         write: 0,
     };
     let mut links = Links::new(rt, true);
-    let ended = ended(&rt, rt.alloc(), &call, &OpenGate::new(), &mut links)?;
+    let ended = carry_out(&rt, rt.alloc(), &call, &OpenGate::new(), &mut links)?;
     assert!(rt;
         ended
             .out

@@ -1,7 +1,7 @@
 -- what was folded so far is small, and the rest is folded onto it
 use Rattle.std.proofs.Common.{◌≡◌, ◌<◌, ◌+◌, ◌*◌, ◌%◌, ◌^◌, drop, fold}
-use Rattle.vw_top.specs.Demo.{folded}
-use Rattle.vw_top.proofs.summary.folded.Given as goal
+use Rattle.vw_gen.specs.Summary.{folded}
+use Rattle.vw_gen.proofs.summaries.folded.Given as goal
 
 abbrev pub invariant-loop-byte : goal.invariant-loop-byte
 invariant-loop-byte l = record {

@@ -1,6 +1,6 @@
-//! The summary of a trace.
+//! Summaries of traces.
 ghost use Rattle.std.specs.Prelude.{◌≡◌, ◌<◌, ◌^◌, IfOk};
-ghost use Rattle.vw_top.specs.Demo.{folded, ones, summary};
+ghost use Rattle.vw_gen.specs.Summary.{folded, ones, summary};
 
 use std::alloc::{AllocError, Global};
 
@@ -23,7 +23,9 @@ fn folded(trace: &[u8]) -> u64
     so_far
 }
 
-/// The line that a demo of so many cells writes of its trace: the cells, the clocks, the ones, and the fold.
+/// The line that sums up a trace of the generated texts of so many cells: the cells, the clocks, how many bytes of the trace
+/// are the digit 1, and all its bytes folded into 32 bits. It takes memory for the line, and nothing but want of memory is an
+/// error.
 pub fn summary(alloc: Global, cells: u32, trace: &[u8]) -> Result<Vec<u8>, AllocError>
     ensures { IfOk result (λ line. line.items ≡ summary cells trace.now) }
 {
