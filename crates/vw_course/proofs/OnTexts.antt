@@ -1,21 +1,20 @@
 -- From a call over texts at hand to the call that writes its summary.
-use Rattle.std.proofs.Common.{◌≡◌, ◌++◌, ℕ, List, [], length, take, Option, Some, None, Result, Ok, Err, refl, sym, ◌∙◌, ap, ap₂, subst, inl, inr, arith}
+use Rattle.std.proofs.Common.{◌≡◌, ℕ, List, [], length, take, Option, Some, None, Result, Ok, Err, refl, sym, ◌∙◌, ap, ap₂, subst, inl, inr, arith}
 use Rattle.std.proofs.Math.Path.{fun_ext}
 use Rattle.std.specs.Prelude.{unwrap_or}
 use Rattle.std.proofs.Math.Seq.{take-length}
 use Rattle.std.proofs.lemmas.List.{append-nil}
 use Rattle.vw_outside.specs.declared.unwritten.Unwritten.{Unwritten}
 use Rattle.vw_outside.specs.declared.unwritten.Unwritten.TheVariants as unwritten
-use Rattle.vw_outside.specs.Told.{Told, held}
+use Rattle.vw_outside.specs.Told.{held}
 use Rattle.vw_outside.specs.Reads.{SeenShelf, CountsFault}
 use Rattle.vw_outside.specs.Writes.{SeenSink, appended, WritesOut}
 use Rattle.vw_outside.proofs.PiecesWritten.{appended-nil}
-use Rattle.vw_course.specs.declared.unfinished.Unfinished.{Unfinished}
 use Rattle.vw_course.specs.declared.unfinished.Unfinished.TheVariants.{ReadFault, WriteFault, NoMemory, Refused}
 use Rattle.vw_course.specs.Vocabulary.{Vocabulary}
 use Rattle.vw_course.specs.Outside.{SeenOutside, Work, Carried, carried, CarriedPart, with_all}
 use Rattle.vw_course.specs.Course.{Again, once, again, Course, works, refuses, reads, makes}
-use Rattle.vw_course.specs.Follows.{Answer, May, Does, BreaksOff, EndsWorking, EndsRefused, EndsReading, EndsHere, Follows}
+use Rattle.vw_course.specs.Follows.{Answer, Does, BreaksOff, EndsWorking, EndsRefused, EndsReading, Follows}
 use Rattle.vw_course.specs.Goes.{seen_outside}
 use Rattle.vw_course.specs.Stages.{answer_of}
 use Rattle.vw_course.specs.OnTexts.{summed, on_texts, EndsSummed}
@@ -84,13 +83,13 @@ module _ (V : Vocabulary) (texts : List ℕ → List ℕ) where
             → EndsSummed V (summary trace) real real_after (Ok tt) answer → EndsWorking {V = V} once (summed summary work) before after answer
         summary_written work answer moved text (written, ends, is) =
             subst (EndsWorking {V = V} once (summed summary work) before after) (sym is) (by written (subst (λ (t : List ℕ). WritesOut (summary t) real real_after written) (written_is work.text text) ends)) where
-          part : CarriedPart work.scripts links inner.links
-          part = subst (CarriedPart work.scripts links) (sym moved) (carried_all work.scripts links)
+              part : CarriedPart work.scripts links inner.links
+              part = subst (CarriedPart work.scripts links) (sym moved) (carried_all work.scripts links)
 
-          by : (written : Result (Unit {0}) Unwritten) → WritesOut (summary work.text) real real_after written → EndsWorking {V = V} once (summed summary work) before after (answer_of written)
-          by (Ok done) all = (summed summary work, refl, ap₂ (λ (o : SeenSink) (l : Carried V.Word). seen_outside shelf o l) all moved)
-          by (Err unwritten.WriteFault) failed = (summed summary work, refl, refl, (failed, part))
-          by (Err unwritten.NoMemory) wrote = (summed summary work, refl, refl, (wrote, part))
+              by : (written : Result (Unit {0}) Unwritten) → WritesOut (summary work.text) real real_after written → EndsWorking {V = V} once (summed summary work) before after (answer_of written)
+              by (Ok done) all = (summed summary work, refl, ap₂ (λ (o : SeenSink) (l : Carried V.Word). seen_outside shelf o l) all moved)
+              by (Err unwritten.WriteFault) failed = (summed summary work, refl, refl, (failed, part))
+              by (Err unwritten.NoMemory) wrote = (summed summary work, refl, refl, (wrote, part))
 
         -- the work stopped, and nothing was written
         stopped : (work : Work V.Word) (answer : Answer V) → CarriedPart work.scripts links inner.links → real_after ≡ real → answer ≡ Err NoMemory
@@ -103,8 +102,8 @@ module _ (V : Vocabulary) (texts : List ℕ → List ℕ) where
         at_work over work (Ok done) answer (did, does, leaves) ends =
             let whole : did ≡ work = did_all over work did does in
             summary_written work answer
-                (ap (λ (o : SeenOutside V.Word). o.links) leaves ∙ ap (λ (w : Work V.Word). carried w.scripts links) whole)
-                (ap (λ (o : SeenOutside V.Word). o.out) leaves ∙ ap (λ (w : Work V.Word). appended out w.text) whole) ends
+            (ap (λ (o : SeenOutside V.Word). o.links) leaves ∙ ap (λ (w : Work V.Word). carried w.scripts links) whole)
+            (ap (λ (o : SeenOutside V.Word). o.out) leaves ∙ ap (λ (w : Work V.Word). appended out w.text) whole) ends
         at_work over work (Err WriteFault) answer (did, does, shelf_is, part) (same, is) =
             stopped work answer (subst (λ (w : Work V.Word). CarriedPart w.scripts links inner.links) (did_all over work did does) part.1) same is
         at_work over work (Err NoMemory) answer (did, does, shelf_is, part) (same, is) =

@@ -1,14 +1,13 @@
 -- From the first part of a course to a course that goes on behind it.
-use Rattle.std.proofs.Common.{◌≡◌, ◌⊎◌, ℕ, List, Result, Ok, Err, refl, sym, ◌∙◌, ap, subst, inl, inr, ⊎_elim}
-use Rattle.vw_outside.specs.Told.{Told, IsTextOf}
+use Rattle.std.proofs.Common.{◌≡◌, ◌⊎◌, ℕ, List, Result, Ok, Err, refl, sym, ◌∙◌, subst, inl, inr, ⊎_elim}
+use Rattle.vw_outside.specs.Told.{IsTextOf}
 use Rattle.vw_outside.specs.Reads.{SeenShelf}
-use Rattle.vw_outside.specs.Writes.{SeenSink}
 use Rattle.vw_course.specs.declared.unfinished.Unfinished.{Unfinished}
 use Rattle.vw_course.specs.declared.unfinished.Unfinished.TheVariants.{ReadFault, WriteFault, NoMemory, Refused}
 use Rattle.vw_course.specs.Vocabulary.{Vocabulary}
-use Rattle.vw_course.specs.Outside.{SeenOutside, Carried}
+use Rattle.vw_course.specs.Outside.{SeenOutside}
 use Rattle.vw_course.specs.Course.{Course, Judged, Kind, Making, judges, made, stage, cut}
-use Rattle.vw_course.specs.Follows.{May, EndsHere, Follows}
+use Rattle.vw_course.specs.Follows.{EndsHere, Follows}
 use Rattle.vw_course.specs.Goes.{seen_outside, EndsPart}
 use Rattle.vw_course.specs.Stages.{EndsJudging, EndsStage}
 use Rattle.vw_course.proofs.GoesLaws.{stage_ends, stage_goes, judging_ends}

@@ -2,7 +2,6 @@
 use Rattle.std.specs.Prelude.{◌≡◌, ℕ, List, Result, Ok, Err}
 use Rattle.vw_outside.specs.Writes.{SeenSink, WritesOut}
 use Rattle.vw_outside.specs.declared.unwritten.Unwritten.{Unwritten}
-use Rattle.vw_course.specs.declared.unfinished.Unfinished.{Unfinished}
 use Rattle.vw_course.specs.declared.unfinished.Unfinished.TheVariants.{ReadFault, WriteFault, NoMemory, Refused}
 use Rattle.vw_course.specs.Vocabulary.{Vocabulary}
 use Rattle.vw_course.specs.Outside.{Work}

@@ -165,8 +165,11 @@ fn have_carried<R: Abort>(
     words: &[&str],
     on: &str,
 ) -> Result<(), AllocError> {
-    for (link, wanted) in words.iter().enumerate() {
-        let found = carried(alloc, links, link as u32)?;
+    for link in 0..64u32 {
+        let Some(wanted) = words.get(link as usize) else {
+            break;
+        };
+        let found = carried(alloc, links, link)?;
         are_found(rt, found.as_bytes(), wanted.as_bytes(), on);
     }
     Ok(())

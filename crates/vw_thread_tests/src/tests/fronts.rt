@@ -9,8 +9,9 @@ fn are_fronts<R: Abort>(
     links: &Links<R>,
 ) -> Result<(), AllocError> {
     assert!(rt; TOGGLE_TRACE.as_bytes().starts_with(ended.out.bytes()));
-    for (link, words) in TOGGLE_WORDS.iter().enumerate() {
-        let found = carried(alloc, links, link as u32)?;
+    for link in 0..6u32 {
+        let words = TOGGLE_WORDS[link as usize];
+        let found = carried(alloc, links, link)?;
         assert!(rt; words.as_bytes().starts_with(found.as_bytes()));
     }
     Ok(())
@@ -36,17 +37,17 @@ fn status_of<R: Threads + Wait + Abort + Copy + Send + Sync>(
     Ok(ended.status)
 }
 
-/// Asserts that the first so many reads or writes end a run with this status where they fail, and that there are no more.
+/// Asserts that a run ends with this status where one of the first so many reads or writes fails, and that there are no more.
 fn each_stops<R: Threads + Wait + Abort + Copy + Send + Sync>(
     rt: &R,
     alloc: Global,
+    are_reads: bool,
     count: u64,
-    faults: (u64, u64),
     status: u8,
 ) -> Result<(), AllocError> {
-    let (read, write) = faults;
-    for number in 1..count + 2 {
-        let found = status_of(rt, alloc, number * read, number * write)?;
+    for number in 1..100u64 {
+        let (read, write) = if are_reads { (number, 0) } else { (0, number) };
+        let found = status_of(rt, alloc, read, write)?;
         let wanted = if number <= count { status } else { 0 };
         are_found(rt, &[found], &[wanted], "fault");
     }
@@ -58,14 +59,14 @@ fn each_stops<R: Threads + Wait + Abort + Copy + Send + Sync>(
 /// one reads its rows again.
 #[test]
 fn each_read_may_fail(rt: HostRuntime) -> Result<(), Fail> {
-    each_stops(&rt, rt.alloc(), 38, (1, 0), 7)?;
+    each_stops(&rt, rt.alloc(), true, 38, 7)?;
     Ok(())
 }
 
 /// The first line has two writes of at most ten bytes, the lines of the three clocks have two, and the last line has one.
 #[test]
 fn each_write_may_fail(rt: HostRuntime) -> Result<(), Fail> {
-    each_stops(&rt, rt.alloc(), 5, (0, 1), 8)?;
+    each_stops(&rt, rt.alloc(), false, 5, 8)?;
     Ok(())
 }
 
