@@ -70,10 +70,11 @@ fn each_write_may_fail(rt: HostRuntime) -> Result<(), Fail> {
     Ok(())
 }
 
-/// Where memory is wanting, a call with three workers ends with 9, and leaves fronts. With memory enough it ends with 0.
+/// With memory enough, a run with three workers ends with 0. Where an allocation fails, it ends with 9, or with 7 or 8 where it
+/// was one of the shelf or of out, and leaves fronts; whoever runs this test makes them fail.
 #[test]
 fn memory_may_be_wanting(rt: HostRuntime) -> Result<(), Fail> {
     let status = status_of(&rt, rt.alloc(), 0, 0)?;
-    assert!(rt; status == 0 || status == 9);
+    assert!(rt; status == 0 || status > 6);
     Ok(())
 }
