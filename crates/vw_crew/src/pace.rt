@@ -1,5 +1,5 @@
 /// A round is worth its threads if its groups make so many actions together. On cores that have nothing else to do, rounds of
-/// large chips make two to five times as many; where others work on the cores they make a tenth.
+/// large chips make 1.3 to 4 times as many; where others work on the cores they make a tenth.
 const WORTH: u64 = 1 << 16;
 
 /// How many actions the calling thread makes alone after the first round that wasn't worth its threads.

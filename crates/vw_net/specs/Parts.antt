@@ -20,6 +20,6 @@ IsGateOf nets on rows (Latch d init) = ⊥
 pub record AreParts (inputs : ℕ) (cells : List Cell) (outputs : List ℕ) : Type 0 where
   pub few_inputs : inputs ≤ 4096
   pub few_cells : length cells ≤ 65536
-  pub few_outputs : length outputs ≤ 4096
+  pub few_outputs : length outputs ≤ 4160
   pub cells_fit : All (IsWellFormed (inputs + length cells)) cells
   pub outputs_fit : All (λ net. net < inputs + length cells) outputs

@@ -14,11 +14,11 @@ pub struct Flat {
     pub inputs: u32,
     /// At most 65,536 cells.
     pub cells: Sequence<Cell>,
-    /// The nets whose values are the outputs, at most 4,096.
+    /// The nets whose values are the outputs, at most 4,160: the 4,096 of a design at most, and 64 further ones.
     pub outputs: Sequence<u32>,
     ghost few_inputs: { inputs ≤ 4096 },
     ghost few_cells: { length cells ≤ 65536 },
-    ghost few_outputs: { length outputs ≤ 4096 },
+    ghost few_outputs: { length outputs ≤ 4160 },
     ghost cells_fit: { All (IsWellFormed (inputs + length cells)) cells },
     ghost outputs_fit: { All (λ net. net < inputs + length cells) outputs },
 }
@@ -28,7 +28,7 @@ impl Flat {
     pub fn make(inputs: u32, cells: Sequence<Cell>, outputs: Sequence<u32>) -> Self
         requires few_inputs { inputs ≤ 4096 }
         requires few_cells { length cells ≤ 65536 }
-        requires few_outputs { length outputs ≤ 4096 }
+        requires few_outputs { length outputs ≤ 4160 }
         requires cells_fit { All (IsWellFormed (inputs + length cells)) cells }
         requires outputs_fit { All (λ net. net < inputs + length cells) outputs }
         ensures inputs { result.inputs ≡ inputs }

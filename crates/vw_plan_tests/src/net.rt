@@ -105,32 +105,41 @@ fn tables_have_their_values(rt: HostRuntime) -> Result<(), Fail> {
     have_values(&rt, rt.alloc(), MATCHES)
 }
 
-/// Whether a latch that reads net 0 and a gate that reads one net, with one output, make a netlist.
-fn fit(alloc: Global, inputs: u32, net: u32, output: u32) -> Result<bool, Fail> {
+/// Whether a latch that reads net 0 and a gate that reads one net make a netlist, with an output that stands so many times.
+fn fit(alloc: Global, inputs: u32, net: u32, output: u32, times: usize) -> Result<bool, Fail> {
     let mut cells = Vec::new(alloc);
     cells.push(Cell::Latch {
         d: 0,
         init: Init::One,
     })?;
     cells.push(gate(alloc, &[net])?)?;
-    let outputs = Sequence::of([output].to_vec(alloc)?);
+    let mut outputs = Vec::with_capacity(alloc, times)?;
+    for _ in 0..times {
+        outputs.push(output)?;
+    }
+    let outputs = Sequence::of(outputs);
     Ok(Flat::checked(inputs, Sequence::of(cells), outputs).is_some())
 }
 
-/// How many inputs there are, the net that the gate reads, the output, and whether all fit.
-const PARTS: &[(u32, u32, u32, bool)] = &[
-    (1, 2, 2, true),
-    (4096, 4097, 4097, true),
-    (4097, 0, 0, false),
-    (0, 2, 0, false),
-    (1, 3, 0, false),
-    (1, 0, 3, false),
+/// How many inputs there are, the net that the gate reads, the output, how many times it stands, and whether all fit.
+const PARTS: &[(u32, u32, u32, usize, bool)] = &[
+    (1, 2, 2, 1, true),
+    (4096, 4097, 4097, 4160, true),
+    (4097, 0, 0, 1, false),
+    (0, 2, 0, 1, false),
+    (1, 3, 0, 1, false),
+    (1, 0, 3, 1, false),
+    (1, 0, 0, 4161, false),
 ];
 
 /// Asserts whether the parts of each line fit.
-fn are_fit(rt: &impl Abort, alloc: Global, lines: &[(u32, u32, u32, bool)]) -> Result<(), Fail> {
-    for (inputs, net, output, fits) in lines {
-        let found = fit(alloc, *inputs, *net, *output)?;
+fn are_fit(
+    rt: &impl Abort,
+    alloc: Global,
+    lines: &[(u32, u32, u32, usize, bool)],
+) -> Result<(), Fail> {
+    for (inputs, net, output, times, fits) in lines {
+        let found = fit(alloc, *inputs, *net, *output, *times)?;
         assert!(rt; found == *fits);
     }
     Ok(())

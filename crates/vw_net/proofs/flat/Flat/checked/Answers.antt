@@ -1,6 +1,6 @@
 use Rattle.std.proofs.Common.{refl, sym, true≢false, arith}
 use Rattle.vw_net.specs.Parts.{AreParts}
-use Rattle.vw_net.proofs.flat.Flat.checked.Goals.{Else-not-are_nets, then-inputs-gt4096-via-then-inputs-gt4096, then-inputs-gt4096-via-else-inputs-gt4096+then-len-gt65536, then-inputs-gt4096-via-else-inputs-gt4096+else-len-gt65536+then-len-gt4096, then-not-are_well_formed-via-then-not-are_well_formed, then-not-are_well_formed-via-else-not-are_well_formed+then-not-are_nets}
+use Rattle.vw_net.proofs.flat.Flat.checked.Goals.{Else-not-are_nets, then-inputs-gt4096-via-then-inputs-gt4096, then-inputs-gt4096-via-else-inputs-gt4096+then-len-gt65536, then-inputs-gt4096-via-else-inputs-gt4096+else-len-gt65536+then-len-gt4160, then-not-are_well_formed-via-then-not-are_well_formed, then-not-are_well_formed-via-else-not-are_well_formed+then-not-are_nets}
 use Rattle.vw_net.proofs.flat.Flat.checked.Goals as goal
 
 pub returns-then-inputs-gt4096-clause-exactly : goal.returns-then-inputs-gt4096-clause-exactly
@@ -13,7 +13,7 @@ returns-then-inputs-gt4096-clause-exactly c = (
       elim c.then-inputs-gt4096.branch [
         | then-inputs-gt4096-via-then-inputs-gt4096 w ↦ absurd (omega arith)
         | then-inputs-gt4096-via-else-inputs-gt4096+then-len-gt65536 w ↦ absurd (omega arith)
-        | then-inputs-gt4096-via-else-inputs-gt4096+else-len-gt65536+then-len-gt4096 w ↦ absurd (omega arith)
+        | then-inputs-gt4096-via-else-inputs-gt4096+else-len-gt65536+then-len-gt4160 w ↦ absurd (omega arith)
       ],
 )
 
@@ -32,7 +32,7 @@ tested_parts : (c : Else-not-are_nets) → AreParts c.args.inputs c.args.cells c
 tested_parts c = record {
   few_inputs = c.if-inputs-gt4096.false;
   few_cells = rw c.len.ensures at c.if-len-gt65536.false;
-  few_outputs = rw c.len-else-len-gt65536.ensures at c.if-len-gt4096.false;
+  few_outputs = rw c.len-else-len-gt65536.ensures at c.if-len-gt4160.false;
   cells_fit = rw (c.as_slice.ensures, c.len-2.ensures) at c.if-not-are_well_formed.ensures.fits;
   outputs_fit = rw (c.as_slice-else-not-are_well_formed.ensures, c.len-2.ensures) at c.if-not-are_nets.ensures.fits;
 }
