@@ -31,7 +31,7 @@ use Rattle.vw_drivers.specs.Tables.{AreTables, instance_firsts}
 use Rattle.vw_drivers.specs.Steps.FoundDrivers.{before_of, placed_of, cell_source, child_of}
 
 -- a place isn't 0
-no_root : (before : ℕ) → suc before == 0 ≡ false
+pub no_root : (before : ℕ) → suc before == 0 ≡ false
 no_root before = ne_eqb (suc before) 0 (omega arith)
 
 -- the entry of an instance, and the claims of its model

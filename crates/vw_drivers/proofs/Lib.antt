@@ -9,6 +9,7 @@ pub mod Targets
 pub mod WrittenRows
 pub mod Claims
 pub mod InstanceTables
+pub mod ChildNumbers
 pub mod LedClaims
 pub mod Formals
 pub mod OutputRows

@@ -49,7 +49,7 @@ fn cell_at(tables: &Tables, entry: Placed, item: u32) -> Option<Source>
 }
 
 /// The number of the instance at a place of an instance.
-fn child_at(tables: &Tables, instance: u32, entry: Placed, place: u32) -> Option<usize>
+pub fn child_at(tables: &Tables, instance: u32, entry: Placed, place: u32) -> Option<usize>
     ensures { result ≡ child_of tables.now instance entry place }
 {
     let placed = placed_at(tables, entry.model, place)?;

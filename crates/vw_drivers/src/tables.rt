@@ -1,12 +1,18 @@
 //! The tables of a design by numbers.
-ghost use Rattle.std.specs.Prelude.{◌≡◌, IfOk};
+ghost use Rattle.std.specs.Prelude.{◌≡◌, ◌∷◌, Some, slice_get, IfOk};
+ghost use Rattle.vw_design.specs.declared.design.Design.{Design};
+ghost use Rattle.vw_design.specs.Accepted.{HasNoModelFault};
 ghost use Rattle.vw_design.specs.ModelNumbers.{AreTargets};
+ghost use Rattle.vw_design.specs.Paths.{Path};
+ghost use Rattle.vw_design.specs.PathValue.{place_of_path};
+ghost use Rattle.vw_design.specs.Preorder.{instances};
 ghost use Rattle.vw_instances.specs.Sizes.{AreBefore};
 ghost use Rattle.vw_instances.specs.Tables.{ArePlaced};
 ghost use Rattle.vw_drivers.specs.Tables.{AreTables};
 
 use crate::claimed::all_claims;
 use crate::gather_names::names_of;
+use crate::led::child_at;
 use crate::model_claims::ModelClaims;
 use crate::model_names::ModelNames;
 use std::alloc::{AllocError, Global};
@@ -76,5 +82,17 @@ impl Tables {
         ensures { result.now ≡ self.now.names }
     {
         self.names.as_slice()
+    }
+
+    /// The number of the instance at a place of an instance. Nothing where the instance has no such place. Nothing is said
+    /// of an instance that isn't there. It takes no memory and looks up no name.
+    pub fn child(&self, instance: u32, place: u32) -> Option<u32>
+        ensures { (design : Design) → HasNoModelFault design → AreTables design self.now
+            → (path : Path) → slice_get (instances design) instance ≡ Some path
+            → result ≡ place_of_path (instances design) (place ∷ path) }
+    {
+        let entry = self.instances.as_slice().get(instance as usize)?;
+        let child = child_at(self, instance, *entry, place)?;
+        u32::try_from(child).ok()
     }
 }

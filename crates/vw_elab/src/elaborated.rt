@@ -1,11 +1,12 @@
 //! Elaborated designs, and what can be read of them.
-ghost use Rattle.std.specs.Prelude.{◌≡◌, ◌<◌, ℕ, Some, length, slice_get, IfOk};
+ghost use Rattle.std.specs.Prelude.{◌≡◌, ◌<◌, ◌∷◌, ℕ, Some, length, slice_get, IfOk};
 ghost use Rattle.vw_design.specs.Accepted.{IsAccepted};
 ghost use Rattle.vw_design.specs.Clocks.{columns};
 ghost use Rattle.vw_design.specs.Drivers.{driver};
 ghost use Rattle.vw_design.specs.Limits.{instance_count, cell_count};
 ghost use Rattle.vw_design.specs.Paths.{Word, Path, printed};
 ghost use Rattle.vw_design.specs.NetReads.{net_at};
+ghost use Rattle.vw_design.specs.PathValue.{place_of_path};
 ghost use Rattle.vw_design.specs.Preorder.{instances, cells, Site};
 ghost use Rattle.vw_drivers.specs.Names.{reads_of};
 ghost use Rattle.vw_instances.specs.Tables.{IsCellSite};
@@ -70,12 +71,12 @@ fn driver_by(columns: &Columns, source: Option<Source>) -> Option<Driver>
 }
 
 /// The number of the first claim on a name of an instance.
-fn claim_number(tables: &Tables, instance: u32, name: &Name) -> Option<u32>
+fn claim_number(tables: &Tables, instance: u32, name: &[u8]) -> Option<u32>
     ensures { result ≡ number_named (instance_firsts tables.now instance) name.now }
 {
     let entry = tables.instances().get(instance as usize)?;
     let claims = tables.claims().get(entry.model as usize)?;
-    claims.first(name.as_slice())
+    claims.first(name)
 }
 
 /// What a cell reads: the instance of the net, and the number of the first claim on its name there.
@@ -164,6 +165,16 @@ impl Elaborated {
         }
     }
 
+    /// The number of the instance at a place of an instance: what its `.subckt` item with this number, counted from 1,
+    /// places. Nothing where the instance has no such place. Nothing is said of an instance that isn't there. It takes no
+    /// memory and looks up no name.
+    pub fn child(&self, instance: u32, place: u32) -> Option<u32>
+        ensures { (path : Path) → slice_get (instances self.now) instance ≡ Some path
+            → result ≡ place_of_path (instances self.now) (place ∷ path) }
+    {
+        self.parts.tables.child(instance, place)
+    }
+
     /// How many cells there are: gates and latches. It takes no memory.
     pub fn cells(&self) -> u32
         ensures { result ≡ cell_count self.now }
@@ -183,6 +194,15 @@ impl Elaborated {
     /// The driver of a net: of a name of an instance. Nothing where the net has none. Nothing is said of an instance that
     /// isn't there. It takes no memory.
     pub fn driver(&self, instance: u32, name: &Name) -> Option<Driver>
+        ensures { (path : Path) → slice_get (instances self.now) instance ≡ Some path
+            → result ≡ driver_of self.now (driver self.now path name.now) }
+    {
+        self.driver_named(instance, name.as_slice())
+    }
+
+    /// The driver of a net, as `driver`, of a name that is given by its bytes. Nothing where the net has none. Nothing is
+    /// said of an instance that isn't there. It takes no memory.
+    pub fn driver_named(&self, instance: u32, name: &[u8]) -> Option<Driver>
         ensures { (path : Path) → slice_get (instances self.now) instance ≡ Some path
             → result ≡ driver_of self.now (driver self.now path name.now) }
     {

@@ -5,7 +5,7 @@ use Rattle.vw_design.specs.Paths.{Path}
 use Rattle.vw_design.specs.Preorder.{instances}
 use Rattle.vw_elab.specs.Numbers.{driver_of}
 use Rattle.vw_elab.proofs.ReadTables.{driver_found}
-use Rattle.vw_elab.proofs.elaborated.Elaborated.driver.Goals as goal
+use Rattle.vw_elab.proofs.elaborated.Elaborated.driver_named.Goals as goal
 
 -- by the first claim on the name
 pub returns : goal.returns
