@@ -18,6 +18,7 @@ mod large;
 mod limits;
 mod loops;
 mod plans;
+mod probes;
 mod refusals;
 mod runs;
 mod streamed;

@@ -22,7 +22,7 @@ pub const TOGGLE: Texts = Texts {
 
 /// The planned design of these texts.
 pub fn planned(alloc: Global, texts: &Texts) -> Result<Checked, Fail> {
-    let design = netlist_of_text(alloc, texts.design)
+    let design = netlist_of_text(alloc, texts.design, &[])
         .ok()
         .ok_or("no design")?;
     let board = vw_board::read(alloc, texts.board).ok().ok_or("no board")?;

@@ -12,7 +12,7 @@ use Rattle.vw_design.specs.declared.item.Item.TheVariants.{Names, Latch as Latch
 use Rattle.vw_design.specs.declared.design.Design.{Design}
 use Rattle.vw_design.specs.Paths.{Word, Path, Net}
 use Rattle.vw_design.specs.Preorder.{Site, is_latch_item, cells}
-use Rattle.vw_design.specs.NetReads.{root_outputs}
+use Rattle.vw_design.specs.Probes.{shown_nets}
 use Rattle.vw_design.specs.PathValue.{path_value}
 use Rattle.vw_design.specs.PathHistory.{latch_start, latch_next, path_start, path_outputs, path_next, path_outputs_from, path_states_from, path_state_after, path_history_from, path_history}
 use Rattle.vw_design.specs.Flattened.{number_of, IsCellOf, IsFlatOf}
@@ -61,21 +61,21 @@ nexts design value other agree (site ∷ list) (cell ∷ made) along = by site.i
   by (Sub line model binds) is (Gate nets table) of_item rest = absurd of_item
   by (Sub line model binds) is (Latch net start) of_item rest = absurd of_item
 
-module _ (design : Design) (flat : Flat) (made : IsFlatOf design flat) where
+module _ (design : Design) (watched : List Net) (flat : Flat) (made : IsFlatOf design watched flat) where
   -- the values of numbered nets
   pub values_agree : (row state : List Bool) (path : Path) (name : Word) (net : ℕ) → number_of design path name ≡ Some net → net_value flat row state net ≡ path_value design row state path name
   unfolding net_value path_value
   values_agree row state path name net number =
       let same = AllZip-length (λ (s : Site) (cell : Cell). IsCellOf design s.path s.item cell) (cells design) flat.cells made.cells in
-      ap (λ (count : ℕ). level_value (count + 1) flat row state net) (sym same) ∙ levels_agree design flat made row state (length (cells design) + 1) path name net number
+      ap (λ (count : ℕ). level_value (count + 1) flat row state net) (sym same) ∙ levels_agree design watched flat made row state (length (cells design) + 1) path name net number
 
   start_agrees : (unknown : Bool) → start_values unknown flat.cells ≡ path_start unknown design
   start_agrees unknown = starts design unknown (cells design) flat.cells made.cells ∙ ap (map (λ (s : Site). latch_start unknown s.item)) (latches_of_cells design)
 
-  outputs_agree : (row state : List Bool) → outputs_at flat row state ≡ path_outputs design row state
+  outputs_agree : (row state : List Bool) → outputs_at flat row state ≡ path_outputs design watched row state
   outputs_agree row state =
       map_numbered (λ (net : Net). number_of design net.path net.name) (net_value flat row state) (λ (net : Net). path_value design row state net.path net.name)
-      (λ net. values_agree row state net.path net.name) (root_outputs design) flat.outputs made.outputs
+      (λ net. values_agree row state net.path net.name) (shown_nets design watched) flat.outputs made.outputs
 
   next_agrees : (row state : List Bool) → next_state flat row state ≡ path_next design row state
   next_agrees row state =
@@ -83,7 +83,7 @@ module _ (design : Design) (flat : Flat) (made : IsFlatOf design flat) where
       ∙ ap (map (λ (s : Site). latch_next (path_value design row state s.path) s.item)) (latches_of_cells design)
 
   -- from any state
-  all_outputs : (state : List Bool) (rows : List (List Bool)) → outputs_of flat state rows ≡ path_outputs_from design state rows
+  all_outputs : (state : List Bool) (rows : List (List Bool)) → outputs_of flat state rows ≡ path_outputs_from design watched state rows
   all_outputs state [] = refl
   all_outputs state (row ∷ rows) =
       ap₂ (λ (bits : List Bool) (more : List (List Bool)). bits ∷ more) (outputs_agree row state)
@@ -98,9 +98,9 @@ module _ (design : Design) (flat : Flat) (made : IsFlatOf design flat) where
   last_state state [] = refl
   last_state state (row ∷ rows) = ap (λ (next : List Bool). state_after flat next rows) (next_agrees row state) ∙ last_state (path_next design row state) rows
 
-  pub histories_agree : (unknown : Bool) (rows : List (List Bool)) → flat_history flat (start_values unknown flat.cells) rows ≡ path_history design unknown rows
+  pub histories_agree : (unknown : Bool) (rows : List (List Bool)) → flat_history flat (start_values unknown flat.cells) rows ≡ path_history design watched unknown rows
   histories_agree unknown rows =
       ap (λ (state : List Bool). flat_history flat state rows) (start_agrees unknown) ∙ joined (path_start unknown design)
     where
-      joined : (state : List Bool) → flat_history flat state rows ≡ path_history_from design state rows
+      joined : (state : List Bool) → flat_history flat state rows ≡ path_history_from design watched state rows
       joined state = cc (all_outputs state rows, all_states state rows, last_state state rows)

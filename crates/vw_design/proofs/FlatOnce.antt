@@ -13,7 +13,7 @@ use Rattle.vw_net.proofs.SameCovers.{cover_same}
 use Rattle.vw_design.specs.declared.item.Item.{Item}
 use Rattle.vw_design.specs.declared.item.Item.TheVariants.{Names, Latch as LatchItem, Sub}
 use Rattle.vw_design.specs.declared.design.Design.{Design}
-use Rattle.vw_design.specs.Paths.{Path}
+use Rattle.vw_design.specs.Paths.{Path, Net}
 use Rattle.vw_design.specs.Preorder.{Site, cells}
 use Rattle.vw_design.specs.Flattened.{IsCellOf, IsFlatOf}
 
@@ -66,6 +66,6 @@ flat_same one other inputs cells outputs = λ i. record {
   outputs_fit = is_prop→PathP (λ j. All (λ net. net < inputs j + length (cells j)) (outputs j)) (λ j. hlevel le_prop) one.outputs_fit other.outputs_fit i;
 }
 
-pub flat_once : (design : Design) (one other : Flat) → IsFlatOf design one → IsFlatOf design other → one ≡ other
-flat_once design one other is its =
+pub flat_once : (design : Design) (watched : List Net) (one other : Flat) → IsFlatOf design watched one → IsFlatOf design watched other → one ≡ other
+flat_once design watched one other is its =
     flat_same one other (is.inputs ∙ sym its.inputs) (cells_same design (cells design) one.cells other.cells is.cells its.cells) (nets_same one.outputs other.outputs (sym is.outputs ∙ its.outputs))

@@ -12,7 +12,7 @@ use Rattle.vw_net.specs.Order.{read_nets_at}
 use Rattle.vw_design.specs.declared.item.Item.{Item}
 use Rattle.vw_design.specs.declared.item.Item.TheVariants.{Names}
 use Rattle.vw_design.specs.declared.design.Design.{Design}
-use Rattle.vw_design.specs.Paths.{Word, Path}
+use Rattle.vw_design.specs.Paths.{Word, Path, Net}
 use Rattle.vw_design.specs.Drivers.{Source, at_port, at_cell, driver}
 use Rattle.vw_design.specs.Preorder.{Site, is_cell, sites, cells}
 use Rattle.vw_design.specs.Clocks.{columns}
@@ -73,10 +73,10 @@ module _ (design : Design) where
       ap₂ (λ (a b : Bool). a || b) (same_driver place site at (driver design path name) net first) (any_driver place site at path ins nets rest)
 
   -- a gate reads a cell exactly where its cell of the netlist reads the cell's net
-  pub reads_agree : (flat : Flat) → IsFlatOf design flat → (place other : ℕ) (site read : Site) → slice_get (cells design) place ≡ Some site → slice_get (cells design) other ≡ Some read
+  pub reads_agree : (watched : List Net) (flat : Flat) → IsFlatOf design watched flat → (place other : ℕ) (site read : Site) → slice_get (cells design) place ≡ Some site → slice_get (cells design) other ≡ Some read
       → (line : ℕ) (ins : List Word) (out : Word) (cover : Cover) → site.item ≡ Names line ins out cover
       → gate_reads design (gate_at site) (gate_at read) ≡ list_any (λ net. net == flat.inputs + other) (read_nets_at (slice_get flat.cells place))
-  reads_agree flat made place other site read at at_read line ins out cover is =
+  reads_agree watched flat made place other site read at at_read line ins out cover is =
       let listed = from-filter (λ (s : Site). is_cell s.item) site (sites design) (Has-at site (cells design) place at) in
       let item : item_at design site.path site.number ≡ Some (Names line ins out cover) = site_item design site listed.0 ∙ ap (λ (i : Item). Some i) is in
       let along = AllZip-at (λ (s : Site) (cell : Cell). IsCellOf design s.path s.item cell) (cells design) flat.cells place site made.cells at in

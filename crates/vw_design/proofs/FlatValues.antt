@@ -14,7 +14,7 @@ use Rattle.vw_net.specs.Value.{driven_value, level_value}
 use Rattle.vw_design.specs.declared.item.Item.{Item}
 use Rattle.vw_design.specs.declared.item.Item.TheVariants.{Names, Latch as LatchItem, Sub}
 use Rattle.vw_design.specs.declared.design.Design.{Design}
-use Rattle.vw_design.specs.Paths.{Word, Path}
+use Rattle.vw_design.specs.Paths.{Word, Path, Net}
 use Rattle.vw_design.specs.Drivers.{Source, at_port, at_cell, driver}
 use Rattle.vw_design.specs.Preorder.{Site, is_cell, is_latch_item, sites, cells, latches}
 use Rattle.vw_design.specs.Clocks.{columns}
@@ -72,7 +72,7 @@ site_of_place list path number place found =
     let parts = and_parts (bytes_eq at.0.path path) _ at.2 in
     (at.0, at.1, same_name at.0.path path parts.0, eqb-true at.0.number number parts.1)
 
-module _ (design : Design) (flat : Flat) (made : IsFlatOf design flat) (row state : List Bool) where
+module _ (design : Design) (watched : List Net) (flat : Flat) (made : IsFlatOf design watched flat) (row state : List Bool) where
   -- a net with a column
   column_value : (level : ℕ) (name : Word) (net : ℕ) → place_of_name (columns design) name ≡ Some net → level_value (suc level) flat row state net ≡ bit_at row (place_of_name (columns design) name)
   column_value level name net found =

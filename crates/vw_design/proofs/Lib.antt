@@ -33,3 +33,5 @@ pub mod PathsOnce
 pub mod Ordered
 pub mod FlatOnce
 pub mod WordSets
+pub mod FewPlaces
+pub mod WatchedNets

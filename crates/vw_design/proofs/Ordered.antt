@@ -13,7 +13,7 @@ use Rattle.vw_design.specs.declared.item.Item.{Item}
 use Rattle.vw_design.specs.declared.item.Item.TheVariants.{Names, Latch as LatchItem, Sub}
 use Rattle.vw_net.specs.declared.cover.Cover.{Cover}
 use Rattle.vw_design.specs.declared.design.Design.{Design}
-use Rattle.vw_design.specs.Paths.{Word, Path}
+use Rattle.vw_design.specs.Paths.{Word, Path, Net}
 use Rattle.vw_design.specs.Preorder.{Site, is_cell, sites, cells}
 use Rattle.vw_design.specs.PathValue.{item_at}
 use Rattle.vw_design.specs.Flattened.{IsCellOf, IsFlatOf}
@@ -26,7 +26,7 @@ use Rattle.vw_design.proofs.DriverNumbers.{cell_place}
 use Rattle.vw_design.proofs.FlatReads.{reads_agree}
 use Rattle.vw_design.proofs.PairedLists.{AllZip-at}
 
-module _ (design : Design) (accepted : IsAccepted design) (flat : Flat) (made : IsFlatOf design flat) (order : List ℕ) (is_order : IsOrder flat.inputs flat.cells order) where
+module _ (design : Design) (accepted : IsAccepted design) (watched : List Net) (flat : Flat) (made : IsFlatOf design watched flat) (order : List ℕ) (is_order : IsOrder flat.inputs flat.cells order) where
   -- a gate of the design, as it stands among the cells
   record IsListedGate (gate : Gate) : Type 0 where
     line : ℕ
@@ -100,7 +100,7 @@ module _ (design : Design) (accepted : IsAccepted design) (flat : Flat) (made : 
   earlier : (gate next : Gate) (a : IsListedGate gate) (b : IsListedGate next) → gate_reads design gate next ≡ true → (index : ℕ) → index < length order → slice_index order index ≡ a.place → StandsInOrder b.place index
   earlier gate next a b reads index within is =
       let nets = read_nets_at (slice_get flat.cells a.place) in
-      let agree = reads_agree design flat made a.place b.place a.site b.site a.at b.at a.line a.ins a.out a.cover a.item in
+      let agree = reads_agree design watched flat made a.place b.place a.site b.site a.at b.at a.line a.ins a.out a.cover a.item in
       let any : list_any (λ (net : ℕ). net == flat.inputs + b.place) nets ≡ true = sym agree ∙ ap₂ (gate_reads design) a.same b.same ∙ reads in
       let found = from-any (λ (net : ℕ). net == flat.inputs + b.place) nets any in
       let net : found.0 ≡ flat.inputs + b.place = eqb-true found.0 (flat.inputs + b.place) found.2 in

@@ -101,7 +101,7 @@ unfolding clock_ports sites driver
 no_fault_of_nets = refl
 
 -- three clocks, by hand: the input goes through two stages, is inverted, and goes through two more
-history_worked : path_history worked false ((true ∷ []) ∷ (false ∷ []) ∷ (true ∷ []) ∷ []) ≡ record {
+history_worked : path_history worked [] false ((true ∷ []) ∷ (false ∷ []) ∷ (true ∷ []) ∷ []) ≡ record {
   outputs = (false ∷ []) ∷ (false ∷ []) ∷ (true ∷ []) ∷ [];
   states = (false ∷ false ∷ false ∷ false ∷ []) ∷ (true ∷ false ∷ true ∷ false ∷ []) ∷ (false ∷ true ∷ true ∷ true ∷ []) ∷ [];
   last = true ∷ false ∷ false ∷ true ∷ [];

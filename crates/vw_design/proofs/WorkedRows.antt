@@ -8,7 +8,7 @@ use Rattle.vw_design.specs.declared.item.Edge.TheVariants.{Rise}
 use Rattle.vw_design.specs.declared.item.Item.TheVariants.{Names, Latch, Sub}
 use Rattle.vw_design.specs.declared.model.Model.{Model}
 use Rattle.vw_design.specs.declared.design.Design.{Design}
-use Rattle.vw_design.specs.Paths.{printed}
+use Rattle.vw_design.specs.Paths.{Net, printed}
 use Rattle.vw_design.specs.Drivers.{driver}
 use Rattle.vw_design.specs.Preorder.{sites, cells}
 use Rattle.vw_design.specs.NetReads.{net_at, driven_name}
@@ -50,27 +50,32 @@ unfolding reached clock_ports sites driver
 toggle_fine = refl
 
 -- a latch that is free starts at the setting
-toggle_zero : path_history toggle false (high ∷ high ∷ low ∷ []) ≡ record { outputs = low ∷ high ∷ low ∷ []; states = low ∷ high ∷ low ∷ []; last = low }
+toggle_zero : path_history toggle [] false (high ∷ high ∷ low ∷ []) ≡ record { outputs = low ∷ high ∷ low ∷ []; states = low ∷ high ∷ low ∷ []; last = low }
 unfolding path_value columns clock_ports sites driver
 toggle_zero = refl
 
-toggle_one : path_history toggle true (high ∷ high ∷ low ∷ []) ≡ record { outputs = high ∷ low ∷ high ∷ []; states = high ∷ low ∷ high ∷ []; last = high }
+toggle_one : path_history toggle [] true (high ∷ high ∷ low ∷ []) ≡ record { outputs = high ∷ low ∷ high ∷ []; states = high ∷ low ∷ high ∷ []; last = high }
 unfolding path_value columns clock_ports sites driver
 toggle_one = refl
+
+-- a watched net stands behind the outputs
+toggle_watched : (path_history toggle (net_at [] (codes "d") ∷ []) false (high ∷ high ∷ low ∷ [])).outputs ≡ (false ∷ true ∷ []) ∷ (true ∷ false ∷ []) ∷ (false ∷ false ∷ []) ∷ []
+unfolding path_value columns clock_ports sites driver
+toggle_watched = refl
 
 -- tables without inputs: no row, the row 1, and the row 0
 abbrev constant : Cover → Model
 constant cover = record { name = codes "m"; inputs = []; outputs = codes "k" ∷ []; clocks = []; items = Names 3 [] (codes "k") cover ∷ [] }
 
-constant_none : (path_history (design (constant (table 0 true [] refl) ∷ []) refl) false ([] ∷ [])).outputs ≡ low ∷ []
+constant_none : (path_history (design (constant (table 0 true [] refl) ∷ []) refl) [] false ([] ∷ [])).outputs ≡ low ∷ []
 unfolding path_value columns clock_ports sites driver
 constant_none = refl
 
-constant_on : (path_history (design (constant (table 0 true ([] ∷ []) refl) ∷ []) refl) false ([] ∷ [])).outputs ≡ high ∷ []
+constant_on : (path_history (design (constant (table 0 true ([] ∷ []) refl) ∷ []) refl) [] false ([] ∷ [])).outputs ≡ high ∷ []
 unfolding path_value columns clock_ports sites driver
 constant_on = refl
 
-constant_off : (path_history (design (constant (table 0 false ([] ∷ []) refl) ∷ []) refl) false ([] ∷ [])).outputs ≡ low ∷ []
+constant_off : (path_history (design (constant (table 0 false ([] ∷ []) refl) ∷ []) refl) [] false ([] ∷ [])).outputs ≡ low ∷ []
 unfolding path_value columns clock_ports sites driver
 constant_off = refl
 
@@ -103,6 +108,19 @@ placed_cells : map (λ site. printed (net_at site.path (driven_name site.item)))
 unfolding sites digits
 placed_cells = refl
 
-placed_outputs : (path_history placed_twice false ((false ∷ false ∷ []) ∷ (false ∷ true ∷ []) ∷ (true ∷ false ∷ []) ∷ (true ∷ true ∷ []) ∷ [])).outputs ≡ high ∷ low ∷ low ∷ low ∷ []
+placed_outputs : (path_history placed_twice [] false ((false ∷ false ∷ []) ∷ (false ∷ true ∷ []) ∷ (true ∷ false ∷ []) ∷ (true ∷ true ∷ []) ∷ [])).outputs ≡ high ∷ low ∷ low ∷ low ∷ []
 unfolding path_value columns clock_ports sites driver
 placed_outputs = refl
+
+-- with an inner net watched, which is printed as `2/t`
+abbrev second_inverted : Net
+second_inverted = net_at (2 ∷ []) (codes "t")
+
+second_printed : printed second_inverted ≡ codes "2/t"
+unfolding digits
+second_printed = refl
+
+placed_watched : (path_history placed_twice (second_inverted ∷ []) false ((false ∷ false ∷ []) ∷ (false ∷ true ∷ []) ∷ (true ∷ false ∷ []) ∷ (true ∷ true ∷ []) ∷ [])).outputs
+    ≡ (true ∷ true ∷ []) ∷ (false ∷ false ∷ []) ∷ (false ∷ true ∷ []) ∷ (false ∷ false ∷ []) ∷ []
+unfolding path_value columns clock_ports sites driver
+placed_watched = refl

@@ -1,5 +1,6 @@
--- What it is for a flat netlist to be that of a design: each net that is read has the number of its driver.
-use Rattle.std.specs.Prelude.{◌≡◌, ℕ, ◌+◌, length, map, Option, Some, None, option_map}
+-- What it is for a flat netlist to be that of a design, some of whose nets are watched: each net that is read or watched
+-- has the number of its driver.
+use Rattle.std.specs.Prelude.{◌≡◌, ℕ, ◌+◌, List, length, map, Option, Some, None, option_map}
 use Rattle.std.specs.List.{AllZip}
 use Rattle.vw_net.specs.declared.cell.Cell.{Cell}
 use Rattle.vw_net.specs.declared.cell.Cell.TheVariants.{Gate, Latch}
@@ -8,11 +9,11 @@ use Rattle.vw_net.specs.declared.flat.Flat.{Flat}
 use Rattle.vw_design.specs.declared.item.Item.{Item}
 use Rattle.vw_design.specs.declared.item.Item.TheVariants.{Names, Latch as LatchItem, Sub}
 use Rattle.vw_design.specs.declared.design.Design.{Design}
-use Rattle.vw_design.specs.Paths.{Word, Path}
+use Rattle.vw_design.specs.Paths.{Word, Path, Net}
 use Rattle.vw_design.specs.Drivers.{Source, at_port, at_cell, driver}
 use Rattle.vw_design.specs.Preorder.{cells}
-use Rattle.vw_design.specs.NetReads.{root_outputs}
 use Rattle.vw_design.specs.Clocks.{columns}
+use Rattle.vw_design.specs.Probes.{shown_nets}
 use Rattle.vw_design.specs.PathValue.{place_of_name, place_of_site}
 
 -- the number of a driver: of a column, its place among the columns; of a cell, as many more as there are columns; a
@@ -44,8 +45,8 @@ IsCellOf design path (Sub line model binds) (Gate nets table) = ⊥
 IsCellOf design path (Sub line model binds) (Latch net start) = ⊥
 
 -- the inputs are the columns, the cells are those of the design in preorder, and the outputs have the numbers of the
--- root's outputs
-pub record IsFlatOf (design : Design) (flat : Flat) : Type 0 where
+-- root's outputs and then of the watched nets
+pub record IsFlatOf (design : Design) (watched : List Net) (flat : Flat) : Type 0 where
   pub inputs : flat.inputs ≡ length (columns design)
   pub cells : AllZip (λ site cell. IsCellOf design site.path site.item cell) (cells design) flat.cells
-  pub outputs : map (λ net. number_of design net.path net.name) (root_outputs design) ≡ map (λ net. Some net) flat.outputs
+  pub outputs : map (λ net. number_of design net.path net.name) (shown_nets design watched) ≡ map (λ net. Some net) flat.outputs

@@ -8,6 +8,7 @@ pub mod Drivers
 pub mod Preorder
 pub mod NetReads
 pub mod Clocks
+pub mod Probes
 pub mod PathValue
 pub mod PathHistory
 pub mod Flattened

@@ -135,7 +135,9 @@ fn flat_text(alloc: Global, flat: &Flat) -> Result<Vec<u8>, AllocError> {
 
 /// The flat design of an elaborated one.
 fn flattened(alloc: Global, elaborated: &Elaborated) -> Result<Vec<u8>, AllocError> {
-    let flat = flatten(alloc, elaborated)?;
+    let Ok(flat) = flatten(alloc, elaborated, &[]) else {
+        return Err(AllocError);
+    };
     flat_text(alloc, &flat)
 }
 
@@ -236,5 +238,39 @@ const TWINS_EXPECTED: &Expected = &Expected {
 #[test]
 fn drivers_and_nets_are_those_of_their_instances(rt: HostRuntime) -> Result<(), Fail> {
     assert_text(&rt, rt.alloc(), TWINS, TWINS_EXPECTED)?;
+    Ok(())
+}
+
+/// Asserts of instances and places of them which instances these are.
+fn assert_children(
+    rt: &impl Abort,
+    text: &[u8],
+    elaborated: Option<Elaborated>,
+    table: &[(u32, u32, Option<u32>)],
+) {
+    let Some(elaborated) = elaborated else {
+        return assert_same(rt, text, b"refused", b"elaborated");
+    };
+    for (instance, place, child) in table {
+        assert!(rt; elaborated.child(*instance, *place) == *child);
+    }
+}
+
+#[test]
+fn each_place_of_an_instance_has_its_instance(rt: HostRuntime) -> Result<(), Fail> {
+    const PLACES: &[(u32, u32, Option<u32>)] = &[
+        (0, 0, None),
+        (0, 1, Some(1)),
+        (0, 2, Some(2)),
+        (0, 3, None),
+        (1, 1, None),
+    ];
+    assert_children(&rt, TWINS, elaborated(rt.alloc(), TWINS), PLACES);
+    const NESTED_PLACES: &[(u32, u32, Option<u32>)] = &[
+        (0, 1, Some(1)),
+        (1, 1, Some(2)),
+        (2, 1, None),
+    ];
+    assert_children(&rt, NESTED, elaborated(rt.alloc(), NESTED), NESTED_PLACES);
     Ok(())
 }

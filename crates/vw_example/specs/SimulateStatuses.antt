@@ -1,11 +1,10 @@
--- What a caller knows of a simulation by its status.
+-- What a caller knows of a simulation by its status. No net is watched.
 use Rattle.std.specs.Prelude.{◌≡◌, ◌≢◌, ◌<◌, ℕ, Bool, false, List, [], length, Ok, Err}
-use Rattle.vw_design.specs.declared.design.Design.{Design}
 use Rattle.vw_design.specs.Clocks.{columns}
 use Rattle.vw_outside.specs.Fronts.{IsFront}
 use Rattle.vw_rows.specs.declared.fault.StimFault.{StimFault}
 use Rattle.vw_rows.specs.Stimulus.{stimulus_rows}
-use Rattle.vw_front.specs.Designs.{IsDesignOf}
+use Rattle.vw_front.specs.Designs.{WatchedDesign, IsWatchedDesignOf}
 use Rattle.vw_top.specs.declared.vocabulary.Reason.{Reason}
 use Rattle.vw_top.specs.declared.vocabulary.Reason.TheVariants.{Stimulus}
 use Rattle.vw_top.specs.Messages.{reason_line}
@@ -14,27 +13,27 @@ use Rattle.vw_top.specs.Commands.{trace_of}
 
 -- out is the trace of the design that the text spells, over the rows of the stimulus, and err is empty
 pub record IsSimulated (design stimulus out err : List ℕ) : Type 0 where
-  pub spelled : Design
+  pub spelled : WatchedDesign
   pub rows : List (List Bool)
-  pub is : IsDesignOf design spelled
-  pub read : stimulus_rows (length (columns spelled)) stimulus ≡ Ok rows
+  pub is : IsWatchedDesignOf [] design spelled
+  pub read : stimulus_rows (length (columns spelled.design)) stimulus ≡ Ok rows
   pub trace : out ≡ trace_of false spelled rows
   pub no_message : err ≡ []
 
 -- the design text is refused for a reason; out is empty, and err is the message of this reason
 pub record HasBadDesign (design out err : List ℕ) : Type 0 where
   pub reason : Reason
-  pub refused : IsBadDesign design reason
+  pub refused : IsBadDesign [] design reason
   pub no_trace : out ≡ []
   pub message : err ≡ reason_line reason
 
 -- the text spells a design that runs, and the stimulus has a fault for its columns; out is empty, and err is the
 -- message of this fault
 pub record HasBadRows (design stimulus out err : List ℕ) : Type 0 where
-  pub spelled : Design
+  pub spelled : WatchedDesign
   pub fault : StimFault
-  pub is : IsDesignOf design spelled
-  pub read : stimulus_rows (length (columns spelled)) stimulus ≡ Err fault
+  pub is : IsWatchedDesignOf [] design spelled
+  pub read : stimulus_rows (length (columns spelled.design)) stimulus ≡ Err fault
   pub no_trace : out ≡ []
   pub message : err ≡ reason_line (Stimulus fault)
 
@@ -46,6 +45,6 @@ pub record SimulateStatuses (design stimulus out err : List ℕ) (status : ℕ) 
   pub no_rows : status ≡ 5 → HasBadRows design stimulus out err
   pub others : (status ≢ 2) × (status ≢ 3) × (status ≢ 4) × (status ≢ 6)
   pub known : status < 10
-  pub part : (spelled : Design) (rows : List (List Bool)) → IsDesignOf design spelled
-      → stimulus_rows (length (columns spelled)) stimulus ≡ Ok rows
+  pub part : (spelled : WatchedDesign) (rows : List (List Bool)) → IsWatchedDesignOf [] design spelled
+      → stimulus_rows (length (columns spelled.design)) stimulus ≡ Ok rows
       → IsFront out (trace_of false spelled rows)

@@ -1,8 +1,8 @@
--- An accepted design has a flat netlist: whatever is read as data has a number.
-use Rattle.std.proofs.Common.{◌≡◌, ◌<◌, ◌+◌, ℕ, true, true≢false, List, [], ◌∷◌, length, map, flat_map, Option, Some, inl, inr, refl, sym, ◌∙◌, ap, ap₂, subst, arith}
+-- An accepted design has a flat netlist: whatever is read as data or watched has a number.
+use Rattle.std.proofs.Common.{◌≡◌, ◌<◌, ◌≤◌, ◌+◌, ℕ, true, true≢false, List, [], ◌∷◌, ◌++◌, length, length-append, map, flat_map, Option, Some, inl, inr, refl, sym, ◌∙◌, ap, ap₂, subst, arith}
 use Rattle.std.specs.List.{All, AllZip}
-use Rattle.std.proofs.lemmas.List.{length-map}
-use Rattle.std.proofs.lemmas.List.Elements.{All-nil, All-cons}
+use Rattle.std.proofs.lemmas.List.{length-map, map-append}
+use Rattle.std.proofs.lemmas.List.Elements.{All-nil, All-cons, All-append}
 use Rattle.std.proofs.lemmas.Simd.{map-map}
 use Rattle.vw_net.specs.declared.cell.Cell.{Cell}
 use Rattle.vw_net.specs.declared.cell.Cell.TheVariants.{Gate, Latch}
@@ -17,11 +17,13 @@ use Rattle.vw_design.specs.Preorder.{Site, is_cell, sites, cells}
 use Rattle.vw_design.specs.NetReads.{net_at, nets_at, data_of, root_outputs, data_reads}
 use Rattle.vw_design.specs.Clocks.{columns}
 use Rattle.vw_design.specs.Flattened.{number_of, IsCellOf, IsFlatOf}
+use Rattle.vw_design.specs.Probes.{Finds, FindAll, shown_nets}
 use Rattle.vw_design.specs.Accepted.{IsAccepted}
 use Rattle.vw_design.proofs.ListElements.{Has, at-Has, Has-left, Has-right, Has-flat_map, from-filter, Contains-Has}
 use Rattle.vw_design.proofs.DriverNumbers.{read_numbered}
 use Rattle.vw_design.proofs.PairedLists.{AllZip-length}
 use Rattle.vw_design.proofs.Sizes.{few_columns}
+use Rattle.vw_design.proofs.WatchedNets.{number_of_bit}
 use Rattle.vw_flat.specs.Steps.Numbers.{net_count, item_with_numbers, numbers_at}
 use Rattle.vw_flat.proofs.Readings.{gate_reads_all}
 
@@ -111,25 +113,48 @@ module _ (design : Design) (accepted : IsAccepted design) where
         fit = All-cons (IsWellFormed (net_count design)) first.cell rest.made first.fits rest.fit;
       }
 
+  -- and so have the nets that probes find
+  watched_numbers : (probes : List Word) (nets : List Net) → FindAll design probes nets → HaveNumbers nets
+  watched_numbers [] [] found = numbers_of [] (λ net has. absurd has)
+  watched_numbers [] (net ∷ nets) found = absurd found
+  watched_numbers (probe ∷ probes) [] found = absurd found
+  watched_numbers (probe ∷ probes) (net ∷ nets) found =
+      let first = number_of_bit design accepted net.path net.name found.0.printed_as.bit in
+      let rest = watched_numbers probes nets found.1 in
+      record {
+        numbers = first.0 ∷ rest.numbers;
+        are = ap₂ (λ (n : Option ℕ) (ns : List (Option ℕ)). n ∷ ns) first.1 rest.are;
+        fit = All-cons (λ (number : ℕ). number < net_count design) first.0 rest.numbers first.2 rest.fit;
+      }
+
+  both_numbers : (nets others : List Net) → HaveNumbers nets → HaveNumbers others → HaveNumbers (nets ++ others)
+  both_numbers nets others one two = record {
+    numbers = one.numbers ++ two.numbers;
+    are = map-append number_at nets others ∙ ap₂ (λ (ns ms : List (Option ℕ)). ns ++ ms) one.are two.are ∙ sym (map-append (λ (number : ℕ). Some number) one.numbers two.numbers);
+    fit = All-append (λ (number : ℕ). number < net_count design) one.numbers two.numbers one.fit two.fit;
+  }
+
   -- the netlist
-  pub flat_of : (flat : Flat) × IsFlatOf design flat
-  flat_of =
+  pub flat_of : (probes : List Word) (nets : List Net) → FindAll design probes nets → length probes ≤ 64 → (flat : Flat) × IsFlatOf design nets flat
+  flat_of probes nets found few =
       let gates_and_latches = cells_of (cells design) (λ site has. has) in
-      let outputs = numbers_of (root_outputs design) (λ net has. Has-right net (flat_map (λ (s : Site). nets_at s (data_of s.item)) (sites design)) (root_outputs design) has) in
+      let own = numbers_of (root_outputs design) (λ net has. Has-right net (flat_map (λ (s : Site). nets_at s (data_of s.item)) (sites design)) (root_outputs design) has) in
+      let outputs = both_numbers (root_outputs design) nets own (watched_numbers probes nets found) in
       let count : length (cells design) ≡ length gates_and_latches.made = AllZip-length IsItsCell (cells design) gates_and_latches.made gates_and_latches.are in
-      let nets : net_count design ≡ length (columns design) + length gates_and_latches.made = ap (λ (n : ℕ). length (columns design) + n) count in
-      let long : length outputs.numbers ≡ length (model_outputs (model_at design [])) =
-      sym (length-map outputs.numbers (λ (n : ℕ). Some n)) ∙ ap (λ (list : List (Option ℕ)). length list) (sym outputs.are) ∙ length-map (root_outputs design) number_at
-      ∙ length-map (model_outputs (model_at design [])) (net_at []) in (
+      let all_nets : net_count design ≡ length (columns design) + length gates_and_latches.made = ap (λ (n : ℕ). length (columns design) + n) count in
+      let roots : length (root_outputs design) ≡ length (model_outputs (model_at design [])) = length-map (model_outputs (model_at design [])) (net_at []) in
+      let watched : length probes ≡ length nets = AllZip-length (Finds design) probes nets found in
+      let long : length outputs.numbers ≡ length (root_outputs design ++ nets) =
+      sym (length-map outputs.numbers (λ (n : ℕ). Some n)) ∙ ap (λ (list : List (Option ℕ)). length list) (sym outputs.are) ∙ length-map (root_outputs design ++ nets) number_at in (
         record {
           inputs = length (columns design);
           cells = gates_and_latches.made;
           outputs = outputs.numbers;
           few_inputs = omega (arith, few_columns design, accepted.models.small.inputs);
           few_cells = omega (arith, count, accepted.models.small.cells);
-          few_outputs = omega (arith, long, accepted.models.small.outputs);
-          cells_fit = subst (λ (n : ℕ). All (IsWellFormed n) gates_and_latches.made) nets gates_and_latches.fit;
-          outputs_fit = subst (λ (n : ℕ). All (λ (net : ℕ). net < n) outputs.numbers) nets outputs.fit;
+          few_outputs = omega (arith, long, length-append (root_outputs design) nets, roots, watched, few, accepted.models.small.outputs);
+          cells_fit = subst (λ (n : ℕ). All (IsWellFormed n) gates_and_latches.made) all_nets gates_and_latches.fit;
+          outputs_fit = subst (λ (n : ℕ). All (λ (net : ℕ). net < n) outputs.numbers) all_nets outputs.fit;
         },
         record { inputs = refl; cells = gates_and_latches.are; outputs = outputs.are },
       )

@@ -1,4 +1,9 @@
 pub mod Items
 pub mod Readings
 pub mod LongerLists
+pub mod PlacesInFront
+pub mod NetsBelow
+pub mod FirstProbes
+pub mod SearchSteps
+pub mod ProbedFlats
 pub mod FlatNetlists

@@ -1,2 +1,4 @@
 pub mod Printed
+pub mod Probed
+pub mod Messages
 pub mod Steps

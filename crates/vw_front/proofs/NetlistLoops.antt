@@ -14,7 +14,7 @@ use Rattle.vw_design.specs.declared.item.Item.{Item}
 use Rattle.vw_design.specs.declared.item.Item.TheVariants.{Names, Latch as LatchItem, Sub}
 use Rattle.vw_design.specs.declared.design.Design.{Design}
 use Rattle.vw_net.specs.Lists.{turned}
-use Rattle.vw_design.specs.Paths.{Word}
+use Rattle.vw_design.specs.Paths.{Word, Net}
 use Rattle.vw_design.specs.Preorder.{Site, cells}
 use Rattle.vw_design.specs.Limits.{cell_count}
 use Rattle.vw_design.specs.Flattened.{IsFlatOf, IsCellOf}
@@ -54,7 +54,7 @@ mapped f Q (u ∷ us) [] all = absurd all
 mapped f Q (u ∷ us) (v ∷ vs) all = (all.0, mapped f Q us vs all.1)
 
 -- the first of a pair
-module _ (design : Design) (flat : Flat) (is : IsFlatOf design flat) where
+module _ (design : Design) (watched : List Net) (flat : Flat) (is : IsFlatOf design watched flat) where
   -- a cell number, and the gate or latch of the design with this number
   abbrev IsAt : ℕ → Site → Type 0
   IsAt number site = slice_get (cells design) number ≡ Some site
@@ -90,7 +90,7 @@ module _ (design : Design) (flat : Flat) (is : IsFlatOf design flat) where
       let more = and_parts (is_gate (slice_get flat.cells next)) (is_among (read_nets_at (slice_get flat.cells number)) (flat.inputs + next)) parts.1 in
       let gate = gate_is number parts.0 in
       let same : gate.site ≡ site = same_Some gate.site site (sym gate.at ∙ at) in
-      reads_agree design flat is number next site other at at_next gate.line gate.ins gate.out gate.cover (ap (λ (s : Site). s.item) (sym same) ∙ gate.item) ∙ more.1
+      reads_agree design watched flat is number next site other at at_next gate.line gate.ins gate.out gate.cover (ap (λ (s : Site). s.item) (sym same) ∙ gate.item) ∙ more.1
 
   -- the gates at the numbers of a circle
   gates_at : (numbers : List ℕ) → ((number : ℕ) → Has number numbers → is_gate (slice_get flat.cells number) ≡ true) → (gates : List Site) × AllZip IsAt numbers gates

@@ -1,10 +1,10 @@
 -- A design that runs has a netlist with an order of its gates, and gates in a circle lead to a loop as it is listed.
-use Rattle.std.proofs.Common.{ℕ, List, map, ◌⊎◌, inl, inr, ⊎_elim}
+use Rattle.std.proofs.Common.{◌≤◌, ℕ, List, [], length, map, ◌⊎◌, inl, inr, ⊎_elim, arith}
 use Rattle.vw_net.specs.declared.flat.Flat.{Flat}
 use Rattle.vw_net.specs.declared.ordered.Ordered.{Ordered}
 use Rattle.vw_net.specs.Order.{IsOrder}
 use Rattle.vw_design.specs.declared.design.Design.{Design}
-use Rattle.vw_design.specs.Paths.{Word}
+use Rattle.vw_design.specs.Paths.{Word, Net}
 use Rattle.vw_design.specs.Accepted.{IsAccepted}
 use Rattle.vw_design.specs.Flattened.{IsFlatOf}
 use Rattle.vw_design.specs.Loops.{Gate, gate_at, IsLoop}
@@ -19,23 +19,23 @@ use Rattle.vw_front.specs.Designs.{Runs, IsNetlistOf, IsLoopOf}
 use Rattle.vw_front.proofs.NetlistLoops.{loop_of}
 
 -- the gates of a netlist have an order, or the design has a loop
-order_or_loop : (design : Design) (flat : Flat) → IsFlatOf design flat → ((order : List ℕ) × IsOrder flat.inputs flat.cells order) ⊎ ((names : List Word) × IsLoopOf design names)
-order_or_loop design flat is = ⊎_elim
+order_or_loop : (design : Design) (watched : List Net) (flat : Flat) → IsFlatOf design watched flat → ((order : List ℕ) × IsOrder flat.inputs flat.cells order) ⊎ ((names : List Word) × IsLoopOf design names)
+order_or_loop design watched flat is = ⊎_elim
     (λ found. inl (found.0, is_order flat found.0 found.1))
-    (λ circle. inr (loop_of design flat is circle.0 (is_loop flat circle.0 circle.1 circle.2)))
+    (λ circle. inr (loop_of design watched flat is circle.0 (is_loop flat circle.0 circle.1 circle.2)))
     (order_or_circle (gates flat) (within flat))
 
 -- where the design has no loop there is an order
-pub netlist_of : (text : List ℕ) → Runs text → (ordered : Ordered) × IsNetlistOf text ordered
-netlist_of text (design, is) =
-    let flat = flat_of design is.accepted in
+pub netlist_of : (probes : List Word) (text : List ℕ) → Runs probes text → length probes ≤ 64 → (ordered : Ordered) × IsNetlistOf probes text ordered
+netlist_of probes text (watched, is) few =
+    let flat = flat_of watched.design is.design_of.accepted probes watched.nets is.found few in
     ⊎_elim
-    (λ order. (record { flat = flat.0; order = order.0; is_order = order.1 }, record { design = design; is = is; flat = flat.1 }))
-    (λ loop. absurd (is.loop_free (map gate_at loop.1.gates) loop.1.loop))
-    (order_or_loop design flat.0 flat.1)
+    (λ order. (record { flat = flat.0; order = order.0; is_order = order.1 }, record { watched = watched; is = is; flat = flat.1 }))
+    (λ loop. absurd (is.design_of.loop_free (map gate_at loop.1.gates) loop.1.loop))
+    (order_or_loop watched.design watched.nets flat.0 flat.1)
 
 -- where gates read each other in a circle there is no order
 pub listed_loop : (design : Design) → IsAccepted design → (circle : List Gate) → IsLoop design circle → (names : List Word) × IsLoopOf design names
 listed_loop design accepted circle loop =
-    let flat = flat_of design accepted in
-    ⊎_elim (λ order. absurd (loop_free design accepted flat.0 flat.1 order.0 order.1 circle loop)) (λ listed. listed) (order_or_loop design flat.0 flat.1)
+    let flat = flat_of design accepted [] [] tt (omega arith) in
+    ⊎_elim (λ order. absurd (loop_free design accepted [] flat.0 flat.1 order.0 order.1 circle loop)) (λ listed. listed) (order_or_loop design [] flat.0 flat.1)

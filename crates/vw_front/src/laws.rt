@@ -1,5 +1,5 @@
 //! Laws of designs that run, and of loops, as contracts of functions that do nothing.
-ghost use Rattle.std.specs.Prelude.{ℕ, List};
+ghost use Rattle.std.specs.Prelude.{◌≤◌, ℕ, List, length};
 ghost use Rattle.vw_net.specs.declared.ordered.Ordered.{Ordered};
 ghost use Rattle.vw_design.specs.declared.design.Design.{Design};
 ghost use Rattle.vw_design.specs.Paths.{Word};
@@ -7,9 +7,11 @@ ghost use Rattle.vw_design.specs.Accepted.{IsAccepted};
 ghost use Rattle.vw_design.specs.Loops.{Gate, IsLoop};
 ghost use Rattle.vw_front.specs.Designs.{Runs, IsNetlistOf, IsLoopOf};
 
-/// A text with a design that runs has a netlist of that design, with an order of its gates.
+/// A text with a design that runs, in which each of 64 probes at most finds a net, has a netlist of that design with these
+/// nets, with an order of its gates.
 pub fn running_designs_have_netlists()
-    ensures { (text : List ℕ) → Runs text → (ordered : Ordered) × IsNetlistOf text ordered }
+    ensures { (probes : List Word) (text : List ℕ) → Runs probes text → length probes ≤ 64
+        → (ordered : Ordered) × IsNetlistOf probes text ordered }
 {}
 
 /// Where any gates of an accepted design read each other in a circle, the design has a loop as it is listed: none of its

@@ -1,13 +1,15 @@
 //! The netlist of the design that a text spells.
-ghost use Rattle.std.specs.Prelude.{◌≡◌, ◌<◌, Some, option_map, slice_get, IfOk};
+ghost use Rattle.std.specs.Prelude.{◌≡◌, ◌<◌, ◌≤◌, List, Some, length, option_map, slice_get, IfOk};
 ghost use Rattle.std.specs.List.{All, AllZip};
 ghost use Rattle.vw_design.specs.Accepted.{IsAccepted};
 ghost use Rattle.vw_design.specs.Flattened.{IsFlatOf};
 ghost use Rattle.vw_design.specs.Limits.{cell_count};
 ghost use Rattle.vw_design.specs.Preorder.{cells};
+ghost use Rattle.vw_design.specs.Paths.{Net};
 ghost use Rattle.vw_flat.specs.Printed.{printed_site};
+ghost use Rattle.vw_flat.specs.Probed.{IsProbedFlat};
 ghost use Rattle.vw_order.specs.Faults.{IsOrderFault};
-ghost use Rattle.vw_front.specs.Designs.{SpellsDesign, IsNetlistOf, RefusesText, RefusesElaboration, RefusesDesign, RefusesLoop, Judges};
+ghost use Rattle.vw_front.specs.Designs.{SpellsDesign, IsNetlistOf, RefusesText, RefusesElaboration, RefusesModels, RefusesProbe, RefusesLoop, RefusesNetlist, RefusesDesign, Judges};
 ghost use Rattle.vw_front.specs.Steps.OrderedDesigns.{IsOrderedOf};
 
 use crate::fault::NetlistFault;
@@ -15,7 +17,7 @@ use std::alloc::{AllocError, Global};
 use vw_blif::{TextFault, read};
 use vw_design::{Design, ordered_is_loop_free};
 use vw_elab::{DesignFault, Elaborated, elaborate};
-use vw_flat::{flatten, path_of};
+use vw_flat::{FlatFault, flatten, path_of};
 use vw_net::{Flat, Ordered, Sequence};
 use vw_order::{OrderFault, OrderRefused, order};
 use vw_outside::Name;
@@ -46,7 +48,7 @@ fn elaborated_of(alloc: Global, design: Design) -> Result<Elaborated, NetlistFau
 /// The elaborated design of a text.
 fn elaborated_of_text(alloc: Global, text: &[u8]) -> Result<Elaborated, NetlistFault>
     ensures { Judges (λ elaborated. SpellsDesign text.now elaborated × IsAccepted elaborated)
-        (RefusesDesign text.now) result }
+        (RefusesModels text.now) result }
 {
     let design = design_of_text(alloc, text)?;
     elaborated_of(alloc, design)
@@ -73,7 +75,7 @@ fn loop_fault(
     flat: &Flat,
     fault: OrderFault,
 ) -> Result<Ordered, NetlistFault>
-    requires flat { IsFlatOf elaborated.now flat.now }
+    requires flat { (nets : List Net) × IsFlatOf elaborated.now nets flat.now }
     requires fault { IsOrderFault flat.now fault }
     ensures { Judges (λ ordered. ⊥) (RefusesLoop elaborated.now) result }
 {
@@ -86,15 +88,24 @@ fn loop_fault(
     }
 }
 
-/// The netlist of a design, with an order of its gates.
-fn ordered_of(alloc: Global, elaborated: &Elaborated) -> Result<Ordered, NetlistFault>
-    ensures { Judges (IsOrderedOf elaborated.now) (RefusesLoop elaborated.now) result }
+/// The netlist of a design with the nets that probes find.
+fn flat_of(alloc: Global, elaborated: &Elaborated, probes: &[Name]) -> Result<Flat, NetlistFault>
+    requires { length probes.now ≤ 64 }
+    ensures { Judges (IsProbedFlat elaborated.now probes.now) (RefusesProbe probes.now elaborated.now)
+        result }
 {
-    elaborated.is_accepted();
-    ordered_is_loop_free();
-    let Ok(flat) = flatten(alloc, elaborated) else {
-        return Err(NetlistFault::NoMemory);
-    };
+    match flatten(alloc, elaborated, probes) {
+        Ok(flat) => Ok(flat),
+        Err(FlatFault::NoProbe(probe)) => Err(NetlistFault::NoNet(probe)),
+        Err(FlatFault::NoMemory) => Err(NetlistFault::NoMemory),
+    }
+}
+
+/// An order of the gates of a netlist.
+fn ordered_flat(alloc: Global, elaborated: &Elaborated, flat: Flat) -> Result<Ordered, NetlistFault>
+    requires { (nets : List Net) × IsFlatOf elaborated.now nets flat }
+    ensures { Judges (λ ordered. ordered.flat ≡ flat) (RefusesLoop elaborated.now) result }
+{
     match order(alloc, flat) {
         Ok(ordered) => Ok(ordered),
         Err(refused) => {
@@ -104,12 +115,30 @@ fn ordered_of(alloc: Global, elaborated: &Elaborated) -> Result<Ordered, Netlist
     }
 }
 
-/// The netlist of the design that a text spells, with an order of its gates.
-pub fn netlist_of_text(alloc: Global, text: &[u8]) -> Result<Ordered, NetlistFault>
-    ensures { Judges (IsNetlistOf text.now) (RefusesDesign text.now) result }
+/// The netlist of a design with the nets that probes find, with an order of its gates.
+fn ordered_of(
+    alloc: Global,
+    elaborated: &Elaborated,
+    probes: &[Name],
+) -> Result<Ordered, NetlistFault>
+    requires { length probes.now ≤ 64 }
+    ensures { Judges (IsOrderedOf probes.now elaborated.now)
+        (RefusesNetlist probes.now elaborated.now) result }
+{
+    elaborated.is_accepted();
+    ordered_is_loop_free();
+    let flat = flat_of(alloc, elaborated, probes)?;
+    ordered_flat(alloc, elaborated, flat)
+}
+
+/// The netlist of the design that a text spells, with an order of its gates. Its outputs are those of the design, and behind
+/// them the nets that the probes find.
+pub fn netlist_of_text(alloc: Global, text: &[u8], probes: &[Name]) -> Result<Ordered, NetlistFault>
+    requires { length probes.now ≤ 64 }
+    ensures { Judges (IsNetlistOf probes.now text.now) (RefusesDesign probes.now text.now) result }
 {
     let elaborated = elaborated_of_text(alloc, text)?;
-    let ordered = ordered_of(alloc, &elaborated);
+    let ordered = ordered_of(alloc, &elaborated, probes);
     drop(elaborated);
     ordered
 }

@@ -13,7 +13,7 @@ use Rattle.vw_plan.specs.declared.wire.Wire.{Wire}
 use Rattle.vw_plan.specs.HopCounts.{hop_count}
 use Rattle.vw_plantext.specs.Content.{Content, IsHopInRange, IsWireInRange, IsInRange}
 use Rattle.vw_plantext.specs.Grammar.{numbers_text, number_line, hop_line, wire_line, wire_lines, body_lines, plan_lines}
-use Rattle.vw_plantext.proofs.Decimals.{decimal_above}
+use Rattle.vw_text.proofs.Decimals.{decimal_above}
 use Rattle.vw_plantext.proofs.NumberLines.{AreSmall}
 use Rattle.vw_plantext.specs.Steps.Cuts.{IsOneLine}
 use Rattle.vw_plantext.proofs.LineEnds.{AreLines}

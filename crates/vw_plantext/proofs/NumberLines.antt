@@ -10,7 +10,7 @@ use Rattle.std.proofs.lemmas.List.Splits.{slice_split_at, slice_split_none, join
 use Rattle.vw_text.specs.Number.{spelled_number}
 use Rattle.vw_plantext.specs.Grammar.{numbers_text, number_line}
 use Rattle.vw_plantext.specs.Steps.Words.{words_between_spaces, with_next_number, numbers_of, numbers_behind, line_numbers}
-use Rattle.vw_plantext.proofs.Decimals.{number_of-decimal, IsDecimal, decimal-number_of, decimal_above}
+use Rattle.vw_text.proofs.Decimals.{number_of-decimal, IsDecimal, decimal-number_of, decimal_above}
 
 -- a word has no space
 abbrev pub HasNoSpace : List ℕ → Type 0

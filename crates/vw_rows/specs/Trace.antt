@@ -1,5 +1,5 @@
 -- The text of what a netlist did.
-use Rattle.std.specs.Prelude.{ℕ, ◌+◌, Bool, List, [], ◌∷◌, ◌++◌, map, length, codes, if◌then◌else◌}
+use Rattle.std.specs.Prelude.{ℕ, ◌+◌, ◌==◌, Bool, List, [], ◌∷◌, ◌++◌, map, length, codes, if◌then◌else◌}
 use Rattle.std.specs.Fmt.{decimal}
 use Rattle.vw_net.specs.History.{History}
 
@@ -8,11 +8,13 @@ abbrev pub bits_text : List Bool → List ℕ
 bits_text [] = codes "-"
 bits_text (bit ∷ bits) = map (λ b. if b then 49 else 48) (bit ∷ bits)
 
--- the numbers of outputs and latches
-abbrev pub head_text : ℕ → ℕ → List ℕ
-head_text output_count latch_count = codes "trace 1 " ++ decimal output_count ++ 32 ∷ decimal latch_count ++ 10 ∷ []
+-- the numbers of outputs, of probes where there are any, and of latches
+abbrev pub head_text : ℕ → ℕ → ℕ → List ℕ
+head_text output_count probe_count latch_count =
+    if probe_count == 0 then codes "trace 1 " ++ decimal output_count ++ 32 ∷ decimal latch_count ++ 10 ∷ []
+    else codes "trace 2 " ++ decimal output_count ++ 32 ∷ decimal probe_count ++ 32 ∷ decimal latch_count ++ 10 ∷ []
 
--- a clock: its number, its outputs, and the latch values before its step
+-- a clock: its number, its outputs and behind them its probes, and the latch values before its step
 abbrev pub clock_text : ℕ → List Bool → List Bool → List ℕ
 clock_text clock outputs latches = decimal clock ++ 32 ∷ bits_text outputs ++ 32 ∷ bits_text latches ++ 10 ∷ []
 
@@ -26,6 +28,8 @@ rows_text first (row ∷ outputs) (state ∷ latches) = clock_text first row sta
 abbrev pub end_text : ℕ → List Bool → List ℕ
 end_text clocks last = codes "end " ++ decimal clocks ++ 32 ∷ bits_text last ++ 10 ∷ []
 
--- the trace of a history of this many outputs and latches
-abbrev pub trace_text : ℕ → ℕ → History → List ℕ
-trace_text output_count latch_count history = head_text output_count latch_count ++ rows_text 0 history.outputs history.states ++ end_text (length history.outputs) history.last
+-- the trace of a history of this many outputs, probes and latches; in each clock the probes stand behind the outputs
+abbrev pub trace_text : ℕ → ℕ → ℕ → History → List ℕ
+trace_text output_count probe_count latch_count history =
+    head_text output_count probe_count latch_count ++ rows_text 0 history.outputs history.states
+    ++ end_text (length history.outputs) history.last

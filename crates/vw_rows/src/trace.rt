@@ -38,11 +38,20 @@ fn push_clock(
     Ok(())
 }
 
-/// The first line of a trace: the numbers of outputs and latches.
-pub fn trace_head(alloc: Global, outputs: u32, latches: u32) -> Result<Vec<u8>, AllocError>
-    ensures { IfOk result (λ text. text.items ≡ head_text outputs latches) }
+/// The first line of a trace: the numbers of outputs, of probes where there are any, and of latches.
+pub fn trace_head(
+    alloc: Global,
+    outputs: u32,
+    probes: u32,
+    latches: u32,
+) -> Result<Vec<u8>, AllocError>
+    ensures { IfOk result (λ text. text.items ≡ head_text outputs probes latches) }
 {
-    let line = format!(in alloc; "trace 1 {outputs} {latches}\n")?;
+    let line = if probes == 0 {
+        format!(in alloc; "trace 1 {outputs} {latches}\n")?
+    } else {
+        format!(in alloc; "trace 2 {outputs} {probes} {latches}\n")?
+    };
     Ok(line.into_bytes())
 }
 

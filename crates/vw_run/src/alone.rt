@@ -1,5 +1,5 @@
 //! Runs of a board in batches of clocks, with one worker.
-ghost use Rattle.std.specs.Prelude.{◌≡◌, ℕ, List, IfOk, Result, Ok, Err};
+ghost use Rattle.std.specs.Prelude.{◌≡◌, ◌≤◌, ℕ, List, length, IfOk, Result, Ok, Err};
 ghost use Rattle.vw_outside.specs.Told.{held};
 ghost use Rattle.vw_rows.specs.Standing.{StandsIn};
 ghost use Rattle.vw_trace.specs.FlatTrace.{flat_trace};
@@ -42,7 +42,8 @@ impl Engine for RunningBoard {
 }
 
 /// Runs a planned design on its board over a checked stimulus, of which nothing was given, and appends the trace of the
-/// unpartitioned design. Free latches start at `unknown`. It answers the number of clocks.
+/// unpartitioned design. The last `probes` outputs of its netlist are probes. Free latches start at `unknown`. It answers
+/// the number of clocks.
 ///
 /// The programs of all nodes are made first. Then the stimulus is read again in batches of 256 clocks, and each is a job
 /// of the board: memory is taken for one batch at a time, all but that of its lines before its first step; the rows and
@@ -52,6 +53,7 @@ impl Engine for RunningBoard {
 pub fn run_alone<S: Shelf, O: Sink>(
     alloc: Global,
     checked: Checked,
+    probes: u32,
     unknown: bool,
     stimulus: &mut Stimulus,
     shelf: &mut S,
@@ -61,13 +63,14 @@ pub fn run_alone<S: Shelf, O: Sink>(
     requires fresh { stimulus.old.done ≡ 0 }
     requires stands { (text : List ℕ) → (S.seen shelf.old).told stimulus.old.name ≡ held text
         → StandsIn stimulus.old text }
+    requires probes { probes ≤ length checked.ordered.flat.outputs }
     ensures streams { Streams stimulus.old.name stimulus.old.width
-        (flat_trace unknown checked.ordered.flat) (λ rows. Unit {0}) (S.seen shelf.old)
+        (flat_trace probes unknown checked.ordered.flat) (λ rows. Unit {0}) (S.seen shelf.old)
         (O.seen out.old) (S.seen shelf.new) (O.seen out.new) (without_count result) }
     ensures clocks { IfOk result (λ clocks. clocks ≡ stimulus.old.clocks) }
     ensures done { IfOk result (λ clocks. stimulus.new.done ≡ clocks) }
 {
     let mut board = RunningBoard::make(alloc, checked)?;
-    write_trace_by(alloc, &mut board, unknown, stimulus, shelf, out)?;
+    write_trace_by(alloc, &mut board, probes, unknown, stimulus, shelf, out)?;
     Ok(stimulus.done())
 }

@@ -94,10 +94,12 @@ fn write_clocks<R: Threads + Wait + Sync, S: Shelf, F: Fabric, G: BurstGate, O: 
     Ok(())
 }
 
-/// Works out the clocks of a stimulus, of which nothing was given, from a state on, and writes the trace.
+/// Works out the clocks of a stimulus, of which nothing was given, from a state on, and writes the trace. The last `probes`
+/// outputs of the netlist are probes.
 fn write_lines<R: Threads + Wait + Sync, S: Shelf, F: Fabric, G: BurstGate, O: Sink>(
     alloc: Global,
     crewed: &mut CrewedBoard<'_, '_, '_, '_, R, F, G>,
+    probes: u32,
     stimulus: &mut Stimulus,
     state: &mut Bits,
     shelf: &mut S,
@@ -109,25 +111,28 @@ fn write_lines<R: Threads + Wait + Sync, S: Shelf, F: Fabric, G: BurstGate, O: S
         → StandsIn stimulus.old text }
     requires latches { length state.old
         ≡ latch_count crewed.old.board.now.job.checked.ordered.flat.cells }
+    requires probes { probes ≤ length crewed.old.board.now.job.checked.ordered.flat.outputs }
     ensures fabric { crewed.new.fabric.ghost_name ≡ crewed.old.fabric.ghost_name }
     ensures streams { Streams stimulus.old.name stimulus.old.width
-        (trace_from state.old crewed.old.board.now.job.checked.ordered.flat)
+        (trace_from probes state.old crewed.old.board.now.job.checked.ordered.flat)
         (HaveCarried (planned_of crewed.old.board.now.job) 0 state.old
         (F.carried crewed.old.fabric.now) (F.carried crewed.new.fabric.now))
         (S.seen shelf.old) (O.seen out.old) (S.seen shelf.new) (O.seen out.new) result }
     ensures done { OnOk result (stimulus.new.done ≡ stimulus.old.clocks) }
 {
     let clocks = stimulus.clocks();
-    write_head(alloc, crewed.flat(), state, out)?;
+    write_head(alloc, crewed.flat(), probes, state, out)?;
     write_clocks(alloc, crewed, stimulus, state, shelf, out)?;
     write_end(alloc, clocks, state, out)?;
     Ok(())
 }
 
-/// Works out the clocks of a stimulus, of which nothing was given, and writes the trace. Free latches start at `unknown`.
+/// Works out the clocks of a stimulus, of which nothing was given, and writes the trace. The last `probes` outputs of the
+/// netlist are probes. Free latches start at `unknown`.
 fn write_trace<R: Threads + Wait + Sync, S: Shelf, F: Fabric, G: BurstGate, O: Sink>(
     alloc: Global,
     crewed: &mut CrewedBoard<'_, '_, '_, '_, R, F, G>,
+    probes: u32,
     unknown: bool,
     stimulus: &mut Stimulus,
     shelf: &mut S,
@@ -137,23 +142,26 @@ fn write_trace<R: Threads + Wait + Sync, S: Shelf, F: Fabric, G: BurstGate, O: S
     requires fresh { stimulus.old.done ≡ 0 }
     requires stands { (text : List ℕ) → (S.seen shelf.old).told stimulus.old.name ≡ held text
         → StandsIn stimulus.old text }
+    requires probes { probes ≤ length crewed.old.board.now.job.checked.ordered.flat.outputs }
     ensures fabric { crewed.new.fabric.ghost_name ≡ crewed.old.fabric.ghost_name }
     ensures streams { let flat = crewed.old.board.now.job.checked.ordered.flat in
-        Streams stimulus.old.name stimulus.old.width (flat_trace unknown flat)
+        Streams stimulus.old.name stimulus.old.width (flat_trace probes unknown flat)
         (HaveCarried (planned_of crewed.old.board.now.job) 0 (start_values unknown flat.cells)
         (F.carried crewed.old.fabric.now) (F.carried crewed.new.fabric.now))
         (S.seen shelf.old) (O.seen out.old) (S.seen shelf.new) (O.seen out.new) result }
     ensures done { OnOk result (stimulus.new.done ≡ stimulus.old.clocks) }
 {
     let mut state = crewed.flat().start(alloc, unknown)?;
-    write_lines(alloc, crewed, stimulus, &mut state, shelf, out)
+    write_lines(alloc, crewed, probes, stimulus, &mut state, shelf, out)
 }
 
-/// Runs a board over a stimulus, of which nothing was given, with several workers, and writes the trace.
+/// Runs a board over a stimulus, of which nothing was given, with several workers, and writes the trace. The last `probes`
+/// outputs of its netlist are probes.
 fn run_board<R: Threads + Wait + Sync, S: Shelf, F: Fabric, G: BurstGate, O: Sink>(
     rt: &R,
     alloc: Global,
     board: &mut RunningBoard,
+    probes: u32,
     unknown: bool,
     workers: u32,
     stimulus: &mut Stimulus,
@@ -168,8 +176,9 @@ fn run_board<R: Threads + Wait + Sync, S: Shelf, F: Fabric, G: BurstGate, O: Sin
     requires fresh { stimulus.old.done ≡ 0 }
     requires stands { (text : List ℕ) → (S.seen shelf.old).told stimulus.old.name ≡ held text
         → StandsIn stimulus.old text }
+    requires probes { probes ≤ length board.old.job.checked.ordered.flat.outputs }
     ensures streams { let flat = board.old.job.checked.ordered.flat in
-        Streams stimulus.old.name stimulus.old.width (flat_trace unknown flat)
+        Streams stimulus.old.name stimulus.old.width (flat_trace probes unknown flat)
         (HaveCarried (planned_of board.old.job) 0 (start_values unknown flat.cells)
         (F.carried fabric.old) (F.carried fabric.new))
         (S.seen shelf.old) (O.seen out.old) (S.seen shelf.new) (O.seen out.new) result }
@@ -183,14 +192,16 @@ fn run_board<R: Threads + Wait + Sync, S: Shelf, F: Fabric, G: BurstGate, O: Sin
         workers,
         pace: Pace::new(),
     };
-    write_trace(alloc, &mut crewed, unknown, stimulus, shelf, out)
+    write_trace(alloc, &mut crewed, probes, unknown, stimulus, shelf, out)
 }
 
-/// Runs a planned design on its board over a checked stimulus, with more than one worker.
+/// Runs a planned design on its board over a checked stimulus, with more than one worker. The last `probes` outputs of its
+/// netlist are probes.
 fn run_together<R: Threads + Wait + Sync, S: Shelf, F: Fabric, G: BurstGate, O: Sink>(
     rt: &R,
     alloc: Global,
     checked: Checked,
+    probes: u32,
     unknown: bool,
     workers: u32,
     stimulus: &mut Stimulus,
@@ -205,8 +216,9 @@ fn run_together<R: Threads + Wait + Sync, S: Shelf, F: Fabric, G: BurstGate, O: 
     requires fresh { stimulus.old.done ≡ 0 }
     requires stands { (text : List ℕ) → (S.seen shelf.old).told stimulus.old.name ≡ held text
         → StandsIn stimulus.old text }
+    requires probes { probes ≤ length checked.ordered.flat.outputs }
     ensures streams { let planned = planned_board checked.ordered checked.board checked.plan in
-        Streams stimulus.old.name stimulus.old.width (flat_trace unknown checked.ordered.flat)
+        Streams stimulus.old.name stimulus.old.width (flat_trace probes unknown checked.ordered.flat)
         (λ rows. F.carried fabric.new
         ≡ grown_by (Some (traffic planned unknown rows)) (F.carried fabric.old))
         (S.seen shelf.old) (O.seen out.old) (S.seen shelf.new) (O.seen out.new)
@@ -216,13 +228,14 @@ fn run_together<R: Threads + Wait + Sync, S: Shelf, F: Fabric, G: BurstGate, O: 
 {
     let mut board = RunningBoard::make(alloc, checked)?;
     run_board(
-        rt, alloc, &mut board, unknown, workers, stimulus, shelf, fabric, gate, out,
+        rt, alloc, &mut board, probes, unknown, workers, stimulus, shelf, fabric, gate, out,
     )?;
     Ok(stimulus.done())
 }
 
 /// Runs a planned design on its board over a checked stimulus, of which nothing was given, with 1 to 64 workers, and
-/// appends the trace of the unpartitioned design. Free latches start at `unknown`. It answers the number of clocks.
+/// appends the trace of the unpartitioned design. The last `probes` outputs of its netlist are probes. Free latches start at
+/// `unknown`. It answers the number of clocks.
 ///
 /// With one worker it is `run_alone`, and the fabric isn't touched. With more the board runs in the same batches, each a
 /// job over links that are laid for it and lifted after it: all memory of a batch but that of its lines is taken before its
@@ -232,6 +245,7 @@ pub fn run<R: Threads + Wait + Sync, S: Shelf, F: Fabric, G: BurstGate, O: Sink>
     rt: &R,
     alloc: Global,
     checked: Checked,
+    probes: u32,
     unknown: bool,
     workers: u32,
     stimulus: &mut Stimulus,
@@ -246,8 +260,9 @@ pub fn run<R: Threads + Wait + Sync, S: Shelf, F: Fabric, G: BurstGate, O: Sink>
     requires fresh { stimulus.old.done ≡ 0 }
     requires stands { (text : List ℕ) → (S.seen shelf.old).told stimulus.old.name ≡ held text
         → StandsIn stimulus.old text }
+    requires probes { probes ≤ length checked.ordered.flat.outputs }
     ensures streams { let planned = planned_board checked.ordered checked.board checked.plan in
-        Streams stimulus.old.name stimulus.old.width (flat_trace unknown checked.ordered.flat)
+        Streams stimulus.old.name stimulus.old.width (flat_trace probes unknown checked.ordered.flat)
         (λ rows. F.carried fabric.new
         ≡ grown_by (scripts_of workers (traffic planned unknown rows)) (F.carried fabric.old))
         (S.seen shelf.old) (O.seen out.old) (S.seen shelf.new) (O.seen out.new)
@@ -256,9 +271,9 @@ pub fn run<R: Threads + Wait + Sync, S: Shelf, F: Fabric, G: BurstGate, O: Sink>
     ensures done { IfOk result (λ clocks. stimulus.new.done ≡ clocks) }
 {
     if workers < 2 {
-        return run_alone(alloc, checked, unknown, stimulus, shelf, out);
+        return run_alone(alloc, checked, probes, unknown, stimulus, shelf, out);
     }
     run_together(
-        rt, alloc, checked, unknown, workers, stimulus, shelf, fabric, gate, out,
+        rt, alloc, checked, probes, unknown, workers, stimulus, shelf, fabric, gate, out,
     )
 }

@@ -7,3 +7,4 @@ pub mod LineWords
 pub mod LogicalLines
 pub mod PlainLines
 pub mod LineCounts
+pub mod Decimals

@@ -35,19 +35,19 @@ module _ (cells workers : ℕ) (call : Call) where
       texts = held_there;
       links = ap (λ (o : SeenOutside vocabulary.Word). o.links) before_is;
       links_after = after;
-      statuses = run_table design_name board_name stimulus_name workers false run is_run;
+      statuses = run_table [] design_name board_name stimulus_name workers false run (omega arith) is_run;
     }
 
     -- the demo has the statuses of its run, but for 8
     others_by : call.status ≢ 7 → ((run.status ≡ call.status) ⊎ ((call.status ≡ 8) × (run.status ≡ 9))) → (call.status ≢ 2) × (call.status ≢ 4) × (call.status ≢ 7)
     others_by not_read (inl same) =
-        let others = (run_table design_name board_name stimulus_name workers false run is_run).others in
+        let others = (run_table [] design_name board_name stimulus_name workers false run (omega arith) is_run).others in
         ((λ two. others.0 (same ∙ two)), (λ four. others.1 (same ∙ four)), not_read)
     others_by not_read (inr eight) = ((λ two. absurd (omega (arith, two, eight.0))), (λ four. absurd (omega (arith, four, eight.0))), not_read)
 
-    on_links_by : run.status ≡ 0 → CarriesAll workers false (design_text cells) (stimulus_text cells) (AreGood design_name board_name stimulus_name workers false (design_text cells) (generated cells board_name)) run
+    on_links_by : run.status ≡ 0 → CarriesAll [] workers false (design_text cells) (stimulus_text cells) (AreGood [] design_name board_name stimulus_name workers false (design_text cells) (generated cells board_name)) run
     on_links_by status =
-        (run_table design_name board_name stimulus_name workers false run is_run).on_links (design_text cells) (generated cells board_name) (stimulus_text cells)
+        (run_table [] design_name board_name stimulus_name workers false run (omega arith) is_run).on_links (design_text cells) (generated cells board_name) (stimulus_text cells)
         (record { design_held = held_there design_name; board_held = held_there board_name }) (held_there stimulus_name) status
 
   -- the run that ends so, and what stands at err before it and after it
@@ -59,7 +59,7 @@ module _ (cells workers : ℕ) (call : Call) where
       let found = done_inside vocabulary (generated cells) (summary cells) (λ name. 0) (seen_bytes [] 0) call.before call.after (demo_run workers) follows in
       let run = run_to (with_all found.0 inside) call.err_after 0 in
       let is_run : IsCallOf (demo_run workers) run = record { answer = Ok tt; follows = found.1; ends = (refl, silent) } in
-      let trace = headline design_name board_name stimulus_name workers false run None is_run (design_text cells) (stimulus_text cells) refl refl refl in
+      let trace = headline [] design_name board_name stimulus_name workers false run None is_run (design_text cells) (stimulus_text cells) refl refl refl in
       record {
         run = run;
         is = run_of_texts run is_run refl (sym (ap (λ (o : SeenOutside vocabulary.Word). o.links) found.2));

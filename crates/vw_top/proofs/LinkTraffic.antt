@@ -3,6 +3,7 @@ use Rattle.std.proofs.Common.{◌≡◌, ◌<◌, ◌≤◌, ℕ, Bool, true, fa
 use Rattle.std.specs.Prelude.{ltb}
 use Rattle.std.proofs.Math.Path.{fun_ext}
 use Rattle.std.proofs.lemmas.Bool.{lt-ltb, le-ltb}
+use Rattle.vw_design.specs.Paths.{Word as ProbeWord}
 use Rattle.vw_net.specs.Cells.{start_values}
 use Rattle.vw_net.specs.declared.ordered.Ordered.{Ordered}
 use Rattle.vw_outside.specs.Told.{Told, held, IsTextOf}
@@ -29,9 +30,9 @@ use Rattle.vw_top.proofs.StreamedTraces.{HaveParts}
 pub of_held : {told : Told} (text : List ℕ) → told ≡ held text → IsTextOf told text
 of_held {told = told} text is = subst (λ (t : Told). IsTextOf t text) (sym is) refl
 
-module _ (call : Call) (workers : ℕ) (unknown : Bool) (d s : List ℕ) (May Is : Ordered → Board → Plan → Type 0)
+module _ (probes : List ProbeWord) (call : Call) (workers : ℕ) (unknown : Bool) (d s : List ℕ) (May Is : Ordered → Board → Plan → Type 0)
     (also : (ordered : Ordered) (board : Board) (plan : Plan) → May ordered board plan → Is ordered board plan) where
-  pub carries_all : IsDone (IsTrace unknown d s (UsesBoard workers unknown May)) call → CarriesAll workers unknown d s Is call
+  pub carries_all : IsDone (IsTrace probes unknown d s (UsesBoard workers unknown May)) call → CarriesAll probes workers unknown d s Is call
   carries_all done =
       let trace = done.is in
       let uses = trace.uses in
@@ -73,18 +74,18 @@ module _ (unknown : Bool) (planned : PlannedBoard) where
 
 -- so a function that follows the course of a netlist without links follows that of a planned board with one worker, and one
 -- with more than one worker follows that of any other such number
-module _ {S O : Type 0} (seen_shelf : S → SeenShelf) (seen_out : O → SeenSink) (Moved : Carried vocabulary.Word → Carried vocabulary.Word → Type 0) (stimulus : List ℕ) (unknown : Bool) (ordered : Ordered) (board : Board) (plan : Plan) where
+module _ {S O : Type 0} (seen_shelf : S → SeenShelf) (seen_out : O → SeenSink) (Moved : Carried vocabulary.Word → Carried vocabulary.Word → Type 0) (stimulus : List ℕ) (unknown : Bool) (ordered : Ordered) (board : Board) (plan : Plan) (count : ℕ) where
   abbrev planned : PlannedBoard
   planned = planned_board ordered board plan
 
   pub goes_alone : (workers : ℕ) → workers ≤ 1 → {before after : Outside S O} {answer : Answer vocabulary}
-      → GoesOver seen_shelf seen_out vocabulary Moved (netlist_course stimulus unknown no_links ordered) before after answer
-      → GoesOver seen_shelf seen_out vocabulary Moved (board_course stimulus workers unknown ordered board plan) before after answer
+      → GoesOver seen_shelf seen_out vocabulary Moved (netlist_course count stimulus unknown no_links ordered) before after answer
+      → GoesOver seen_shelf seen_out vocabulary Moved (board_course count stimulus workers unknown ordered board plan) before after answer
   goes_alone workers few {before = before} {after = after} {answer = answer} goes =
-      subst (λ (scripts : Scripts). GoesOver seen_shelf seen_out vocabulary Moved (netlist_course stimulus unknown scripts ordered) before after answer) (sym (board_alone unknown planned workers few)) goes
+      subst (λ (scripts : Scripts). GoesOver seen_shelf seen_out vocabulary Moved (netlist_course count stimulus unknown scripts ordered) before after answer) (sym (board_alone unknown planned workers few)) goes
 
   pub goes_together : (workers other : ℕ) → 1 < workers → 1 < other → {before after : Outside S O} {answer : Answer vocabulary}
-      → GoesOver seen_shelf seen_out vocabulary Moved (board_course stimulus workers unknown ordered board plan) before after answer
-      → GoesOver seen_shelf seen_out vocabulary Moved (board_course stimulus other unknown ordered board plan) before after answer
+      → GoesOver seen_shelf seen_out vocabulary Moved (board_course count stimulus workers unknown ordered board plan) before after answer
+      → GoesOver seen_shelf seen_out vocabulary Moved (board_course count stimulus other unknown ordered board plan) before after answer
   goes_together workers other several others {before = before} {after = after} {answer = answer} goes =
-      subst (λ (scripts : Scripts). GoesOver seen_shelf seen_out vocabulary Moved (netlist_course stimulus unknown scripts ordered) before after answer) (board_together unknown planned workers other several others) goes
+      subst (λ (scripts : Scripts). GoesOver seen_shelf seen_out vocabulary Moved (netlist_course count stimulus unknown scripts ordered) before after answer) (board_together unknown planned workers other several others) goes

@@ -1,5 +1,6 @@
 -- From a planned board that is ready to run to the course of a command that runs it.
 use Rattle.std.proofs.Common.{◌≡◌, ◌⊎◌, ℕ, List, Option, Some, None, Result, Ok, Err, refl, sym, ◌∙◌, ap, ap₂, subst, inl, inr}
+use Rattle.vw_design.specs.Paths.{Word}
 use Rattle.vw_net.specs.declared.ordered.Ordered.{Ordered}
 use Rattle.vw_outside.specs.Told.{Told, IsTextOf}
 use Rattle.vw_outside.specs.Reads.{SeenShelf}
@@ -55,12 +56,12 @@ module _ (shelf mid : SeenShelf) (same : mid ≡ shelf) where
         (subst (λ (s : SeenShelf). IsPlanBy s.told given ordered its checked.plan) same is.plan);
   }
 
-  pub board_of_design : (design board : List ℕ) (given : Option (List ℕ)) (ordered : Ordered) (checked : Checked) (text : List ℕ) → IsTextOf (shelf.told design) text → IsNetlistOf text ordered
-      → IsOnBoard mid.told board given ordered checked → IsReadyBoard shelf.told design board given checked
-  board_of_design design board given ordered checked text of netlist is = record {
+  pub board_of_design : (probes : List Word) (design board : List ℕ) (given : Option (List ℕ)) (ordered : Ordered) (checked : Checked) (text : List ℕ) → IsTextOf (shelf.told design) text → IsNetlistOf probes text ordered
+      → IsOnBoard mid.told board given ordered checked → IsReadyBoard probes shelf.told design board given checked
+  board_of_design probes design board given ordered checked text of netlist is = record {
     d = text;
     design_of = of;
-    netlist = subst (IsNetlistOf text) (sym is.its_ordered) netlist;
+    netlist = subst (IsNetlistOf probes text) (sym is.its_ordered) netlist;
     b = is.b;
     board_of = subst (λ (s : SeenShelf). IsTextOf (s.told board) is.b) same is.board_of;
     board_is = is.board_is;
@@ -76,7 +77,7 @@ part_as part Made Other before after also (Err unfinished) ends = ends
 
 -- ---- the rest behind it
 
-module _ (rest : Rest) (before after : SeenOutside vocabulary.Word) where
+module _ (probes : List Word) (rest : Rest) (before after : SeenOutside vocabulary.Word) where
   abbrev Comes : Answer vocabulary → Course vocabulary → Type 0
   Comes answer course = Follows course before after answer
 
@@ -87,8 +88,8 @@ module _ (rest : Rest) (before after : SeenOutside vocabulary.Word) where
     with_plan (Some name) ordered board plan (text, of, spelled, sound) goes = inr (text, of, inr (plan, spelled, inr (tt, sound, goes)))
 
     -- a planned board is ready, and the rest is followed
-    pub ready_rest : (design board : List ℕ) (given : Option (List ℕ)) (checked : Checked) → IsReadyBoard before.shelf.told design board given checked
-        → Comes answer (rest checked.ordered checked.board checked.plan) → Comes answer (ready_course design board given rest)
+    pub ready_rest : (design board : List ℕ) (given : Option (List ℕ)) (checked : Checked) → IsReadyBoard probes before.shelf.told design board given checked
+        → Comes answer (rest checked.ordered checked.board checked.plan) → Comes answer (ready_course probes design board given rest)
     ready_rest design board given checked is goes =
         inr (is.d, is.design_of, inr (checked.ordered, is.netlist, inr (is.b, is.board_of, inr (checked.board, is.board_is, with_plan given checked.ordered checked.board checked.plan is.plan goes))))
 
@@ -108,38 +109,38 @@ module _ (rest : Rest) (before after : SeenOutside vocabulary.Word) where
         (λ plan. judged_part vocabulary before after unfinished (soundness (planned_board ordered board plan)) (λ done. cut_there ordered board plan) (λ done. rest ordered board plan) (λ done. cut_out (rest ordered board plan))) ends
 
     -- the call ended before it
-    pub ready_ends : (design board : List ℕ) (given : Option (List ℕ)) → Ends (ready_course design board given cut_there) → Ends (ready_course design board given rest)
-    ready_ends design board given ends = part_ends vocabulary before after unfinished netlist_kind design (on_board_course board given rest)
-        (stage_part vocabulary before after unfinished netlist_kind design (on_board_course board given cut_there) (on_board_course board given rest)
+    pub ready_ends : (design board : List ℕ) (given : Option (List ℕ)) → Ends (ready_course probes design board given cut_there) → Ends (ready_course probes design board given rest)
+    ready_ends design board given ends = part_ends vocabulary before after unfinished (netlist_kind probes) design (on_board_course board given rest)
+        (stage_part vocabulary before after unfinished (netlist_kind probes) design (on_board_course board given cut_there) (on_board_course board given rest)
         (λ ordered. stage_part vocabulary before after unfinished board_kind board (with_plan_course given cut_there ordered) (with_plan_course given rest ordered) (plan_part given ordered)) ends)
 
 -- ---- over the shelf and out
 
 module _ {S O : Type 0} (seen_shelf : S → SeenShelf) (seen_out : O → SeenSink) (Moved : Carried vocabulary.Word → Carried vocabulary.Word → Type 0)
-    (rest : Rest) (design board : List ℕ) (given : Option (List ℕ)) (before mid : Outside S O) (same : IsSame seen_shelf seen_out before mid) (out : mid.out.now ≡ before.out.now) where
+    (probes : List Word) (rest : Rest) (design board : List ℕ) (given : Option (List ℕ)) (before mid : Outside S O) (same : IsSame seen_shelf seen_out before mid) (out : mid.out.now ≡ before.out.now) where
   abbrev Part : Result Checked (Unfinished File Reason) → Type 0
-  Part answer = EndsPart vocabulary (ready_course design board given cut_there) (IsReadyBoard (seen_shelf before.shelf.now).told design board given) (seen_shelf before.shelf.now) (seen_shelf mid.shelf.now) answer
+  Part answer = EndsPart vocabulary (ready_course probes design board given cut_there) (IsReadyBoard probes (seen_shelf before.shelf.now).told design board given) (seen_shelf before.shelf.now) (seen_shelf mid.shelf.now) answer
 
   pub goes_unready : IsStill vocabulary Moved → (unfinished : Unfinished File Reason) → Part (Err unfinished)
-      → GoesOver seen_shelf seen_out vocabulary Moved (ready_course design board given rest) before mid (Err unfinished)
+      → GoesOver seen_shelf seen_out vocabulary Moved (ready_course probes design board given rest) before mid (Err unfinished)
   goes_unready still unfinished ends = record {
     same = same;
     leads = record {
       follows = λ links after moved.
-          subst (λ (l : Carried vocabulary.Word). Follows (ready_course design board given rest) (seen_outside (seen_shelf before.shelf.now) (seen_out before.out.now) links) (seen_outside (seen_shelf mid.shelf.now) (seen_out mid.out.now) l) (Err unfinished)) (sym (still links after moved))
-          (subst (λ (o : O). Follows (ready_course design board given rest) (seen_outside (seen_shelf before.shelf.now) (seen_out before.out.now) links) (seen_outside (seen_shelf mid.shelf.now) (seen_out o) links) (Err unfinished)) (sym out)
-          (ready_ends rest (seen_outside (seen_shelf before.shelf.now) (seen_out before.out.now) links) (seen_outside (seen_shelf mid.shelf.now) (seen_out before.out.now) links) unfinished design board given (ends (seen_out before.out.now) links)));
+          subst (λ (l : Carried vocabulary.Word). Follows (ready_course probes design board given rest) (seen_outside (seen_shelf before.shelf.now) (seen_out before.out.now) links) (seen_outside (seen_shelf mid.shelf.now) (seen_out mid.out.now) l) (Err unfinished)) (sym (still links after moved))
+          (subst (λ (o : O). Follows (ready_course probes design board given rest) (seen_outside (seen_shelf before.shelf.now) (seen_out before.out.now) links) (seen_outside (seen_shelf mid.shelf.now) (seen_out o) links) (Err unfinished)) (sym out)
+          (ready_ends probes rest (seen_outside (seen_shelf before.shelf.now) (seen_out before.out.now) links) (seen_outside (seen_shelf mid.shelf.now) (seen_out before.out.now) links) unfinished design board given (ends (seen_out before.out.now) links)));
     };
   }
 
   pub goes_ready : (checked : Checked) (after : Outside S O) (answer : Answer vocabulary) → Part (Ok checked)
       → GoesOver seen_shelf seen_out vocabulary Moved (rest checked.ordered checked.board checked.plan) mid after answer
-      → GoesOver seen_shelf seen_out vocabulary Moved (ready_course design board given rest) before after answer
+      → GoesOver seen_shelf seen_out vocabulary Moved (ready_course probes design board given rest) before after answer
   goes_ready checked after answer (still, is) goes = record {
     same = record { shelf = goes.same.shelf ∙ same.shelf; out = goes.same.out ∙ same.out };
     leads = record {
       follows = λ links links_after moved.
-          ready_rest rest (seen_outside (seen_shelf before.shelf.now) (seen_out before.out.now) links) (seen_outside (seen_shelf after.shelf.now) (seen_out after.out.now) links_after) answer design board given checked is
+          ready_rest probes rest (seen_outside (seen_shelf before.shelf.now) (seen_out before.out.now) links) (seen_outside (seen_shelf after.shelf.now) (seen_out after.out.now) links_after) answer design board given checked is
           (subst (λ (s : SeenShelf). Follows (rest checked.ordered checked.board checked.plan) (seen_outside s (seen_out before.out.now) links) (seen_outside (seen_shelf after.shelf.now) (seen_out after.out.now) links_after) answer) still
           (subst (λ (o : O). Follows (rest checked.ordered checked.board checked.plan) (seen_outside (seen_shelf mid.shelf.now) (seen_out o) links) (seen_outside (seen_shelf after.shelf.now) (seen_out after.out.now) links_after) answer) out
           (goes.leads.follows links links_after moved)));

@@ -1,5 +1,6 @@
 -- What each status of `run` says of its files, where it makes its plan itself.
-use Rattle.std.proofs.Common.{◌≢◌, ◌<◌, ℕ, Bool, List, [], ◌∷◌, None, refl, subst, inl, inr, lit<, arith}
+use Rattle.std.proofs.Common.{◌≢◌, ◌<◌, ◌≤◌, ℕ, Bool, List, [], ◌∷◌, length, None, refl, subst, inl, inr, lit<, arith}
+use Rattle.vw_design.specs.Paths.{Word}
 use Rattle.vw_net.specs.declared.ordered.Ordered.{Ordered}
 use Rattle.vw_outside.specs.Told.{Told}
 use Rattle.vw_course.specs.Course.{Course}
@@ -19,6 +20,7 @@ use Rattle.vw_top.specs.OnBoards.{AreSpelledOn}
 use Rattle.vw_top.specs.FittedStatuses.{MaySpell, HoldTexts}
 use Rattle.vw_top.specs.RunStatuses.{its_files, AreGood, IsReady, RunStatuses}
 use Rattle.vw_top.proofs.OnBoards.{design_of_netlist}
+use Rattle.vw_top.proofs.FlatTraces.{probes_counted}
 use Rattle.vw_top.proofs.StreamedTraces.{of_design, of_netlist}
 use Rattle.vw_top.specs.TracedStatuses.{TracedStatuses}
 use Rattle.vw_top.specs.LinkTraffic.{UsesBoard}
@@ -26,35 +28,35 @@ use Rattle.vw_top.proofs.LinkTraffic.{carries_all, of_held}
 use Rattle.vw_top.proofs.TracedLaws.{ComesToRows, reads_rows, unbroken_rows, never_rows, held_rows, barred_rows, traced_table}
 use Rattle.vw_top.proofs.FittedLaws.{reads_fitted, unbroken_fitted, held_fitted, never_fitted, barred_fitted, behind_fitted, to_fitted_rest, fitted_table}
 
-module _ (design board stimulus : List ℕ) (workers : ℕ) (unknown : Bool) (call : Call) where
+module _ (probes : List Word) (design board stimulus : List ℕ) (workers : ℕ) (unknown : Bool) (call : Call) where
   abbrev course : Course vocabulary
-  course = run_course design board None stimulus workers unknown
+  course = run_course probes design board None stimulus workers unknown
 
   -- behind a good plan the netlist is run
   abbrev rest : Ordered → Board → Plan → Course vocabulary
-  rest = board_course stimulus workers unknown
+  rest = board_course (length probes) stimulus workers unknown
 
   -- the words of its links
   abbrev words : Ordered → Board → Plan → Scripts
   words ordered on its = board_scripts workers unknown (planned_board ordered on its)
 
   abbrev Uses : Scripts → Type 0
-  Uses = UsesBoard workers unknown (MaySpell design board call.before.shelf.told)
+  Uses = UsesBoard workers unknown (MaySpell probes design board call.before.shelf.told)
 
   abbrev told : List ℕ → Told
   told = call.before.shelf.told
 
   abbrev all : Files vocabulary
-  all = its_files design board stimulus workers unknown
+  all = its_files probes design board stimulus workers unknown
 
   abbrev Ready : Call → List ℕ → List ℕ → Type 0
-  Ready = IsReady design board stimulus workers unknown
+  Ready = IsReady probes design board stimulus workers unknown
 
   whole : (number : ℕ) → 5 ≢ number → (ordered : Ordered) (on : Board) (its : Plan) → Every (IsUnbroken number) (rest ordered on its)
-  whole number no_five ordered on its = unbroken_rows stimulus ordered.flat.inputs (flat_trace unknown ordered.flat) (words ordered on its) number no_five
+  whole number no_five ordered on its = unbroken_rows stimulus ordered.flat.inputs (flat_trace (length probes) unknown ordered.flat) (words ordered on its) number no_five
 
   never : (number : ℕ) → 5 ≢ number → (ordered : Ordered) (on : Board) (its : Plan) → Every (IsNever number) (rest ordered on its)
-  never number no_five ordered on its = never_rows stimulus ordered.flat.inputs (flat_trace unknown ordered.flat) (words ordered on its) number no_five
+  never number no_five ordered on its = never_rows stimulus ordered.flat.inputs (flat_trace (length probes) unknown ordered.flat) (words ordered on its) number no_five
 
   not_five : (number : ℕ) → IsOneOf (1 ∷ 3 ∷ 6 ∷ []) number → 5 ≢ number
   not_five number (inl is) five = omega (arith, is, five)
@@ -64,58 +66,58 @@ module _ (design board stimulus : List ℕ) (workers : ℕ) (unknown : Bool) (ca
 
   not_status : IsCallOf course call → (number : ℕ) → 0 < number → number < 7 → 1 ≢ number → 3 ≢ number → 6 ≢ number → 5 ≢ number → call.status ≢ number
   not_status is number some few no_one no_three no_six no_five = never_status course call is number
-      (never_fitted design board rest number (never number no_five) no_one no_three no_six) (unbroken_fitted design board rest number (whole number no_five)) some few
+      (never_fitted probes design board rest number (never number no_five) no_one no_three no_six) (unbroken_fitted probes design board rest number (whole number no_five)) some few
 
-  uses : (ordered : Ordered) (on : Board) (its : Plan) → MaySpell design board told ordered on its → Uses (words ordered on its)
+  uses : (ordered : Ordered) (on : Board) (its : Plan) → MaySpell probes design board told ordered on its → Uses (words ordered on its)
   uses ordered on its is = record { ordered = ordered; board = on; plan = its; is = is; are = refl }
 
   -- the rows of the stimulus come behind the plan
-  to_rows : ComesToRows course call all design stimulus unknown Ready Uses
+  to_rows : ComesToRows probes course call all design stimulus unknown Ready Uses
   to_rows = record {
-    reads = reads_fitted design board rest all (inl refl) (inr (inl refl)) (λ ordered on its. reads_rows stimulus ordered.flat.inputs (flat_trace unknown ordered.flat) (words ordered on its) all (inr (inr (inl refl))));
-    held_again = λ s held_s. held_fitted design board rest told (λ ordered on its. held_rows stimulus ordered.flat.inputs (flat_trace unknown ordered.flat) (words ordered on its) told s held_s);
+    reads = reads_fitted probes design board rest all (inl refl) (inr (inl refl)) (λ ordered on its. reads_rows stimulus ordered.flat.inputs (flat_trace (length probes) unknown ordered.flat) (words ordered on its) all (inr (inr (inl refl))));
+    held_again = λ s held_s. held_fitted probes design board rest told (λ ordered on its. held_rows stimulus ordered.flat.inputs (flat_trace (length probes) unknown ordered.flat) (words ordered on its) told s held_s);
     behind = λ P passes may.
-        let later = behind_fitted design board rest call 5 P passes (λ is. omega (arith, is)) (λ is. omega (arith, is)) (λ is. omega (arith, is)) may in
+        let later = behind_fitted probes design board rest call 5 P passes (λ is. omega (arith, is)) (λ is. omega (arith, is)) (λ is. omega (arith, is)) may in
         let netlist = later.3.are.netlist in (
           later.3.d,
           later.3.design_of,
-          netlist.design,
+          netlist.watched,
           netlist.is,
           words later.0 later.1 later.2,
           uses later.0 later.1 later.2 later.3,
-          of_design (λ (place : Course vocabulary). May told P place) stimulus unknown (words later.0 later.1 later.2) netlist.design later.0 netlist.flat later.4,
+          of_design (λ (place : Course vocabulary). May told P place) stimulus unknown (words later.0 later.1 later.2) netlist.watched later.0 netlist.flat (length probes) (probes_counted probes later.3.d netlist.watched netlist.is) later.4,
         );
     comes = λ P d s ready its is stands.
-        to_fitted_rest design board rest call d ready.b ready.fitted_held all (inl refl) (inr (inl refl)) P ready.room
-        (λ ordered on made are good. of_netlist (λ (place : Course vocabulary). StandsAt told all P place) stimulus unknown (words ordered on made) its ordered (design_of_netlist d its ordered is are.netlist)
+        to_fitted_rest probes design board rest call d ready.b ready.fitted_held all (inl refl) (inr (inl refl)) P ready.room
+        (λ ordered on made are good. of_netlist (λ (place : Course vocabulary). StandsAt told all P place) stimulus unknown (words ordered on made) its ordered (design_of_netlist probes d its ordered is are.netlist) (length probes) (probes_counted probes d its is)
         (stands (words ordered on made) (uses ordered on made (record { d = d; design_of = of_held d ready.fitted_held.design_held; b = ready.b; board_of = of_held ready.b ready.fitted_held.board_held; are = are; good = good }))));
     ready_held = λ d s ready. ready.stimulus_held;
     one = inr (inr (inl refl));
   }
 
-  traced : IsCallOf course call → TracedStatuses design stimulus unknown all Ready Uses call
-  traced = traced_table course call all design stimulus unknown Ready Uses to_rows
+  pub run_traced : IsCallOf course call → TracedStatuses probes design stimulus unknown all Ready Uses call
+  run_traced = traced_table probes course call all design stimulus unknown Ready Uses to_rows
 
   -- what the texts may spell, the held texts spell
-  good_of : (d b : List ℕ) → HoldTexts design board call d b → (ordered : Ordered) (on : Board) (its : Plan) → MaySpell design board told ordered on its
-      → AreGood design board stimulus workers unknown d b ordered on its
+  good_of : (d b : List ℕ) → HoldTexts probes design board call d b → (ordered : Ordered) (on : Board) (its : Plan) → MaySpell probes design board told ordered on its
+      → AreGood probes design board stimulus workers unknown d b ordered on its
   good_of d b hold ordered on its may = (
-    subst (λ (t : List ℕ). AreSpelledOn t b ordered on) (its_text (told design) may.d d hold.design_held may.design_of)
-        (subst (λ (t : List ℕ). AreSpelledOn may.d t ordered on) (its_text (told board) may.b b hold.board_held may.board_of) may.are),
+    subst (λ (t : List ℕ). AreSpelledOn probes t b ordered on) (its_text (told design) may.d d hold.design_held may.design_of)
+        (subst (λ (t : List ℕ). AreSpelledOn probes may.d t ordered on) (its_text (told board) may.b b hold.board_held may.board_of) may.are),
     may.good,
   )
 
-  pub run_table : IsCallOf course call → RunStatuses design board stimulus workers unknown call
-  run_table is = record {
-    fitted = fitted_table design board rest call (λ number one. never number (not_five number one)) (λ number one. whole number (not_five number one)) is;
-    traced = traced is;
-    on_links = λ d b s hold held_s status. carries_all call workers unknown d s (MaySpell design board told) (AreGood design board stimulus workers unknown d b) (good_of d b hold)
-        ((traced is).done d s (record { design_held = hold.design_held; stimulus_held = held_s }) status);
+  pub run_table : length probes ≤ 64 → IsCallOf course call → RunStatuses probes design board stimulus workers unknown call
+  run_table few is = record {
+    fitted = fitted_table probes design board rest call (λ number one. never number (not_five number one)) few (λ number one. whole number (not_five number one)) is;
+    traced = run_traced is;
+    on_links = λ d b s hold held_s status. carries_all probes call workers unknown d s (MaySpell probes design board told) (AreGood probes design board stimulus workers unknown d b) (good_of d b hold)
+        ((run_traced is).done d s (record { design_held = hold.design_held; stimulus_held = held_s }) status);
     others = (
       not_status is 2 (lit< tt) (lit< tt) (λ one. omega (arith, one)) (λ three. omega (arith, three)) (λ six. omega (arith, six)) (λ five. omega (arith, five)),
       not_status is 4 (lit< tt) (lit< tt) (λ one. omega (arith, one)) (λ three. omega (arith, three)) (λ six. omega (arith, six)) (λ five. omega (arith, five)),
     );
     absent_stimulus = λ gone. call_barred (1 ∷ 3 ∷ 6 ∷ []) course call is
-        (barred_fitted design board rest call (1 ∷ 3 ∷ 6 ∷ []) (inl refl) (inr (inl refl)) (inr (inr (inl refl)))
-        (λ ordered on its. barred_rows stimulus ordered.flat.inputs (flat_trace unknown ordered.flat) (words ordered on its) told (1 ∷ 3 ∷ 6 ∷ []) gone));
+        (barred_fitted probes design board rest call (1 ∷ 3 ∷ 6 ∷ []) (inl refl) (inr (inl refl)) (inr (inr (inl refl)))
+        (λ ordered on its. barred_rows stimulus ordered.flat.inputs (flat_trace (length probes) unknown ordered.flat) (words ordered on its) told (1 ∷ 3 ∷ 6 ∷ []) gone));
   }

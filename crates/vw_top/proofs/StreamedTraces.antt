@@ -1,9 +1,9 @@
 -- The trace that is written while the stimulus is read again, as the end of a course.
-use Rattle.std.proofs.Common.{◌≡◌, ℕ, Bool, List, take, Option, Result, Ok, Err, refl, sym, ◌∙◌, ap, ap₂, subst}
+use Rattle.std.proofs.Common.{◌≡◌, ℕ, Bool, List, length, take, Option, Result, Ok, Err, refl, sym, ◌∙◌, ap, ap₂, subst}
 use Rattle.std.proofs.Math.Path.{fun_ext}
 use Rattle.vw_net.specs.declared.ordered.Ordered.{Ordered}
-use Rattle.vw_design.specs.declared.design.Design.{Design}
 use Rattle.vw_design.specs.Flattened.{IsFlatOf}
+use Rattle.vw_front.specs.Designs.{WatchedDesign}
 use Rattle.vw_outside.specs.Told.{Told, untold, absent, held, IsTextOf}
 use Rattle.vw_outside.specs.Reads.{SeenShelf}
 use Rattle.vw_outside.specs.Writes.{SeenSink}
@@ -35,27 +35,27 @@ use Rattle.vw_top.proofs.FlatTraces.{trace_same}
 
 -- ---- from a netlist to its design
 
-module _ (F : Course vocabulary → Type 0) (stimulus : List ℕ) (unknown : Bool) (scripts : Scripts) (design : Design) (ordered : Ordered) (is : IsFlatOf design ordered.flat) where
-  traces_same : flat_trace unknown ordered.flat ≡ trace_of unknown design
-  traces_same = fun_ext (trace_same unknown design ordered.flat is)
+module _ (F : Course vocabulary → Type 0) (stimulus : List ℕ) (unknown : Bool) (scripts : Scripts) (watched : WatchedDesign) (ordered : Ordered) (is : IsFlatOf watched.design watched.nets ordered.flat) (count : ℕ) (counted : count ≡ length watched.nets) where
+  traces_same : flat_trace count unknown ordered.flat ≡ trace_of unknown watched
+  traces_same = fun_ext (trace_same unknown count watched ordered.flat is counted)
 
   -- the course of a netlist is that of its design
-  pub of_design : F (netlist_course stimulus unknown scripts ordered) → F (design_course stimulus unknown scripts design)
+  pub of_design : F (netlist_course count stimulus unknown scripts ordered) → F (design_course stimulus unknown scripts watched)
   of_design of =
-      subst (λ (width : ℕ). F (rows_course stimulus width (trace_of unknown design) scripts)) is.inputs
+      subst (λ (width : ℕ). F (rows_course stimulus width (trace_of unknown watched) scripts)) is.inputs
       (subst (λ (trace : List (List Bool) → List ℕ). F (rows_course stimulus ordered.flat.inputs trace scripts)) traces_same of)
 
-  pub of_netlist : F (design_course stimulus unknown scripts design) → F (netlist_course stimulus unknown scripts ordered)
+  pub of_netlist : F (design_course stimulus unknown scripts watched) → F (netlist_course count stimulus unknown scripts ordered)
   of_netlist of =
       subst (λ (trace : List (List Bool) → List ℕ). F (rows_course stimulus ordered.flat.inputs trace scripts)) (sym traces_same)
-      (subst (λ (width : ℕ). F (rows_course stimulus width (trace_of unknown design) scripts)) (sym is.inputs) of)
+      (subst (λ (width : ℕ). F (rows_course stimulus width (trace_of unknown watched) scripts)) (sym is.inputs) of)
 
 -- so a function that follows the one follows the other
 module _ {S O : Type 0} (seen_shelf : S → SeenShelf) (seen_out : O → SeenSink) (stimulus : List ℕ) (unknown : Bool) (scripts : Scripts) where
-  pub goes_of_design : {before after : Outside S O} {answer : Answer vocabulary} (design : Design) (ordered : Ordered) → IsFlatOf design ordered.flat
-      → Goes seen_shelf seen_out vocabulary (netlist_course stimulus unknown scripts ordered) before after answer → Goes seen_shelf seen_out vocabulary (design_course stimulus unknown scripts design) before after answer
-  goes_of_design {before = before} {after = after} {answer = answer} design ordered is goes =
-      of_design (λ (course : Course vocabulary). Goes seen_shelf seen_out vocabulary course before after answer) stimulus unknown scripts design ordered is goes
+  pub goes_of_design : {before after : Outside S O} {answer : Answer vocabulary} (watched : WatchedDesign) (ordered : Ordered) → IsFlatOf watched.design watched.nets ordered.flat → (count : ℕ) → count ≡ length watched.nets
+      → Goes seen_shelf seen_out vocabulary (netlist_course count stimulus unknown scripts ordered) before after answer → Goes seen_shelf seen_out vocabulary (design_course stimulus unknown scripts watched) before after answer
+  goes_of_design {before = before} {after = after} {answer = answer} watched ordered is count counted goes =
+      of_design (λ (course : Course vocabulary). Goes seen_shelf seen_out vocabulary course before after answer) stimulus unknown scripts watched ordered is count counted goes
 
 -- ---- what is left of the outside
 

@@ -1,6 +1,6 @@
 -- What each status says of the design, the stimulus and the trace of a command that runs a design over a stimulus.
 use Rattle.std.proofs.Common.{◌≡◌, ◌≢◌, ◌⊎◌, ℕ, Bool, List, length, Ok, refl, sym, ◌∙◌, ap, subst, inl, inr, lit<}
-use Rattle.vw_design.specs.declared.design.Design.{Design}
+use Rattle.vw_design.specs.Paths.{Word}
 use Rattle.vw_design.specs.Clocks.{columns}
 use Rattle.vw_outside.specs.Told.{Told, untold, absent, held, IsTextOf}
 use Rattle.vw_course.specs.Course.{Course}
@@ -15,7 +15,7 @@ use Rattle.vw_course.proofs.EveryPlace.{Every, ReadsOnly, IsUnbroken, IsNever, I
 use Rattle.vw_course.proofs.StageLaws.{IsBehind, past, at_bad, work_past, refused_past, again_works, works_behind, again_behind, refusal_behind, refused_for}
 use Rattle.vw_course.proofs.BarredLaws.{IsBarred, barred_here}
 use Rattle.vw_course.proofs.CarriedOut.{completes, text_part, done_as, write_as, memory_as}
-use Rattle.vw_front.specs.Designs.{IsDesignOf}
+use Rattle.vw_front.specs.Designs.{WatchedDesign, IsWatchedDesignOf}
 use Rattle.vw_rows.specs.Stimulus.{stimulus_rows}
 use Rattle.vw_top.specs.declared.vocabulary.File.{File}
 use Rattle.vw_top.specs.declared.vocabulary.File.TheVariants as kinds
@@ -97,24 +97,24 @@ module _ (stimulus : List ℕ) (width : ℕ) (trace : List (List Bool) → List 
 
 -- of a command with these files, which uses links so: behind some design of a text of its name it comes to the rows of its
 -- stimulus, and where it is ready, whatever good things it goes on by
-pub record ComesToRows (course : Course vocabulary) (call : Call) (files : Files vocabulary) (design stimulus : List ℕ) (unknown : Bool) (IsReady : Call → List ℕ → List ℕ → Type 0) (Uses : Scripts → Type 0) : Type 1 where
+pub record ComesToRows (probes : List Word) (course : Course vocabulary) (call : Call) (files : Files vocabulary) (design stimulus : List ℕ) (unknown : Bool) (IsReady : Call → List ℕ → List ℕ → Type 0) (Uses : Scripts → Type 0) : Type 1 where
   pub reads : Every (ReadsOnly files) course
   pub held_again : (s : List ℕ) → call.before.shelf.told stimulus ≡ held s → Every (IsHeldThere call.before.shelf.told) course
   pub behind : (P : Course vocabulary → Type 0) → IsBehind 5 P → May call.before.shelf.told P course
-      → (text : List ℕ) × IsTextOf (call.before.shelf.told design) text × (its : Design) × IsDesignOf text its
+      → (text : List ℕ) × IsTextOf (call.before.shelf.told design) text × (its : WatchedDesign) × IsWatchedDesignOf probes text its
       × (scripts : Scripts) × Uses scripts × May call.before.shelf.told P (design_course stimulus unknown scripts its)
-  pub comes : (P : Course vocabulary → Type 0) (d s : List ℕ) → IsReady call d s → (its : Design) → IsDesignOf d its
+  pub comes : (P : Course vocabulary → Type 0) (d s : List ℕ) → IsReady call d s → (its : WatchedDesign) → IsWatchedDesignOf probes d its
       → ((scripts : Scripts) → Uses scripts → StandsAt call.before.shelf.told files P (design_course stimulus unknown scripts its)) → StandsAt call.before.shelf.told files P course
   pub ready_held : (d s : List ℕ) → IsReady call d s → call.before.shelf.told stimulus ≡ held s
   pub one : IsOneOf files (kinds.Stimulus, stimulus)
 
-module _ (course : Course vocabulary) (call : Call) (files : Files vocabulary) (design stimulus : List ℕ) (unknown : Bool) (IsReady : Call → List ℕ → List ℕ → Type 0) (Uses : Scripts → Type 0)
-    (its : ComesToRows course call files design stimulus unknown IsReady Uses) where
+module _ (probes : List Word) (course : Course vocabulary) (call : Call) (files : Files vocabulary) (design stimulus : List ℕ) (unknown : Bool) (IsReady : Call → List ℕ → List ℕ → Type 0) (Uses : Scripts → Type 0)
+    (its : ComesToRows probes course call files design stimulus unknown IsReady Uses) where
   abbrev told : List ℕ → Told
   told = call.before.shelf.told
 
-  abbrev width_of : Design → ℕ
-  width_of one = length (columns one)
+  abbrev width_of : WatchedDesign → ℕ
+  width_of one = length (columns one.design)
 
   -- over every shelf it is the trace of some design over some rows
   any_by : (file : File) (name : List ℕ) (did : CallWork) → May told (ReadsAgainHere told file name did) course → IsAnyTrace unknown Uses did
@@ -123,11 +123,11 @@ module _ (course : Course vocabulary) (call : Call) (files : Files vocabulary) (
       let written = any_rows stimulus (width_of later.2) (trace_of unknown later.2) later.4 told file name did later.6 in
       record { design = later.2; rows = written.0; scripts = later.4; uses = later.5; is = written.1 }
 
-  module _ (d s : List ℕ) (hold : HoldTexts design stimulus unknown call d s) where
-    design_is : (text : List ℕ) → IsTextOf (told design) text → (one : Design) → IsDesignOf text one → IsDesignOf d one
-    design_is text of one is = subst (λ (t : List ℕ). IsDesignOf t one) (its_text (told design) text d hold.design_held of) is
+  module _ (d s : List ℕ) (hold : HoldTexts probes design stimulus unknown call d s) where
+    design_is : (text : List ℕ) → IsTextOf (told design) text → (one : WatchedDesign) → IsWatchedDesignOf probes text one → IsWatchedDesignOf probes d one
+    design_is text of one is = subst (λ (t : List ℕ). IsWatchedDesignOf probes t one) (its_text (told design) text d hold.design_held of) is
 
-    trace_by : (did : CallWork) → MayDo course call did → IsTrace unknown d s Uses did
+    trace_by : (did : CallWork) → MayDo course call did → IsTrace probes unknown d s Uses did
     trace_by did may =
         let later = its.behind (WorksHere told did) (works_behind told 5 did) may in
         let done = work_rows stimulus (width_of later.2) (trace_of unknown later.2) later.4 told s hold.stimulus_held did later.6 in
@@ -140,41 +140,41 @@ module _ (course : Course vocabulary) (call : Call) (files : Files vocabulary) (
           is = done.2;
         }
 
-    trace_again : (file : File) (name : List ℕ) (did : CallWork) → May told (ReadsAgainHere told file name did) course → IsTrace unknown d s Uses did
+    trace_again : (file : File) (name : List ℕ) (did : CallWork) → May told (ReadsAgainHere told file name did) course → IsTrace probes unknown d s Uses did
     trace_again file name did may = trace_by did (again_works told file name did course may)
 
-    rows_why : (reason : Reason) → reason_status reason ≡ 5 → May told (RefusesHere reason) course → IsBadRows d s reason
+    rows_why : (reason : Reason) → reason_status reason ≡ 5 → May told (RefusesHere reason) course → IsBadRows probes d s reason
     rows_why reason same may =
         let later = its.behind (RefusesHere reason) (refusal_behind told 5 reason same) may in
         (later.2, design_is later.0 later.1 later.2 later.3, bad_rows stimulus (width_of later.2) (trace_of unknown later.2) later.4 told s hold.stimulus_held reason later.6)
 
   module _ (is : IsCallOf course call) (d s : List ℕ) (ready : IsReady call d s) where
-    refuses : (spelled : Design) (reason : Reason) → IsDesignOf d spelled → IsBadStimulus (width_of spelled) s reason → StandsAt told files (IsToRefuse (IsBadRows d s)) course
+    refuses : (spelled : WatchedDesign) (reason : Reason) → IsWatchedDesignOf probes d spelled → IsBadStimulus (width_of spelled) s reason → StandsAt told files (IsToRefuse (IsBadRows probes d s)) course
     refuses spelled reason of bad =
-        its.comes (IsToRefuse (IsBadRows d s)) d s ready spelled of
-        (λ scripts uses. to_bad_rows stimulus (width_of spelled) (trace_of unknown spelled) scripts told s (its.ready_held d s ready) files its.one (IsBadRows d s) reason bad (λ other so. (spelled, of, so)))
+        its.comes (IsToRefuse (IsBadRows probes d s)) d s ready spelled of
+        (λ scripts uses. to_bad_rows stimulus (width_of spelled) (trace_of unknown spelled) scripts told s (its.ready_held d s ready) files its.one (IsBadRows probes d s) reason bad (λ other so. (spelled, of, so)))
 
-    runs : (spelled : Design) (rows : List (List Bool)) → AreSpelled d s spelled rows → IsCarriedOut vocabulary (IsTraceOf unknown spelled rows Uses) files call
+    runs : (spelled : WatchedDesign) (rows : List (List Bool)) → AreSpelled probes d s spelled rows → IsCarriedOut vocabulary (IsTraceOf unknown spelled rows Uses) files call
     runs spelled rows are =
         call_works vocabulary files call (IsTraceOf unknown spelled rows Uses) course is
         (its.comes (IsToWork told files (IsTraceOf unknown spelled rows Uses)) d s ready spelled are.design
         (λ scripts uses. to_trace stimulus (width_of spelled) (trace_of unknown spelled) scripts told s (its.ready_held d s ready) files its.one (IsTraceOf unknown spelled rows Uses) rows are.rows_are (scripts, uses, refl)))
 
-  its_text_is : (spelled : Design) (rows : List (List Bool)) (did : CallWork) → IsTraceOf unknown spelled rows Uses did → did.text ≡ trace_of unknown spelled rows
+  its_text_is : (spelled : WatchedDesign) (rows : List (List Bool)) (did : CallWork) → IsTraceOf unknown spelled rows Uses did → did.text ≡ trace_of unknown spelled rows
   its_text_is spelled rows did (scripts, uses, is) = ap (λ (w : CallWork). w.text) is
 
-  pub traced_table : IsCallOf course call → TracedStatuses design stimulus unknown files IsReady Uses call
+  pub traced_table : IsCallOf course call → TracedStatuses probes design stimulus unknown files IsReady Uses call
   traced_table is =
       let table : Statuses course call = call_table course call is in
       record {
-        done = λ d s hold status. done_as (MayDo course call) (IsTrace unknown d s Uses) (trace_by d s hold) call (table.done status);
-        no_rows = λ d s hold. refused_for course call is 5 (IsBadRows d s) (rows_why d s hold) (λ reason did same may. no_break_held told course (its.held_again s hold.stimulus_held) reason did may) (lit< tt) (lit< tt);
+        done = λ d s hold status. done_as (MayDo course call) (IsTrace probes unknown d s Uses) (trace_by d s hold) call (table.done status);
+        no_rows = λ d s hold. refused_for course call is 5 (IsBadRows probes d s) (rows_why d s hold) (λ reason did same may. no_break_held told course (its.held_again s hold.stimulus_held) reason did may) (lit< tt) (lit< tt);
         no_rows_comes = λ d s spelled fault ready of said.
-            call_refused vocabulary files call (IsBadRows d s) course is (refuses is d s ready spelled (reasons.Stimulus fault) of (fault, refl, said));
+            call_refused vocabulary files call (IsBadRows probes d s) course is (refuses is d s ready spelled (reasons.Stimulus fault) of (fault, refl, said));
         read_fault = fault_at_one course call is files its.reads (IsAnyTrace unknown Uses) any_by;
-        read_fault_held = λ d s hold. fault_at_one course call is files its.reads (IsTrace unknown d s Uses) (trace_again d s hold);
-        write_fault = λ d s hold status. write_as (MayDo course call) (IsTrace unknown d s Uses) (trace_by d s hold) call (table.write_fault status);
-        want_of_memory = λ d s hold status. memory_as (MayDo course call) (IsTrace unknown d s Uses) (trace_by d s hold) call (table.want_of_memory status);
+        read_fault_held = λ d s hold. fault_at_one course call is files its.reads (IsTrace probes unknown d s Uses) (trace_again d s hold);
+        write_fault = λ d s hold status. write_as (MayDo course call) (IsTrace probes unknown d s Uses) (trace_by d s hold) call (table.write_fault status);
+        want_of_memory = λ d s hold status. memory_as (MayDo course call) (IsTrace probes unknown d s Uses) (trace_by d s hold) call (table.want_of_memory status);
         accepted = λ d s spelled rows ready are. runs is d s ready spelled rows are;
         part = λ d s spelled rows ready are. text_part vocabulary (IsTraceOf unknown spelled rows Uses) (trace_of unknown spelled rows) (its_text_is spelled rows) call files (runs is d s ready spelled rows are);
         complete = λ d s spelled rows ready are. completes vocabulary (IsTraceOf unknown spelled rows Uses) call files (runs is d s ready spelled rows are);

@@ -3,11 +3,12 @@ use Rattle.std.specs.Prelude.{◌≡◌, ◌++◌, ℕ, Bool, false, List, [], �
 use Rattle.std.specs.List.{All}
 use Rattle.std.specs.Fmt.{decimal}
 use Rattle.vw_net.specs.declared.ordered.Ordered.{Ordered}
-use Rattle.vw_design.specs.declared.design.Design.{Design}
+use Rattle.vw_design.specs.Paths.{Word as ProbeWord}
 use Rattle.vw_design.specs.Preorder.{latches}
 use Rattle.vw_design.specs.NetReads.{root_outputs}
 use Rattle.vw_design.specs.Clocks.{columns}
 use Rattle.vw_design.specs.PathHistory.{path_history}
+use Rattle.vw_front.specs.Designs.{WatchedDesign}
 use Rattle.vw_course.specs.Course.{again, Course, works, refuses, writes, judges, made, stage}
 use Rattle.vw_course.specs.OnTexts.{on_texts}
 use Rattle.vw_plan.specs.declared.board.Board.{Board}
@@ -31,10 +32,11 @@ use Rattle.vw_top.specs.Kinds.{design_kind, netlist_kind, rows_kind, IsBadAgain,
 
 -- ---- traces
 
--- the trace of a design over rows, where free latches start at `unknown`
-abbrev pub trace_of : Bool → Design → List (List Bool) → List ℕ
-trace_of unknown design rows =
-    trace_text (length (root_outputs design)) (length (latches design)) (path_history design unknown rows)
+-- the trace of a design with watched nets over rows, where free latches start at `unknown`
+abbrev pub trace_of : Bool → WatchedDesign → List (List Bool) → List ℕ
+trace_of unknown watched rows =
+    trace_text (length (root_outputs watched.design)) (length watched.nets) (length (latches watched.design))
+    (path_history watched.design watched.nets unknown rows)
 
 -- the words that each link carries for such rows, where links are used; and no links
 abbrev pub Scripts : Type 0
@@ -62,20 +64,20 @@ abbrev pub rows_course : List ℕ → ℕ → (List (List Bool) → List ℕ) �
 rows_course stimulus width trace scripts =
     stage (rows_kind width) stimulus (trace_course stimulus width trace scripts)
 
--- so for a design, and for a netlist
-abbrev pub design_course : List ℕ → Bool → Scripts → Design → Course vocabulary
-design_course stimulus unknown scripts design =
-    rows_course stimulus (length (columns design)) (trace_of unknown design) scripts
+-- so for a design, and for a netlist of which so many last outputs are probes
+abbrev pub design_course : List ℕ → Bool → Scripts → WatchedDesign → Course vocabulary
+design_course stimulus unknown scripts watched =
+    rows_course stimulus (length (columns watched.design)) (trace_of unknown watched) scripts
 
-abbrev pub netlist_course : List ℕ → Bool → Scripts → Ordered → Course vocabulary
-netlist_course stimulus unknown scripts ordered =
-    rows_course stimulus ordered.flat.inputs (flat_trace unknown ordered.flat) scripts
+abbrev pub netlist_course : ℕ → List ℕ → Bool → Scripts → Ordered → Course vocabulary
+netlist_course count stimulus unknown scripts ordered =
+    rows_course stimulus ordered.flat.inputs (flat_trace count unknown ordered.flat) scripts
 
 -- ---- sim
 
--- the design first
-abbrev pub sim_course : List ℕ → List ℕ → Bool → Course vocabulary
-sim_course design stimulus unknown = stage design_kind design (design_course stimulus unknown no_links)
+-- the design first, with its probes
+abbrev pub sim_course : List ProbeWord → List ℕ → List ℕ → Bool → Course vocabulary
+sim_course probes design stimulus unknown = stage (design_kind probes) design (design_course stimulus unknown no_links)
 
 -- ---- check
 
@@ -98,8 +100,8 @@ abbrev pub check_board_course : List ℕ → List ℕ → Ordered → Course voc
 check_board_course board plan ordered = stage board_kind board (check_plan_course plan ordered)
 
 -- the design first
-abbrev pub check_course : List ℕ → List ℕ → List ℕ → Course vocabulary
-check_course design board plan = stage netlist_kind design (check_board_course board plan)
+abbrev pub check_course : List ProbeWord → List ℕ → List ℕ → List ℕ → Course vocabulary
+check_course probes design board plan = stage (netlist_kind probes) design (check_board_course board plan)
 
 -- ---- plan
 
@@ -116,8 +118,8 @@ abbrev pub plan_board_course : List ℕ → Ordered → Course vocabulary
 plan_board_course board ordered = stage board_kind board (good_course ordered)
 
 -- the design first
-abbrev pub plan_course : List ℕ → List ℕ → Course vocabulary
-plan_course design board = stage netlist_kind design (plan_board_course board)
+abbrev pub plan_course : List ProbeWord → List ℕ → List ℕ → Course vocabulary
+plan_course probes design board = stage (netlist_kind probes) design (plan_board_course board)
 
 -- ---- run
 
@@ -140,27 +142,27 @@ abbrev pub on_board_course : List ℕ → Option (List ℕ) → Rest → Ordered
 on_board_course board given rest ordered = stage board_kind board (with_plan_course given rest ordered)
 
 -- the design first
-abbrev pub ready_course : List ℕ → List ℕ → Option (List ℕ) → Rest → Course vocabulary
-ready_course design board given rest = stage netlist_kind design (on_board_course board given rest)
+abbrev pub ready_course : List ProbeWord → List ℕ → List ℕ → Option (List ℕ) → Rest → Course vocabulary
+ready_course probes design board given rest = stage (netlist_kind probes) design (on_board_course board given rest)
 
 -- the words that the links of a planned board carry: none with one worker, which uses no link
 abbrev pub board_scripts : ℕ → Bool → PlannedBoard → Scripts
 board_scripts workers unknown planned rows = scripts_of workers (traffic planned unknown rows)
 
 -- a planned board runs: what is written is the trace of its netlist, which knows no plan
-abbrev pub board_course : List ℕ → ℕ → Bool → Rest
-board_course stimulus workers unknown ordered board plan =
-    netlist_course stimulus unknown (board_scripts workers unknown (planned_board ordered board plan)) ordered
+abbrev pub board_course : ℕ → List ℕ → ℕ → Bool → Rest
+board_course count stimulus workers unknown ordered board plan =
+    netlist_course count stimulus unknown (board_scripts workers unknown (planned_board ordered board plan)) ordered
 
-abbrev pub run_course : List ℕ → List ℕ → Option (List ℕ) → List ℕ → ℕ → Bool → Course vocabulary
-run_course design board given stimulus workers unknown =
-    ready_course design board given (board_course stimulus workers unknown)
+abbrev pub run_course : List ProbeWord → List ℕ → List ℕ → Option (List ℕ) → List ℕ → ℕ → Bool → Course vocabulary
+run_course probes design board given stimulus workers unknown =
+    ready_course probes design board given (board_course (length probes) stimulus workers unknown)
 
 -- ---- demo
 
--- the run of a demo: free latches start at 0
+-- the run of a demo: no net is watched, and free latches start at 0
 abbrev pub demo_run : ℕ → Course vocabulary
-demo_run workers = run_course design_name board_name None stimulus_name workers false
+demo_run workers = run_course [] design_name board_name None stimulus_name workers false
 
 -- it goes over the generated texts, and a summary of its trace is written
 abbrev pub demo_course : ℕ → ℕ → Course vocabulary
@@ -173,10 +175,10 @@ abbrev pub usage_course : ℕ → Course vocabulary
 usage_course place = refuses (Usage place)
 
 abbrev pub course_of : Spelled → Course vocabulary
-course_of (words.sim design stimulus unknown) = sim_course design stimulus unknown
-course_of (words.check design board plan) = check_course design board plan
-course_of (words.plan design board) = plan_course design board
-course_of (words.run design board stimulus given workers unknown) =
-    run_course design board given stimulus workers unknown
+course_of (words.sim design stimulus unknown probes) = sim_course probes design stimulus unknown
+course_of (words.check design board plan probes) = check_course probes design board plan
+course_of (words.plan design board probes) = plan_course probes design board
+course_of (words.run design board stimulus given workers unknown probes) =
+    run_course probes design board given stimulus workers unknown
 course_of (words.demo cells workers) = demo_course cells workers
 course_of (words.nothing place) = usage_course place

@@ -1,6 +1,6 @@
 -- What each status of `demo` says of its texts.
-use Rattle.std.specs.Prelude.{◌≡◌, ◌≢◌, ◌<◌, ◌⊎◌, ℕ, Bool, false, List}
-use Rattle.vw_design.specs.declared.design.Design.{Design}
+use Rattle.std.specs.Prelude.{◌≡◌, ◌≢◌, ◌<◌, ◌⊎◌, ℕ, Bool, false, List, []}
+use Rattle.vw_front.specs.Designs.{WatchedDesign}
 use Rattle.vw_gen.specs.Design.{design_text}
 use Rattle.vw_gen.specs.Stimulus.{stimulus_text}
 use Rattle.vw_outside.specs.Told.{held}
@@ -16,9 +16,9 @@ use Rattle.vw_top.specs.RunStatuses.{AreGood, RunStatuses}
 -- out has, behind what it had before, exactly the summary of the trace of the generated design, which knows no board, over
 -- the generated rows
 pub record WritesSummary (cells : ℕ) (call : Call) : Type 0 where
-  pub spelled : Design
+  pub spelled : WatchedDesign
   pub rows : List (List Bool)
-  pub are : AreSpelled (design_text cells) (stimulus_text cells) spelled rows
+  pub are : AreSpelled [] (design_text cells) (stimulus_text cells) spelled rows
   pub wrote : call.after.out ≡ appended call.before.out (summary cells (trace_of false spelled rows))
 
 -- a call of `run` over the generated texts, while which links carried what they carried in this call
@@ -27,7 +27,7 @@ pub record IsRunOfTexts (cells workers : ℕ) (call run : Call) : Type 0 where
   pub links : run.before.links ≡ call.before.links
   pub links_after : run.after.links ≡ call.after.links
   -- all that is said of runs: when the texts are refused, for which reason, and that they run otherwise
-  pub statuses : RunStatuses design_name board_name stimulus_name workers false run
+  pub statuses : RunStatuses [] design_name board_name stimulus_name workers false run
 
 -- nothing changed, and the message is that of the run
 pub record IsRefusedAs (call run : Call) : Type 0 where
@@ -43,8 +43,8 @@ pub record DemoStatuses (cells workers : ℕ) (call : Call) : Type 0 where
   -- 0: the summary of the trace of the unpartitioned design
   pub done : call.status ≡ 0 → WritesSummary cells call
   -- 0: each link has carried its script of one good plan over all clocks, where several workers run it
-  pub on_links : call.status ≡ 0 → CarriesAll workers false (design_text cells) (stimulus_text cells)
-      (AreGood design_name board_name stimulus_name workers false (design_text cells) (generated cells board_name)) run
+  pub on_links : call.status ≡ 0 → CarriesAll [] workers false (design_text cells) (stimulus_text cells)
+      (AreGood [] design_name board_name stimulus_name workers false (design_text cells) (generated cells board_name)) run
   -- 1, 3, 5 and 6: as the run is
   pub refused : 0 < call.status → call.status < 7 → IsRefusedAs call run
   -- these aren't statuses of it

@@ -4,10 +4,10 @@ use Rattle.std.proofs.Common.{sym, ap, subst, ◌∙◌}
 use Rattle.std.proofs.Math.Nat.{not-le_of_lt}
 use Rattle.std.proofs.lemmas.Option.{none-some}
 use Rattle.vw_net.specs.declared.ordered.Ordered.{Ordered}
-use Rattle.vw_design.specs.declared.design.Design.{Design}
+use Rattle.vw_design.specs.Paths.{Word}
 use Rattle.vw_course.specs.Course.{Judged, Kind, Making}
 use Rattle.vw_front.specs.declared.fault.NetlistFault.{NetlistFault}
-use Rattle.vw_front.specs.Designs.{IsDesignOf, IsNetlistOf, RefusesDesign, design_apart, netlist_apart}
+use Rattle.vw_front.specs.Designs.{WatchedDesign, IsWatchedDesignOf, IsNetlistOf, RefusesDesign, design_apart, netlist_apart}
 use Rattle.vw_plan.specs.declared.board.Board.{Board}
 use Rattle.vw_plan.specs.declared.plan.Plan.{Plan}
 use Rattle.vw_plan.specs.Good.{IsGood}
@@ -33,32 +33,32 @@ use Rattle.vw_top.specs.Messages.{reason_status, vocabulary}
 
 -- ---- the design
 
--- why a text has no design that runs
-abbrev pub IsBadDesign : List ℕ → Reason → Type 0
-IsBadDesign text reason = (fault : NetlistFault) × (reason ≡ reasons.Design fault) × RefusesDesign text fault
+-- why a text has no design that runs, in which each probe finds a net
+abbrev pub IsBadDesign : List Word → List ℕ → Reason → Type 0
+IsBadDesign probes text reason = (fault : NetlistFault) × (reason ≡ reasons.Design fault) × RefusesDesign probes text fault
 
--- the design that a text spells
-abbrev pub design_kind : Kind vocabulary Design
-design_kind = record {
+-- the design that a text spells, with the nets that the probes find
+abbrev pub design_kind : List Word → Kind vocabulary WatchedDesign
+design_kind probes = record {
   file = files.Design;
   number = 1;
   judged = λ text. record {
-    Good = IsDesignOf text;
-    Bad = IsBadDesign text;
-    apart = λ design reason is bad. design_apart text design bad.0 is bad.2;
+    Good = IsWatchedDesignOf probes text;
+    Bad = IsBadDesign probes text;
+    apart = λ watched reason is bad. design_apart probes text watched bad.0 is bad.2;
     its_status = λ reason bad. ap reason_status bad.1;
   };
 }
 
 -- its netlist, with an order of its gates
-abbrev pub netlist_kind : Kind vocabulary Ordered
-netlist_kind = record {
+abbrev pub netlist_kind : List Word → Kind vocabulary Ordered
+netlist_kind probes = record {
   file = files.Design;
   number = 1;
   judged = λ text. record {
-    Good = IsNetlistOf text;
-    Bad = IsBadDesign text;
-    apart = λ ordered reason is bad. netlist_apart text ordered bad.0 is bad.2;
+    Good = IsNetlistOf probes text;
+    Bad = IsBadDesign probes text;
+    apart = λ ordered reason is bad. netlist_apart probes text ordered bad.0 is bad.2;
     its_status = λ reason bad. ap reason_status bad.1;
   };
 }

@@ -1,7 +1,8 @@
 -- What the tables of `run` say of the words that links carry.
 use Rattle.std.specs.Prelude.{◌≡◌, ℕ, Bool, List}
 use Rattle.vw_net.specs.declared.ordered.Ordered.{Ordered}
-use Rattle.vw_design.specs.declared.design.Design.{Design}
+use Rattle.vw_design.specs.Paths.{Word}
+use Rattle.vw_front.specs.Designs.{WatchedDesign}
 use Rattle.vw_course.specs.Outside.{carried}
 use Rattle.vw_plan.specs.declared.board.Board.{Board}
 use Rattle.vw_plan.specs.declared.plan.Plan.{Plan}
@@ -19,10 +20,10 @@ pub record UsesBoard (workers : ℕ) (unknown : Bool) (Is : Ordered → Board �
   pub are : scripts ≡ board_scripts workers unknown (planned_board ordered board plan)
 
 -- each link has carried, behind what it had before, exactly its words of such a planned board, over all rows of the stimulus
-pub record CarriesAll (workers : ℕ) (unknown : Bool) (d s : List ℕ) (Is : Ordered → Board → Plan → Type 0) (call : Call) : Type 0 where
-  pub spelled : Design
+pub record CarriesAll (probes : List Word) (workers : ℕ) (unknown : Bool) (d s : List ℕ) (Is : Ordered → Board → Plan → Type 0) (call : Call) : Type 0 where
+  pub spelled : WatchedDesign
   pub rows : List (List Bool)
-  pub are : AreSpelled d s spelled rows
+  pub are : AreSpelled probes d s spelled rows
   pub ordered : Ordered
   pub board : Board
   pub plan : Plan

@@ -1,6 +1,7 @@
 -- A design on a board, as the tables of commands speak of them.
 use Rattle.std.specs.Prelude.{ℕ, List}
 use Rattle.vw_net.specs.declared.ordered.Ordered.{Ordered}
+use Rattle.vw_design.specs.Paths.{Word}
 use Rattle.vw_plan.specs.declared.board.Board.{Board}
 use Rattle.vw_board.specs.BoardText.{Spells as SpellsBoard}
 use Rattle.vw_front.specs.Designs.{IsNetlistOf}
@@ -11,7 +12,7 @@ use Rattle.vw_top.specs.Kinds.{IsBadBoard}
 abbrev pub IsNoBoard : List ℕ → Type 0
 IsNoBoard b = (reason : Reason) × IsBadBoard b reason
 
--- a netlist of the design of a text, and the board of another
-pub record AreSpelledOn (d b : List ℕ) (ordered : Ordered) (board : Board) : Type 0 where
-  pub netlist : IsNetlistOf d ordered
+-- a netlist of the design of a text with the nets that probes find, and the board of another
+pub record AreSpelledOn (probes : List Word) (d b : List ℕ) (ordered : Ordered) (board : Board) : Type 0 where
+  pub netlist : IsNetlistOf probes d ordered
   pub board_is : SpellsBoard b board

@@ -1,5 +1,6 @@
 -- What each status of `sim` says of its files.
 use Rattle.std.specs.Prelude.{◌≡◌, ◌≢◌, ◌⊎◌, ℕ, Bool, List, [], ◌∷◌}
+use Rattle.vw_design.specs.Paths.{Word}
 use Rattle.vw_course.specs.Places.{Files}
 use Rattle.vw_course.specs.Statuses.{IsRefusedFor, IsStopped, Holds, IsAbsent, IsUnworked}
 use Rattle.vw_front.specs.Designs.{IsNoDesign}
@@ -13,7 +14,7 @@ use Rattle.vw_top.specs.TracedStatuses.{HoldTexts, TracedStatuses}
 abbrev pub UsesNone : Scripts → Type 0
 UsesNone scripts = scripts ≡ no_links
 
-module _ (design stimulus : List ℕ) (unknown : Bool) where
+module _ (probes : List Word) (design stimulus : List ℕ) (unknown : Bool) where
   -- the files of `sim`
   abbrev pub its_design : Files vocabulary
   its_design = (files.Design, design) ∷ []
@@ -22,13 +23,13 @@ module _ (design stimulus : List ℕ) (unknown : Bool) where
   its_files = (files.Design, design) ∷ (files.Stimulus, stimulus) ∷ []
 
   pub record SimStatuses (call : Call) : Type 0 where
-    -- 1: exactly where the design text has a fault, or its design has one, or a loop
+    -- 1: exactly where the design text has a fault, or its design has one, or a probe finds no net, or there is a loop
     pub no_design : (d : List ℕ) → Holds call design d → call.status ≡ 1
-        → IsRefusedFor vocabulary (IsBadDesign d) call
-    pub no_design_comes : (d : List ℕ) → Holds call design d → IsNoDesign d
-        → IsRefusedFor vocabulary (IsBadDesign d) call ⊎ IsStopped vocabulary its_design call
+        → IsRefusedFor vocabulary (IsBadDesign probes d) call
+    pub no_design_comes : (d : List ℕ) → Holds call design d → IsNoDesign probes d
+        → IsRefusedFor vocabulary (IsBadDesign probes d) call ⊎ IsStopped vocabulary its_design call
     -- 0, 5, 7, 8 and 9, and that it completes; nothing comes between the design and the stimulus, and no link is used
-    pub traced : TracedStatuses design stimulus unknown its_files (HoldTexts design stimulus unknown) UsesNone call
+    pub traced : TracedStatuses probes design stimulus unknown its_files (HoldTexts probes design stimulus unknown) UsesNone call
     -- these aren't statuses of `sim`
     pub others : (call.status ≢ 2) × (call.status ≢ 3) × (call.status ≢ 4) × (call.status ≢ 6)
     -- a file that is told to be absent is a read fault, unless memory runs out, or the design is refused before

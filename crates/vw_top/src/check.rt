@@ -1,5 +1,5 @@
 //! The command `check`.
-ghost use Rattle.std.specs.Prelude.{◌≡◌, IfOk};
+ghost use Rattle.std.specs.Prelude.{◌≡◌, ◌≤◌, length, IfOk};
 ghost use Rattle.vw_course.specs.Goes.{Goes};
 ghost use Rattle.vw_outside.specs.Writes.{WritesOut};
 ghost use Rattle.vw_top.specs.Commands.{check_board_course, check_course, check_plan_course, sound_course, sound_text};
@@ -81,18 +81,21 @@ fn check_netlist<S: Shelf, O: Sink>(
     check_on_board(alloc, ordered, board, plan, outside)
 }
 
-/// Checks a plan of a design on a board, and writes its size where it is sound.
+/// Checks a plan of a design with its probes on a board, and writes its size where it is sound.
 pub fn check<S: Shelf, O: Sink>(
     alloc: Global,
     design: &Name,
+    probes: &[Name],
     board: &Name,
     plan: &Name,
     outside: &mut Outside<'_, '_, S, O>,
 ) -> Result<(), Unfinished>
-    ensures { Goes S.seen O.seen vocabulary (check_course design.now board.now plan.now) outside.old
+    requires { length probes.now ≤ 64 }
+    ensures { Goes S.seen O.seen vocabulary
+        (check_course probes.now design.now board.now plan.now) outside.old
         outside.new
         result }
 {
-    let ordered = read_design(alloc, outside.shelf, design)?;
+    let ordered = read_design(alloc, outside.shelf, design, probes)?;
     check_netlist(alloc, ordered, board, plan, outside)
 }

@@ -12,7 +12,7 @@ use crate::plan::plan;
 use crate::run::{run_by_one, run_by_several};
 use crate::sim::sim;
 use crate::vocabulary::{Reason, Unfinished};
-use crate::words::{Command, command_of, workers_of};
+use crate::words::{Command, command_of, probes_of, workers_of};
 use std::alloc::Global;
 use std::marker::Sync;
 use std::sync::Wait;
@@ -37,21 +37,42 @@ fn carry_out<S: Shelf, O: Sink>(
             design,
             stimulus,
             unknown,
-        } => sim(alloc, design, stimulus, unknown, outside),
+            probes,
+        } => {
+            let probes = probes_of(alloc, probes)?;
+            sim(alloc, design, &probes, stimulus, unknown, outside)
+        }
         Command::Check {
             design,
             board,
             plan,
-        } => check(alloc, design, board, plan, outside),
-        Command::Plan { design, board } => plan(alloc, design, board, outside),
+            probes,
+        } => {
+            let probes = probes_of(alloc, probes)?;
+            check(alloc, design, &probes, board, plan, outside)
+        }
+        Command::Plan {
+            design,
+            board,
+            probes,
+        } => {
+            let probes = probes_of(alloc, probes)?;
+            plan(alloc, design, &probes, board, outside)
+        }
         Command::Run {
             design,
             board,
             stimulus,
             plan,
             unknown,
+            probes,
             ..
-        } => run_by_one(alloc, design, board, plan, stimulus, unknown, outside),
+        } => {
+            let probes = probes_of(alloc, probes)?;
+            run_by_one(
+                alloc, design, &probes, board, plan, stimulus, unknown, outside,
+            )
+        }
         Command::Demo { size, .. } => demo_by_one(alloc, size, outside),
         Command::Nothing(place) => Err(Unfinished::Refused(Reason::Usage(place))),
     }
@@ -79,9 +100,14 @@ fn carry_out_together<R: Threads + Wait + Sync, S: Shelf, F: Fabric, G: BurstGat
             plan,
             workers,
             unknown,
-        } => run_by_several(
-            rt, alloc, design, board, plan, stimulus, workers, unknown, fabric, gate, outside,
-        ),
+            probes,
+        } => {
+            let probes = probes_of(alloc, probes)?;
+            run_by_several(
+                rt, alloc, design, &probes, board, plan, stimulus, workers, unknown, fabric, gate,
+                outside,
+            )
+        }
         Command::Demo { size, workers } => {
             demo_by_several(rt, alloc, size, workers, fabric, gate, outside)
         }

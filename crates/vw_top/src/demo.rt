@@ -93,9 +93,9 @@ fn run_alone<S: Shelf, O: Sink>(
     outside: &mut Outside<'_, '_, S, O>,
 ) -> Result<(), Unfinished>
     ensures { Goes S.seen O.seen vocabulary
-        (run_course design.now board.now None stimulus.now 1 false) outside.old outside.new result }
+        (run_course [] design.now board.now None stimulus.now 1 false) outside.old outside.new result }
 {
-    run_by_one(alloc, design, board, None, stimulus, false, outside)
+    run_by_one(alloc, design, &[], board, None, stimulus, false, outside)
 }
 
 /// Runs the texts of these names in this thread.
@@ -108,7 +108,7 @@ fn run_named_by_one(
     trace: &mut MemSink,
 ) -> Result<(), Unfinished>
     ensures { IsFollowed vocabulary Unmoved
-        (run_course design.now board.now None stimulus.now 1 false)
+        (run_course [] design.now board.now None stimulus.now 1 false)
         (seen_sure shelf.old.files.items) (seen_sink trace.old)
         (seen_sure shelf.new.files.items) (seen_sink trace.new) result }
 {
@@ -131,7 +131,7 @@ fn run_named_by_several<R: Threads + Wait + Sync, F: Fabric, G: BurstGate>(
 ) -> Result<(), Unfinished>
     requires { 1 < workers }
     ensures { IsFollowed vocabulary (MovedFrom (F.carried fabric.old) (F.carried fabric.new))
-        (run_course design.now board.now None stimulus.now workers false)
+        (run_course [] design.now board.now None stimulus.now workers false)
         (seen_sure shelf.old.files.items) (seen_sink trace.old)
         (seen_sure shelf.new.files.items) (seen_sink trace.new) result }
 {
@@ -140,6 +140,7 @@ fn run_named_by_several<R: Threads + Wait + Sync, F: Fabric, G: BurstGate>(
         rt,
         alloc,
         design,
+        &[],
         board,
         None,
         stimulus,

@@ -1,5 +1,5 @@
 //! The files of commands, each read and judged at its own stage.
-ghost use Rattle.std.specs.Prelude.{◌≡◌, IfOk};
+ghost use Rattle.std.specs.Prelude.{◌≡◌, ◌≤◌, length, IfOk};
 ghost use Rattle.vw_board.specs.BoardText.{Spells as SpellsBoard};
 ghost use Rattle.vw_course.specs.Stages.{EndsJudging, EndsStage};
 ghost use Rattle.vw_front.specs.Designs.{IsNetlistOf};
@@ -29,29 +29,32 @@ const BOARD_LIMIT: u64 = 1_048_576;
 /// The most bytes that a plan text has.
 const PLAN_LIMIT: u64 = 67_108_864;
 
-/// The netlist of the design that a text spells, with an order of its gates.
-fn design_of_text(alloc: Global, text: &[u8]) -> Result<Ordered, Unfinished>
-    ensures { EndsJudging (IsNetlistOf text.now) (IsBadDesign text.now) result }
+/// The netlist of the design that a text spells with the nets that probes find, with an order of its gates.
+fn design_of_text(alloc: Global, text: &[u8], probes: &[Name]) -> Result<Ordered, Unfinished>
+    requires { length probes.now ≤ 64 }
+    ensures { EndsJudging (IsNetlistOf probes.now text.now) (IsBadDesign probes.now text.now) result }
 {
-    match netlist_of_text(alloc, text) {
+    match netlist_of_text(alloc, text, probes) {
         Ok(ordered) => Ok(ordered),
         Err(NetlistFault::NoMemory) => Err(Unfinished::NoMemory),
         Err(fault) => Err(Unfinished::Refused(Reason::Design(fault))),
     }
 }
 
-/// Reads the design.
+/// Reads the design, and finds the nets of probes in it. They are the last outputs of its netlist.
 pub fn read_design<S: Shelf>(
     alloc: Global,
     shelf: &mut S,
     name: &Name,
+    probes: &[Name],
 ) -> Result<Ordered, Unfinished>
+    requires { length probes.now ≤ 64 }
     ensures { EndsStage File.Design name.now
-        IsNetlistOf IsBadDesign
+        (IsNetlistOf probes.now) (IsBadDesign probes.now)
         (S.seen shelf.old) (S.seen shelf.new) result }
 {
     match read_text(alloc, shelf, name, DESIGN_LIMIT) {
-        Ok(text) => design_of_text(alloc, &text),
+        Ok(text) => design_of_text(alloc, &text, probes),
         Err(TextRefused::TooLarge) => {
             let fault = NetlistFault::Text(TextFault::TooLarge);
             Err(Unfinished::Refused(Reason::Design(fault)))

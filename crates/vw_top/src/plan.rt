@@ -1,5 +1,5 @@
 //! The command `plan`.
-ghost use Rattle.std.specs.Prelude.{◌≡◌};
+ghost use Rattle.std.specs.Prelude.{◌≡◌, ◌≤◌, length};
 ghost use Rattle.vw_course.specs.Goes.{Goes};
 ghost use Rattle.vw_outside.specs.Writes.{WritesOut};
 ghost use Rattle.vw_top.specs.Commands.{good_course, plan_board_course, plan_course, text_of_plan};
@@ -53,17 +53,19 @@ fn plan_netlist<S: Shelf, O: Sink>(
     plan_on_board(alloc, ordered, board, outside)
 }
 
-/// Makes a good plan of a design on a board, and writes its text.
+/// Makes a good plan of a design with its probes on a board, and writes its text.
 pub fn plan<S: Shelf, O: Sink>(
     alloc: Global,
     design: &Name,
+    probes: &[Name],
     board: &Name,
     outside: &mut Outside<'_, '_, S, O>,
 ) -> Result<(), Unfinished>
-    ensures { Goes S.seen O.seen vocabulary (plan_course design.now board.now) outside.old
+    requires { length probes.now ≤ 64 }
+    ensures { Goes S.seen O.seen vocabulary (plan_course probes.now design.now board.now) outside.old
         outside.new
         result }
 {
-    let ordered = read_design(alloc, outside.shelf, design)?;
+    let ordered = read_design(alloc, outside.shelf, design, probes)?;
     plan_netlist(alloc, ordered, board, outside)
 }

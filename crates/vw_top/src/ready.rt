@@ -1,6 +1,6 @@
 //! A design on its board with its plan, ready to run.
 ghost use Rattle.std.specs.Option.{option_copied};
-ghost use Rattle.std.specs.Prelude.{Some, None};
+ghost use Rattle.std.specs.Prelude.{◌≤◌, Some, None, length};
 ghost use Rattle.vw_course.specs.Goes.{EndsPart};
 ghost use Rattle.vw_top.specs.Commands.{given_sound_course, on_board_course, ready_course, with_plan_course};
 ghost use Rattle.vw_top.specs.Messages.{vocabulary};
@@ -81,19 +81,22 @@ fn ready_on_board<S: Shelf>(
     ready_with_plan(alloc, ordered, board, plan, shelf)
 }
 
-/// Reads a design and a board, and the plan that is given or makes one, which is checked.
+/// Reads a design with its probes and a board, and the plan that is given or makes one, which is checked.
 pub fn ready_board<S: Shelf>(
     alloc: Global,
     design: &Name,
+    probes: &[Name],
     board: &Name,
     plan: Option<&[u8]>,
     shelf: &mut S,
 ) -> Result<Checked, Unfinished>
+    requires { length probes.now ≤ 64 }
     ensures { EndsPart vocabulary
-        (ready_course design.now board.now (option_copied plan.entry) cut_there)
-        (IsReadyBoard (S.seen shelf.old).told design.now board.now (option_copied plan.entry))
+        (ready_course probes.now design.now board.now (option_copied plan.entry) cut_there)
+        (IsReadyBoard probes.now (S.seen shelf.old).told design.now board.now
+        (option_copied plan.entry))
         (S.seen shelf.old) (S.seen shelf.new) result }
 {
-    let ordered = read_design(alloc, shelf, design)?;
+    let ordered = read_design(alloc, shelf, design, probes)?;
     ready_on_board(alloc, ordered, board, plan, shelf)
 }

@@ -1,6 +1,6 @@
 //! The command `run`: with one worker in this thread, and with several on threads.
 ghost use Rattle.std.specs.Option.{option_copied};
-ghost use Rattle.std.specs.Prelude.{◌≡◌, ◌<◌, ◌≤◌, ℕ};
+ghost use Rattle.std.specs.Prelude.{◌≡◌, ◌<◌, ◌≤◌, ℕ, length};
 ghost use Rattle.vw_course.specs.Goes.{Goes, GoesOver, MovedFrom};
 ghost use Rattle.vw_run.specs.Runs.{without_count};
 ghost use Rattle.vw_top.specs.Commands.{board_course, run_course};
@@ -30,22 +30,26 @@ fn clocks_answer(ran: Result<u64, RunFault>) -> Result<(), Unfinished>
     }
 }
 
-/// Checks the stimulus, runs a planned design over it as it is read again, and writes the trace. One worker runs it.
+/// Checks the stimulus, runs a planned design over it as it is read again, and writes the trace. So many last outputs are
+/// probes. One worker runs it.
 fn run_checked<S: Shelf, O: Sink>(
     alloc: Global,
     checked: Checked,
+    probes: u32,
     stimulus: &Name,
     unknown: bool,
     outside: &mut Outside<'_, '_, S, O>,
 ) -> Result<(), Unfinished>
+    requires { probes ≤ length checked.ordered.flat.outputs }
     ensures { (workers : ℕ) → workers ≤ 1 → Goes S.seen O.seen vocabulary
-        (board_course stimulus.now workers unknown checked.ordered checked.board checked.plan)
+        (board_course probes stimulus.now workers unknown checked.ordered checked.board checked.plan)
         outside.old outside.new result }
 {
     let mut rows = check_rows(alloc, outside.shelf, stimulus, &checked.ordered)?;
     let ran = run_alone(
         alloc,
         checked,
+        probes,
         unknown,
         &mut rows,
         outside.shelf,
@@ -59,6 +63,7 @@ fn run_checked_together<R: Threads + Wait + Sync, S: Shelf, F: Fabric, G: BurstG
     rt: &R,
     alloc: Global,
     checked: Checked,
+    probes: u32,
     stimulus: &Name,
     workers: u64,
     unknown: bool,
@@ -66,10 +71,11 @@ fn run_checked_together<R: Threads + Wait + Sync, S: Shelf, F: Fabric, G: BurstG
     gate: &G,
     outside: &mut Outside<'_, '_, S, O>,
 ) -> Result<(), Unfinished>
-    requires { 1 < workers }
+    requires several { 1 < workers }
+    requires probes { probes ≤ length checked.ordered.flat.outputs }
     ensures { GoesOver S.seen O.seen vocabulary
         (MovedFrom (F.carried fabric.old) (F.carried fabric.new))
-        (board_course stimulus.now workers unknown checked.ordered checked.board checked.plan)
+        (board_course probes stimulus.now workers unknown checked.ordered checked.board checked.plan)
         outside.old outside.new result }
 {
     let mut rows = check_rows(alloc, outside.shelf, stimulus, &checked.ordered)?;
@@ -79,6 +85,7 @@ fn run_checked_together<R: Threads + Wait + Sync, S: Shelf, F: Fabric, G: BurstG
         rt,
         alloc,
         checked,
+        probes,
         unknown,
         workers,
         &mut rows,
@@ -91,22 +98,33 @@ fn run_checked_together<R: Threads + Wait + Sync, S: Shelf, F: Fabric, G: BurstG
 }
 
 /// Runs a design on a board over a stimulus, by the plan that is given or by one that is made, free latches starting at
-/// `unknown`, and writes its trace. One worker runs it.
+/// `unknown`, and writes its trace with the nets
+/// that the probes find. One worker runs it.
 pub fn run_by_one<S: Shelf, O: Sink>(
     alloc: Global,
     design: &Name,
+    probes: &[Name],
     board: &Name,
     plan: Option<&[u8]>,
     stimulus: &Name,
     unknown: bool,
     outside: &mut Outside<'_, '_, S, O>,
 ) -> Result<(), Unfinished>
+    requires { length probes.now ≤ 64 }
     ensures { (workers : ℕ) → workers ≤ 1 → Goes S.seen O.seen vocabulary
-        (run_course design.now board.now (option_copied plan.entry) stimulus.now workers unknown)
+        (run_course probes.now design.now board.now (option_copied plan.entry) stimulus.now workers
+        unknown)
         outside.old outside.new result }
 {
-    let checked = ready_board(alloc, design, board, plan, outside.shelf)?;
-    run_checked(alloc, checked, stimulus, unknown, outside)
+    let checked = ready_board(alloc, design, probes, board, plan, outside.shelf)?;
+    run_checked(
+        alloc,
+        checked,
+        probes.len() as u32,
+        stimulus,
+        unknown,
+        outside,
+    )
 }
 
 /// The same with several workers, on threads of this runtime.
@@ -114,6 +132,7 @@ pub fn run_by_several<R: Threads + Wait + Sync, S: Shelf, F: Fabric, G: BurstGat
     rt: &R,
     alloc: Global,
     design: &Name,
+    probes: &[Name],
     board: &Name,
     plan: Option<&[u8]>,
     stimulus: &Name,
@@ -123,14 +142,17 @@ pub fn run_by_several<R: Threads + Wait + Sync, S: Shelf, F: Fabric, G: BurstGat
     gate: &G,
     outside: &mut Outside<'_, '_, S, O>,
 ) -> Result<(), Unfinished>
-    requires { 1 < workers }
+    requires several { 1 < workers }
+    requires few { length probes.now ≤ 64 }
     ensures { GoesOver S.seen O.seen vocabulary
         (MovedFrom (F.carried fabric.old) (F.carried fabric.new))
-        (run_course design.now board.now (option_copied plan.entry) stimulus.now workers unknown)
+        (run_course probes.now design.now board.now (option_copied plan.entry) stimulus.now workers
+        unknown)
         outside.old outside.new result }
 {
-    let checked = ready_board(alloc, design, board, plan, outside.shelf)?;
+    let checked = ready_board(alloc, design, probes, board, plan, outside.shelf)?;
+    let probes = probes.len() as u32;
     run_checked_together(
-        rt, alloc, checked, stimulus, workers, unknown, fabric, gate, outside,
+        rt, alloc, checked, probes, stimulus, workers, unknown, fabric, gate, outside,
     )
 }

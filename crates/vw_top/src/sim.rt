@@ -1,4 +1,5 @@
 //! The command `sim`.
+ghost use Rattle.std.specs.Prelude.{◌≤◌, length};
 ghost use Rattle.vw_course.specs.Goes.{Goes};
 ghost use Rattle.vw_top.specs.Commands.{netlist_course, no_links, sim_course};
 ghost use Rattle.vw_top.specs.Messages.{vocabulary};
@@ -11,21 +12,25 @@ use vw_net::Ordered;
 use vw_outside::{Name, Shelf, Sink};
 use vw_trace::write_trace;
 
-/// Checks the stimulus, runs a netlist over it as it is read again, and writes the trace.
+/// Checks the stimulus, runs a netlist over it as it is read again, and writes the trace. So many last outputs are probes.
 fn sim_netlist<S: Shelf, O: Sink>(
     alloc: Global,
     ordered: Ordered,
+    probes: u32,
     stimulus: &Name,
     unknown: bool,
     outside: &mut Outside<'_, '_, S, O>,
 ) -> Result<(), Unfinished>
-    ensures { Goes S.seen O.seen vocabulary (netlist_course stimulus.now unknown no_links ordered)
+    requires { probes ≤ length ordered.flat.outputs }
+    ensures { Goes S.seen O.seen vocabulary
+        (netlist_course probes stimulus.now unknown no_links ordered)
         outside.old outside.new result }
 {
     let mut rows = check_rows(alloc, outside.shelf, stimulus, &ordered)?;
     let written = write_trace(
         alloc,
         &ordered,
+        probes,
         unknown,
         &mut rows,
         outside.shelf,
@@ -35,17 +40,27 @@ fn sim_netlist<S: Shelf, O: Sink>(
     run_answer(written)
 }
 
-/// Runs a design over a stimulus, free latches starting at `unknown`, and writes its trace.
+/// Runs a design over a stimulus, free latches starting at `unknown`, and writes its trace with the nets that the probes find.
 pub fn sim<S: Shelf, O: Sink>(
     alloc: Global,
     design: &Name,
+    probes: &[Name],
     stimulus: &Name,
     unknown: bool,
     outside: &mut Outside<'_, '_, S, O>,
 ) -> Result<(), Unfinished>
-    ensures { Goes S.seen O.seen vocabulary (sim_course design.now stimulus.now unknown)
+    requires { length probes.now ≤ 64 }
+    ensures { Goes S.seen O.seen vocabulary
+        (sim_course probes.now design.now stimulus.now unknown)
         outside.old outside.new result }
 {
-    let ordered = read_design(alloc, outside.shelf, design)?;
-    sim_netlist(alloc, ordered, stimulus, unknown, outside)
+    let ordered = read_design(alloc, outside.shelf, design, probes)?;
+    sim_netlist(
+        alloc,
+        ordered,
+        probes.len() as u32,
+        stimulus,
+        unknown,
+        outside,
+    )
 }

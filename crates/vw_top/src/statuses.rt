@@ -1,5 +1,6 @@
 //! Laws of the commands, as contracts of functions that do nothing.
-ghost use Rattle.std.specs.Prelude.{◌≡◌, ℕ, Bool, List, Option, Some, None};
+ghost use Rattle.std.specs.Prelude.{◌≡◌, ◌≤◌, ℕ, Bool, List, Option, Some, None, length};
+ghost use Rattle.vw_design.specs.Paths.{Word};
 ghost use Rattle.vw_course.specs.Endings.{IsCallOf};
 ghost use Rattle.vw_course.specs.Statuses.{Holds, Statuses};
 ghost use Rattle.vw_top.specs.Words.{Spelled};
@@ -16,12 +17,13 @@ ghost use Rattle.vw_top.specs.DemoStatuses.{DemoStatuses};
 
 /// The headline. Whatever the board, the plan and the number of workers, and in whatever order the workers have run: where
 /// the texts of design and stimulus are held and the status of `run` is 0, out has exactly the trace of the unpartitioned
-/// design over the rows of the stimulus.
+/// design, with the nets that the probes find, over the rows of the stimulus.
 pub fn headline()
-    ensures { (design board stimulus : List ℕ) (given : Option (List ℕ)) (workers : ℕ) (unknown : Bool)
-        (call : Call) → IsCallOf (run_course design board given stimulus workers unknown) call
+    ensures { (probes : List Word) (design board stimulus : List ℕ) (given : Option (List ℕ))
+        (workers : ℕ) (unknown : Bool)
+        (call : Call) → IsCallOf (run_course probes design board given stimulus workers unknown) call
         → (d s : List ℕ) → Holds call design d → Holds call stimulus s
-        → call.status ≡ 0 → WritesTrace unknown d s call }
+        → call.status ≡ 0 → WritesTrace probes unknown d s call }
 {}
 
 /// What each status of a call means, when it comes, what it leaves, and which message it has, whatever the words spell.
@@ -32,38 +34,41 @@ pub fn call_statuses()
 
 /// What each status of `sim` says of its files.
 pub fn sim_statuses()
-    ensures { (design stimulus : List ℕ) (unknown : Bool) (call : Call)
-        → IsCallOf (sim_course design stimulus unknown) call
-        → SimStatuses design stimulus unknown call }
+    ensures { (probes : List Word) (design stimulus : List ℕ) (unknown : Bool) (call : Call)
+        → IsCallOf (sim_course probes design stimulus unknown) call
+        → SimStatuses probes design stimulus unknown call }
 {}
 
-/// What each status of `check` says of its files.
+/// What each status of `check` says of its files, with 64 probes at most.
 pub fn check_statuses()
-    ensures { (design board plan : List ℕ) (call : Call)
-        → IsCallOf (check_course design board plan) call
-        → CheckStatuses design board plan call }
+    ensures { (probes : List Word) → length probes ≤ 64 → (design board plan : List ℕ) (call : Call)
+        → IsCallOf (check_course probes design board plan) call
+        → CheckStatuses probes design board plan call }
 {}
 
-/// What each status of `plan` says of its files.
+/// What each status of `plan` says of its files, with 64 probes at most.
 pub fn plan_statuses()
-    ensures { (design board : List ℕ) (call : Call) → IsCallOf (plan_course design board) call
-        → PlanStatuses design board call }
+    ensures { (probes : List Word) → length probes ≤ 64 → (design board : List ℕ) (call : Call)
+        → IsCallOf (plan_course probes design board) call
+        → PlanStatuses probes design board call }
 {}
 
-/// What each status of `run` says of its files, where it makes its plan itself: after status 0, out has the trace of the
+/// What each status of `run` says of its files, with 64 probes at most, where it makes its plan itself: after status 0, out has the trace of the
 /// unpartitioned design, and with several workers each link has carried exactly its words of one good plan.
 pub fn run_statuses()
-    ensures { (design board stimulus : List ℕ) (workers : ℕ) (unknown : Bool) (call : Call)
-        → IsCallOf (run_course design board None stimulus workers unknown) call
-        → RunStatuses design board stimulus workers unknown call }
+    ensures { (probes : List Word) → length probes ≤ 64
+        → (design board stimulus : List ℕ) (workers : ℕ) (unknown : Bool) (call : Call)
+        → IsCallOf (run_course probes design board None stimulus workers unknown) call
+        → RunStatuses probes design board stimulus workers unknown call }
 {}
 
-/// What each status of `run` says of its files, where it is given a plan: after status 0, the plan is sound, and out has
+/// What each status of `run` says of its files, with 64 probes at most, where it is given a plan: after status 0, the plan is sound, and out has
 /// the trace of the unpartitioned design; with several workers each link has carried exactly its words of that plan.
 pub fn run_given_statuses()
-    ensures { (design board plan stimulus : List ℕ) (workers : ℕ) (unknown : Bool) (call : Call)
-        → IsCallOf (run_course design board (Some plan) stimulus workers unknown) call
-        → RunGivenStatuses design board plan stimulus workers unknown call }
+    ensures { (probes : List Word) → length probes ≤ 64
+        → (design board plan stimulus : List ℕ) (workers : ℕ) (unknown : Bool) (call : Call)
+        → IsCallOf (run_course probes design board (Some plan) stimulus workers unknown) call
+        → RunGivenStatuses probes design board plan stimulus workers unknown call }
 {}
 
 /// What each status of `demo` says of its texts: after status 0, out has the summary of the trace of the unpartitioned

@@ -1,10 +1,11 @@
-ghost use Rattle.std.specs.Prelude.{◌≡◌, option_map};
-ghost use Rattle.vw_top.specs.Words.{spelled_by, workers_of, sim_of, check_of, plan_of, run_of, demo_of, cells_given};
+ghost use Rattle.std.specs.Prelude.{◌≡◌, ◌≤◌, IfOk, length, option_map, take};
+ghost use Rattle.vw_top.specs.Words.{spelled_by, workers_of, sim_of, check_of, plan_of, run_of, demo_of, cells_given, most_probes};
 ghost use Rattle.vw_top.specs.Steps.Commands.{command_view, spelled_as};
 
 use crate::size::Size;
+use std::alloc::{AllocError, Global};
 use vw_outside::Name;
-use vw_words::{Form, Place, Setting, Value, first_wrong, form_of, number_or_zero};
+use vw_words::{Form, Names, Place, Setting, Value, first_wrong, form_of, number_or_zero};
 
 /// What words spell: a command, with the names of its files and its settings, or none.
 #[derive(Drop)]
@@ -15,17 +16,23 @@ pub enum Command<'a> {
         stimulus: &'a Name,
         /// The value that free latches start at.
         unknown: bool,
+        /// The nets that are watched.
+        probes: Names<'a>,
     },
     /// Checks a plan of a design on a board, and writes its size.
     Check {
         design: &'a Name,
         board: &'a Name,
         plan: &'a Name,
+        /// The nets that are watched.
+        probes: Names<'a>,
     },
     /// Makes a plan of a design on a board, and writes its text.
     Plan {
         design: &'a Name,
         board: &'a Name,
+        /// The nets that are watched.
+        probes: Names<'a>,
     },
     /// Runs a design on a board over a stimulus, and writes its trace.
     Run {
@@ -38,6 +45,8 @@ pub enum Command<'a> {
         workers: u64,
         /// The value that free latches start at.
         unknown: bool,
+        /// The nets that are watched.
+        probes: Names<'a>,
     },
     /// Runs a generated design on a generated board, and writes a summary of its trace.
     Demo {
@@ -57,6 +66,16 @@ const UNKNOWN: Setting = Setting {
     name: b"unknown",
     value: Value::Bit,
     times: 1,
+};
+
+/// How many nets may be watched.
+const MOST_PROBES: usize = 64;
+
+/// A net that is watched.
+const PROBE: Setting = Setting {
+    name: b"probe",
+    value: Value::Name,
+    times: MOST_PROBES,
 };
 
 /// The plan to run on.
@@ -88,19 +107,19 @@ const CELLS: Value = Value::Number {
 const FORMS: [Form; 5] = [
     Form {
         places: &[Place::Keyword(b"sim"), FILE, FILE],
-        settings: &[UNKNOWN],
+        settings: &[UNKNOWN, PROBE],
     },
     Form {
         places: &[Place::Keyword(b"check"), FILE, FILE, FILE],
-        settings: &[],
+        settings: &[PROBE],
     },
     Form {
         places: &[Place::Keyword(b"plan"), FILE, FILE],
-        settings: &[],
+        settings: &[PROBE],
     },
     Form {
         places: &[Place::Keyword(b"run"), FILE, FILE, FILE],
-        settings: &[PLAN, WORKERS, UNKNOWN],
+        settings: &[PLAN, WORKERS, UNKNOWN, PROBE],
     },
     Form {
         places: &[Place::Keyword(b"demo"), Place::Any(CELLS)],
@@ -117,6 +136,7 @@ fn sim_of(words: &[Name]) -> Option<Command<'_>>
             design,
             stimulus,
             unknown: UNKNOWN.bit(settings, false),
+            probes: PROBE.names(settings),
         }),
         _ => None,
     }
@@ -127,10 +147,11 @@ fn check_of(words: &[Name]) -> Option<Command<'_>>
     ensures { option_map command_view result ≡ check_of words.now }
 {
     match words {
-        [_, design, board, plan, ..] => Some(Command::Check {
+        [_, design, board, plan, settings @ ..] => Some(Command::Check {
             design,
             board,
             plan,
+            probes: PROBE.names(settings),
         }),
         _ => None,
     }
@@ -141,7 +162,11 @@ fn plan_of(words: &[Name]) -> Option<Command<'_>>
     ensures { option_map command_view result ≡ plan_of words.now }
 {
     match words {
-        [_, design, board, ..] => Some(Command::Plan { design, board }),
+        [_, design, board, settings @ ..] => Some(Command::Plan {
+            design,
+            board,
+            probes: PROBE.names(settings),
+        }),
         _ => None,
     }
 }
@@ -158,6 +183,7 @@ fn run_of(words: &[Name]) -> Option<Command<'_>>
             plan: PLAN.name(settings),
             workers: WORKERS.number(settings, DEFAULT_WORKERS),
             unknown: UNKNOWN.bit(settings, false),
+            probes: PROBE.names(settings),
         }),
         _ => None,
     }
@@ -217,4 +243,16 @@ pub fn workers_of(words: &[Name]) -> u64
         Command::Run { workers, .. } | Command::Demo { workers, .. } => workers,
         _ => 1,
     }
+}
+
+/// The nets that are watched, each in a word of its own. The form of the words lets no more through than these.
+pub fn probes_of(alloc: Global, probes: Names<'_>) -> Result<Vec<Name>, AllocError>
+    ensures values { IfOk result (λ list. list.items ≡ take most_probes probes.entry) }
+    ensures few { IfOk result (λ list. length list.items ≤ 64) }
+{
+    let mut list = Vec::new(alloc);
+    for probe in probes.take(MOST_PROBES) {
+        list.push(Name::of(probe.to_vec(alloc)?))?;
+    }
+    Ok(list)
 }

@@ -1,5 +1,5 @@
 -- The lines of a trace, batch by batch.
-use Rattle.std.proofs.Common.{◌≡◌, ◌+◌, ℕ, Bool, List, [], ◌∷◌, ◌++◌, length, ap, sym, ◌∙◌, subst, arith, append_assoc}
+use Rattle.std.proofs.Common.{◌≡◌, ◌+◌, ◌-◌, ℕ, Bool, List, [], ◌∷◌, ◌++◌, length, ap, sym, ◌∙◌, subst, arith, append_assoc}
 use Rattle.vw_net.specs.declared.flat.Flat.{Flat}
 use Rattle.vw_net.specs.Cells.{latch_count}
 use Rattle.vw_net.specs.History.{outputs_of, states_of, state_after, flat_history, joined}
@@ -32,17 +32,17 @@ clock_lines-append flat join first state rows later =
     ∙ ap (λ n. clock_lines flat first state rows ++ rows_text (first + n) (outputs_of flat (state_after flat state rows) later) (states_of flat (state_after flat state rows) later)) (length-outputs_of flat state rows))
 
 -- the parts of a trace
-pub trace_parts : (state : List Bool) (flat : Flat) (rows : List (List Bool)) → trace_from state flat rows ≡ head_text (length flat.outputs) (latch_count flat.cells) ++ (clock_lines flat 0 state rows ++ end_text (length rows) (state_after flat state rows))
-trace_parts state flat rows =
-    append_assoc (head_text (length flat.outputs) (latch_count flat.cells)) (clock_lines flat 0 state rows) (end_text (length (outputs_of flat state rows)) (state_after flat state rows))
-    ∙ ap (λ n. head_text (length flat.outputs) (latch_count flat.cells) ++ (clock_lines flat 0 state rows ++ end_text n (state_after flat state rows))) (length-outputs_of flat state rows)
+pub trace_parts : (probes : ℕ) (state : List Bool) (flat : Flat) (rows : List (List Bool)) → trace_from probes state flat rows ≡ head_text (length flat.outputs - probes) probes (latch_count flat.cells) ++ (clock_lines flat 0 state rows ++ end_text (length rows) (state_after flat state rows))
+trace_parts probes state flat rows =
+    append_assoc (head_text (length flat.outputs - probes) probes (latch_count flat.cells)) (clock_lines flat 0 state rows) (end_text (length (outputs_of flat state rows)) (state_after flat state rows))
+    ∙ ap (λ n. head_text (length flat.outputs - probes) probes (latch_count flat.cells) ++ (clock_lines flat 0 state rows ++ end_text n (state_after flat state rows))) (length-outputs_of flat state rows)
 
 -- the last line of a trace
 abbrev pub last_line : List Bool → Flat → List (List Bool) → List ℕ
 last_line state flat rows = end_text (length rows) (state_after flat state rows)
 
 -- at first all of a trace is left
-pub head_left : (state : List Bool) (flat : Flat) (rows : List (List Bool)) (before : SeenSink)
-    → IsLeft before (trace_from state flat rows) before (head_text (length flat.outputs) (latch_count flat.cells) ++ (clock_lines flat 0 state rows ++ last_line state flat rows))
-head_left state flat rows before =
-    subst (λ (rest : List ℕ). IsLeft before (trace_from state flat rows) before rest) (trace_parts state flat rows) (nothing_written before (trace_from state flat rows))
+pub head_left : (probes : ℕ) (state : List Bool) (flat : Flat) (rows : List (List Bool)) (before : SeenSink)
+    → IsLeft before (trace_from probes state flat rows) before (head_text (length flat.outputs - probes) probes (latch_count flat.cells) ++ (clock_lines flat 0 state rows ++ last_line state flat rows))
+head_left probes state flat rows before =
+    subst (λ (rest : List ℕ). IsLeft before (trace_from probes state flat rows) before rest) (trace_parts probes state flat rows) (nothing_written before (trace_from probes state flat rows))

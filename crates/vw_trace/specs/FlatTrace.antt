@@ -1,14 +1,15 @@
--- The trace of a netlist.
-use Rattle.std.specs.Prelude.{ℕ, Bool, List, length}
+-- The trace of a netlist, of which the last so many outputs are probes.
+use Rattle.std.specs.Prelude.{ℕ, ◌-◌, Bool, List, length}
 use Rattle.vw_net.specs.declared.flat.Flat.{Flat}
 use Rattle.vw_net.specs.Cells.{latch_count, start_values}
 use Rattle.vw_net.specs.History.{flat_history}
 use Rattle.vw_rows.specs.Trace.{trace_text}
 
 -- over rows, from a state on
-abbrev pub trace_from : List Bool → Flat → List (List Bool) → List ℕ
-trace_from state flat rows = trace_text (length flat.outputs) (latch_count flat.cells) (flat_history flat state rows)
+abbrev pub trace_from : ℕ → List Bool → Flat → List (List Bool) → List ℕ
+trace_from probes state flat rows =
+    trace_text (length flat.outputs - probes) probes (latch_count flat.cells) (flat_history flat state rows)
 
 -- over rows, from the start values, where free latches start at `unknown`
-abbrev pub flat_trace : Bool → Flat → List (List Bool) → List ℕ
-flat_trace unknown flat rows = trace_from (start_values unknown flat.cells) flat rows
+abbrev pub flat_trace : ℕ → Bool → Flat → List (List Bool) → List ℕ
+flat_trace probes unknown flat rows = trace_from probes (start_values unknown flat.cells) flat rows

@@ -1,5 +1,5 @@
 //! Works out the clocks of a netlist, and writes its trace piece by piece.
-ghost use Rattle.std.specs.Prelude.{◌≡◌, ◌<◌, ℕ, ◌+◌, ◌^◌, List, length, OnOk};
+ghost use Rattle.std.specs.Prelude.{◌≡◌, ◌≤◌, ◌<◌, ℕ, ◌+◌, ◌-◌, ◌^◌, List, length, OnOk};
 ghost use Rattle.std.specs.List.{All};
 ghost use Rattle.vw_net.specs.Cells.{latch_count};
 ghost use Rattle.vw_net.specs.History.{outputs_of, states_of, state_after};
@@ -77,19 +77,23 @@ fn write_clocks<E: Engine, S: Shelf, O: Sink>(
     Ok(())
 }
 
-/// Writes the first line of a trace, whose latches have these values at first. It takes memory for the line. Where a write
-/// fails or there is no memory, a front of the line was appended.
+/// Writes the first line of a trace, whose latches have these values at first. The last `probes` outputs of the netlist are
+/// probes. It takes memory for the line. Where a write fails or there is no memory, a front of the line was appended.
 pub fn write_head<O: Sink>(
     alloc: Global,
     flat: &Flat,
+    probes: u32,
     state: &Bits,
     out: &mut O,
 ) -> Result<(), Unwritten>
-    requires { length state.now ≡ latch_count flat.now.cells }
-    ensures { WritesOut (head_text (length flat.now.outputs) (latch_count flat.now.cells))
+    requires latches { length state.now ≡ latch_count flat.now.cells }
+    requires probes { probes ≤ length flat.now.outputs }
+    ensures { WritesOut
+        (head_text (length flat.now.outputs - probes) probes (latch_count flat.now.cells))
         (O.seen out.old) (O.seen out.new) result }
 {
-    let head = trace_head(alloc, flat.outputs().len() as u32, state.len() as u32);
+    let outputs = flat.outputs().len() as u32 - probes;
+    let head = trace_head(alloc, outputs, probes, state.len() as u32);
     put_text(head, out)
 }
 
@@ -107,10 +111,12 @@ pub fn write_end<O: Sink>(
     put_text(end, out)
 }
 
-/// Works out the clocks of a stimulus, of which nothing was given, from a state on, and writes the trace.
+/// Works out the clocks of a stimulus, of which nothing was given, from a state on, and writes the trace. The last `probes`
+/// outputs of the netlist are probes.
 fn write_lines<E: Engine, S: Shelf, O: Sink>(
     alloc: Global,
     engine: &mut E,
+    probes: u32,
     stimulus: &mut Stimulus,
     state: &mut Bits,
     shelf: &mut S,
@@ -122,29 +128,32 @@ fn write_lines<E: Engine, S: Shelf, O: Sink>(
         → StandsIn stimulus.old text }
     requires latches { length state.old ≡ latch_count (E.netlist engine.old).cells }
     requires unstarted { IsCount (E.done engine.old) 0 }
+    requires probes { probes ≤ length (E.netlist engine.old).outputs }
     ensures streams { Streams stimulus.old.name stimulus.old.width
-        (trace_from state.old (E.netlist engine.old)) (λ rows. Unit {0})
+        (trace_from probes state.old (E.netlist engine.old)) (λ rows. Unit {0})
         (S.seen shelf.old) (O.seen out.old) (S.seen shelf.new) (O.seen out.new) result }
     ensures done { OnOk result (stimulus.new.done ≡ stimulus.old.clocks) }
     ensures all { OnOk result (IsCount (E.done engine.new) stimulus.old.clocks) }
 {
     let clocks = stimulus.clocks();
-    write_head(alloc, engine.flat(), state, out)?;
+    write_head(alloc, engine.flat(), probes, state, out)?;
     write_clocks(alloc, engine, stimulus, state, shelf, out)?;
     write_end(alloc, clocks, state, out)?;
     Ok(())
 }
 
 /// Has an engine work out the clocks of a checked stimulus, of which nothing was given, and appends the trace of its
-/// netlist. Free latches start at `unknown`. The stimulus is read again in batches of 256 clocks, and memory is taken for
-/// one batch at a time: all but that of its lines before its first clock. Where a read or a write fails or memory runs
-/// out, a front of the trace was appended. Where nothing is told of the text of the stimulus, it may have changed since it
-/// was checked: then it may be found at fault, or the trace is that of other rows with the same width. The engine works
-/// out each clock once, in order: all of them before a success, and the first ones alone before a fault. Where it numbers
-/// its clocks, it begins with the first, and has done them all after a success.
+/// netlist. The last `probes` outputs of the netlist are probes. Free latches start at `unknown`. The stimulus is read
+/// again in batches of 256 clocks, and memory is taken for one batch at a time: all but that of its lines before its first
+/// clock. Where a read or a write fails or memory runs out, a front of the trace was appended. Where nothing is told of the
+/// text of the stimulus, it may have changed since it was checked: then it may be found at fault, or the trace is that of
+/// other rows with the same width. The engine works out each clock once, in order: all of them before a success, and the
+/// first ones alone before a fault. Where it numbers its clocks, it begins with the first, and has done them all after a
+/// success.
 pub fn write_trace_by<E: Engine, S: Shelf, O: Sink>(
     alloc: Global,
     engine: &mut E,
+    probes: u32,
     unknown: bool,
     stimulus: &mut Stimulus,
     shelf: &mut S,
@@ -155,25 +164,27 @@ pub fn write_trace_by<E: Engine, S: Shelf, O: Sink>(
     requires stands { (text : List ℕ) → (S.seen shelf.old).told stimulus.old.name ≡ held text
         → StandsIn stimulus.old text }
     requires unstarted { IsCount (E.done engine.old) 0 }
+    requires probes { probes ≤ length (E.netlist engine.old).outputs }
     ensures streams { Streams stimulus.old.name stimulus.old.width
-        (flat_trace unknown (E.netlist engine.old))
+        (flat_trace probes unknown (E.netlist engine.old))
         (λ rows. Unit {0})
         (S.seen shelf.old) (O.seen out.old) (S.seen shelf.new) (O.seen out.new) result }
     ensures done { OnOk result (stimulus.new.done ≡ stimulus.old.clocks) }
     ensures all { OnOk result (IsCount (E.done engine.new) stimulus.old.clocks) }
 {
     let mut state = engine.flat().start(alloc, unknown)?;
-    write_lines(alloc, engine, stimulus, &mut state, shelf, out)
+    write_lines(alloc, engine, probes, stimulus, &mut state, shelf, out)
 }
 
-/// Runs a netlist over a checked stimulus, of which nothing was given, and appends its trace. Free latches start at
-/// `unknown`. The stimulus is read again in batches of 256 clocks, and memory is taken for one batch at a time. Where a
-/// read or a write fails or memory runs out, a front of the trace was appended. Where nothing is told of the text of the
-/// stimulus, it may have changed since it was checked: then it may be found at fault, or the trace is that of other rows
-/// with the same width.
+/// Runs a netlist over a checked stimulus, of which nothing was given, and appends its trace. The last `probes` outputs of
+/// the netlist are probes. Free latches start at `unknown`. The stimulus is read again in batches of 256 clocks, and memory
+/// is taken for one batch at a time. Where a read or a write fails or memory runs out, a front of the trace was appended.
+/// Where nothing is told of the text of the stimulus, it may have changed since it was checked: then it may be found at
+/// fault, or the trace is that of other rows with the same width.
 pub fn write_trace<S: Shelf, O: Sink>(
     alloc: Global,
     ordered: &Ordered,
+    probes: u32,
     unknown: bool,
     stimulus: &mut Stimulus,
     shelf: &mut S,
@@ -183,11 +194,20 @@ pub fn write_trace<S: Shelf, O: Sink>(
     requires fresh { stimulus.old.done ≡ 0 }
     requires stands { (text : List ℕ) → (S.seen shelf.old).told stimulus.old.name ≡ held text
         → StandsIn stimulus.old text }
+    requires probes { probes ≤ length ordered.now.flat.outputs }
     ensures streams { Streams stimulus.old.name stimulus.old.width
-        (flat_trace unknown ordered.now.flat) (λ rows. Unit {0}) (S.seen shelf.old) (O.seen out.old)
+        (flat_trace probes unknown ordered.now.flat) (λ rows. Unit {0}) (S.seen shelf.old) (O.seen out.old)
         (S.seen shelf.new) (O.seen out.new) result }
     ensures done { OnOk result (stimulus.new.done ≡ stimulus.old.clocks) }
 {
     let mut simulation = Simulation::make(alloc, ordered)?;
-    write_trace_by(alloc, &mut simulation, unknown, stimulus, shelf, out)
+    write_trace_by(
+        alloc,
+        &mut simulation,
+        probes,
+        unknown,
+        stimulus,
+        shelf,
+        out,
+    )
 }

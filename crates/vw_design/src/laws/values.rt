@@ -11,7 +11,7 @@ ghost use Rattle.vw_net.specs.Value.{level_value, net_value};
 ghost use Rattle.vw_net.specs.History.{flat_history};
 ghost use Rattle.vw_design.specs.declared.design.Design.{Design};
 ghost use Rattle.vw_design.specs.declared.item.Item.TheVariants.{Names};
-ghost use Rattle.vw_design.specs.Paths.{Word, Path};
+ghost use Rattle.vw_design.specs.Paths.{Word, Path, Net};
 ghost use Rattle.vw_design.specs.Drivers.{at_cell, driver};
 ghost use Rattle.vw_design.specs.Preorder.{Site, cells};
 ghost use Rattle.vw_design.specs.PathValue.{item_at, path_level, path_value};
@@ -23,22 +23,22 @@ ghost use Rattle.vw_design.specs.Loops.{gate_at, gate_reads, IsLoopFree};
 /// A netlist of a design, whether it has loops or not, gives each net with a number the value that the design gives it
 /// by its paths, at each level.
 pub fn values_agree()
-    ensures levels { (design : Design) (flat : Flat) → IsFlatOf design flat
+    ensures levels { (design : Design) (watched : List Net) (flat : Flat) → IsFlatOf design watched flat
         → (row state : List Bool) (level : ℕ) (path : Path) (name : Word) (net : ℕ)
         → number_of design path name ≡ Some net
         → level_value level flat row state net ≡ path_level level design row state path name }
-    ensures values { (design : Design) (flat : Flat) → IsFlatOf design flat
+    ensures values { (design : Design) (watched : List Net) (flat : Flat) → IsFlatOf design watched flat
         → (row state : List Bool) (path : Path) (name : Word) (net : ℕ)
         → number_of design path name ≡ Some net
         → net_value flat row state net ≡ path_value design row state path name }
 {}
 
 /// The history of a design's netlist, from the start values of its latches, is the history of the design by its paths,
-/// whether it has loops or not.
+/// whether it has loops or not, and whichever nets are watched.
 pub fn histories_agree()
-    ensures { (design : Design) (flat : Flat) → IsFlatOf design flat → (unknown : Bool)
+    ensures { (design : Design) (watched : List Net) (flat : Flat) → IsFlatOf design watched flat → (unknown : Bool)
         (rows : List (List Bool)) → flat_history flat (start_values unknown flat.cells) rows
-        ≡ path_history design unknown rows }
+        ≡ path_history design watched unknown rows }
 {}
 
 /// In an accepted design without loops following more drivers in a row than there are cells changes no value.
@@ -62,7 +62,7 @@ pub fn gates_have_their_values()
 /// A gate of a design has another gate or latch as driver of one of its inputs exactly where, in the design's netlist,
 /// its cell reads the net of the other's cell.
 pub fn reads_agree()
-    ensures { (design : Design) (flat : Flat) → IsFlatOf design flat → (place other : ℕ)
+    ensures { (design : Design) (watched : List Net) (flat : Flat) → IsFlatOf design watched flat → (place other : ℕ)
         (site read : Site) → slice_get (cells design) place ≡ Some site
         → slice_get (cells design) other ≡ Some read
         → (line : ℕ) (ins : List Word) (out : Word) (cover : Cover)
@@ -73,12 +73,12 @@ pub fn reads_agree()
 
 /// An accepted design is free of loops where the gates of its netlist have an order.
 pub fn ordered_is_loop_free()
-    ensures { (design : Design) → IsAccepted design → (ordered : Ordered)
-        → IsFlatOf design ordered.flat → IsLoopFree design }
+    ensures { (design : Design) → IsAccepted design → (watched : List Net) (ordered : Ordered)
+        → IsFlatOf design watched ordered.flat → IsLoopFree design }
 {}
 
-/// A design has one netlist at most: everything in it is fixed by the design.
+/// A design with watched nets has one netlist at most: everything in it is fixed by these.
 pub fn netlists_are_one()
-    ensures { (design : Design) (one other : Flat) → IsFlatOf design one → IsFlatOf design other
-        → one ≡ other }
+    ensures { (design : Design) (watched : List Net) (one other : Flat) → IsFlatOf design watched one
+        → IsFlatOf design watched other → one ≡ other }
 {}

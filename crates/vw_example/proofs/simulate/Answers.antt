@@ -60,14 +60,14 @@ whole_line before after line err none some (inr (count, most, same)) =
 
 -- what the words spell
 abbrev its_sim : Spelled
-its_sim = words.sim (codes "design") (codes "stimulus") false
+its_sim = words.sim (codes "design") (codes "stimulus") false []
 
 spells_sim : spelled_by (codes "sim" ∷ codes "design" ∷ codes "stimulus" ∷ []) ≡ its_sim
 spells_sim = refl
 
-module _ (design stimulus out err : List ℕ) (call : Call) (hold : HoldTexts (codes "design") (codes "stimulus") false call design stimulus)
+module _ (design stimulus out err : List ℕ) (call : Call) (hold : HoldTexts [] (codes "design") (codes "stimulus") false call design stimulus)
     (none : call.before.out.told ≡ Some []) (some : call.after.out.told ≡ Some out) (unsaid : call.err_before ≡ seen_bytes [] 0) (said : call.err_after ≡ seen_bytes err 0)
-    (table : SimStatuses (codes "design") (codes "stimulus") false call) where
+    (table : SimStatuses [] (codes "design") (codes "stimulus") false call) where
   no_trace : call.after ≡ call.before → out ≡ []
   no_trace same =
       let told : Some out ≡ Some [] = sym some ∙ ap (λ (o : SeenOutside Word). o.out.told) same ∙ none in cc
@@ -139,4 +139,4 @@ returns c =
     let no_fault : c.alone.new.err.faults ≡ 0 = omega (arith, c.if-err-gt0.false) in
     outcome c.args.design.items c.args.stimulus.items c.in_ok-to_vec.field-0.items c.in_ok-to_vec-2.field-0.items call (record { design_held = both.design_held; stimulus_held = both.stimulus_held })
     (ap Some c.new-out.ensures.written) (ap Some out) (ap₂ seen_bytes c.new-err.ensures.written c.new-err.ensures.faults) (ap₂ seen_bytes err no_fault)
-    (c.sim_statuses.ensures (codes "design") (codes "stimulus") false call its_call) (c.call_statuses.ensures its_sim call its_call)
+    (c.sim_statuses.ensures [] (codes "design") (codes "stimulus") false call its_call) (c.call_statuses.ensures its_sim call its_call)

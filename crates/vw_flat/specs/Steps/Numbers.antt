@@ -17,7 +17,12 @@ number_by count (Some (drivers.Column column)) = Some column
 number_by count (Some drivers.Clock) = None
 number_by count (Some (drivers.Cell cell)) = Some (count + cell)
 
--- it has one
+-- a number, where there is one, has 32 bits
+abbrev pub IsSmall : Option ℕ → Type 0
+IsSmall None = Unit {0}
+IsSmall (Some number) = number < 2 ^ 32
+
+-- a driver has a number
 pub record HasNumber (count : ℕ) (driver : Option Driver) : Type 0 where
   pub number : ℕ
   pub is : number_by count driver ≡ Some number

@@ -1,10 +1,12 @@
 -- What is made of a design: a netlist with an order of its gates.
+use Rattle.std.specs.Prelude.{List}
 use Rattle.vw_net.specs.declared.ordered.Ordered.{Ordered}
 use Rattle.vw_design.specs.declared.design.Design.{Design}
-use Rattle.vw_design.specs.Flattened.{IsFlatOf}
+use Rattle.vw_design.specs.Paths.{Word}
 use Rattle.vw_design.specs.Loops.{IsLoopFree}
+use Rattle.vw_flat.specs.Probed.{IsProbedFlat}
 
--- the netlist is that of the design, which has no loop
-pub record IsOrderedOf (design : Design) (ordered : Ordered) : Type 0 where
-  pub flat : IsFlatOf design ordered.flat
+-- the netlist is that of the design with the nets that probes find, and the design has no loop
+pub record IsOrderedOf (probes : List Word) (design : Design) (ordered : Ordered) : Type 0 where
+  pub probed : IsProbedFlat design probes ordered.flat
   pub loop_free : IsLoopFree design

@@ -1,6 +1,7 @@
 -- What the stages of commands make.
 use Rattle.std.specs.Prelude.{◌≡◌, ℕ, List, Option, Some, None, IsTrue, Result, Ok, Err}
 use Rattle.vw_net.specs.declared.ordered.Ordered.{Ordered}
+use Rattle.vw_design.specs.Paths.{Word}
 use Rattle.vw_outside.specs.Told.{Told, IsTextOf}
 use Rattle.vw_front.specs.Designs.{IsNetlistOf}
 use Rattle.vw_board.specs.BoardText.{Spells as SpellsBoard}
@@ -73,10 +74,10 @@ pub record IsOnBoard (told : List ℕ → Told) (board : List ℕ) (given : Opti
   pub plan : IsPlanBy told given ordered checked.board checked.plan
 
 -- the netlist of a text that the name may have
-pub record IsReadyBoard (told : List ℕ → Told) (design board : List ℕ) (given : Option (List ℕ)) (checked : Checked) : Type 0 where
+pub record IsReadyBoard (probes : List Word) (told : List ℕ → Told) (design board : List ℕ) (given : Option (List ℕ)) (checked : Checked) : Type 0 where
   pub d : List ℕ
   pub design_of : IsTextOf (told design) d
-  pub netlist : IsNetlistOf d checked.ordered
+  pub netlist : IsNetlistOf probes d checked.ordered
   pub b : List ℕ
   pub board_of : IsTextOf (told board) b
   pub board_is : SpellsBoard b checked.board

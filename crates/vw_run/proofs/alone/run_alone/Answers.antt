@@ -7,4 +7,4 @@ use Rattle.vw_run.proofs.alone.run_alone.Goals as goal
 pub returns-in_err-board-clause-streams : goal.returns-in_err-board-clause-streams
 returns-in_err-board-clause-streams g c =
     let p = err_from_is_err_and c.from_residual.result c.from_residual.ensures.1 in
-    rw (p.1, p.2) (nothing_streamed c.args.stimulus.now (flat_trace c.args.unknown c.args.checked.ordered.flat) (λ rows. Unit {0}) (g.S.Shelf.seen c.args.shelf.now) (g.O.Sink.seen c.args.out.now) c.requires.stands tt)
+    rw (p.1, p.2) (nothing_streamed c.args.stimulus.now (flat_trace c.args.probes c.args.unknown c.args.checked.ordered.flat) (λ rows. Unit {0}) (g.S.Shelf.seen c.args.shelf.now) (g.O.Sink.seen c.args.out.now) c.requires.stands tt)

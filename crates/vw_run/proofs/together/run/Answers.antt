@@ -13,7 +13,7 @@ use Rattle.vw_run.proofs.together.run.Goals as goal
 pub returns-clause-streams : goal.returns-clause-streams
 returns-clause-streams g c =
     let planned = planned_board c.args.checked.ordered c.args.checked.board c.args.checked.plan in
-    subst (λ (by : (ℕ → List Word) → Option (ℕ → List Word)). Streams c.args.stimulus.now.name c.args.stimulus.now.width (flat_trace c.args.unknown c.args.checked.ordered.flat)
+    subst (λ (by : (ℕ → List Word) → Option (ℕ → List Word)). Streams c.args.stimulus.now.name c.args.stimulus.now.width (flat_trace c.args.probes c.args.unknown c.args.checked.ordered.flat)
     (λ rows. g.F.Fabric.carried c.run_together.new.fabric ≡ grown_by (by (traffic planned c.args.unknown rows)) (g.F.Fabric.carried c.args.fabric.now))
     (g.S.Shelf.seen c.args.shelf.now) (g.O.Sink.seen c.args.out.now) (g.S.Shelf.seen c.run_together.new.shelf) (g.O.Sink.seen c.run_together.new.out) (without_count c.run_together.result))
     (sym (fun_ext (λ words. many_workers c.args.workers words c.if-workers-lt2.false))) c.run_together.ensures.streams

@@ -19,7 +19,7 @@ returns-in_err-board-clause-streams g c =
     let carried = g.F.Fabric.carried c.args.fabric.now in
     let p = err_from_is_err_and c.from_residual.result c.from_residual.ensures.1 in
     rw (p.1, p.2)
-    (nothing_streamed c.args.stimulus.now (flat_trace c.args.unknown checked.ordered.flat) (HaveCarried planned 0 start carried carried) (g.S.Shelf.seen c.args.shelf.now) (g.O.Sink.seen c.args.out.now)
+    (nothing_streamed c.args.stimulus.now (flat_trace c.args.probes c.args.unknown checked.ordered.flat) (HaveCarried planned 0 start carried carried) (g.S.Shelf.seen c.args.shelf.now) (g.O.Sink.seen c.args.out.now)
     c.requires.stands (after_no_rows planned 0 start carried))
 
 -- the board has the plan
@@ -28,14 +28,14 @@ returns-in_err-run_board-clause-streams g c =
     let why = c.in_err-run_board.field-0.0 in
     let p = err_from_is_err_and c.from_residual-in_err-run_board.result c.from_residual-in_err-run_board.ensures.1 in
     rw (p.1, p.2)
-    (subst (λ (checked : Checked). Streams c.args.stimulus.now.name c.args.stimulus.now.width (flat_trace c.args.unknown checked.ordered.flat)
+    (subst (λ (checked : Checked). Streams c.args.stimulus.now.name c.args.stimulus.now.width (flat_trace c.args.probes c.args.unknown checked.ordered.flat)
     (HaveCarried (planned_board checked.ordered checked.board checked.plan) 0 (start_values c.args.unknown checked.ordered.flat.cells) (g.F.Fabric.carried c.args.fabric.now) (g.F.Fabric.carried c.run_board.new.fabric))
     (g.S.Shelf.seen c.args.shelf.now) (g.O.Sink.seen c.args.out.now) (g.S.Shelf.seen c.run_board.new.shelf) (g.O.Sink.seen c.run_board.new.out) (Err why))
     c.in_ok-board.ensures.checked c.in_err-run_board.ensures.streams)
 
 pub returns-clause-streams : goal.returns-clause-streams
 returns-clause-streams g c =
-    subst (λ (checked : Checked). Streams c.args.stimulus.now.name c.args.stimulus.now.width (flat_trace c.args.unknown checked.ordered.flat)
+    subst (λ (checked : Checked). Streams c.args.stimulus.now.name c.args.stimulus.now.width (flat_trace c.args.probes c.args.unknown checked.ordered.flat)
     (HaveCarried (planned_board checked.ordered checked.board checked.plan) 0 (start_values c.args.unknown checked.ordered.flat.cells) (g.F.Fabric.carried c.args.fabric.now) (g.F.Fabric.carried c.run_board.new.fabric))
     (g.S.Shelf.seen c.args.shelf.now) (g.O.Sink.seen c.args.out.now) (g.S.Shelf.seen c.run_board.new.shelf) (g.O.Sink.seen c.run_board.new.out) (Ok tt))
     c.in_ok-board.ensures.checked c.in_ok-run_board.ensures.streams

@@ -1,4 +1,4 @@
-use Rattle.std.proofs.Common.{◌≡◌, ◌∙◌, ℕ, List, length, Err, ap, subst}
+use Rattle.std.proofs.Common.{◌≡◌, ◌∙◌, ◌-◌, ℕ, List, length, Err, ap, subst}
 use Rattle.std.proofs.lemmas.Result.{err_from_is_err_and}
 use Rattle.vw_net.specs.declared.flat.Flat.{Flat}
 use Rattle.vw_net.specs.Cells.{latch_count}
@@ -12,8 +12,8 @@ use Rattle.vw_run.proofs.together.write_lines.Given.{Over}
 use Rattle.vw_run.proofs.together.write_lines.Goals as goal
 use Rattle.vw_run.proofs.together.write_lines.Goals.{In_ok-write_head}
 
-abbrev head_of : Flat → List ℕ
-head_of flat = head_text (length flat.outputs) (latch_count flat.cells)
+abbrev head_of : ℕ → Flat → List ℕ
+head_of probes flat = head_text (length flat.outputs - probes) probes (latch_count flat.cells)
 
 pub returns-in_err-write_head-clause-streams : goal.returns-in_err-write_head-clause-streams
 returns-in_err-write_head-clause-streams g c =
@@ -22,13 +22,13 @@ returns-in_err-write_head-clause-streams g c =
     let before = g.O.Sink.seen c.args.out.now in
     let why = c.in_err-write_head.field-0.0 in
     rw (p.1, p.2)
-    (no_head c.args.stimulus.now flat c.args.state.now (HaveCarried (planned_of c.args.crewed.now.board.now.job) 0 c.args.state.now (g.F.Fabric.carried c.args.crewed.now.fabric.now) (g.F.Fabric.carried c.args.crewed.now.fabric.now)) (g.S.Shelf.seen c.args.shelf.now) before c.requires.stands (after_no_rows (planned_of c.args.crewed.now.board.now.job) 0 c.args.state.now (g.F.Fabric.carried c.args.crewed.now.fabric.now)) why (g.O.Sink.seen c.write_head.new.out)
-    (subst (λ (flat : Flat). WritesOut (head_of flat) before (g.O.Sink.seen c.write_head.new.out) (Err why)) c.flat.ensures c.in_err-write_head.ensures))
+    (no_head c.args.probes c.args.stimulus.now flat c.args.state.now (HaveCarried (planned_of c.args.crewed.now.board.now.job) 0 c.args.state.now (g.F.Fabric.carried c.args.crewed.now.fabric.now) (g.F.Fabric.carried c.args.crewed.now.fabric.now)) (g.S.Shelf.seen c.args.shelf.now) before c.requires.stands (after_no_rows (planned_of c.args.crewed.now.board.now.job) 0 c.args.state.now (g.F.Fabric.carried c.args.crewed.now.fabric.now)) why (g.O.Sink.seen c.write_head.new.out)
+    (subst (λ (flat : Flat). WritesOut (head_of c.args.probes flat) before (g.O.Sink.seen c.write_head.new.out) (Err why)) c.flat.ensures c.in_err-write_head.ensures))
 
 -- the first line was written
-headed : (g : Over) (c : In_ok-write_head g) → g.O.Sink.seen c.write_head.new.out ≡ appended (g.O.Sink.seen c.args.out.now) (head_of (c.args.crewed.now.board.now.job.checked.ordered.flat))
+headed : (g : Over) (c : In_ok-write_head g) → g.O.Sink.seen c.write_head.new.out ≡ appended (g.O.Sink.seen c.args.out.now) (head_of c.args.probes (c.args.crewed.now.board.now.job.checked.ordered.flat))
 headed g c =
-    c.in_ok-write_head.ensures ∙ ap (λ (flat : Flat). appended (g.O.Sink.seen c.args.out.now) (head_of flat)) c.flat.ensures
+    c.in_ok-write_head.ensures ∙ ap (λ (flat : Flat). appended (g.O.Sink.seen c.args.out.now) (head_of c.args.probes flat)) c.flat.ensures
 
 pub returns-in_err-write_clocks-clause-streams : goal.returns-in_err-write_clocks-clause-streams
 returns-in_err-write_clocks-clause-streams g c =
@@ -36,7 +36,7 @@ returns-in_err-write_clocks-clause-streams g c =
     let at = goal.at.returns-in_err-write_clocks-clause-streams g c in
     let p = err_from_is_err_and c.from_residual-in_err-write_clocks.result c.from_residual-in_err-write_clocks.ensures.1 in
     rw (p.1, p.2)
-    (no_clocks c.args.stimulus.now flat c.args.state.now (HaveCarried (planned_of c.args.crewed.now.board.now.job) 0 c.args.state.now (g.F.Fabric.carried c.args.crewed.now.fabric.now) (g.F.Fabric.carried c.write_clocks.new.crewed.fabric.now)) (g.S.Shelf.seen c.args.shelf.now) (g.O.Sink.seen c.args.out.now) (g.O.Sink.seen c.write_head.new.out) (headed g at.In_ok-write_head)
+    (no_clocks c.args.probes c.args.stimulus.now flat c.args.state.now (HaveCarried (planned_of c.args.crewed.now.board.now.job) 0 c.args.state.now (g.F.Fabric.carried c.args.crewed.now.fabric.now) (g.F.Fabric.carried c.write_clocks.new.crewed.fabric.now)) (g.S.Shelf.seen c.args.shelf.now) (g.O.Sink.seen c.args.out.now) (g.O.Sink.seen c.write_head.new.out) (headed g at.In_ok-write_head)
     c.in_err-write_clocks.field-0.0 c.write_clocks.new.state (g.S.Shelf.seen c.write_clocks.new.shelf) (g.O.Sink.seen c.write_clocks.new.out) c.in_err-write_clocks.ensures.streams)
 
 pub returns-in_err-write_end-clause-streams : goal.returns-in_err-write_end-clause-streams
@@ -48,7 +48,7 @@ returns-in_err-write_end-clause-streams g c =
     let mid = g.O.Sink.seen c.write_clocks.new.out in
     let after = g.O.Sink.seen c.write_end.new.out in
     rw (p.1, p.2)
-    (no_end c.args.stimulus.now flat c.args.state.now (HaveCarried (planned_of c.args.crewed.now.board.now.job) 0 c.args.state.now (g.F.Fabric.carried c.args.crewed.now.fabric.now) (g.F.Fabric.carried c.write_clocks.new.crewed.fabric.now)) (g.S.Shelf.seen c.args.shelf.now) (g.O.Sink.seen c.args.out.now) (g.O.Sink.seen c.write_head.new.out) (headed g at.In_ok-write_head)
+    (no_end c.args.probes c.args.stimulus.now flat c.args.state.now (HaveCarried (planned_of c.args.crewed.now.board.now.job) 0 c.args.state.now (g.F.Fabric.carried c.args.crewed.now.fabric.now) (g.F.Fabric.carried c.write_clocks.new.crewed.fabric.now)) (g.S.Shelf.seen c.args.shelf.now) (g.O.Sink.seen c.args.out.now) (g.O.Sink.seen c.write_head.new.out) (headed g at.In_ok-write_head)
     c.write_clocks.new.state (g.S.Shelf.seen c.write_clocks.new.shelf) mid after c.in_ok-write_clocks.ensures.streams why
     (subst (λ (clocks : ℕ). WritesOut (end_text clocks c.write_clocks.new.state) mid after (Err why)) c.clocks-clocks.ensures c.in_err-write_end.ensures))
 
@@ -57,6 +57,6 @@ returns-clause-streams g c =
     let flat = c.args.crewed.now.board.now.job.checked.ordered.flat in
     let at = goal.at.returns-clause-streams g c in
     let mid = g.O.Sink.seen c.write_clocks.new.out in
-    whole_trace c.args.stimulus.now flat c.args.state.now (HaveCarried (planned_of c.args.crewed.now.board.now.job) 0 c.args.state.now (g.F.Fabric.carried c.args.crewed.now.fabric.now) (g.F.Fabric.carried c.write_clocks.new.crewed.fabric.now)) (g.S.Shelf.seen c.args.shelf.now) (g.O.Sink.seen c.args.out.now) (g.O.Sink.seen c.write_head.new.out) (headed g at.In_ok-write_head)
+    whole_trace c.args.probes c.args.stimulus.now flat c.args.state.now (HaveCarried (planned_of c.args.crewed.now.board.now.job) 0 c.args.state.now (g.F.Fabric.carried c.args.crewed.now.fabric.now) (g.F.Fabric.carried c.write_clocks.new.crewed.fabric.now)) (g.S.Shelf.seen c.args.shelf.now) (g.O.Sink.seen c.args.out.now) (g.O.Sink.seen c.write_head.new.out) (headed g at.In_ok-write_head)
     c.write_clocks.new.state (g.S.Shelf.seen c.write_clocks.new.shelf) mid (g.O.Sink.seen c.write_end.new.out) c.in_ok-write_clocks.ensures.streams
     (c.in_ok-write_end.ensures ∙ ap (λ (clocks : ℕ). appended mid (end_text clocks c.write_clocks.new.state)) c.clocks-clocks.ensures)

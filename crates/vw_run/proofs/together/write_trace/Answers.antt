@@ -18,7 +18,7 @@ returns-in_err-state-clause-streams g c =
     let p = err_from_is_err_and c.from_residual.result c.from_residual.ensures.1 in
     let flat = c.args.crewed.now.board.now.job.checked.ordered.flat in
     let start = start_values c.args.unknown flat.cells in
-    rw (p.1, p.2) (nothing_streamed c.args.stimulus.now (flat_trace c.args.unknown flat) (HaveCarried (planned_of c.args.crewed.now.board.now.job) 0 start (g.F.Fabric.carried c.args.crewed.now.fabric.now) (g.F.Fabric.carried c.args.crewed.now.fabric.now)) (g.S.Shelf.seen c.args.shelf.now) (g.O.Sink.seen c.args.out.now)
+    rw (p.1, p.2) (nothing_streamed c.args.stimulus.now (flat_trace c.args.probes c.args.unknown flat) (HaveCarried (planned_of c.args.crewed.now.board.now.job) 0 start (g.F.Fabric.carried c.args.crewed.now.fabric.now) (g.F.Fabric.carried c.args.crewed.now.fabric.now)) (g.S.Shelf.seen c.args.shelf.now) (g.O.Sink.seen c.args.out.now)
     c.requires.stands (after_no_rows (planned_of c.args.crewed.now.board.now.job) 0 start (g.F.Fabric.carried c.args.crewed.now.fabric.now)))
 
 -- the state starts with the start values, one for each latch
@@ -34,5 +34,5 @@ pub returns-clause-streams : goal.returns-clause-streams
 returns-clause-streams g c =
     let at = goal.at.returns-clause-streams g c in
     let stimulus = c.args.stimulus.now in
-    subst (λ (state : List Bool). Streams stimulus.name stimulus.width (trace_from state (c.args.crewed.now.board.now.job.checked.ordered.flat)) (HaveCarried (planned_of c.args.crewed.now.board.now.job) 0 state (g.F.Fabric.carried c.args.crewed.now.fabric.now) (g.F.Fabric.carried c.write_lines.new.crewed.fabric.now)) (g.S.Shelf.seen c.args.shelf.now) (g.O.Sink.seen c.args.out.now)
+    subst (λ (state : List Bool). Streams stimulus.name stimulus.width (trace_from c.args.probes state (c.args.crewed.now.board.now.job.checked.ordered.flat)) (HaveCarried (planned_of c.args.crewed.now.board.now.job) 0 state (g.F.Fabric.carried c.args.crewed.now.fabric.now) (g.F.Fabric.carried c.write_lines.new.crewed.fabric.now)) (g.S.Shelf.seen c.args.shelf.now) (g.O.Sink.seen c.args.out.now)
     (g.S.Shelf.seen c.write_lines.new.shelf) (g.O.Sink.seen c.write_lines.new.out) c.write_lines.result) (starts g at.In_ok-state) c.write_lines.ensures.streams

@@ -8,5 +8,5 @@ use Rattle.vw_top.proofs.check.check.Goals as goal
 
 pub returns : goal.returns
 returns g c =
-    goes_on g.S.Shelf.seen g.O.Sink.seen vocabulary Unmoved netlist_kind c.args.design.now (check_board_course c.args.board.now c.args.plan.now) c.in_ok-ordered.ordered
+    goes_on g.S.Shelf.seen g.O.Sink.seen vocabulary Unmoved (netlist_kind c.args.probes.now) c.args.design.now (check_board_course c.args.board.now c.args.plan.now) c.in_ok-ordered.ordered
     (record { shelf = refl; out = refl }) refl c.in_ok-ordered.ensures c.check_netlist.ensures

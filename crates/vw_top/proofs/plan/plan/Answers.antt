@@ -8,5 +8,5 @@ use Rattle.vw_top.proofs.plan.plan.Goals as goal
 
 pub returns : goal.returns
 returns g c =
-    goes_on g.S.Shelf.seen g.O.Sink.seen vocabulary Unmoved netlist_kind c.args.design.now (plan_board_course c.args.board.now) c.in_ok-ordered.ordered
+    goes_on g.S.Shelf.seen g.O.Sink.seen vocabulary Unmoved (netlist_kind c.args.probes.now) c.args.design.now (plan_board_course c.args.board.now) c.in_ok-ordered.ordered
     (record { shelf = refl; out = refl }) refl c.in_ok-ordered.ensures c.plan_netlist.ensures

@@ -22,7 +22,7 @@ returns-in_err-rows g c =
     let ordered = checked.ordered in
     let links = g.F.Fabric.carried c.args.fabric.now in
     rw (p.1, p.2)
-    (goes_unchecked g.S.Shelf.seen g.O.Sink.seen (MovedFrom links links) c.args.stimulus.now ordered.flat.inputs (flat_trace c.args.unknown ordered.flat) (board_scripts c.args.workers c.args.unknown (planned_board ordered checked.board checked.plan))
+    (goes_unchecked g.S.Shelf.seen g.O.Sink.seen (MovedFrom links links) c.args.stimulus.now ordered.flat.inputs (flat_trace c.args.probes c.args.unknown ordered.flat) (board_scripts c.args.workers c.args.unknown (planned_board ordered checked.board checked.plan))
     c.args.outside.now _ (record { shelf = refl; out = refl }) refl (λ before after moved. moved.1 ∙ sym moved.0) c.in_err-rows.field-0.0 c.in_err-rows.ensures.judges)
 
 pub returns : goal.returns
@@ -34,7 +34,7 @@ returns g c =
     let mid = record c.args.outside.now { shelf = record c.args.outside.now.shelf { now = c.check_rows.new.shelf } } in
     let Moved = MovedFrom (g.F.Fabric.carried c.args.fabric.now) (g.F.Fabric.carried c.run-ran.new.fabric) in
     rw c.clocks_answer.ensures
-    (goes_together g.S.Shelf.seen g.O.Sink.seen Moved c.args.stimulus.now c.args.unknown ordered checked.board checked.plan workers c.args.workers (omega (arith, c.min-workers.ensures, c.requires)) c.requires
-    (goes_streaming g.S.Shelf.seen g.O.Sink.seen Moved c.args.stimulus.now ordered.flat.inputs (flat_trace c.args.unknown ordered.flat) (board_scripts workers c.args.unknown planned) c.args.outside.now mid (record { shelf = refl; out = refl }) refl
+    (goes_together g.S.Shelf.seen g.O.Sink.seen Moved c.args.stimulus.now c.args.unknown ordered checked.board checked.plan c.args.probes workers c.args.workers (omega (arith, c.min-workers.ensures, c.requires.several)) c.requires.several
+    (goes_streaming g.S.Shelf.seen g.O.Sink.seen Moved c.args.stimulus.now ordered.flat.inputs (flat_trace c.args.probes c.args.unknown ordered.flat) (board_scripts workers c.args.unknown planned) c.args.outside.now mid (record { shelf = refl; out = refl }) refl
     (board_parts c.args.unknown planned workers) _ c.in_ok-rows.rows (without_count c.run-ran.result) (record { shelf = refl; out = refl }) c.in_ok-rows.ensures.judges c.in_ok-rows.ensures.starts
     (λ links links_after moved. over_links (board_scripts workers c.args.unknown planned) links links_after moved c.run-ran.ensures.streams)))

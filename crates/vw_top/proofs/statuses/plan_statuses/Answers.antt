@@ -2,4 +2,4 @@ use Rattle.vw_top.proofs.PlanLaws.{plan_table}
 use Rattle.vw_top.proofs.statuses.plan_statuses.Goals as goal
 
 pub returns : goal.returns
-returns c = plan_table
+returns c = λ probes few design board call. plan_table probes design board call few

@@ -15,7 +15,7 @@ returns-in_err-state-clause-streams g c =
     let p = err_from_is_err_and c.from_residual.result c.from_residual.ensures.1 in
     let flat = g.E.Engine.netlist c.args.engine.now in
     let start = start_values c.args.unknown flat.cells in
-    rw (p.1, p.2) (nothing_streamed c.args.stimulus.now (flat_trace c.args.unknown flat) (λ rows. Unit {0}) (g.S.Shelf.seen c.args.shelf.now) (g.O.Sink.seen c.args.out.now)
+    rw (p.1, p.2) (nothing_streamed c.args.stimulus.now (flat_trace c.args.probes c.args.unknown flat) (λ rows. Unit {0}) (g.S.Shelf.seen c.args.shelf.now) (g.O.Sink.seen c.args.out.now)
     c.requires.stands tt)
 
 -- the state starts with the start values, one for each latch
@@ -31,5 +31,5 @@ pub returns-clause-streams : goal.returns-clause-streams
 returns-clause-streams g c =
     let at = goal.at.returns-clause-streams g c in
     let stimulus = c.args.stimulus.now in
-    subst (λ (state : List Bool). Streams stimulus.name stimulus.width (trace_from state (g.E.Engine.netlist c.args.engine.now)) (λ rows. Unit {0}) (g.S.Shelf.seen c.args.shelf.now) (g.O.Sink.seen c.args.out.now)
+    subst (λ (state : List Bool). Streams stimulus.name stimulus.width (trace_from c.args.probes state (g.E.Engine.netlist c.args.engine.now)) (λ rows. Unit {0}) (g.S.Shelf.seen c.args.shelf.now) (g.O.Sink.seen c.args.out.now)
     (g.S.Shelf.seen c.write_lines.new.shelf) (g.O.Sink.seen c.write_lines.new.out) c.write_lines.result) (starts g at.In_ok-state) c.write_lines.ensures.streams
