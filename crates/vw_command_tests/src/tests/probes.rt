@@ -309,29 +309,17 @@ fn probed(alloc: Global, count: usize) -> Result<Vec<&'static str>, AllocError> 
 #[test]
 fn there_may_be_64_probes(rt: HostRuntime) -> Result<(), Fail> {
     let alloc = rt.alloc();
-    let zeros = b"00000000000000000000000000000000000000000000000000000000000000000";
-    let end = End {
+    let too_many = End {
         status: 2,
         out: "",
         err: "usage: word 68\n",
     };
-    words_end_so(&rt, alloc, &probed(alloc, 65)?, TOGGLE_TEXTS, end)?;
-    let words = probed(alloc, 64)?;
-    let call = Call {
-        words: &words,
-        texts: &[("d", TOGGLE), ("s", "0\n")],
-        most: MOST,
-        fault: Fault::None,
+    words_end_so(&rt, alloc, &probed(alloc, 65)?, TOGGLE_TEXTS, too_many)?;
+    let traced = End {
+        status: 0,
+        out: "trace 2 1 64 1\n0 00000000000000000000000000000000000000000000000000000000000000000 0\nend 1 0\n",
+        err: "",
     };
-    let ran = carried_out(alloc, &call)?;
-    let head = b"trace 2 1 64 1\n0 ";
-    are_found(&rt, &ran.out.bytes()[..head.len()], head, "head");
-    are_found(
-        &rt,
-        &ran.out.bytes()[head.len()..head.len() + 65],
-        zeros,
-        "bits",
-    );
-    are_found(&rt, &[ran.status], &[0], "status");
-    Ok(())
+    let texts = &[("d", TOGGLE), ("s", "0\n")];
+    words_end_so(&rt, alloc, &probed(alloc, 64)?, texts, traced)
 }
