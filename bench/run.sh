@@ -196,7 +196,7 @@ halves() {
 # could be sent if all links had pins enough, and how many microcycles the plan needs at least behind that microcycle
 hop_times() {
   awk '
-    function later(moment, other) { return other > moment ? other : moment }
+    function later(microcycle, other) { return other > microcycle ? other : microcycle }
     FNR == 1 { file++ }
     file == 1 && $1 == "settle" { settle = $2 }
     file == 1 && $1 == "link" { width[$2, $3] = $4; delay[$2, $3] = $5 }
@@ -248,7 +248,7 @@ hop_times() {
     }' "$1" "$2" "$3"
 }
 # least_period BOARD PLAN DESIGN: a bound for the period, for these chips and routes: the longest path if no hop waits for a
-# pin, and for each link, over all moments, what the hops need that start no earlier and have as much behind them
+# pin, and for each link, over all microcycles, what the hops need that start no earlier and have as much behind them
 least_period() {
   hop_times "$1" "$2" "$3" | sort -k1,1n -k2,2n -k4,4nr | awk '
     function fullest() { for (k = 1; k <= count; k++) { need = start + int((k + width - 1) / width) + behind[k]; if (need > most) most = need } }
@@ -284,14 +284,17 @@ measured() {
   seconds=$(awk -v a="$start" -v b="$end" 'BEGIN { printf "%.2f", (b - a) / 1e9 }')
   peak=$(($(cat peak) / 1024))
 }
-# row NAME EVALUATIONS WORD..: one line of the table
+# row NAME DESIGN STIMULUS: one line of the table of design texts
 row() {
-  local name=$1 evaluations=$2
-  shift 2
-  measured "$@"
-  local rate=-
-  [ "$evaluations" -gt 0 ] && rate=$(awk -v n="$evaluations" -v s="$seconds" 'BEGIN { printf "%.1f", n / s / 1e6 }')
-  echo "| $name | $(($(stat -c %s "$2") / 1000)) | $status | $(head -c 60 err) | $seconds | $peak | $rate |"
+  measured sim "$2" "$3"
+  echo "| $1 | $(($(stat -c %s "$2") / 1000)) | $status | $(head -c 60 err) | $seconds | $peak |"
+}
+# simulated NAME TABLES CLOCKS DESIGN STIMULUS: one line of the table of simulations, of a design with so many tables over so
+# many clocks
+simulated() {
+  measured sim "$4" "$5"
+  expect 0 ""
+  echo "| $1 | $3 | $seconds | $peak | $(awk -v n="$2" -v c="$3" -v s="$seconds" 'BEGIN { printf "%.0f", n * c / s / 1e6 }') |"
 }
 # expect STATUS MESSAGE: says so where the last run ended in another way. Of a long message the front is given
 expect() {
@@ -307,30 +310,23 @@ stimulus_row() {
   echo "| $1 | $(($(stat -c %s "$3") / 1000000)) | $(($(stat -c %s out) / 1000000)) | $status | $seconds | $sums | $peak |"
 }
 
-echo "| design | text, kB | status | message | seconds | peak, MB | million tables a second |"
-echo "|---|---|---|---|---|---|---|"
+echo "| design | text, kB | status | message | seconds | peak, MB |"
+echo "|---|---|---|---|---|---|"
 : > none.stim
 for bytes in 1000000 16700000; do
   statements $bytes '.names a b n%d\n11 1' > tables.blif
-  row "tables of one row" 0 sim tables.blif none.stim
+  row "tables of one row" tables.blif none.stim
   statements $bytes '.latch a n%d 0' > latches.blif
-  row "latches" 0 sim latches.blif none.stim
+  row "latches" latches.blif none.stim
   models $bytes > models.blif
-  row "models of one line" 0 sim models.blif none.stim
+  row "models of one line" models.blif none.stim
   words $bytes > words.blif
-  row "words on one line" 0 sim words.blif none.stim
+  row "a line of words" words.blif none.stim
   ports $bytes > ports.blif
-  row "inputs of one model" 0 sim ports.blif none.stim
+  row "inputs of one model" ports.blif none.stim
   bindings $bytes > bindings.blif
-  row "bindings of one item" 0 sim bindings.blif none.stim
+  row "bindings of one placed model" bindings.blif none.stim
 done
-gates 4000 > gates.blif
-clocks 10000 8 > gates.stim
-row "4,000 gates over 10,000 clocks" 40000000 sim gates.blif gates.stim
-gates 65000 > gates.blif
-clocks 500 8 > gates.stim
-row "65,000 gates over 500 clocks" 32500000 sim gates.blif gates.stim
-
 echo
 echo "| stimulus | text, MB | trace, MB | status | seconds | md5sum twice | peak, MB |"
 echo "|---|---|---|---|---|---|---|"
@@ -340,9 +336,9 @@ again 222 part.stim > long.stim
 stimulus_row "22,200,000 rows of 8 bits" eight.blif long.stim
 rm long.stim
 echo "hold 20000000" > hold.stim
-stimulus_row "a line that holds 20,000,000 clocks" eight.blif hold.stim
+stimulus_row 'one `hold` line of 20,000,000 clocks' eight.blif hold.stim
 awk 'BEGIN { for (n = 0; n < 2000000; n++) print (n % 2) ? "hold 3" : "10101010" }' > holds.stim
-stimulus_row "2,000,000 lines, half of which hold" eight.blif holds.stim
+stimulus_row '1,000,000 rows, a `hold 3` behind each: 4,000,000 clocks' eight.blif holds.stim
 columns 4096 > wide.blif
 clocks 1000 4096 > part.stim
 again 49 part.stim > long.stim
@@ -355,27 +351,35 @@ stimulus_row "a row of 200,000,000 bits, refused" eight.blif row.stim
 expect 5 'stimulus 3: line 1: found 200000000 bits, wanted 8'
 rm -f comment.stim row.stim
 echo
-echo "| design | text, kB | status | message | seconds | peak, MB | million tables a second |"
-echo "|---|---|---|---|---|---|---|"
+echo "| design | text, kB | status | message | seconds | peak, MB |"
+echo "|---|---|---|---|---|---|"
 clocks 4 1 > short.stim
 placed_outputs 1000000 60000 > wide.blif
-row "a million unbound outputs, placed 60,000 times" 0 sim wide.blif short.stim
+row "a model of a million outputs, none bound, placed 60,000 times" wide.blif short.stim
 expect 0 ''
 circle 100000 > circle.blif
-row "a circle of 100,000 models" 0 sim circle.blif none.stim
+row "a circle of 100,000 models" circle.blif none.stim
 expect 1 'design 14: recursive models m0 m1 m2'
 chain 500000 > chain.blif
-row "a chain of 500,000 models" 0 sim chain.blif none.stim
+row "a chain of 500,000 models" chain.blif none.stim
 expect 1 'design 18: more than 65536 instances'
 doubling 40 > doubling.blif
-row "forty models that each place the next twice" 0 sim doubling.blif none.stim
+row "forty models that each place the next twice" doubling.blif none.stim
 expect 1 'design 18: more than 65536 instances'
+echo
+echo "| design | clocks | seconds | peak, MB | million tables a second |"
+echo "|---|---|---|---|---|"
+gates 4000 > gates.blif
+clocks 10000 8 > gates.stim
+simulated "4,000 tables of four inputs" 4000 10000 gates.blif gates.stim
+gates 65000 > gates.blif
+clocks 500 8 > gates.stim
+simulated "65,000 tables of four inputs" 65000 500 gates.blif gates.stim
 hierarchy 199 99 99 65536 > hierarchy.blif
 clocks 200 1 > hierarchy.stim
-row "65,536 cells in 20,000 instances over 200 clocks" 9147200 sim hierarchy.blif hierarchy.stim
-expect 0 ''
+simulated "45,736 tables and 19,800 latches in 20,000 instances" 45736 200 hierarchy.blif hierarchy.stim
 echo
-echo "Cores: $(nproc)."
+echo "Cores: $(nproc). Load: $(cut -d ' ' -f 1 /proc/loadavg)."
 
 echo
 echo "| plan | text, kB | status | message | seconds | peak, MB |"
@@ -392,9 +396,9 @@ crowd_plan 0 >broken.plan
 crowd_plan 15 | head -n 2 >early.plan
 checked "1,015,808 hops of 65,536 cells on 32 chips, sound" sound.plan
 expect 0 ""
-checked "the same, the last hop on a pin that is in use" broken.plan
+checked "the same, its last hop on a pin already in use" broken.plan
 expect 4 "plan 13: wire "
-checked "the same, cut behind its second line" early.plan
+checked "the same, cut off after its second line" early.plan
 expect 4 "plan 2: line 3"
 
 echo

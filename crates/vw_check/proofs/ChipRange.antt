@@ -3,7 +3,7 @@ use Rattle.std.proofs.Common.{◌≡◌, ◌<◌, ◌≤◌, ◌+◌, ◌-◌, �
 use Rattle.std.specs.List.{range_with_len}
 use Rattle.std.specs.Option.{option_or}
 use Rattle.vw_check.specs.declared.fault.PlanFault.{PlanFault}
-use Rattle.vw_check.specs.FirstFound.{first_at}
+use Rattle.vw_net.specs.FirstFound.{first_at}
 
 module _ (found : ℕ → Option PlanFault) (chip stop : ℕ) (some : 1 ≤ chip) (below : chip < stop) where
   abbrev from : ℕ → ℕ → Option PlanFault

@@ -14,7 +14,7 @@ use Rattle.vw_plan.specs.declared.plan.Plan.{Plan}
 use Rattle.vw_plan.specs.Sound.{share_pin}
 use Rattle.vw_check.specs.declared.fault.PlanFault.{PlanFault}
 use Rattle.vw_check.specs.declared.fault.PlanFault.TheVariants.{PinClash}
-use Rattle.vw_check.specs.FirstFound.{first_at}
+use Rattle.vw_net.specs.FirstFound.{first_at}
 use Rattle.vw_check.specs.HopFaults.{PlacedHop, first_sharing, hops_placed, pin_clash, wires_placed}
 use Rattle.vw_check.specs.Steps.Tables.{HasFirstHops, PinKey, user_in}
 use Rattle.vw_check.specs.Steps.Clashes.{clash_behind, IsClashIn}

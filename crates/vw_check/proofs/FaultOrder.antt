@@ -4,7 +4,7 @@ use Rattle.std.specs.Option.{option_or}
 use Rattle.vw_net.proofs.FirstOptions.{or_nothing}
 use Rattle.vw_plan.specs.PlannedBoard.{PlannedBoard}
 use Rattle.vw_check.specs.declared.fault.PlanFault.{PlanFault}
-use Rattle.vw_check.specs.Faults.{cell_fault, wire_fault, hop_fault, moment_fault, plan_fault}
+use Rattle.vw_check.specs.Faults.{cell_fault, wire_fault, hop_fault, microcycle_fault, plan_fault}
 
 pub some_or : (found rest : Option PlanFault) → true ≡ is_some found → option_or found rest ≡ found
 some_or None rest there = absurd (true≢false there)
@@ -22,7 +22,7 @@ module _ (planned : PlannedBoard) where
   wires = wire_fault planned.ordered.flat planned.plan
 
   abbrev after_wires : Option PlanFault
-  after_wires = option_or (hop_fault planned) (option_or (moment_fault planned) None)
+  after_wires = option_or (hop_fault planned) (option_or (microcycle_fault planned) None)
 
   is_or : plan_fault planned ≡ option_or cells (option_or wires after_wires)
   unfolding plan_fault
@@ -41,7 +41,7 @@ module _ (planned : PlannedBoard) where
   past_wires none no_wire = past_cells none ∙ ap (λ (found : Option PlanFault). option_or found after_wires) no_wire
 
   pub by_hops : cells ≡ None → wires ≡ None → true ≡ is_some (hop_fault planned) → hop_fault planned ≡ plan_fault planned
-  by_hops none no_wire there = sym (past_wires none no_wire ∙ some_or (hop_fault planned) (option_or (moment_fault planned) None) there)
+  by_hops none no_wire there = sym (past_wires none no_wire ∙ some_or (hop_fault planned) (option_or (microcycle_fault planned) None) there)
 
-  pub by_moments : cells ≡ None → wires ≡ None → hop_fault planned ≡ None → moment_fault planned ≡ plan_fault planned
-  by_moments none no_wire no_hop = sym (past_wires none no_wire ∙ ap (λ (found : Option PlanFault). option_or found (option_or (moment_fault planned) None)) no_hop ∙ or_nothing (moment_fault planned))
+  pub by_microcycles : cells ≡ None → wires ≡ None → hop_fault planned ≡ None → microcycle_fault planned ≡ plan_fault planned
+  by_microcycles none no_wire no_hop = sym (past_wires none no_wire ∙ ap (λ (found : Option PlanFault). option_or found (option_or (microcycle_fault planned) None)) no_hop ∙ or_nothing (microcycle_fault planned))

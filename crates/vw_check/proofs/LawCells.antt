@@ -11,11 +11,11 @@ use Rattle.vw_plan.specs.PlannedBoard.{PlannedBoard}
 use Rattle.vw_plan.specs.Sound.{IsPlaced}
 use Rattle.vw_check.specs.declared.fault.PlanFault.{PlanFault}
 use Rattle.vw_check.specs.declared.fault.PlanFault.TheVariants.{WrongCells, ZeroPeriod, BadChip, Overfull}
-use Rattle.vw_check.specs.FirstFound.{found_unless}
+use Rattle.vw_net.specs.FirstFound.{found_unless}
 use Rattle.vw_check.specs.CellFaults.{wrong_cells, zero_period, is_chip, bad_chip, overfull}
 use Rattle.vw_plan.specs.Chips.{IsChip, cells_on}
 use Rattle.vw_check.specs.Answers.{Breaks}
-use Rattle.vw_check.proofs.LawFirsts.{EachAt, each_none, none_each, each_to, each_all, all_each, unless_none, none_unless, if_none, none_if, first_is, unless_is, if_is}
+use Rattle.vw_net.proofs.FirstFound.{EachAt, each_none, none_each, each_to, each_all, all_each, unless_none, none_unless, if_none, none_if, first_is, unless_is, if_is}
 
 -- ---- chips
 

@@ -15,7 +15,7 @@ use Rattle.vw_check.specs.declared.fault.PlanFault.{PlanFault}
 use Rattle.vw_check.specs.declared.fault.PlanFault.TheVariants.{PinClash}
 use Rattle.vw_check.specs.HopFaults.{PlacedHop, hops_placed, wires_placed, first_sharing, pin_clash}
 use Rattle.vw_check.specs.Answers.{Breaks}
-use Rattle.vw_check.proofs.LawFirsts.{EachAt, each_none, none_each, each_or-zero, or_each-zero, first_is}
+use Rattle.vw_net.proofs.FirstFound.{EachAt, each_none, none_each, each_or-zero, or_each-zero, first_is}
 
 -- ---- the hops of a plan, with and without their places
 

@@ -11,9 +11,9 @@ use Rattle.vw_plan.specs.Lead.{arrival}
 use Rattle.vw_plan.specs.Sound.{leads_to, rises}
 use Rattle.vw_plan.specs.Walks.{has_link}
 use Rattle.vw_check.specs.declared.fault.PlanFault.{PlanFault}
-use Rattle.vw_check.specs.FirstFound.{first_at, found_unless}
+use Rattle.vw_net.specs.FirstFound.{first_at, found_unless}
 use Rattle.vw_check.specs.HopFaults.{first_hop, begins_at, is_later}
-use Rattle.vw_check.proofs.LawFirsts.{EachAt, each_none, none_each, each_to, each_all, all_each, unless_none, none_unless, first_is, unless_is}
+use Rattle.vw_net.proofs.FirstFound.{EachAt, each_none, none_each, each_to, each_all, all_each, unless_none, none_unless, first_is, unless_is}
 
 -- ---- from one numbering to the next
 

@@ -15,10 +15,10 @@ use Rattle.vw_plan.specs.Sound.{has_pin, IsRouted, IsRising}
 use Rattle.vw_plan.specs.Walks.{has_link}
 use Rattle.vw_check.specs.declared.fault.PlanFault.{PlanFault}
 use Rattle.vw_check.specs.declared.fault.PlanFault.TheVariants.{BrokenRoute, BadPin, OutOfOrder, PastPeriod}
-use Rattle.vw_check.specs.FirstFound.{first_at, found_unless}
+use Rattle.vw_net.specs.FirstFound.{first_at, found_unless}
 use Rattle.vw_check.specs.HopFaults.{broken_wire, broken_route, bad_pin, is_later, out_of_order, past_period}
 use Rattle.vw_check.specs.Answers.{Breaks}
-use Rattle.vw_check.proofs.LawFirsts.{EachAt, each_none, none_each, each_to, each_all, all_each, unless_none, none_unless, first_is, unless_is}
+use Rattle.vw_net.proofs.FirstFound.{EachAt, each_none, none_each, each_to, each_all, all_each, unless_none, none_unless, first_is, unless_is}
 use Rattle.vw_check.proofs.LawHops.{hop_goes_on, leads_from_goes, goes_from_leads, rises_from_later, later_from_rises, Passes, each_passes, passes_none, search_is}
 
 any_weaker : {X : Type 0} (p q : X → Bool) → ((x : X) → p x ≡ true → q x ≡ true) → (xs : List X) → list_any p xs ≡ true → list_any q xs ≡ true

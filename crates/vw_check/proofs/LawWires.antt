@@ -17,10 +17,10 @@ use Rattle.vw_plan.specs.Lead.{brings}
 use Rattle.vw_plan.specs.Sound.{HasWires}
 use Rattle.vw_check.specs.declared.fault.PlanFault.{PlanFault}
 use Rattle.vw_check.specs.declared.fault.PlanFault.TheVariants.{MissingWire, ExtraWire}
-use Rattle.vw_check.specs.FirstFound.{found_unless}
+use Rattle.vw_net.specs.FirstFound.{found_unless}
 use Rattle.vw_check.specs.WireFaults.{is_brought, missing_wire, extra_wire}
 use Rattle.vw_check.specs.Answers.{Breaks}
-use Rattle.vw_check.proofs.LawFirsts.{EachAt, each_none, none_each, each_to, each_all, all_each, each_or-zero, or_each-zero, unless_none, none_unless, first_is, unless_is}
+use Rattle.vw_net.proofs.FirstFound.{EachAt, each_none, none_each, each_to, each_all, all_each, each_or-zero, or_each-zero, unless_none, none_unless, first_is, unless_is}
 
 -- the needed pairs are those that are needed
 abbrev pub AreNeeds : Flat → List ℕ → List Need → Type 0

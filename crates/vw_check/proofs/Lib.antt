@@ -1,15 +1,13 @@
-pub mod LawFirsts
 pub mod LawCells
 pub mod LawHops
 pub mod LawRoutes
 pub mod LawClashes
-pub mod LawMoments
+pub mod LawMicrocycles
 pub mod LawWires
 pub mod SoundPlans
 pub mod LinkWidths
 pub mod Clashes
 pub mod ChipRange
-pub mod ListSearches
 pub mod WireTables
 pub mod NeededNets
 pub mod FaultOrder

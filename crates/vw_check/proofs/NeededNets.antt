@@ -12,7 +12,7 @@ use Rattle.vw_plan.specs.Nets.{is_needed}
 use Rattle.vw_plan.proofs.NeededNets.{needed_net}
 use Rattle.vw_check.specs.declared.fault.PlanFault.{PlanFault}
 use Rattle.vw_check.specs.declared.fault.PlanFault.TheVariants.{BadChip, ExtraWire, WrongCells}
-use Rattle.vw_check.specs.FirstFound.{first_at, found_unless}
+use Rattle.vw_net.specs.FirstFound.{first_at, found_unless}
 use Rattle.vw_check.specs.CellFaults.{bad_chip, is_chip, overfull, wrong_cells, zero_period}
 use Rattle.vw_check.specs.WireFaults.{extra_wire, is_brought, missing_wire}
 use Rattle.vw_check.specs.Faults.{cell_fault, wire_fault}

@@ -14,10 +14,10 @@ use Rattle.vw_plan.specs.PlannedBoard.{PlannedBoard, planned_board, home}
 use Rattle.vw_plan.specs.Lead.{brought_at, level_lead, lead, usable}
 use Rattle.vw_check.specs.declared.fault.PlanFault.{PlanFault}
 use Rattle.vw_check.specs.declared.fault.PlanFault.TheVariants.{BrokenRoute, TooEarly, LateLatch}
-use Rattle.vw_check.specs.FirstFound.{first_at, first_some, found_unless}
+use Rattle.vw_net.specs.FirstFound.{first_at, first_some, found_unless}
 use Rattle.vw_check.specs.HopFaults.{bad_pin, out_of_order, past_period, pin_clash, fits_route, broken_route}
-use Rattle.vw_check.specs.MomentFaults.{early_wire, late_cell}
-use Rattle.vw_check.specs.Faults.{cell_fault, wire_fault, hop_fault, moment_fault, plan_fault}
+use Rattle.vw_check.specs.MicrocycleFaults.{early_wire, late_cell}
+use Rattle.vw_check.specs.Faults.{cell_fault, wire_fault, hop_fault, microcycle_fault, plan_fault}
 
 module _ (board : Board) (plan : Plan) (one other : Ordered) (same : one.flat ≡ other.flat) where
   abbrev here : PlannedBoard
@@ -54,15 +54,15 @@ module _ (board : Board) (plan : Plan) (one other : Ordered) (same : one.flat �
 
   early_same : early_wire here ≡ early_wire there
   early_same = fun_ext (λ number. fun_ext (λ wire.
-      ap (λ (moment : ℕ). option_and_then (λ hop. found_unless (nat_le moment hop.at) (TooEarly number hop.at moment)) (slice_get wire.hops 0)) (home_usable_same wire.net)))
+      ap (λ (microcycle : ℕ). option_and_then (λ hop. found_unless (nat_le microcycle hop.at) (TooEarly number hop.at microcycle)) (slice_get wire.hops 0)) (home_usable_same wire.net)))
 
-  moment_same : (number d : ℕ) → usable here (home here (one.flat.inputs + number)) d ≡ usable there (home there (other.flat.inputs + number)) d
-  moment_same number d =
+  microcycle_same : (number d : ℕ) → usable here (home here (one.flat.inputs + number)) d ≡ usable there (home there (other.flat.inputs + number)) d
+  microcycle_same number d =
       ap (λ (flat : Flat). usable here (node_of flat plan.chip_of (flat.inputs + number)) d) same ∙ usable_same (home there (other.flat.inputs + number)) d
 
   cell_same : (number : ℕ) (cell : Cell) → late_cell here number cell ≡ late_cell there number cell
   cell_same number (Gate ins cover) = refl
-  cell_same number (Latch d init) = ap (λ (moment : ℕ). found_unless (nat_le moment plan.period) (LateLatch number moment)) (moment_same number d)
+  cell_same number (Latch d init) = ap (λ (microcycle : ℕ). found_unless (nat_le microcycle plan.period) (LateLatch number microcycle)) (microcycle_same number d)
 
   late_same : late_cell here ≡ late_cell there
   late_same = fun_ext (λ number. fun_ext (cell_same number))
@@ -73,12 +73,12 @@ module _ (board : Board) (plan : Plan) (one other : Ordered) (same : one.flat �
       let cells = ap (λ (flat : Flat). cell_fault flat board plan) same in
       let wires = ap (λ (flat : Flat). wire_fault flat plan) same in
       let hops = ap (λ (route : Option PlanFault). first_some (route ∷ bad_pin board plan ∷ out_of_order board plan ∷ past_period board plan ∷ pin_clash plan ∷ [])) route_same in
-      let moments = ap₂ (λ (early : Option PlanFault) (late : Option PlanFault). first_some (early ∷ late ∷ []))
+      let microcycles = ap₂ (λ (early : Option PlanFault) (late : Option PlanFault). first_some (early ∷ late ∷ []))
       (ap (λ (found : ℕ → _ → Option PlanFault). first_at found 0 plan.wires) early_same)
       (ap₂ (λ (found : ℕ → Cell → Option PlanFault) (flat : Flat). first_at found 0 flat.cells) late_same same) in
       let first : Option PlanFault = cell_fault other.flat board plan in
       let second : Option PlanFault = wire_fault other.flat plan in
-      ap (λ (found : Option PlanFault). first_some (found ∷ wire_fault one.flat plan ∷ hop_fault here ∷ moment_fault here ∷ [])) cells
-      ∙ ap (λ (found : Option PlanFault). first_some (first ∷ found ∷ hop_fault here ∷ moment_fault here ∷ [])) wires
-      ∙ ap (λ (found : Option PlanFault). first_some (first ∷ second ∷ found ∷ moment_fault here ∷ [])) hops
-      ∙ ap (λ (found : Option PlanFault). first_some (first ∷ second ∷ hop_fault there ∷ found ∷ [])) moments
+      ap (λ (found : Option PlanFault). first_some (found ∷ wire_fault one.flat plan ∷ hop_fault here ∷ microcycle_fault here ∷ [])) cells
+      ∙ ap (λ (found : Option PlanFault). first_some (first ∷ found ∷ hop_fault here ∷ microcycle_fault here ∷ [])) wires
+      ∙ ap (λ (found : Option PlanFault). first_some (first ∷ second ∷ found ∷ microcycle_fault here ∷ [])) hops
+      ∙ ap (λ (found : Option PlanFault). first_some (first ∷ second ∷ hop_fault there ∷ found ∷ [])) microcycles

@@ -15,7 +15,7 @@ use Rattle.vw_plan.specs.Needs as needs
 use Rattle.vw_plan.specs.Needs.{needed_pairs}
 use Rattle.vw_check.specs.declared.fault.PlanFault.{PlanFault}
 use Rattle.vw_check.specs.declared.fault.PlanFault.TheVariants.{ExtraWire, MissingWire}
-use Rattle.vw_check.specs.FirstFound.{first_at, found_if, found_unless}
+use Rattle.vw_net.specs.FirstFound.{first_at, found_if, found_unless}
 use Rattle.vw_check.specs.WireFaults.{extra_wire, is_brought, missing_wire}
 use Rattle.vw_leads.specs.Pairs.{HasPairs, first_pair, is_number_pair, pair_in}
 use Rattle.vw_check.specs.Steps.Tables.{need_pairs}

@@ -8,7 +8,7 @@ use Rattle.vw_plan.specs.declared.plan.Plan.{Plan}
 use Rattle.vw_plan.specs.Chips.{cells_on}
 use Rattle.vw_check.specs.declared.fault.PlanFault.{PlanFault}
 use Rattle.vw_check.specs.declared.fault.PlanFault.TheVariants.{WrongCells, ZeroPeriod, BadChip, Overfull}
-use Rattle.vw_check.specs.FirstFound.{first_at, found_if, found_unless}
+use Rattle.vw_net.specs.FirstFound.{first_at, found_if, found_unless}
 
 -- the plan has another number of entries than there are cells
 abbrev pub wrong_cells : Flat → Plan → Option PlanFault

@@ -5,11 +5,11 @@ use Rattle.vw_plan.specs.declared.board.Board.{Board}
 use Rattle.vw_plan.specs.declared.plan.Plan.{Plan}
 use Rattle.vw_plan.specs.PlannedBoard.{PlannedBoard}
 use Rattle.vw_check.specs.declared.fault.PlanFault.{PlanFault}
-use Rattle.vw_check.specs.FirstFound.{first_some}
+use Rattle.vw_net.specs.FirstFound.{first_some}
 use Rattle.vw_check.specs.CellFaults.{wrong_cells, zero_period, bad_chip, overfull}
 use Rattle.vw_check.specs.WireFaults.{missing_wire, extra_wire}
 use Rattle.vw_check.specs.HopFaults.{broken_route, bad_pin, out_of_order, past_period, pin_clash}
-use Rattle.vw_check.specs.MomentFaults.{too_early, late_latch}
+use Rattle.vw_check.specs.MicrocycleFaults.{too_early, late_latch}
 
 -- the chips of the cells, and the period
 abbrev pub cell_fault : Flat → Board → Plan → Option PlanFault
@@ -30,13 +30,13 @@ hop_fault planned = first_some (
     ∷ [])
 
 -- when nets are usable
-abbrev pub moment_fault : PlannedBoard → Option PlanFault
-moment_fault planned = first_some (too_early planned ∷ late_latch planned ∷ [])
+abbrev pub microcycle_fault : PlannedBoard → Option PlanFault
+microcycle_fault planned = first_some (too_early planned ∷ late_latch planned ∷ [])
 
 unfoldable pub plan_fault : PlannedBoard → Option PlanFault
 plan_fault planned = first_some (
     cell_fault planned.ordered.flat planned.board planned.plan
     ∷ wire_fault planned.ordered.flat planned.plan
     ∷ hop_fault planned
-    ∷ moment_fault planned
+    ∷ microcycle_fault planned
     ∷ [])

@@ -12,7 +12,7 @@ use Rattle.vw_plan.specs.Sound.{has_pin, share_pin}
 use Rattle.vw_plan.specs.Walks.{has_link}
 use Rattle.vw_check.specs.declared.fault.PlanFault.{PlanFault}
 use Rattle.vw_check.specs.declared.fault.PlanFault.TheVariants.{BrokenRoute, BadPin, OutOfOrder, PastPeriod, PinClash}
-use Rattle.vw_check.specs.FirstFound.{first_at, found_unless}
+use Rattle.vw_net.specs.FirstFound.{first_at, found_unless}
 
 -- the first fault of a hop, given what is found at a hop of a wire: it is told the number of the wire, the wire, the number
 -- of the hop and the hop

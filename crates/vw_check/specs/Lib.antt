@@ -1,9 +1,8 @@
 pub mod Steps
-pub mod FirstFound
 pub mod CellFaults
 pub mod WireFaults
 pub mod HopFaults
-pub mod MomentFaults
+pub mod MicrocycleFaults
 pub mod Faults
 pub mod Answers
 pub mod Messages

@@ -9,7 +9,7 @@ use Rattle.vw_plan.specs.Needs.{needed_pairs}
 use Rattle.vw_plan.specs.Lead.{brings}
 use Rattle.vw_check.specs.declared.fault.PlanFault.{PlanFault}
 use Rattle.vw_check.specs.declared.fault.PlanFault.TheVariants.{MissingWire, ExtraWire}
-use Rattle.vw_check.specs.FirstFound.{first_at, found_unless}
+use Rattle.vw_net.specs.FirstFound.{first_at, found_unless}
 
 -- whether one of these wires brings a net to a node
 abbrev pub is_brought : List Wire → ℕ → ℕ → Bool

@@ -1,7 +1,7 @@
 //! The first fault of a plan.
 ghost use Rattle.std.specs.Prelude.{◌≡◌, IfOk, IfErr};
 ghost use Rattle.vw_plan.specs.PlannedBoard.{planned_board};
-ghost use Rattle.vw_check.specs.Faults.{cell_fault, hop_fault, moment_fault, plan_fault};
+ghost use Rattle.vw_check.specs.Faults.{cell_fault, hop_fault, microcycle_fault, plan_fault};
 ghost use Rattle.vw_check.specs.Answers.{IsAcceptedPlan, IsRefusedPlan};
 ghost use Rattle.vw_leads.specs.LeadTables.{planned_in};
 
@@ -10,7 +10,7 @@ use crate::clash::pin_clash;
 use crate::fault::PlanFault;
 use crate::hops::{Rule, broken_route, first_breaking};
 use crate::laws::{faultless_plans_are_sound, faults_break_points};
-use crate::moments::{late_latch, too_early};
+use crate::microcycles::{late_latch, too_early};
 use crate::refused::CheckRefused;
 use crate::wires::wire_fault;
 use std::alloc::{AllocError, Global};
@@ -42,9 +42,9 @@ fn hop_fault(alloc: Global, wired: &Wired) -> Result<Option<PlanFault>, AllocErr
     pin_clash(alloc, wired.plan)
 }
 
-/// The first fault of the moments at which nets are usable.
-fn moment_fault(alloc: Global, wired: &Wired) -> Result<Option<PlanFault>, AllocError>
-    ensures { IfOk result (λ found. found ≡ moment_fault (planned_in wired.now)) }
+/// The first fault of the microcycles from which on nets are usable.
+fn microcycle_fault(alloc: Global, wired: &Wired) -> Result<Option<PlanFault>, AllocError>
+    ensures { IfOk result (λ found. found ≡ microcycle_fault (planned_in wired.now)) }
 {
     let arrivals = arrivals_of(alloc, wired)?;
     let leads = home_leads(alloc, wired, arrivals.as_slice())?;
@@ -91,7 +91,7 @@ fn plan_fault(
     if hops.is_some() {
         return Ok(hops);
     }
-    moment_fault(alloc, &wired)
+    microcycle_fault(alloc, &wired)
 }
 
 /// Checks a plan: it is sound, or this is its first fault. The faults are tried in the order of their variants, each over the

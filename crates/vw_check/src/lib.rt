@@ -8,7 +8,7 @@ mod fault;
 mod hops;
 mod laws;
 mod links;
-mod moments;
+mod microcycles;
 mod refused;
 mod wires;
 

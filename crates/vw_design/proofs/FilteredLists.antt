@@ -5,7 +5,7 @@ use Rattle.std.proofs.lemmas.Bool.{cond-false}
 use Rattle.std.proofs.lemmas.Option.{same_Some, none-some}
 use Rattle.std.proofs.Math.Nat.{suc_inj}
 use Rattle.vw_net.proofs.Lists.{differs}
-use Rattle.vw_design.specs.Lists.{first_place}
+use Rattle.vw_net.specs.FirstFound.{first_place}
 
 module _ {A : Type 0} where
   -- a filter behind one that keeps more keeps what it keeps alone

@@ -4,7 +4,7 @@ use Rattle.std.specs.List.{cons_option, list_any, list_all}
 use Rattle.std.specs.Option.{option_or}
 use Rattle.std.proofs.lemmas.Bool.{or_cases, or_left, or_right, and_parts, and_from}
 use Rattle.std.proofs.lemmas.Option.{same_Some, none-some}
-use Rattle.vw_design.specs.Lists.{first_found, first_place}
+use Rattle.vw_net.specs.FirstFound.{first_found, first_place}
 use Rattle.vw_net.proofs.FirstOptions.{or_none}
 
 -- x is an element of a list

@@ -7,7 +7,7 @@ use Rattle.std.proofs.lemmas.Option.{same_Some, none-some}
 use Rattle.vw_design.specs.declared.item.Item.{Item}
 use Rattle.vw_design.specs.declared.item.Item.TheVariants.{Names, Latch, Sub}
 use Rattle.vw_design.specs.declared.design.Design.{Design}
-use Rattle.vw_design.specs.Lists.{first_place}
+use Rattle.vw_net.specs.FirstFound.{first_place}
 use Rattle.vw_design.specs.Paths.{Path, model_at, items_of}
 use Rattle.vw_design.specs.Claims.{numbered}
 use Rattle.vw_design.specs.Preorder.{Site, with_inside, sites_below, sites, instances_at, paths_of, instances}

@@ -9,7 +9,7 @@ use Rattle.vw_design.specs.declared.item.Item.TheVariants.{Sub}
 use Rattle.vw_design.specs.declared.model.Model.{Model}
 use Rattle.vw_design.specs.declared.design.Design.{Design}
 use Rattle.vw_design.specs.Distinct.{has_name}
-use Rattle.vw_design.specs.Lists.{first_found}
+use Rattle.vw_net.specs.FirstFound.{first_found}
 use Rattle.vw_net.specs.Lists.{greatest}
 use Rattle.vw_design.specs.Paths.{Word, Path, model_placed, model_at, is_port}
 use Rattle.vw_design.specs.Preorder.{instances}

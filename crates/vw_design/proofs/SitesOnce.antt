@@ -6,7 +6,7 @@ use Rattle.std.proofs.lemmas.Option.{same_Some, none-some}
 use Rattle.vw_design.specs.declared.item.Item.{Item}
 use Rattle.vw_design.specs.declared.item.Item.TheVariants.{Names, Latch, Sub}
 use Rattle.vw_design.specs.declared.design.Design.{Design}
-use Rattle.vw_design.specs.Lists.{first_place}
+use Rattle.vw_net.specs.FirstFound.{first_place}
 use Rattle.vw_design.specs.Paths.{Path, model_at, items_of}
 use Rattle.vw_design.specs.Claims.{Numbered, and_behind, numbered}
 use Rattle.vw_design.specs.Preorder.{Site, site_at, inside, with_inside, sites_below, is_cell, sites, cells}

@@ -1,6 +1,5 @@
 pub mod Distinct
 pub mod Shape
-pub mod Lists
 pub mod Paths
 pub mod WordSets
 pub mod Claims

@@ -10,7 +10,7 @@ use Rattle.vw_design.specs.declared.item.Item.TheVariants.{Names, Latch, Sub}
 use Rattle.vw_design.specs.declared.model.Model.{Model}
 use Rattle.vw_design.specs.declared.design.Design.{Design}
 use Rattle.vw_design.specs.Distinct.{has_name, are_distinct}
-use Rattle.vw_design.specs.Lists.{first_found}
+use Rattle.vw_net.specs.FirstFound.{first_found}
 use Rattle.vw_net.specs.Lists.{turned}
 use Rattle.vw_design.specs.Paths.{Word, model_named, model_at, is_port}
 use Rattle.vw_design.specs.Preorder.{instances}

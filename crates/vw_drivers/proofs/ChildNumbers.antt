@@ -14,7 +14,7 @@ use Rattle.vw_design.proofs.ListPlaces.{none_at_place}
 use Rattle.vw_design.proofs.Names.{same_name}
 use Rattle.vw_design.proofs.PathsOnce.{instance_once}
 use Rattle.vw_design.proofs.PlacedInstances.{faultless_placed}
-use Rattle.vw_instances.specs.declared.tables.Placed.{Placed}
+use Rattle.vw_instances.specs.declared.tables.ListedInstance.{ListedInstance}
 use Rattle.vw_instances.specs.declared.sizes.Before.{Before}
 use Rattle.vw_drivers.specs.declared.model_names.ModelNames.{ModelNames}
 use Rattle.vw_drivers.specs.declared.model_names.PlacedNames.{PlacedNames}
@@ -73,10 +73,10 @@ module _ (design : Design) (faultless : HasNoModelFault design) (tables : Tables
   pub has_entry : slice_get tables.instances number ≡ None → ⊥
   has_entry none = let has = instance_of design faultless tables are number path listed in none-some has.entry (sym none ∙ has.at)
 
-  pub entry_child : (entry : Placed) → slice_get tables.instances number ≡ Some entry → (place : ℕ) → child_of tables number entry place ≡ place_of_path (instances design) (place ∷ path)
+  pub entry_child : (entry : ListedInstance) → slice_get tables.instances number ≡ Some entry → (place : ℕ) → child_of tables number entry place ≡ place_of_path (instances design) (place ∷ path)
   entry_child entry at place =
       let has = instance_of design faultless tables are number path listed in
-      ap (λ (e : Placed). child_of tables number e place) (same_Some entry has.entry (sym at ∙ has.at))
+      ap (λ (e : ListedInstance). child_of tables number e place) (same_Some entry has.entry (sym at ∙ has.at))
       ∙ child_place design faultless tables are number path listed has place
 
   -- a number of an instance has 32 bits

@@ -21,7 +21,7 @@ use Rattle.vw_design.proofs.Names.{same_name, equal_names, has_name-Has, Has-has
 use Rattle.vw_design.proofs.ListedInstances.{placing_of_placed}
 use Rattle.vw_design.proofs.ShallowDesigns.{faultless_shallow, nothing_placed}
 use Rattle.vw_drivers.specs.Firsts.{First}
-use Rattle.vw_instances.specs.declared.tables.Placed.{Placed}
+use Rattle.vw_instances.specs.declared.tables.ListedInstance.{ListedInstance}
 use Rattle.vw_drivers.specs.declared.model_names.PlacedNames.{PlacedNames}
 use Rattle.vw_drivers.specs.Names.{way_of}
 use Rattle.vw_drivers.specs.declared.tables.Tables.{Tables}
@@ -31,7 +31,7 @@ use Rattle.vw_drivers.proofs.InstanceTables.{instance_of, placed_is}
 
 -- the item that places an instance
 pub record IsPlacing (design : Design) (tables : Tables) (number place : ℕ) (path : Path) : Type 0 where
-  pub entry : Placed
+  pub entry : ListedInstance
   pub at : slice_get tables.instances number ≡ Some entry
   pub model : Model
   pub stands : model_at design (place ∷ path) ≡ Some model
@@ -66,7 +66,7 @@ module _ (design : Design) (faultless : HasNoModelFault design) (tables : Tables
       subst IsWellMade (get_or_from_slice_get design.models above.entry.model above.is.model above.is.model above.is.model_is)
       (design.well_made above.entry.model above.is.model (slice_get_within design.models above.entry.model above.is.model above.is.model_is)) in
       let ways : ways_of tables here.entry ≡ placed.placed.ways =
-      ap (λ (found : Option Placed). unwrap_or (option_map (λ (p : PlacedNames). p.ways) (option_and_then (λ (e : Placed). placed_of tables e.model here.entry.place) found)) []) above.at
+      ap (λ (found : Option ListedInstance). unwrap_or (option_map (λ (p : PlacedNames). p.ways) (option_and_then (λ (e : ListedInstance). placed_of tables e.model here.entry.place) found)) []) above.at
       ∙ ap (λ (n : ℕ). unwrap_or (option_map (λ (p : PlacedNames). p.ways) (placed_of tables above.entry.model n)) []) (by.0 ∙ placing.2)
       ∙ ap (λ (found : Option PlacedNames). unwrap_or (option_map (λ (p : PlacedNames). p.ways) found) []) placed.at in
       record {

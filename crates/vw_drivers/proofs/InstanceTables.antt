@@ -18,7 +18,7 @@ use Rattle.vw_design.proofs.ListPlaces.{none_at_place}
 use Rattle.vw_design.proofs.Numbers.{cell_number, instance_number}
 use Rattle.vw_drivers.specs.declared.model_claims.ModelClaims.{ModelClaims}
 use Rattle.vw_drivers.specs.Claimed.{AreClaims}
-use Rattle.vw_instances.specs.declared.tables.Placed.{Placed}
+use Rattle.vw_instances.specs.declared.tables.ListedInstance.{ListedInstance}
 use Rattle.vw_instances.specs.Tables.{IsEntryAt}
 use Rattle.vw_instances.proofs.EntryNumbers.{stands_behind}
 use Rattle.vw_instances.specs.declared.sizes.Before.{Before}
@@ -36,7 +36,7 @@ no_root before = ne_eqb (suc before) 0 (omega arith)
 
 -- the entry of an instance, and the claims of its model
 pub record HasInstance (design : Design) (tables : Tables) (number : ℕ) (path : Path) : Type 0 where
-  pub entry : Placed
+  pub entry : ListedInstance
   pub at : slice_get tables.instances number ≡ Some entry
   pub is : IsEntryAt design (instances design) number path entry
   pub claims : ModelClaims
@@ -56,7 +56,7 @@ module _ (design : Design) (faultless : HasNoModelFault design) (tables : Tables
         claims = claims.0;
         claims_are = claims.2;
         firsts_are = ap (λ (c : Option ModelClaims). unwrap_or (option_map (λ (f : ModelClaims). f.firsts) c) []) claims.1;
-        own_firsts = ap (λ (e : Option Placed). firsts_of tables.claims (option_map (λ (p : Placed). p.model) e)) found.1;
+        own_firsts = ap (λ (e : Option ListedInstance). firsts_of tables.claims (option_map (λ (p : ListedInstance). p.model) e)) found.1;
       }
 
   module _ (number : ℕ) (path : Path) (listed : slice_get (instances design) number ≡ Some path) (has : HasInstance design tables number path) where

@@ -20,7 +20,7 @@ use Rattle.vw_drivers.specs.declared.claim.Claim.{Claim}
 use Rattle.vw_drivers.specs.declared.claim.Claim.TheVariants as claims
 use Rattle.vw_drivers.specs.Claimed.{bind_at, meant}
 use Rattle.vw_drivers.specs.Firsts.{First, number_named, claim_at, claim_named}
-use Rattle.vw_instances.specs.declared.tables.Placed.{Placed}
+use Rattle.vw_instances.specs.declared.tables.ListedInstance.{ListedInstance}
 use Rattle.vw_instances.specs.Tables.{IsPlacedBy, IsJustBehind}
 use Rattle.vw_drivers.specs.Names.{firsts_of}
 use Rattle.vw_drivers.specs.declared.source.Source.TheVariants.{Port}
@@ -77,7 +77,7 @@ root_number : (path : Path) (number : ℕ) (before : List Site) → path ≡ [] 
 root_number [] number before is none weight = weight ∙ ap (weight_of placed_one) none
 root_number (place ∷ path) number before is none weight = cc
 
-later_number : (listed : List Path) (number place : ℕ) (up path : Path) (entry : Placed) → path ≡ place ∷ up → IsPlacedBy listed number path entry.parent entry.place → number ≡ 0 → ⊥
+later_number : (listed : List Path) (number place : ℕ) (up path : Path) (entry : ListedInstance) → path ≡ place ∷ up → IsPlacedBy listed number path entry.parent entry.place → number ≡ 0 → ⊥
 later_number listed number place up [] entry is by zero_is = cc
 later_number listed number place up (at ∷ path) entry is by zero_is = omega (arith, by.2, zero_is)
 

@@ -12,7 +12,7 @@ use Rattle.vw_drivers.specs.declared.claim.Claim.{Claim}
 use Rattle.vw_drivers.specs.declared.claim.Claim.TheVariants as claims
 use Rattle.vw_drivers.specs.Claimed.{bind_at, meant}
 use Rattle.vw_drivers.specs.Firsts.{number_named, claim_named}
-use Rattle.vw_instances.specs.declared.tables.Placed.{Placed}
+use Rattle.vw_instances.specs.declared.tables.ListedInstance.{ListedInstance}
 use Rattle.vw_drivers.specs.declared.model_names.Way.{Way}
 use Rattle.vw_drivers.specs.declared.model_names.Way.TheVariants.{Output}
 use Rattle.vw_drivers.specs.Names.{way_by, way_of}
@@ -46,7 +46,7 @@ module _ (design : Design) (faultless : HasNoModelFault design) (tables : Tables
         let found = some_first (Some port) (first_claim design (model_at design path) formal) (ap (option_map (meant here.is.model.items)) kind_is ∙ first) in
         absurd (no_port (found.2 ∙ sym found.1))
 
-  pub outputs_right : (entry : Placed) → slice_get tables.instances number ≡ Some entry → (rows : DriverRows)
+  pub outputs_right : (entry : ListedInstance) → slice_get tables.instances number ≡ Some entry → (rows : DriverRows)
       → ((at : ℕ) → at_rows rows number at ≡ at_row (outputs_made tables outputs number entry) at) → HasOutputs design tables rows number
   outputs_right entry at_entry rows row_is = λ place path at bind listed bind_is no_port.
       let is = placing_of design faultless tables are number place path listed in
@@ -57,7 +57,7 @@ module _ (design : Design) (faultless : HasNoModelFault design) (tables : Tables
       ap (option_and_then (λ (p : Placing). slice_get p.binds at)) (sym is.placing_is)
       ∙ ap (option_and_then (λ (m : Model). bind_at m.items place at)) (sym is.parent_stands) ∙ bind_is in
       row_is at
-      ∙ ap (λ (e : Placed). at_row (map (output_led tables outputs number) (ways_of tables e)) at) same
+      ∙ ap (λ (e : ListedInstance). at_row (map (output_led tables outputs number) (ways_of tables e)) at) same
       ∙ ap (λ (list : List Way). at_row (map (output_led tables outputs number) list) at) is.ways
       ∙ ap (option_and_then (λ (found : Option Source). found))
       (slice_get-map (output_led tables outputs number) (map way binds) at
@@ -67,7 +67,7 @@ module _ (design : Design) (faultless : HasNoModelFault design) (tables : Tables
 
 -- the row is written, and the later ones stay
 pub outputs_set : (design : Design) → HasNoModelFault design → (tables : Tables) → AreTables design tables → (number : ℕ) (rows : DriverRows)
-    → ((other : ℕ) → number < other → HasOutputs design tables rows other) → (entry : Placed) → slice_get tables.instances number ≡ Some entry → number < length rows
+    → ((other : ℕ) → number < other → HasOutputs design tables rows other) → (entry : ListedInstance) → slice_get tables.instances number ≡ Some entry → number < length rows
     → (row : List (Option Source)) → row ≡ outputs_made tables rows number entry → (other : ℕ) → number ≤ other → HasOutputs design tables (slice_set rows number row) other
 outputs_set design faultless tables are number rows later entry at_entry within row row_is other least =
     ⊎_elim behind (λ most. here (omega (arith, least, most))) (cases_lt number other)

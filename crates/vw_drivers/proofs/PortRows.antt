@@ -17,7 +17,7 @@ use Rattle.vw_drivers.specs.declared.claim.Claim.{Claim}
 use Rattle.vw_drivers.specs.declared.claim.Claim.TheVariants as claims
 use Rattle.vw_drivers.specs.Claimed.{bind_at, meant}
 use Rattle.vw_drivers.specs.Firsts.{number_named, claim_named}
-use Rattle.vw_instances.specs.declared.tables.Placed.{Placed}
+use Rattle.vw_instances.specs.declared.tables.ListedInstance.{ListedInstance}
 use Rattle.vw_drivers.specs.declared.model_names.Way.{Way}
 use Rattle.vw_drivers.specs.declared.model_names.Way.TheVariants as ways
 use Rattle.vw_drivers.specs.Names.{way_by, way_of}
@@ -109,20 +109,20 @@ module _ (design : Design) (faultless : HasNoModelFault design) (tables : Tables
         (ap (number_named (instance_firsts tables number)) bind.2 ∙ named) (ap (claim_named (instance_firsts tables number)) bind.2 ∙ kind) in
         (actual, subst (λ (w : Way). Has w (map way_of_bind is.placing.binds)) to (Has-map way_of_bind bind.0 is.placing.binds bind.1))
 
-  pub ports_right : (number : ℕ) → ((other : ℕ) → other < number → HasPorts design tables ports other) → (entry : Placed) → slice_get tables.instances number ≡ Some entry → (rows : DriverRows)
+  pub ports_right : (number : ℕ) → ((other : ℕ) → other < number → HasPorts design tables ports other) → (entry : ListedInstance) → slice_get tables.instances number ≡ Some entry → (rows : DriverRows)
       → ((at : ℕ) → at_rows rows number at ≡ at_row (ports_made tables outputs ports entry) at) → HasPorts design tables rows number
   ports_right number earlier entry at_entry rows row_is = λ place path name claim listed first named.
       let is = placing_of design faultless tables are number place path listed in
       let some = some_way number earlier place path listed is name claim named first in
       let binds = map (way_of (instance_firsts tables is.entry.parent) (instance_firsts tables number)) is.placing.binds in
       row_is claim
-      ∙ ap (λ (e : Placed). at_row (ports_made tables outputs ports e) claim) (same_Some entry is.entry (sym at_entry ∙ is.at))
+      ∙ ap (λ (e : ListedInstance). at_row (ports_made tables outputs ports e) claim) (same_Some entry is.entry (sym at_entry ∙ is.at))
       ∙ ap (λ (list : List Way). at_row (with_ways tables outputs ports is.entry.parent list []) claim) is.ways
       ∙ found tables outputs ports is.entry.parent claim (driver_by_numbers design tables (place ∷ path) name) binds [] some.0
       (way_leads number earlier place path listed is name claim named first) some.1
 
   -- one row more
-  pub ports_more : (number : ℕ) → number ≡ length ports → ((other : ℕ) → other < number → HasPorts design tables ports other) → (entry : Placed) → slice_get tables.instances number ≡ Some entry
+  pub ports_more : (number : ℕ) → number ≡ length ports → ((other : ℕ) → other < number → HasPorts design tables ports other) → (entry : ListedInstance) → slice_get tables.instances number ≡ Some entry
       → (row : List (Option Source)) → row ≡ ports_made tables outputs ports entry → (rows : DriverRows) → rows ≡ ports ++ row ∷ [] → (other : ℕ) → other < number + 1 → HasPorts design tables rows other
   ports_more number long earlier entry at_entry row row_is rows rows_are other within =
       subst (λ (r : DriverRows). HasPorts design tables r other) (sym rows_are)

@@ -1,7 +1,7 @@
 -- Claimed names with the first claims on them, in the order in which they are first claimed.
 use Rattle.std.specs.Prelude.{ℕ, List, slice_get, Option, option_map, option_and_then}
 use Rattle.std.specs.Str.{bytes_eq}
-use Rattle.vw_design.specs.Lists.{first_place}
+use Rattle.vw_net.specs.FirstFound.{first_place}
 use Rattle.vw_design.specs.Paths.{Word}
 use Rattle.vw_drivers.specs.declared.claim.Claim.{Claim}
 

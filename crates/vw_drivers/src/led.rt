@@ -9,7 +9,7 @@ use crate::claim::Claim;
 use crate::model_names::{PlacedNames, Way};
 use crate::source::Source;
 use crate::tables::Tables;
-use vw_instances::{Before, Placed};
+use vw_instances::{Before, ListedInstance};
 use vw_net::Sequence;
 
 /// The driver in the row of an instance at a number.
@@ -40,7 +40,7 @@ fn placed_at<'a>(tables: &'a Tables, model: u32, place: u32) -> Option<&'a Place
 }
 
 /// The number of the cell that is an item of an instance.
-fn cell_at(tables: &Tables, entry: Placed, item: u32) -> Option<Source>
+fn cell_at(tables: &Tables, entry: ListedInstance, item: u32) -> Option<Source>
     ensures { result ≡ cell_source tables.now entry item }
 {
     let before = before_item(tables, entry.model, item)?;
@@ -49,7 +49,7 @@ fn cell_at(tables: &Tables, entry: Placed, item: u32) -> Option<Source>
 }
 
 /// The number of the instance at a place of an instance.
-pub fn child_at(tables: &Tables, instance: u32, entry: Placed, place: u32) -> Option<usize>
+pub fn child_at(tables: &Tables, instance: u32, entry: ListedInstance, place: u32) -> Option<usize>
     ensures { result ≡ child_of tables.now instance entry place }
 {
     let placed = placed_at(tables, entry.model, place)?;
@@ -70,7 +70,7 @@ fn led_by(
     outputs: &[Sequence<Option<Source>>],
     ports: &[Sequence<Option<Source>>],
     instance: u32,
-    entry: Placed,
+    entry: ListedInstance,
     number: u32,
 ) -> Option<Source>
     ensures { result ≡ led_at tables.now outputs.now ports.now instance number entry }
@@ -102,7 +102,7 @@ pub fn led_driver(
 }
 
 /// The ways from the formals of the item that places an instance; none at the root.
-pub fn ways_into<'a>(tables: &'a Tables, entry: Placed) -> &'a [Way]
+pub fn ways_into<'a>(tables: &'a Tables, entry: ListedInstance) -> &'a [Way]
     ensures { result.now ≡ ways_of tables.now entry }
 {
     let Some(parent) = tables.instances().get(entry.parent as usize) else {

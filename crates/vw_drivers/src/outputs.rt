@@ -8,7 +8,7 @@ use crate::model_names::Way;
 use crate::source::Source;
 use crate::tables::Tables;
 use std::alloc::{AllocError, Global};
-use vw_instances::Placed;
+use vw_instances::ListedInstance;
 use vw_net::Sequence;
 
 /// The driver of a formal of an instance that is no port.
@@ -32,7 +32,7 @@ fn outputs_row(
     tables: &Tables,
     outputs: &[Sequence<Option<Source>>],
     instance: u32,
-    entry: Placed,
+    entry: ListedInstance,
 ) -> Result<Sequence<Option<Source>>, AllocError>
     ensures { IfOk result (λ row. row ≡ outputs_made tables.now outputs.now instance entry) }
 {

@@ -8,7 +8,7 @@ use crate::model_names::Way;
 use crate::source::Source;
 use crate::tables::Tables;
 use std::alloc::{AllocError, Global};
-use vw_instances::Placed;
+use vw_instances::ListedInstance;
 use vw_net::Sequence;
 
 /// Writes a driver at a number of a row, which grows where it is shorter.
@@ -52,7 +52,7 @@ fn ports_row(
     tables: &Tables,
     outputs: &[Sequence<Option<Source>>],
     ports: &[Sequence<Option<Source>>],
-    entry: Placed,
+    entry: ListedInstance,
 ) -> Result<Sequence<Option<Source>>, AllocError>
     ensures { IfOk result (λ row. row ≡ ports_made tables.now outputs.now ports.now entry) }
 {

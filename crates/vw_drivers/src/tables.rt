@@ -17,14 +17,14 @@ use crate::model_claims::ModelClaims;
 use crate::model_names::ModelNames;
 use std::alloc::{AllocError, Global};
 use vw_design::Design;
-use vw_instances::{Before, Placed};
+use vw_instances::{Before, ListedInstance};
 use vw_net::Sequence;
 
 /// The tables of a design by which its drivers are found: its instances in preorder; and for each model, by its number,
 /// how much stands before each item, the claims on its nets, and the claims on the names of its items.
 #[derive(Drop)]
 pub struct Tables {
-    pub instances: Sequence<Placed>,
+    pub instances: Sequence<ListedInstance>,
     pub before: Sequence<Sequence<Before>>,
     pub claims: Sequence<ModelClaims>,
     pub names: Sequence<ModelNames>,
@@ -37,7 +37,7 @@ impl Tables {
         alloc: Global,
         design: &Design,
         targets: &[Sequence<Option<u32>>],
-        instances: Sequence<Placed>,
+        instances: Sequence<ListedInstance>,
         before: Sequence<Sequence<Before>>,
     ) -> Result<Self, AllocError>
         requires targets { AreTargets design.now targets.now }
@@ -57,7 +57,7 @@ impl Tables {
     }
 
     /// The instances, by their numbers.
-    pub fn instances(&self) -> &[Placed]
+    pub fn instances(&self) -> &[ListedInstance]
         ensures { result.now ≡ self.now.instances }
     {
         self.instances.as_slice()

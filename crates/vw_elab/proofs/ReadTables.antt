@@ -15,7 +15,7 @@ use Rattle.vw_design.specs.Limits.{instance_count}
 use Rattle.vw_drivers.specs.Firsts.{First, number_named}
 use Rattle.vw_drivers.specs.declared.model_names.ModelNames.{ModelNames}
 use Rattle.vw_drivers.specs.Names.{reads_of, firsts_of}
-use Rattle.vw_instances.specs.declared.tables.Placed.{Placed}
+use Rattle.vw_instances.specs.declared.tables.ListedInstance.{ListedInstance}
 use Rattle.vw_instances.specs.declared.tables.CellSite.{CellSite}
 use Rattle.vw_instances.specs.Tables.{ArePlaced, AreCellSites, IsCellSite}
 use Rattle.vw_drivers.specs.declared.source.Source.{Source}
@@ -37,23 +37,23 @@ pub listed_at : {X : Type 0} {table shown : List X} {number : ℕ} {x : X} → s
 listed_at {shown = shown} {number = number} {x = x} same within at = ap (λ (list : List _). slice_get list number) (sym same) ∙ slice_get_read shown (length shown) number x refl within at
 
 -- what a cell reads, look-up by look-up
-pub reading_is : (parts : NumberedParts) (cell input : ℕ) (site : CellSite) (entry : Placed) (names : ModelNames) (reads : List (Option ℕ)) (claim : Option ℕ)
+pub reading_is : (parts : NumberedParts) (cell input : ℕ) (site : CellSite) (entry : ListedInstance) (names : ModelNames) (reads : List (Option ℕ)) (claim : Option ℕ)
     → slice_get parts.cells cell ≡ Some site → slice_get parts.tables.instances site.instance ≡ Some entry → slice_get parts.tables.names entry.model ≡ Some names
     → slice_get names.reads site.item ≡ Some reads → slice_get reads input ≡ Some claim → reading_of parts cell input ≡ Some (record { instance = site.instance; claim = claim })
 reading_is parts cell input site entry names reads claim first second third fourth last = rw (first, second, third, fourth, last) refl
 
 -- the instance of an entry
-abbrev pub instance_of : Placed → Instance
+abbrev pub instance_of : ListedInstance → Instance
 instance_of entry = record { model = entry.model; parent = entry.parent; place = entry.place }
 
 module _ (design : Design) where
-  pub instance_is : (table : List Placed) → ArePlaced design table → (number : ℕ) (path : Path) → slice_get (instances design) number ≡ Some path
-      → (entry : Placed) → slice_get table number ≡ Some entry → IsInstance design number (instance_of entry)
+  pub instance_is : (table : List ListedInstance) → ArePlaced design table → (number : ℕ) (path : Path) → slice_get (instances design) number ≡ Some path
+      → (entry : ListedInstance) → slice_get table number ≡ Some entry → IsInstance design number (instance_of entry)
   instance_is table are number path listed entry at =
       let found = are.each number path listed in
       let same : found.0 ≡ entry = same_Some found.0 entry (sym found.1 ∙ at) in
       let stands = found.2.stands in
-      subst (λ (e : Placed). IsInstance design number (instance_of e)) same
+      subst (λ (e : ListedInstance). IsInstance design number (instance_of e)) same
       (record { path = path; listed = listed; model = found.2.model_is ∙ sym stands; by = found.2.by })
 
   -- the driver of a source
@@ -87,13 +87,13 @@ module _ (design : Design) where
       let all_reads : slice_get names.0.reads entry.item ≡ Some (each site.item) =
       ap (λ (list : List (List (Option ℕ))). slice_get list entry.item) names.2.reads ∙ slice_get-map each model.items entry.item ∙ ap (option_map each) item in
       let claim : slice_get (each site.item) input ≡ Some (number_named own name) = slice_get-map (number_named own) (reads_of site.item) input ∙ ap (option_map (number_named own)) reads in
-      let firsts : instance_firsts tables entry.instance ≡ own = ap (λ (e : Option Placed). firsts_of tables.claims (option_map (λ p. p.model) e)) placed.1 in
+      let firsts : instance_firsts tables entry.instance ≡ own = ap (λ (e : Option ListedInstance). firsts_of tables.claims (option_map (λ p. p.model) e)) placed.1 in
       let made : Option ℕ → Reading = λ number. record { instance = entry.instance; claim = number } in
       let last = λ (list : List (Option ℕ)). option_map made (slice_get list input) in
       let third = λ (n : ModelNames). option_and_then last (slice_get n.reads entry.item) in
-      let second = λ (p : Placed). option_and_then third (slice_get tables.names p.model) in
+      let second = λ (p : ListedInstance). option_and_then third (slice_get tables.names p.model) in
       let made_at : CellSite → Option ℕ → Reading = λ s number. record { instance = s.instance; claim = number } in
-      let first = λ (s : CellSite). option_and_then (λ (p : Placed). option_and_then (λ (n : ModelNames). option_and_then (λ (list : List (Option ℕ)).
+      let first = λ (s : CellSite). option_and_then (λ (p : ListedInstance). option_and_then (λ (n : ModelNames). option_and_then (λ (list : List (Option ℕ)).
       option_map (made_at s) (slice_get list input)) (slice_get n.reads s.item)) (slice_get tables.names p.model)) (slice_get tables.instances s.instance) in
       record {
         instance = entry.instance;
@@ -104,7 +104,7 @@ module _ (design : Design) where
       }
 
   -- the instance and the site at a number
-  pub instance_read : (table : List Placed) → ArePlaced design table → (number : ℕ) → number < instance_count design → (default : Placed)
+  pub instance_read : (table : List ListedInstance) → ArePlaced design table → (number : ℕ) → number < instance_count design → (default : ListedInstance)
       → IsInstance design number (instance_of (get_or table number default))
   instance_read table are number within default =
       instance_is table are number (get_or (instances design) number []) (slice_get-get_or (instances design) number [] within) (get_or table number default)

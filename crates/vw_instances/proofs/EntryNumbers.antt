@@ -8,7 +8,7 @@ use Rattle.vw_design.specs.Preorder.{Site, sites_below, sites, instances}
 use Rattle.vw_design.specs.Limits.{IsSmall, weight_of}
 use Rattle.vw_design.specs.Counts.{placed_one, cell_one}
 use Rattle.vw_design.proofs.ShallowDesigns.{shallow}
-use Rattle.vw_instances.specs.declared.tables.Placed.{Placed}
+use Rattle.vw_instances.specs.declared.tables.ListedInstance.{ListedInstance}
 use Rattle.vw_instances.specs.Tables.{ArePlaced, IsEntryAt}
 
 pub record StandsBehind (design : Design) (path : Path) (cells number : ℕ) : Type 0 where
@@ -18,8 +18,8 @@ pub record StandsBehind (design : Design) (path : Path) (cells number : ℕ) : T
   pub cells_before : cells ≡ weight_of cell_one before
   pub number_is : number ≡ weight_of placed_one before
 
-module _ (design : Design) (table : List Placed) (small : IsSmall design) (are : ArePlaced design table) (number : ℕ) (path : Path) (listed : slice_get (instances design) number ≡ Some path) where
-  pub stands_behind : (entry : Placed) → slice_get table number ≡ Some entry → StandsBehind design path entry.cells number
+module _ (design : Design) (table : List ListedInstance) (small : IsSmall design) (are : ArePlaced design table) (number : ℕ) (path : Path) (listed : slice_get (instances design) number ≡ Some path) where
+  pub stands_behind : (entry : ListedInstance) → slice_get table number ≡ Some entry → StandsBehind design path entry.cells number
   stands_behind entry at =
       let found = are.each number path listed in
       let is : IsEntryAt design (instances design) number path found.0 = found.2 in
@@ -30,9 +30,9 @@ module _ (design : Design) (table : List Placed) (small : IsSmall design) (are :
         before = is.at.before;
         after = is.at.after;
         split = is.at.split ∙ ap (λ (depth : ℕ). is.at.before ++ (sites_below design depth path ++ is.at.after)) levels;
-        cells_before = ap (λ (e : Placed). e.cells) (sym same) ∙ is.at.cells_before;
+        cells_before = ap (λ (e : ListedInstance). e.cells) (sym same) ∙ is.at.cells_before;
         number_is = is.at.number_is;
       }
 
-  pub stands_somewhere : (entry : Placed) × StandsBehind design path entry.cells number
+  pub stands_somewhere : (entry : ListedInstance) × StandsBehind design path entry.cells number
   stands_somewhere = let found = are.each number path listed in (found.0, stands_behind found.0 found.1)

@@ -8,7 +8,7 @@ use Rattle.vw_design.specs.Paths.{placings}
 use Rattle.vw_design.specs.Preorder.{Site, sites, instances_at, paths_of, is_cell}
 use Rattle.vw_design.specs.Limits.{IsSmall, instance_count, cell_count}
 use Rattle.vw_design.proofs.PairedLists.{AllZip-length}
-use Rattle.vw_instances.specs.declared.tables.Placed.{Placed}
+use Rattle.vw_instances.specs.declared.tables.ListedInstance.{ListedInstance}
 use Rattle.vw_instances.specs.declared.tables.CellSite.{CellSite}
 use Rattle.vw_instances.specs.declared.frame.Frame.{Frame}
 use Rattle.vw_instances.specs.Tables.{IsCellSite}
@@ -34,7 +34,7 @@ placings_count (Sub line model binds ∷ items) = omega (arith, placings_count i
 
 module _ (design : Design) where
   -- what a walk has listed is no more than there is
-  pub walk_within : (table : List Placed) (made : List CellSite) (frames : List Frame) → IsPartlyListed design table made frames
+  pub walk_within : (table : List ListedInstance) (made : List CellSite) (frames : List Frame) → IsPartlyListed design table made frames
       → length table + length made ≤ instance_count design + cell_count design
   walk_within table made frames walk =
       let whole : length walk.done + length (flat_map (sites_left design) walk.levels) ≡ length (sites design) =
@@ -49,14 +49,14 @@ module _ (design : Design) where
       )
 
   -- the last frame apart
-  pub record IsTop (table : List Placed) (made : List CellSite) (frames : List Frame) (frame : Frame) (walk : IsPartlyListed design table made (frames ++ (frame ∷ []))) : Type 0 where
+  pub record IsTop (table : List ListedInstance) (made : List CellSite) (frames : List Frame) (frame : Frame) (walk : IsPartlyListed design table made (frames ++ (frame ∷ []))) : Type 0 where
     pub level : FrameLevel
     pub levels : List FrameLevel
     pub all : walk.done ++ flat_map (sites_left design) (level ∷ levels) ≡ sites design
     pub top : IsFrame design (listed_with walk.done) (length walk.done) level frame
     pub below : AllZip (IsFrame design (listed_with walk.done) (length walk.done)) levels (reverse frames)
 
-  pub top_of : (table : List Placed) (made : List CellSite) (frames : List Frame) (frame : Frame) (walk : IsPartlyListed design table made (frames ++ (frame ∷ []))) → IsTop table made frames frame walk
+  pub top_of : (table : List ListedInstance) (made : List CellSite) (frames : List Frame) (frame : Frame) (walk : IsPartlyListed design table made (frames ++ (frame ∷ []))) → IsTop table made frames frame walk
   top_of table made frames frame walk =
       by walk.levels walk.all (subst (λ (list : List Frame). AllZip (IsFrame design (listed_with walk.done) (length walk.done)) walk.levels list) (last_first frames frame) walk.stack)
     where
@@ -66,13 +66,13 @@ module _ (design : Design) where
       by (level ∷ levels) all along = record { level = level; levels = levels; all = all; top = along.0; below = along.1 }
 
   -- the numbers of a walk are small
-  pub record IsSmallWalk (table : List Placed) (made : List CellSite) (frame : Frame) : Type 0 where
+  pub record IsSmallWalk (table : List ListedInstance) (made : List CellSite) (frame : Frame) : Type 0 where
     pub item : frame.item + 1 < 2 ^ 32
     pub before : frame.before + 1 < 2 ^ 32
     pub instances : length table < 2 ^ 32
     pub cells : length made < 2 ^ 32
 
-  pub are_small : IsSmall design → (table : List Placed) (made : List CellSite) (frames : List Frame) (frame : Frame) → IsPartlyListed design table made (frames ++ (frame ∷ [])) → IsSmallWalk table made frame
+  pub are_small : IsSmall design → (table : List ListedInstance) (made : List CellSite) (frames : List Frame) (frame : Frame) → IsPartlyListed design table made (frames ++ (frame ∷ [])) → IsSmallWalk table made frame
   are_small small table made frames frame walk =
       let top = top_of table made frames frame walk in
       let within = walk_within table made (frames ++ (frame ∷ [])) walk in

@@ -15,7 +15,7 @@ use Rattle.vw_design.specs.Limits.{weight_of}
 use Rattle.vw_design.specs.Counts.{placed_one, cell_one}
 use Rattle.vw_design.proofs.ListElements.{Has-at, Has-map}
 use Rattle.vw_design.proofs.Names.{has_name-Has}
-use Rattle.vw_instances.specs.declared.tables.Placed.{Placed}
+use Rattle.vw_instances.specs.declared.tables.ListedInstance.{ListedInstance}
 use Rattle.vw_instances.specs.declared.tables.CellSite.{CellSite}
 use Rattle.vw_instances.specs.Tables.{IsPlacedBy, IsJustBehind, IsEntryAt, ArePlaced, IsCellSite, AreCellSites}
 
@@ -117,7 +117,7 @@ module _ (design : Design) (once : (place : ℕ) (path : Path) → slice_get (in
   by_once number [] parent at other_parent other_at is are = (is.0 ∙ sym are.0, is.1 ∙ sym are.1)
   by_once number (place ∷ path) parent at other_parent other_at is are = (listed_once parent other_parent path is.1 are.1, is.0 ∙ sym are.0)
 
-  entry_once : (number : ℕ) (path : Path) (one other : Placed) → IsEntryAt design (instances design) number path one → IsEntryAt design (instances design) number path other → one ≡ other
+  entry_once : (number : ℕ) (path : Path) (one other : ListedInstance) → IsEntryAt design (instances design) number path one → IsEntryAt design (instances design) number path other → one ≡ other
   entry_once number path one other is are =
       let models : is.model ≡ are.model = same_Some is.model are.model (sym is.stands ∙ are.stands) in
       let model : one.model ≡ other.model =
@@ -128,16 +128,16 @@ module _ (design : Design) (once : (place : ℕ) (path : Path) → slice_get (in
       let cells : one.cells ≡ other.cells = is.at.cells_before ∙ ap (weight_of cell_one) before ∙ sym are.at.cells_before in
       λ i. record { model = model i; parent = by.0 i; place = by.1 i; cells = cells i }
 
-  pub placed_once : (one other : List Placed) → ArePlaced design one → ArePlaced design other → one ≡ other
+  pub placed_once : (one other : List ListedInstance) → ArePlaced design one → ArePlaced design other → one ≡ other
   placed_once one other is are = same_lists one other (sym is.same_length ∙ are.same_length) found where
-    by_path : (number : ℕ) (entry : Placed) → slice_get one number ≡ Some entry → (path : Path) → slice_get (instances design) number ≡ Some path → slice_get other number ≡ Some entry
+    by_path : (number : ℕ) (entry : ListedInstance) → slice_get one number ≡ Some entry → (path : Path) → slice_get (instances design) number ≡ Some path → slice_get other number ≡ Some entry
     by_path number entry at path listed =
         let first = is.each number path listed in
         let second = are.each number path listed in
         let same : second.0 ≡ entry = sym (entry_once number path first.0 second.0 first.2 second.2) ∙ same_Some first.0 entry (sym first.1 ∙ at) in
-        second.1 ∙ ap (λ (e : Placed). Some e) same
+        second.1 ∙ ap (λ (e : ListedInstance). Some e) same
 
-    found : (number : ℕ) (entry : Placed) → slice_get one number ≡ Some entry → slice_get other number ≡ Some entry
+    found : (number : ℕ) (entry : ListedInstance) → slice_get one number ≡ Some entry → slice_get other number ≡ Some entry
     found number entry at =
         let path = as_long (instances design) one is.same_length number entry at in
         by_path number entry at path.0 path.1

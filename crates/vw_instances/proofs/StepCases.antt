@@ -10,7 +10,7 @@ use Rattle.vw_design.specs.Preorder.{sites}
 use Rattle.vw_design.specs.ModelFaults.{unknown_model}
 use Rattle.vw_design.specs.ModelNumbers.{AreTargets}
 use Rattle.vw_design.specs.Limits.{IsSmall}
-use Rattle.vw_instances.specs.declared.tables.Placed.{Placed}
+use Rattle.vw_instances.specs.declared.tables.ListedInstance.{ListedInstance}
 use Rattle.vw_instances.specs.declared.tables.CellSite.{CellSite}
 use Rattle.vw_instances.specs.declared.frame.Frame.{Frame}
 use Rattle.vw_instances.specs.declared.next.Next.{Next}
@@ -35,7 +35,7 @@ place_same : (one other : ℕ) → Place one ≡ Place other → one ≡ other
 place_same one other e = cc
 
 module _ (design : Design) (targets : List (List (Option ℕ))) (are_targets : AreTargets design targets) (none_unknown : unknown_model design ≡ None) (small : IsSmall design)
-    (table : List Placed) (made : List CellSite) (frames : List Frame) (frame : Frame) (walk : IsPartlyListed design table made (frames ++ (frame ∷ []))) where
+    (table : List ListedInstance) (made : List CellSite) (frames : List Frame) (frame : Frame) (walk : IsPartlyListed design table made (frames ++ (frame ∷ []))) where
   abbrev coming : Next
   coming = next_of design targets frame.model frame.item frame.before
 
@@ -103,20 +103,20 @@ module _ (design : Design) (targets : List (List (Option ℕ))) (are_targets : A
         (frames ++ (behind_item frame (frame.before + 1) ∷ entered (length table) m ∷ []))) same
         (placed_listed design table made frames frame walk path front levels below line name binds rest all is_top targets small found)
 
-  abbrev falls : List Placed → List CellSite → List Frame → Type 0
+  abbrev falls : List ListedInstance → List CellSite → List Frame → Type 0
   falls new_table new_made new_frames = steps_left design new_table new_made new_frames < steps_left design table made (frames ++ (frame ∷ []))
 
   -- so a walk goes on, and has fewer steps left
-  pub cell_step : (result : Result (Unit {0}) AllocError) (new_table : List Placed) (new_made : List CellSite) (new_frames : List Frame) → coming ≡ Cell → new_table ≡ table
+  pub cell_step : (result : Result (Unit {0}) AllocError) (new_table : List ListedInstance) (new_made : List CellSite) (new_frames : List Frame) → coming ≡ Cell → new_table ≡ table
       → OnOk result (new_made ≡ made ++ (site_of_frame frame ∷ []))
       → OnOk result (new_frames ≡ frames ++ (behind_item frame frame.before ∷ []))
       → OnOk result (IsPartlyListed design new_table new_made new_frames)
   cell_step (Err error) new_table new_made new_frames is same cells next = tt
   cell_step (Ok done) new_table new_made new_frames is same cells next =
-      subst (λ (t : List Placed). IsPartlyListed design t new_made new_frames) (sym same)
+      subst (λ (t : List ListedInstance). IsPartlyListed design t new_made new_frames) (sym same)
       (subst (λ (m : List CellSite). IsPartlyListed design table m new_frames) (sym cells) (subst (λ (f : List Frame). IsPartlyListed design table (made ++ (site_of_frame frame ∷ [])) f) (sym next) (lists_cell is)))
 
-  pub cell_falls : (result : Result (Unit {0}) AllocError) (new_table : List Placed) (new_made : List CellSite) (new_frames : List Frame) → OnOk result (IsPartlyListed design new_table new_made new_frames)
+  pub cell_falls : (result : Result (Unit {0}) AllocError) (new_table : List ListedInstance) (new_made : List CellSite) (new_frames : List Frame) → OnOk result (IsPartlyListed design new_table new_made new_frames)
       → new_table ≡ table
       → OnOk result (new_made ≡ made ++ (site_of_frame frame ∷ []))
       → OnOk result (new_frames ≡ frames ++ (behind_item frame frame.before ∷ []))
@@ -126,7 +126,7 @@ module _ (design : Design) (targets : List (List (Option ℕ))) (are_targets : A
       omega (
         arith,
         walk_within design new_table new_made new_frames goes_on,
-        ap (λ (t : List Placed). length t) same,
+        ap (λ (t : List ListedInstance). length t) same,
         ap (λ (m : List CellSite). length m) cells,
         ap (λ (f : List Frame). length f) next,
         length-append made (site_of_frame frame ∷ []),
@@ -134,17 +134,17 @@ module _ (design : Design) (targets : List (List (Option ℕ))) (are_targets : A
         length-append frames (behind_item frame frame.before ∷ []),
       )
 
-  pub instance_step : (result : Result (Unit {0}) AllocError) (new_table : List Placed) (new_made : List CellSite) (new_frames : List Frame) (model : ℕ) → coming ≡ Place model → new_made ≡ made
+  pub instance_step : (result : Result (Unit {0}) AllocError) (new_table : List ListedInstance) (new_made : List CellSite) (new_frames : List Frame) (model : ℕ) → coming ≡ Place model → new_made ≡ made
       → OnOk result (new_table ≡ table ++ (placed_in_frame frame model (length made) ∷ []))
       → OnOk result (new_frames ≡ frames ++ (behind_item frame (frame.before + 1) ∷ entered (length table) model ∷ []))
       → OnOk result (IsPartlyListed design new_table new_made new_frames)
   instance_step (Err error) new_table new_made new_frames model is same listed next = tt
   instance_step (Ok done) new_table new_made new_frames model is same listed next =
       subst (λ (m : List CellSite). IsPartlyListed design new_table m new_frames) (sym same)
-      (subst (λ (t : List Placed). IsPartlyListed design t made new_frames) (sym listed)
+      (subst (λ (t : List ListedInstance). IsPartlyListed design t made new_frames) (sym listed)
       (subst (λ (f : List Frame). IsPartlyListed design (table ++ (placed_in_frame frame model (length made) ∷ [])) made f) (sym next) (lists_instance model is)))
 
-  pub instance_falls : (result : Result (Unit {0}) AllocError) (new_table : List Placed) (new_made : List CellSite) (new_frames : List Frame) (model : ℕ) → OnOk result (IsPartlyListed design new_table new_made new_frames)
+  pub instance_falls : (result : Result (Unit {0}) AllocError) (new_table : List ListedInstance) (new_made : List CellSite) (new_frames : List Frame) (model : ℕ) → OnOk result (IsPartlyListed design new_table new_made new_frames)
       → new_made ≡ made
       → OnOk result (new_table ≡ table ++ (placed_in_frame frame model (length made) ∷ []))
       → OnOk result (new_frames ≡ frames ++ (behind_item frame (frame.before + 1) ∷ entered (length table) model ∷ []))
@@ -155,7 +155,7 @@ module _ (design : Design) (targets : List (List (Option ℕ))) (are_targets : A
         arith,
         walk_within design new_table new_made new_frames goes_on,
         ap (λ (m : List CellSite). length m) same,
-        ap (λ (t : List Placed). length t) listed,
+        ap (λ (t : List ListedInstance). length t) listed,
         ap (λ (f : List Frame). length f) next,
         length-append table (placed_in_frame frame model (length made) ∷ []),
         length-append frames (frame ∷ []),

@@ -4,7 +4,7 @@ use Rattle.std.specs.List.{AllZip}
 use Rattle.vw_design.specs.declared.design.Design.{Design}
 use Rattle.vw_design.specs.Preorder.{Site, sites_below, sites}
 use Rattle.vw_design.proofs.ModelNumbers.{root_model}
-use Rattle.vw_instances.specs.declared.tables.Placed.{Placed}
+use Rattle.vw_instances.specs.declared.tables.ListedInstance.{ListedInstance}
 use Rattle.vw_instances.specs.declared.tables.CellSite.{CellSite}
 use Rattle.vw_instances.specs.declared.frame.Frame.{Frame}
 use Rattle.vw_instances.specs.Tables.{AreNumbered, StandsAt, IsEntryAt, IsCellSite, ArePlaced, AreCellSites}
@@ -17,7 +17,7 @@ module _ (design : Design) where
   unfolding sites
   starts =
       let root = root_model design in
-      let entry : Placed = record { model = 0; parent = 0; place = 0; cells = 0 } in
+      let entry : ListedInstance = record { model = 0; parent = 0; place = 0; cells = 0 } in
       let first : Frame = record { instance = 0; model = 0; item = 0; before = 0 } in
       let level = level_of [] [] root.0.items in
       let all : sites design ≡ sites_below design (65 + length design.models - 0) [] = ap (λ (depth : ℕ). sites_below design depth []) (omega arith) in
@@ -49,7 +49,7 @@ module _ (design : Design) where
         stack = (frame, tt);
       }
 
-  module _ (table : List Placed) (made : List CellSite) (frames : List Frame) (walk : IsPartlyListed design table made frames) (count : ℕ) (others : List Frame)
+  module _ (table : List ListedInstance) (made : List CellSite) (frames : List Frame) (walk : IsPartlyListed design table made frames) (count : ℕ) (others : List Frame)
       (whole : frames ≡ others ++ []) (none_left : count ≡ 0) (are : others ≡ take (count - 1) frames) where
     -- where no frame is left, all is done
     no_frames : frames ≡ []

@@ -13,7 +13,7 @@ use Rattle.vw_design.specs.Preorder.{Site, inside, sites_below, sites, instances
 use Rattle.vw_design.specs.Limits.{IsSmall}
 use Rattle.vw_design.proofs.ShallowDesigns.{shallow}
 use Rattle.vw_design.proofs.Weights.{instances_weigh, cells_weigh}
-use Rattle.vw_instances.specs.declared.tables.Placed.{Placed}
+use Rattle.vw_instances.specs.declared.tables.ListedInstance.{ListedInstance}
 use Rattle.vw_instances.specs.declared.tables.CellSite.{CellSite}
 use Rattle.vw_instances.specs.declared.frame.Frame.{Frame}
 use Rattle.vw_instances.specs.Tables.{AreNumbered, IsPlacedBy, StandsAt, IsEntryAt, IsCellSite}
@@ -37,7 +37,7 @@ still_by : (listed longer : List Path) → ((number : ℕ) (path : Path) → sli
 still_by listed longer still number [] parent at is = is
 still_by listed longer still number (place ∷ path) parent at is = (is.0, still parent path is.1, is.2)
 
-module _ (design : Design) (table : List Placed) (made : List CellSite) (frames : List Frame) (frame : Frame) (walk : IsPartlyListed design table made (frames ++ (frame ∷ [])))
+module _ (design : Design) (table : List ListedInstance) (made : List CellSite) (frames : List Frame) (frame : Frame) (walk : IsPartlyListed design table made (frames ++ (frame ∷ [])))
     (path : Path) (front : List Item) (levels : List FrameLevel) (below : AllZip (IsFrame design (listed_with walk.done) (length walk.done)) levels (reverse frames)) where
   -- where no item is left, the frame stands for nothing
   pub ended : walk.done ++ flat_map (sites_left design) (level_of path front [] ∷ levels) ≡ sites design → IsPartlyListed design table made frames
@@ -100,7 +100,7 @@ module _ (design : Design) (table : List Placed) (made : List CellSite) (frames 
       short = omega (arith, top.short, longer, length-append front (item ∷ []));
     }
 
-    still_placed : (number : ℕ) (p : Path) (entry : Placed) → IsEntryAt design (listed_with walk.done) number p entry → IsEntryAt design (listed_with more_done) number p entry
+    still_placed : (number : ℕ) (p : Path) (entry : ListedInstance) → IsEntryAt design (listed_with walk.done) number p entry → IsEntryAt design (listed_with more_done) number p entry
     still_placed number p entry is =
         record { model = is.model; stands = is.stands; model_is = is.model_is; by = still_by (listed_with walk.done) (listed_with more_done) still number p entry.parent entry.place is.by; at = is.at }
 
@@ -146,7 +146,7 @@ module _ (design : Design) (table : List Placed) (made : List CellSite) (frames 
         (frames ++ (behind_item frame (frame.before + 1) ∷ entered (length table) next.number ∷ []))
     instance_listed targets small next is =
         let here = suc (length (placings front)) ∷ path in
-        let entry : Placed = placed_in_frame frame next.number (length made) in
+        let entry : ListedInstance = placed_in_frame frame next.number (length made) in
         let one : Frame = behind_item frame (frame.before + 1) in
         let other : Frame = entered (length table) next.number in
         let level = level_of path (front ++ (item ∷ [])) rest in

@@ -7,7 +7,7 @@ use Rattle.vw_design.specs.Paths.{Path, model_at}
 use Rattle.vw_design.specs.Preorder.{Site, sites_below, sites, instances_at, instances, cells}
 use Rattle.vw_design.specs.Limits.{weight_of}
 use Rattle.vw_design.specs.Counts.{placed_one, cell_one}
-use Rattle.vw_instances.specs.declared.tables.Placed.{Placed}
+use Rattle.vw_instances.specs.declared.tables.ListedInstance.{ListedInstance}
 use Rattle.vw_instances.specs.declared.tables.CellSite.{CellSite}
 
 -- two lists are of one length, and elements with the same number are related
@@ -38,7 +38,7 @@ pub record StandsAt (design : Design) (path : Path) (cells number : ℕ) : Type 
   pub number_is : number ≡ weight_of placed_one before
 
 -- the entry of the instance with a number
-pub record IsEntryAt (design : Design) (listed : List Path) (number : ℕ) (path : Path) (entry : Placed) : Type 0 where
+pub record IsEntryAt (design : Design) (listed : List Path) (number : ℕ) (path : Path) (entry : ListedInstance) : Type 0 where
   pub model : Model
   pub stands : model_at design path ≡ Some model
   pub model_is : slice_get design.models entry.model ≡ Some model
@@ -46,7 +46,7 @@ pub record IsEntryAt (design : Design) (listed : List Path) (number : ℕ) (path
   pub at : StandsAt design path entry.cells number
 
 -- the entries of all instances, in preorder
-abbrev pub ArePlaced : Design → List Placed → Type 0
+abbrev pub ArePlaced : Design → List ListedInstance → Type 0
 ArePlaced design table = AreNumbered (IsEntryAt design (instances design)) (instances design) table
 
 -- the entry of a gate or a latch: its instance, among listed paths, and its item there

@@ -11,7 +11,7 @@ ghost use Rattle.vw_design.specs.declared.item.Item.{Item};
 ghost use Rattle.vw_design.specs.declared.item.Item.TheVariants.{Sub};
 ghost use Rattle.vw_instances.specs.Tables.{ArePlaced, AreCellSites};
 ghost use Rattle.vw_instances.specs.declared.tables.CellSite.{CellSite};
-ghost use Rattle.vw_instances.specs.declared.tables.Placed.{Placed};
+ghost use Rattle.vw_instances.specs.declared.tables.ListedInstance.{ListedInstance};
 
 use vw_design::{items_are_once, numbers_are_counts};
 
@@ -19,13 +19,13 @@ use vw_design::{items_are_once, numbers_are_counts};
 /// weigh; an instance that it places comes behind it by what the items before the placing one weigh; and the number of a
 /// site is that of the cells and the instances before it.
 pub fn entries_give_numbers()
-    ensures cells { (design : Design) (table : List Placed) → IsSmall design
-        → ArePlaced design table → (number : ℕ) (path : Path) (entry : Placed)
+    ensures cells { (design : Design) (table : List ListedInstance) → IsSmall design
+        → ArePlaced design table → (number : ℕ) (path : Path) (entry : ListedInstance)
         → slice_get (instances design) number ≡ Some path → slice_get table number ≡ Some entry
         → (place : ℕ) (item : Item) → item_at design path place ≡ Some item → is_cell item ≡ true
         → place_of_site (cells design) path place ≡ Some (entry.cells
         + weight_before design cell_one (levels_below design path) path place) }
-    ensures instances { (design : Design) (table : List Placed) → IsSmall design
+    ensures instances { (design : Design) (table : List ListedInstance) → IsSmall design
         → ArePlaced design table → (number : ℕ) (path : Path)
         → slice_get (instances design) number ≡ Some path
         → (place line : ℕ) (name : Word) (binds : List Bind)
@@ -33,8 +33,8 @@ pub fn entries_give_numbers()
         → slice_get (instances design) (1 + (number
         + weight_before design placed_one (levels_below design path) path place))
         ≡ Some (suc (length (placings (take place (items_of (model_at design path))))) ∷ path) }
-    ensures sites { (design : Design) (table : List Placed) → IsSmall design
-        → ArePlaced design table → (number : ℕ) (path : Path) (entry : Placed)
+    ensures sites { (design : Design) (table : List ListedInstance) → IsSmall design
+        → ArePlaced design table → (number : ℕ) (path : Path) (entry : ListedInstance)
         → slice_get (instances design) number ≡ Some path → slice_get table number ≡ Some entry
         → (place : ℕ) (item : Item) → item_at design path place ≡ Some item
         → place_of_site (sites design) path place ≡ Some ((entry.cells + number)
@@ -46,7 +46,7 @@ pub fn entries_give_numbers()
 
 /// A design has one table of instances and one of cells.
 pub fn tables_are_one()
-    ensures instances { (design : Design) (one other : List Placed)
+    ensures instances { (design : Design) (one other : List ListedInstance)
         → ArePlaced design one → ArePlaced design other → one ≡ other }
     ensures cells { (design : Design) (one other : List CellSite)
         → AreCellSites design one → AreCellSites design other → one ≡ other }

@@ -24,4 +24,4 @@ pub use laws::{entries_give_numbers, tables_are_one};
 pub use preorder::list_instances;
 pub use quantity::Quantity;
 pub use sizes::{Before, Measured, Sizes};
-pub use tables::{CellSite, Listing, Placed};
+pub use tables::{CellSite, ListedInstance, Listing};

@@ -3,13 +3,13 @@ ghost use Rattle.std.specs.Prelude.{◌≡◌, ◌<◌, ◌+◌, ◌^◌, ◌++�
 ghost use Rattle.vw_instances.specs.Steps.Frames.{entered, behind_item, site_of_frame, placed_in_frame};
 
 use crate::frame::Frame;
-use crate::tables::{CellSite, Placed};
+use crate::tables::{CellSite, ListedInstance};
 use std::alloc::{AllocError, Global};
 
 /// What was listed so far, and the instances that have items left, the innermost last.
 #[derive(Drop)]
 pub struct State {
-    pub instances: Vec<Placed>,
+    pub instances: Vec<ListedInstance>,
     pub cells: Vec<CellSite>,
     pub frames: Vec<Frame>,
 }
@@ -28,7 +28,7 @@ impl State {
             cells: Vec::with_capacity(alloc, cells as usize)?,
             frames: Vec::new(alloc),
         };
-        state.open(Placed {
+        state.open(ListedInstance {
             model: 0,
             parent: 0,
             place: 0,
@@ -38,7 +38,7 @@ impl State {
     }
 
     /// Lists an instance, whose items come next.
-    pub fn open(&mut self, entry: Placed) -> Result<(), AllocError>
+    pub fn open(&mut self, entry: ListedInstance) -> Result<(), AllocError>
         requires { length self.old.instances.items < 2 ^ 32 }
         ensures instances { OnOk result (
             self.new.instances.items ≡ self.old.instances.items ++ (entry ∷ [])) }
@@ -91,7 +91,7 @@ impl State {
             ++ (behind_item frame (frame.before + 1)
             ∷ entered (length self.old.instances.items) model ∷ [])) }
     {
-        let entry = Placed {
+        let entry = ListedInstance {
             model,
             parent: frame.instance,
             place: frame.before + 1,

@@ -4,7 +4,7 @@ use vw_net::Sequence;
 
 /// An instance by numbers.
 #[derive(Clone, Copy, Debug, PartialEq, Eq)]
-pub struct Placed {
+pub struct ListedInstance {
     /// The number of its model in the design.
     pub model: u32,
     /// The number of the instance that places it; 0 for the root.
@@ -26,13 +26,13 @@ pub struct CellSite {
 /// The instances and the cells of a design, in preorder.
 #[derive(Drop)]
 pub struct Listing {
-    pub instances: Sequence<Placed>,
+    pub instances: Sequence<ListedInstance>,
     pub cells: Sequence<CellSite>,
 }
 
 impl Listing {
     /// The instances, by their numbers.
-    pub fn instances(&self) -> &[Placed]
+    pub fn instances(&self) -> &[ListedInstance]
         ensures { result.now ≡ self.now.instances }
     {
         self.instances.as_slice()

@@ -2,10 +2,11 @@
 use Rattle.std.proofs.Common.{◌≡◌, ◌<◌, ◌≤◌, ◌-◌, ◌&&◌, ℕ, suc, Bool, true, false, List, length, drop, get_or, eqb, cond, Option, Some, ap, ap₂, refl, sym, ◌∙◌, drop-cons, arith}
 use Rattle.std.specs.Option.{option_or}
 use Rattle.vw_net.proofs.Orders.{eqb_comm}
-use Rattle.vw_leads.specs.Pairs.{first_pair, is_number_pair, number_if}
+use Rattle.vw_net.specs.FirstFound.{found_if}
+use Rattle.vw_leads.specs.Pairs.{first_pair, is_number_pair}
 
 -- what is put in hides what was there, as the one at the front hides the rest
-put_by : (same : Bool) (place : ℕ) (rest : Option ℕ) → cond same (Some place) rest ≡ option_or (number_if same place) rest
+put_by : (same : Bool) (place : ℕ) (rest : Option ℕ) → cond same (Some place) rest ≡ option_or (found_if same place) rest
 put_by true place rest = refl
 put_by false place rest = refl
 
@@ -17,7 +18,7 @@ pair_put pairs left some within one other old new has is =
     let place = left - 1 in
     let here = get_or pairs place (0, 0) in
     let later : suc place ≡ left = omega arith in
-    let step : first_pair place (drop place pairs) one other ≡ option_or (number_if (is_number_pair one other here) place) (first_pair (suc place) (drop (suc place) pairs) one other) = rw (drop-cons pairs place (0, 0) (omega arith)) refl in
+    let step : first_pair place (drop place pairs) one other ≡ option_or (found_if (is_number_pair one other here) place) (first_pair (suc place) (drop (suc place) pairs) one other) = rw (drop-cons pairs place (0, 0) (omega arith)) refl in
     let turned : (eqb here.0 one && eqb here.1 other) ≡ is_number_pair one other here = ap₂ (λ (first second : Bool). first && second) (eqb_comm here.0 one) (eqb_comm here.1 other) in
     is ∙ ap₂ (λ (same : Bool) (rest : Option ℕ). cond same (Some place) rest) turned (has ∙ ap (λ (number : ℕ). first_pair number (drop number pairs) one other) (sym later))
     ∙ put_by (is_number_pair one other here) place (first_pair (suc place) (drop (suc place) pairs) one other) ∙ sym step

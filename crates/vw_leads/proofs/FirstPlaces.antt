@@ -3,7 +3,8 @@ use Rattle.std.proofs.Common.{◌≡◌, ◌<◌, ◌≤◌, ◌+◌, ◌-◌, �
 use Rattle.std.specs.List.{find}
 use Rattle.std.specs.Option.{option_or}
 use Rattle.std.specs.HashMap.{HashMap}
-use Rattle.vw_leads.specs.Pairs.{first_pair, is_number_pair, number_if, pair_in, HasPairs}
+use Rattle.vw_net.specs.FirstFound.{found_if}
+use Rattle.vw_leads.specs.Pairs.{first_pair, is_number_pair, pair_in, HasPairs}
 
 -- the number of a place, where they are numbered from a number on, leads to the first that passes a test
 abbrev LeadsFrom : {X : Type 0} → (X → Bool) → ℕ → List X → Option ℕ → Type 0
@@ -11,7 +12,7 @@ LeadsFrom test from xs None = find test xs ≡ None
 LeadsFrom test from xs (Some place) = (from ≤ place) × (place < from + length xs) × (slice_get xs (place - from) ≡ find test xs)
 
 module _ {X : Type 0} (pair_of : X → ℕ × ℕ) (test : X → Bool) (one other : ℕ) (same : (x : X) → test x ≡ is_number_pair one other (pair_of x)) where
-  leads_one : (from : ℕ) (x : X) (xs : List X) (here : Bool) → test x ≡ here → (rest : Option ℕ) → LeadsFrom test (suc from) xs rest → LeadsFrom test from (x ∷ xs) (option_or (number_if here from) rest)
+  leads_one : (from : ℕ) (x : X) (xs : List X) (here : Bool) → test x ≡ here → (rest : Option ℕ) → LeadsFrom test (suc from) xs rest → LeadsFrom test from (x ∷ xs) (option_or (found_if here from) rest)
   leads_one from x xs true is rest leads =
       let none : from - from ≡ 0 = omega arith in
       (omega arith, omega arith, rw (none, is) refl)
@@ -22,7 +23,7 @@ module _ {X : Type 0} (pair_of : X → ℕ × ℕ) (test : X → Bool) (one othe
 
   leads_from : (from : ℕ) (xs : List X) → LeadsFrom test from xs (first_pair from (map pair_of xs) one other)
   leads_from from [] = refl
-  leads_from from (x ∷ xs) = subst (λ (here : Bool). LeadsFrom test from (x ∷ xs) (option_or (number_if here from) (first_pair (suc from) (map pair_of xs) one other))) (same x) (leads_one from x xs (test x) refl (first_pair (suc from) (map pair_of xs) one other) (leads_from (suc from) xs))
+  leads_from from (x ∷ xs) = subst (λ (here : Bool). LeadsFrom test from (x ∷ xs) (option_or (found_if here from) (first_pair (suc from) (map pair_of xs) one other))) (same x) (leads_one from x xs (test x) refl (first_pair (suc from) (map pair_of xs) one other) (leads_from (suc from) xs))
 
 -- the number of a place leads to the first that passes a test
 abbrev pub LeadsTo : {X : Type 0} → (X → Bool) → List X → Option ℕ → Type 0

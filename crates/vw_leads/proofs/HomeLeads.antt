@@ -138,10 +138,10 @@ module _ (planned : PlannedBoard) where
       right = λ net ready. ap (λ (list : List ℕ). slice_index_or list net 0) zeros ∙ zero_at count net ∙ sym (start_lead net ready);
     }
 
-    -- so what is known of moments is right
-    pub moments_right : (leads items chips : List ℕ) (settle : ℕ) (arrived : ℕ → ℕ → ℕ) → AreLeads planned leads → items ≡ leads → chips ≡ planned.plan.chip_of → settle ≡ planned.board.settle → arrived ≡ (λ net node. brought_at planned node net)
+    -- so what the table knows is right
+    pub microcycles_right : (leads items chips : List ℕ) (settle : ℕ) (arrived : ℕ → ℕ → ℕ) → AreLeads planned leads → items ≡ leads → chips ≡ planned.plan.chip_of → settle ≡ planned.board.settle → arrived ≡ (λ net node. brought_at planned node net)
         → (node net : ℕ) → net < planned.ordered.flat.inputs + length planned.ordered.flat.cells → by_table.usable_by planned.ordered.flat chips settle arrived items node net ≡ usable planned node net
-    moments_right leads items chips settle arrived are items_are chips_are settle_is arrived_is node net within =
+    microcycles_right leads items chips settle arrived are items_are chips_are settle_is arrived_is node net within =
         ap₂ (λ (list : List ℕ) (time : ℕ). by_table.usable_by planned.ordered.flat list time arrived items node net) chips_are settle_is
         ∙ ap₂ (λ (brought : ℕ → ℕ → ℕ) (list : List ℕ). by_table.usable_by planned.ordered.flat planned.plan.chip_of planned.board.settle brought list node net) arrived_is items_are
         ∙ ap (λ (lead : ℕ). lead + (if is_gate (driving_cell planned.ordered.flat net) && eqb (home planned net) node then planned.board.settle else 0)) (right_lead leads node net (are.leads_at net (omega (arith, within, are.nets))))

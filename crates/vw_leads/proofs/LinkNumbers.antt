@@ -10,7 +10,8 @@ use Rattle.std.proofs.lemmas.List.Elements.{All-head, All-tail}
 use Rattle.vw_plan.specs.declared.board.Board.{Board}
 use Rattle.vw_plan.specs.declared.link.Link.{Link}
 use Rattle.vw_leads.specs.Links.{link_pairs}
-use Rattle.vw_leads.specs.Pairs.{first_pair, is_number_pair, number_if}
+use Rattle.vw_net.specs.FirstFound.{found_if}
+use Rattle.vw_leads.specs.Pairs.{first_pair, is_number_pair}
 use Rattle.vw_leads.specs.Steps.{HasFrom, HasNumbers}
 use Rattle.vw_leads.proofs.FirstPairs.{pair_put}
 
@@ -73,7 +74,7 @@ none_with from to number (link ∷ links) low far =
     let not_from = λ (past : 33 ≤ from). and_left (eqb from link.from) (eqb to link.to) (ne_eqb from link.from (λ same. omega (arith, same, past, own.0))) in
     let not_to = λ (past : 33 ≤ to). and_right (eqb from link.from) (eqb to link.to) (ne_eqb to link.to (λ same. omega (arith, same, past, own.1))) in
     let not : is_number_pair from to (link.from, link.to) ≡ false = ⊎_elim not_from not_to far in
-    ap (λ (bit : Bool). option_or (number_if bit number) (first_pair (suc number) (link_pairs links) from to)) not
+    ap (λ (bit : Bool). option_or (found_if bit number) (first_pair (suc number) (link_pairs links) from to)) not
     ∙ none_with from to (suc number) links (All-tail (λ (one : Link). (one.from < 33) × (one.to < 33)) link links low) far
 
 -- at the front all links are in

@@ -18,7 +18,7 @@ arrivals_of planned = map (λ wire. after_last planned.board.links wire.hops) pl
 
 pub record AreArrivals (planned : PlannedBoard) (arrivals : List ℕ) : Type 0 where
   pub are : arrivals ≡ arrivals_of planned
-  pub early : All (λ moment. moment < 2 ^ 63) arrivals
+  pub early : All (λ microcycle. microcycle < 2 ^ 63) arrivals
 
 -- the lead of a net at a node, from leads at their own nodes
 abbrev pub lead_from_homes : PlannedBoard → List ℕ → ℕ → ℕ → ℕ
@@ -30,7 +30,7 @@ pub record AreLeads (planned : PlannedBoard) (leads : List ℕ) : Type 0 where
   pub low : All (λ number. number < 2 ^ 63) leads
   pub leads_at : (net : ℕ) → net < length leads → slice_index_or leads net 0 ≡ lead planned (home planned net) net
 
--- what is known of moments is right
+-- what it knows is right
 pub record IsLeadTable (planned : PlannedBoard) (known : LeadTable) : Type 0 where
   pub netlist : known.ordered.now ≡ planned.ordered
   pub right : (node net : ℕ) → net < planned.ordered.flat.inputs + length planned.ordered.flat.cells → usable_in known node net ≡ usable planned node net

@@ -8,7 +8,7 @@ use Rattle.vw_plan.specs.Nets.{driving_cell, node_of}
 use Rattle.vw_leads.specs.declared.lead_table.LeadTable.{LeadTable}
 use Rattle.vw_leads.specs.Pairs.{pair_in}
 
--- one past the arrival of a net at a node, by a table of such pairs and the moments at their places; 0 where there is no such
+-- one past the arrival of a net at a node, by a table of such pairs and what stands at their places; 0 where there is no such
 -- pair
 abbrev pub arrival_by : {S : Type 0} → HashMap (ℕ × ℕ) ℕ S → List ℕ → ℕ → ℕ → ℕ
 arrival_by places arrivals net node = option_map_or (slice_index arrivals) (pair_in places net node) 0
@@ -22,7 +22,7 @@ abbrev pub usable_by : Flat → List ℕ → ℕ → (ℕ → ℕ → ℕ) → L
 usable_by flat chip_of settle arrived leads node net =
     lead_by flat chip_of arrived leads node net + (if is_gate (driving_cell flat net) && node_of flat chip_of net == node then settle else 0)
 
--- ---- by what is known of moments
+-- ---- by what a lead table knows
 
 -- how many nets there are
 abbrev pub nets_in : LeadTable → ℕ

@@ -4,7 +4,7 @@ ghost use Rattle.std.specs.List.{All};
 use crate::pairs::PairTable;
 use vw_net::Ordered;
 
-/// What is known of the moments at which nets are at nodes, while a plan is made or checked.
+/// What is known of when nets are at nodes, while a plan is made or checked.
 #[derive(Drop)]
 pub struct LeadTable<'a> {
     /// The netlist, with the order of its gates.
@@ -21,6 +21,6 @@ pub struct LeadTable<'a> {
     pub leads: &'a [u64],
     ghost each: { length chip_of.now ≡ length ordered.now.flat.cells },
     ghost nets: { length leads.now ≡ ordered.now.flat.inputs + length ordered.now.flat.cells },
-    ghost early: { All (λ moment. moment < 2 ^ 63) arrivals.now },
+    ghost early: { All (λ microcycle. microcycle < 2 ^ 63) arrivals.now },
     ghost low: { All (λ lead. lead < 2 ^ 63) leads.now },
 }

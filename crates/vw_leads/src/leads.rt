@@ -1,4 +1,4 @@
-//! The leads of nets, by what is known of moments.
+//! The leads of nets, by what a lead table knows.
 ghost use Rattle.std.specs.Prelude.{◌≡◌, ◌<◌, ◌+◌, ◌^◌, length, map, slice_get, slice_index};
 ghost use Rattle.std.specs.List.{All};
 ghost use Rattle.vw_net.specs.Lists.{greatest};
@@ -32,7 +32,7 @@ impl<'a> LeadTable<'a> {
     {
         match self.places.first(net, node) {
             Some(place) => match self.arrivals.get(place) {
-                Some(moment) => *moment,
+                Some(microcycle) => *microcycle,
                 None => 0,
             },
             None => 0,

@@ -11,14 +11,14 @@ use Rattle.vw_design.specs.declared.item.Bind.{Bind}
 use Rattle.vw_design.specs.declared.model.Model.{Model}
 use Rattle.vw_design.specs.declared.design.Design.{Design}
 use Rattle.vw_design.specs.Distinct.{has_name}
-use Rattle.vw_design.specs.Lists.{first_found}
+use Rattle.vw_net.specs.FirstFound.{first_found}
 use Rattle.vw_design.specs.Paths.{Word, lent}
 use Rattle.vw_design.specs.ModelFaults.{unknown_formal_in, is_formal_of, unbound_input_in}
 use Rattle.vw_design.proofs.FilteredLists.{find_same}
 use Rattle.vw_design.proofs.PairedLists.{AllZip-at}
-use Rattle.vw_models.specs.declared.placement.Placement.{Placement}
-use Rattle.vw_models.specs.Steps.PlacedModels.{at_placement}
-use Rattle.vw_models.proofs.FirstAtPlaced.{found_next, found_now}
+use Rattle.vw_models.specs.declared.numbered_placing.NumberedPlacing.{NumberedPlacing}
+use Rattle.vw_models.specs.Steps.PlacedModels.{at_numbered}
+use Rattle.vw_net.proofs.FirstFound.{found_next, found_now}
 
 -- what goes along with the model at a number
 pub zip_at : {A : Type 0} (R : Model → A → Type 0) (models : List Model) (ys : List A) (k : ℕ) (model : Model) → AllZip R models ys → slice_get models k ≡ Some model
@@ -27,22 +27,22 @@ zip_at {A} R models ys k model along at =
     let there = AllZip-at R models ys k model along at in
     (slice_get_within ys k there.0 there.1, λ y is. subst (λ (z : A). R model z) (same_Some there.0 y (sym there.1 ∙ is)) there.2)
 
-module _ (design : Design) {A : Type 0} (search : ℕ → Model → List Bind → Option A) (placements : List Placement) (i : ℕ) (placement : Placement) (within : i < length placements) (at : placement ≡ get_or placements i placement) (model : Model) (stands : slice_get design.models placement.number ≡ Some model) where
-  here : at_placement design search placement ≡ search placement.line model placement.binds.now
-  here = ap (option_and_then (λ (m : Model). search placement.line m placement.binds.now)) stands
+module _ (design : Design) {A : Type 0} (search : ℕ → Model → List Bind → Option A) (all_numbered : List NumberedPlacing) (i : ℕ) (numbered : NumberedPlacing) (within : i < length all_numbered) (at : numbered ≡ get_or all_numbered i numbered) (model : Model) (stands : slice_get design.models numbered.number ≡ Some model) where
+  here : at_numbered design search numbered ≡ search numbered.line model numbered.binds.now
+  here = ap (option_and_then (λ (m : Model). search numbered.line m numbered.binds.now)) stands
 
-  pub nothing_at : search placement.line model placement.binds.now ≡ None
-      → first_found (at_placement design search) (drop i placements) ≡ first_found (at_placement design search) placements
-      → first_found (at_placement design search) (drop (i + 1) placements) ≡ first_found (at_placement design search) placements
-  nothing_at none far = found_next (at_placement design search) placements i placement within at (here ∙ none) ∙ far
+  pub nothing_at : search numbered.line model numbered.binds.now ≡ None
+      → first_found (at_numbered design search) (drop i all_numbered) ≡ first_found (at_numbered design search) all_numbered
+      → first_found (at_numbered design search) (drop (i + 1) all_numbered) ≡ first_found (at_numbered design search) all_numbered
+  nothing_at none far = found_next (at_numbered design search) all_numbered i numbered within at (here ∙ none) ∙ far
 
-  pub something_at : (x : A) → search placement.line model placement.binds.now ≡ Some x
-      → first_found (at_placement design search) (drop i placements) ≡ first_found (at_placement design search) placements
-      → Some x ≡ first_found (at_placement design search) placements
-  something_at x some far = sym (found_now (at_placement design search) placements i placement within at x (here ∙ some)) ∙ far
+  pub something_at : (x : A) → search numbered.line model numbered.binds.now ≡ Some x
+      → first_found (at_numbered design search) (drop i all_numbered) ≡ first_found (at_numbered design search) all_numbered
+      → Some x ≡ first_found (at_numbered design search) all_numbered
+  something_at x some far = sym (found_now (at_numbered design search) all_numbered i numbered within at x (here ∙ some)) ∙ far
 
-pub nothing_left : {A : Type 0} (f : Placement → Option A) (placements : List Placement) (i : ℕ) → length placements ≤ i → first_found f (drop i placements) ≡ first_found f placements → None ≡ first_found f placements
-nothing_left f placements i past far = sym (ap (first_found f) (drop_all i placements past)) ∙ far
+pub nothing_left : {A : Type 0} (f : NumberedPlacing → Option A) (all_numbered : List NumberedPlacing) (i : ℕ) → length all_numbered ≤ i → first_found f (drop i all_numbered) ≡ first_found f all_numbered → None ≡ first_found f all_numbered
+nothing_left f all_numbered i past far = sym (ap (first_found f) (drop_all i all_numbered past)) ∙ far
 
 -- a name that was found, and its copy
 module _ {A : Type 0} (made : Word → A) (found : Option (Bor Word)) (wanted : Option Word) (says : lent found ≡ wanted) where

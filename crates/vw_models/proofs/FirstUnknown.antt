@@ -4,7 +4,7 @@ use Rattle.std.specs.Option.{option_or}
 use Rattle.std.proofs.lemmas.List.{drop_more, drop_all}
 use Rattle.vw_design.specs.declared.model.Model.{Model}
 use Rattle.vw_design.specs.declared.design.Design.{Design}
-use Rattle.vw_design.specs.Lists.{first_found}
+use Rattle.vw_net.specs.FirstFound.{first_found}
 use Rattle.vw_design.specs.ModelFaults.{is_reached, reached, unknown_model}
 use Rattle.vw_models.specs.Steps.Unknown.{unknown_of}
 

@@ -1,4 +1,4 @@
-pub mod AddedPlacements
+pub mod AddedPlacings
 pub mod FirstAtPlaced
 pub mod AtPlacedModel
 pub mod NumbersInLists

@@ -13,7 +13,7 @@ use Rattle.vw_design.specs.declared.item.Item.{Item}
 use Rattle.vw_design.specs.declared.item.Item.TheVariants.{Names, Latch, Sub}
 use Rattle.vw_design.specs.declared.model.Model.{Model}
 use Rattle.vw_design.specs.declared.design.Design.{Design}
-use Rattle.vw_design.specs.Lists.{first_found}
+use Rattle.vw_net.specs.FirstFound.{first_found}
 use Rattle.vw_design.specs.Paths.{Word, Placing, placing_of, placings, model_named, items_of}
 use Rattle.vw_design.specs.ModelFaults.{has_model_name, is_reached, names_model, unknown_model, IsModelCircle, place_in_file}
 use Rattle.vw_design.specs.Counts.{is_below, IsRanking}

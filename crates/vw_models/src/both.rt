@@ -3,13 +3,13 @@ ghost use Rattle.std.specs.Prelude.{◌≡◌, option_map, IfOk};
 ghost use Rattle.std.specs.List.{AllZip};
 ghost use Rattle.vw_design.specs.ModelFaults.{both_ways};
 ghost use Rattle.vw_design.specs.ModelNumbers.{AreTargets, AreModelsReached};
-ghost use Rattle.vw_models.specs.Steps.PlacedModels.{IsPlacement, placed_models};
+ghost use Rattle.vw_models.specs.Steps.PlacedModels.{IsNumberedPlacing, placed_models};
 ghost use Rattle.vw_models.specs.Steps.Formals.{IsBothWays};
 ghost use Rattle.vw_models.specs.PlacedFaults.{named_output};
 
 use crate::formals::ports_of_model;
+use crate::numbered_placing::{NumberedPlacing, placed_models};
 use crate::output_of::OutputOf;
-use crate::placement::{Placement, placed_models};
 use std::alloc::{AllocError, Global};
 use vw_design::{Design, Model};
 use vw_net::Sequence;
@@ -35,17 +35,17 @@ pub fn both_ways(
 fn first_both(
     alloc: Global,
     design: &Design,
-    placed: &[Placement],
+    placed: &[NumberedPlacing],
     outputs: &[Option<&Name>],
 ) -> Result<Option<OutputOf>, AllocError>
-    requires placed { AllZip (IsPlacement design.now) (placed_models design.now) placed.now }
+    requires placed { AllZip (IsNumberedPlacing design.now) (placed_models design.now) placed.now }
     requires outputs { AllZip IsBothWays design.now.models outputs.now }
     ensures { IfOk result (λ found. option_map named_output found ≡ both_ways design.now) }
 {
-    for placement in placed {
-        let found = outputs[placement.number as usize];
+    for numbered in placed {
+        let found = outputs[numbered.number as usize];
         if let Some(output) = found {
-            let model = &design.models()[placement.number as usize];
+            let model = &design.models()[numbered.number as usize];
             return Ok(Some(OutputOf {
                 model: model.name().copy(alloc)?,
                 output: output.copy(alloc)?,

@@ -4,14 +4,14 @@ ghost use Rattle.std.specs.List.{AllZip};
 ghost use Rattle.vw_design.specs.ModelFaults.{unknown_formal};
 ghost use Rattle.vw_design.specs.ModelNumbers.{AreTargets, AreModelsReached};
 ghost use Rattle.vw_design.specs.WordSets.{has_word};
-ghost use Rattle.vw_models.specs.Steps.PlacedModels.{IsPlacement, placed_models};
+ghost use Rattle.vw_models.specs.Steps.PlacedModels.{IsNumberedPlacing, placed_models};
 ghost use Rattle.vw_models.specs.Steps.Formals.{AreFormals};
 ghost use Rattle.vw_design.specs.Paths.{lent};
 ghost use Rattle.vw_models.specs.PlacedFaults.{name_at};
 
 use crate::formal_at::FormalAt;
 use crate::formals::all_formals;
-use crate::placement::{Placement, placed_models};
+use crate::numbered_placing::{NumberedPlacing, placed_models};
 use std::alloc::{AllocError, Global};
 use vw_design::{Bind, Design, WordSet};
 use vw_net::Sequence;
@@ -38,18 +38,18 @@ pub fn unknown_formal(
 fn first_unknown(
     alloc: Global,
     design: &Design,
-    placed: &[Placement],
+    placed: &[NumberedPlacing],
     formals: &[WordSet],
 ) -> Result<Option<FormalAt>, AllocError>
-    requires placed { AllZip (IsPlacement design.now) (placed_models design.now) placed.now }
+    requires placed { AllZip (IsNumberedPlacing design.now) (placed_models design.now) placed.now }
     requires formals { AllZip AreFormals design.now.models formals.now }
     ensures { IfOk result (λ found. option_map name_at found ≡ unknown_formal design.now) }
 {
-    for placement in placed {
-        let found = unknown_among(&formals[placement.number as usize], placement.binds);
+    for numbered in placed {
+        let found = unknown_among(&formals[numbered.number as usize], numbered.binds);
         if let Some(formal) = found {
             return Ok(Some(FormalAt {
-                line: placement.line,
+                line: numbered.line,
                 formal: formal.copy(alloc)?,
             }));
         }

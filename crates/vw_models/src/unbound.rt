@@ -3,12 +3,12 @@ ghost use Rattle.std.specs.Prelude.{◌≡◌, option_map, IfOk};
 ghost use Rattle.std.specs.List.{AllZip};
 ghost use Rattle.vw_design.specs.ModelFaults.{unbound_input, unbound_input_in};
 ghost use Rattle.vw_design.specs.ModelNumbers.{AreTargets, AreModelsReached};
-ghost use Rattle.vw_models.specs.Steps.PlacedModels.{IsPlacement, placed_models};
+ghost use Rattle.vw_models.specs.Steps.PlacedModels.{IsNumberedPlacing, placed_models};
 ghost use Rattle.vw_design.specs.Paths.{lent};
 ghost use Rattle.vw_models.specs.PlacedFaults.{name_at};
 
 use crate::formal_at::FormalAt;
-use crate::placement::{Placement, placed_models};
+use crate::numbered_placing::{NumberedPlacing, placed_models};
 use std::alloc::{AllocError, Global};
 use vw_design::{Bind, Design, Model, WordSet};
 use vw_net::Sequence;
@@ -34,17 +34,17 @@ pub fn unbound_input(
 fn first_unbound(
     alloc: Global,
     design: &Design,
-    placed: &[Placement],
+    placed: &[NumberedPlacing],
 ) -> Result<Option<FormalAt>, AllocError>
-    requires { AllZip (IsPlacement design.now) (placed_models design.now) placed.now }
+    requires { AllZip (IsNumberedPlacing design.now) (placed_models design.now) placed.now }
     ensures { IfOk result (λ found. option_map name_at found ≡ unbound_input design.now) }
 {
-    for placement in placed {
-        let model = &design.models()[placement.number as usize];
-        let found = unbound_of(alloc, model, placement.binds)?;
+    for numbered in placed {
+        let model = &design.models()[numbered.number as usize];
+        let found = unbound_of(alloc, model, numbered.binds)?;
         if let Some(formal) = found {
             return Ok(Some(FormalAt {
-                line: placement.line,
+                line: numbered.line,
                 formal: formal.copy(alloc)?,
             }));
         }

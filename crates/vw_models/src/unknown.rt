@@ -1,6 +1,6 @@
 //! Items that name no model of the file.
 ghost use Rattle.std.specs.Prelude.{◌≡◌, List, Some, None, is_none, if◌then◌else◌};
-ghost use Rattle.vw_design.specs.Lists.{first_found};
+ghost use Rattle.vw_net.specs.FirstFound.{first_found};
 ghost use Rattle.vw_design.specs.Paths.{placings, model_named};
 ghost use Rattle.vw_design.specs.ModelFaults.{by_placing, unknown_model};
 ghost use Rattle.vw_design.specs.ModelNumbers.{AreTargets, AreModelsReached, AreModelNumbers};

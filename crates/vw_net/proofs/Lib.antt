@@ -1,5 +1,7 @@
 pub mod Lists
 pub mod FirstOptions
+pub mod FirstFound
+pub mod SumsOverLists
 pub mod Counts
 pub mod FittingCells
 pub mod GatheredLists

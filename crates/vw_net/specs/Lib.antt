@@ -1,4 +1,5 @@
 pub mod Lists
+pub mod FirstFound
 pub mod Mark
 pub mod Cover
 pub mod TruthTable

@@ -14,7 +14,7 @@ use Rattle.vw_drivers.specs.Firsts.{First, number_named}
 use Rattle.vw_drivers.specs.declared.model_names.ModelNames.{ModelNames}
 use Rattle.vw_drivers.specs.Names.{reads_of, firsts_of}
 use Rattle.vw_instances.specs.declared.tables.CellSite.{CellSite}
-use Rattle.vw_instances.specs.declared.tables.Placed.{Placed}
+use Rattle.vw_instances.specs.declared.tables.ListedInstance.{ListedInstance}
 use Rattle.vw_instances.specs.Tables.{IsEntryAt}
 use Rattle.vw_drivers.specs.declared.tables.Tables.{Tables}
 use Rattle.vw_drivers.specs.Tables.{AreTables, instance_firsts}
@@ -31,7 +31,7 @@ numbers_of_names firsts names numbers are place name at =
     ∙ ap (λ (found : Option Word). option_and_then (λ (number : Option ℕ). number) (option_map (number_named firsts) found)) at
 
 module _ (design : Design) (tables : Tables) (are : AreTables design tables) (cell : CellSite) (path : Path) (item : Item) (listed : slice_get (instances design) cell.instance ≡ Some path) (at : item_at design path cell.item ≡ Some item) where
-  abbrev pub entry : (found : Placed) × (slice_get tables.instances cell.instance ≡ Some found) × IsEntryAt design (instances design) cell.instance path found
+  abbrev pub entry : (found : ListedInstance) × (slice_get tables.instances cell.instance ≡ Some found) × IsEntryAt design (instances design) cell.instance path found
   entry = are.placed.each cell.instance path listed
 
   pub in_model : slice_get entry.2.model.items cell.item ≡ Some item
@@ -39,18 +39,18 @@ module _ (design : Design) (tables : Tables) (are : AreTables design tables) (ce
 
   pub item_is : item_at_site design tables cell ≡ Some item
   item_is =
-      ap (option_and_then (λ (e : Placed). option_and_then (λ (model : Model). slice_get model.items cell.item) (slice_get design.models e.model))) entry.1
+      ap (option_and_then (λ (e : ListedInstance). option_and_then (λ (model : Model). slice_get model.items cell.item) (slice_get design.models e.model))) entry.1
       ∙ ap (option_and_then (λ (model : Model). slice_get model.items cell.item)) entry.2.model_is ∙ in_model
 
   pub firsts_are : instance_firsts tables cell.instance ≡ firsts_of tables.claims (Some entry.0.model)
-  firsts_are = ap (λ (e : Option Placed). firsts_of tables.claims (option_map (λ (x : Placed). x.model) e)) entry.1
+  firsts_are = ap (λ (e : Option ListedInstance). firsts_of tables.claims (option_map (λ (x : ListedInstance). x.model) e)) entry.1
 
   pub numbers_are : numbers_by tables cell ≡ Some (map (number_named (instance_firsts tables cell.instance)) (reads_of item))
   numbers_are =
       let found = are.names.each entry.0.model entry.2.model entry.2.model_is in
       let own = firsts_of tables.claims (Some entry.0.model) in
       let of = λ (x : Item). map (number_named own) (reads_of x) in
-      ap (option_and_then (λ (e : Placed). option_and_then (λ (names : ModelNames). slice_get names.reads cell.item) (slice_get tables.names e.model))) entry.1
+      ap (option_and_then (λ (e : ListedInstance). option_and_then (λ (names : ModelNames). slice_get names.reads cell.item) (slice_get tables.names e.model))) entry.1
       ∙ ap (option_and_then (λ (names : ModelNames). slice_get names.reads cell.item)) found.1
       ∙ ap (λ (list : List (List (Option ℕ))). slice_get list cell.item) found.2.reads
       ∙ slice_get-map of entry.2.model.items cell.item ∙ ap (option_map of) in_model
@@ -65,15 +65,15 @@ module _ (design : Design) (tables : Tables) (are : AreTables design tables) (ce
 
 -- the claims of the root's model
 module _ (design : Design) (tables : Tables) (are : AreTables design tables) where
-  abbrev pub root_entry : (found : Placed) × (slice_get tables.instances 0 ≡ Some found) × IsEntryAt design (instances design) 0 [] found
+  abbrev pub root_entry : (found : ListedInstance) × (slice_get tables.instances 0 ≡ Some found) × IsEntryAt design (instances design) 0 [] found
   root_entry = are.placed.each 0 [] refl
 
   abbrev pub root_claims : (found : ModelClaims) × (slice_get tables.claims root_entry.0.model ≡ Some found) × AreClaims design (Some root_entry.2.model) found
   root_claims = are.claims.each root_entry.0.model root_entry.2.model root_entry.2.model_is
 
-  pub root_number : (list : List Placed) → list ≡ tables.instances → (default : Placed) → (get_or list 0 default).model ≡ root_entry.0.model
+  pub root_number : (list : List ListedInstance) → list ≡ tables.instances → (default : ListedInstance) → (get_or list 0 default).model ≡ root_entry.0.model
   root_number list is default =
-      ap (λ (l : List Placed). (get_or l 0 default).model) is ∙ ap (λ (e : Placed). e.model) (get_or_from_slice_get tables.instances 0 root_entry.0 default root_entry.1)
+      ap (λ (l : List ListedInstance). (get_or l 0 default).model) is ∙ ap (λ (e : ListedInstance). e.model) (get_or_from_slice_get tables.instances 0 root_entry.0 default root_entry.1)
 
   pub claims_within : (number : ℕ) → number ≡ root_entry.0.model → (list : List ModelClaims) → list ≡ tables.claims → number < length list
   claims_within number is list same =
@@ -86,4 +86,4 @@ module _ (design : Design) (tables : Tables) (are : AreTables design tables) whe
       let there : get_or tables.claims root_entry.0.model found ≡ root_claims.0 = get_or_from_slice_get tables.claims root_entry.0.model root_claims.0 found root_claims.1 in
       ap (λ (x : ModelClaims). x.firsts) (at ∙ ap₂ (λ (l : List ModelClaims) (n : ℕ). get_or l n found) same is ∙ there)
       ∙ ap (λ (x : Option ModelClaims). unwrap_or (option_map (λ (y : ModelClaims). y.firsts) x) []) (sym root_claims.1)
-      ∙ ap (λ (e : Option Placed). firsts_of tables.claims (option_map (λ (x : Placed). x.model) e)) (sym root_entry.1)
+      ∙ ap (λ (e : Option ListedInstance). firsts_of tables.claims (option_map (λ (x : ListedInstance). x.model) e)) (sym root_entry.1)

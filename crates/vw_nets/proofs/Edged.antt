@@ -47,10 +47,10 @@ module _ (design : Design) where
   typed_none None typed = refl
   typed_none (Some latch) typed = absurd typed
 
-  first_some : (one other : Option Edged) (found : Option Typed) → is_some found ≡ true → IsTyped design one found → IsTyped design (option_or one other) found
-  first_some None other None some typed = absurd (true≢false (sym some))
-  first_some None other (Some found) some typed = absurd typed
-  first_some (Some one) other found some typed = typed
+  typed_first : (one other : Option Edged) (found : Option Typed) → is_some found ≡ true → IsTyped design one found → IsTyped design (option_or one other) found
+  typed_first None other None some typed = absurd (true≢false (sym some))
+  typed_first None other (Some found) some typed = absurd typed
+  typed_first (Some one) other found some typed = typed
 
   first_none : (one other : Option Edged) (found : Option Typed) → is_some found ≡ false → IsTyped design one found → option_or one other ≡ other
   first_none None other found none typed = refl
@@ -61,7 +61,7 @@ module _ (design : Design) where
     pub typed_here : is_some found ≡ true → IsTyped design (first_other design edge) found
     typed_here some =
         subst (λ (latch : Option Edged). IsTyped design latch found) (sym (of_site edge is.site (drop (i + 1) (cells design))) ∙ sym (ap (other_of edge) is.cut) ∙ far)
-        (first_some (other_edge edge is.site.path is.site.item) (other_of edge (drop (i + 1) (cells design))) found some typed)
+        (typed_first (other_edge edge is.site.path is.site.item) (other_of edge (drop (i + 1) (cells design))) found some typed)
 
     pub no_type_here : is_some found ≡ false → other_of edge (drop (i + 1) (cells design)) ≡ first_other design edge
     no_type_here none =

@@ -1,14 +1,13 @@
 -- The first item of all that claims a name again.
-use Rattle.std.proofs.Common.{◌≡◌, ◌<◌, ◌≤◌, ◌+◌, ℕ, zero, suc, true, false, List, [], ◌∷◌, length, Option, Some, None, slice_get, option_map, ⊎_elim, refl, sym, ◌∙◌, ap, ap₂, subst, true≢false, arith}
-use Rattle.std.specs.Option.{option_or}
+use Rattle.std.proofs.Common.{◌≡◌, ◌<◌, ◌≤◌, ◌+◌, ℕ, true, false, length, Option, Some, None, slice_get, option_map, ⊎_elim, refl, sym, ◌∙◌, ap, ap₂, subst, true≢false, arith}
 use Rattle.std.proofs.lemmas.Bool.{cases_lt, ltb-true, ltb-false}
-use Rattle.std.proofs.lemmas.Option.{same_Some, none-some, slice_get_within}
+use Rattle.std.proofs.lemmas.Option.{same_Some, slice_get_within}
 use Rattle.vw_design.specs.declared.design.Design.{Design}
 use Rattle.vw_design.specs.declared.item.Item.{Item}
 use Rattle.vw_design.specs.declared.model.Model.{Model}
 use Rattle.vw_design.specs.Accepted.{HasNoModelFault}
 use Rattle.vw_design.specs.Claims.{numbered}
-use Rattle.vw_design.specs.Lists.{first_found}
+use Rattle.vw_net.proofs.FirstFound.{found_at, found_nowhere}
 use Rattle.vw_design.specs.NetFaults.{claimed_again, two_drivers}
 use Rattle.vw_design.specs.Paths.{Word, Path, model_at, items_of}
 use Rattle.vw_design.specs.PathValue.{item_at}
@@ -70,17 +69,6 @@ module _ (design : Design) (i : ℕ) (path : Path) (listed : slice_get (instance
         omega arith),
   )
 
-module _ {A B : Type 0} (search : A → Option B) where
-  nowhere : (xs : List A) → ((k : ℕ) (x : A) → slice_get xs k ≡ Some x → search x ≡ None) → first_found search xs ≡ None
-  nowhere [] none = refl
-  nowhere (x ∷ xs) none = ap₂ (λ (one other : Option B). option_or one other) (none 0 x refl) (nowhere xs (λ k y at. none (suc k) y at))
-
-  first_at : (xs : List A) (place : ℕ) (x : A) (y : B) → slice_get xs place ≡ Some x → search x ≡ Some y → ((k : ℕ) (z : A) → k < place → slice_get xs k ≡ Some z → search z ≡ None) → first_found search xs ≡ Some y
-  first_at [] place x y at found before = absurd (none-some x at)
-  first_at (z ∷ xs) zero x y at found before = ap (λ (o : Option B). option_or o (first_found search xs)) (ap search (same_Some z x at) ∙ found)
-  first_at (z ∷ xs) (suc place) x y at found before =
-      ap₂ (λ (one other : Option B). option_or one other) (before 0 z (omega arith) refl) (first_at xs place x y at found (λ k w below there. before (suc k) w (omega arith) there))
-
 -- the claim at a site
 module _ (design : Design) (faultless : HasNoModelFault design) where
   model_of : (site : Site) → Has site (sites design) → (model : Model) × (model_at design site.path ≡ Some model)
@@ -115,7 +103,7 @@ module _ (design : Design) (faultless : HasNoModelFault design) where
     below k path at = omega (arith, all, slice_get_within (instances design) k path at)
 
     pub nothing_again : IsFirstSecond design count None → None ≡ printed_net (two_drivers design)
-    nothing_again is = sym (ap printed_net (nowhere (claimed_again design) (sites design)
+    nothing_again is = sym (ap printed_net (found_nowhere (claimed_again design) (sites design)
         (λ q site at. no_claim site (λ name again.
         let instance = instance_of site (Has-at site (sites design) q at) in
         is instance.0 site.path (below instance.0 site.path instance.1) instance.1 site.number q name (claimed_at q site at name again)))))
@@ -130,7 +118,7 @@ module _ (design : Design) (faultless : HasNoModelFault design) where
         let again : claimed_again design site.0 ≡ Some (net_at path second.name.now) =
         ap (λ (p : Path). option_map (net_at p) (again_at design (model_at design p) site.0.number site.0.item)) site.2
         ∙ ap₂ (λ (n : ℕ) (x : Item). option_map (net_at path) (again_at design (model_at design path) n x)) site.3 item ∙ ap (option_map (net_at path)) claimed.again in
-        first_at (claimed_again design) (sites design) second.position site.0 (net_at path second.name.now) site.1 again
+        found_at (claimed_again design) (sites design) second.position site.0 (net_at path second.name.now) site.1 again
         (λ q other less at. no_claim other (λ name repeated.
         let instance = instance_of other (Has-at other (sites design) q at) in
         let least : second.position ≤ q = is.1 instance.0 other.path (below instance.0 other.path instance.1) instance.1 other.number q name (claimed_at q other at name repeated) in

@@ -14,7 +14,7 @@ use Rattle.vw_drivers.specs.declared.claim.RepeatedClaim.{RepeatedClaim}
 use Rattle.vw_drivers.specs.declared.model_claims.ModelClaims.{ModelClaims}
 use Rattle.vw_drivers.specs.Claimed.{IsRepeatedClaim}
 use Rattle.vw_instances.specs.declared.sizes.Before.{Before}
-use Rattle.vw_instances.specs.declared.tables.Placed.{Placed}
+use Rattle.vw_instances.specs.declared.tables.ListedInstance.{ListedInstance}
 use Rattle.vw_instances.specs.Tables.{IsEntryAt}
 use Rattle.vw_drivers.specs.declared.tables.Tables.{Tables}
 use Rattle.vw_drivers.specs.Tables.{AreTables}
@@ -62,14 +62,14 @@ module _ (design : Design) (path : Path) where
 
 -- the tables of an instance
 module _ (design : Design) (tables : Tables) (are : AreTables design tables) (instance : ℕ) (path : Path) (listed : slice_get (instances design) instance ≡ Some path) where
-  abbrev pub entry : (found : Placed) × (slice_get tables.instances instance ≡ Some found) × IsEntryAt design (instances design) instance path found
+  abbrev pub entry : (found : ListedInstance) × (slice_get tables.instances instance ≡ Some found) × IsEntryAt design (instances design) instance path found
   entry = are.placed.each instance path listed
 
   pub again_is : IsRepeatedClaim design (model_at design path) (again_by tables instance)
   again_is =
       let found = are.claims.each entry.0.model entry.2.model entry.2.model_is in
       let same : again_by tables instance ≡ found.0.again =
-      ap (option_and_then (λ (e : Placed). option_and_then (λ (claims : ModelClaims). claims.again) (slice_get tables.claims e.model))) entry.1
+      ap (option_and_then (λ (e : ListedInstance). option_and_then (λ (claims : ModelClaims). claims.again) (slice_get tables.claims e.model))) entry.1
       ∙ ap (option_and_then (λ (claims : ModelClaims). claims.again)) found.1 in
       subst (λ (again : Option RepeatedClaim). IsRepeatedClaim design (model_at design path) again) (sym same)
       (subst (λ (model : Option Model). IsRepeatedClaim design model found.0.again) (sym entry.2.stands) found.2.again)
@@ -82,7 +82,7 @@ module _ (design : Design) (tables : Tables) (are : AreTables design tables) (in
       let before = at_within found.0 place within in
       let weighs = found.3 place before.0 before.1 in
       let own = ap (λ (m : Option Model). items_of m) entry.2.stands in
-      ap (option_and_then (λ (e : Placed). option_and_then (λ (list : List Before). option_map (λ (b : Before). e.cells + instance + (b.cells + b.instances)) (slice_get list place)) (slice_get tables.before e.model))) entry.1
+      ap (option_and_then (λ (e : ListedInstance). option_and_then (λ (list : List Before). option_map (λ (b : Before). e.cells + instance + (b.cells + b.instances)) (slice_get list place)) (slice_get tables.before e.model))) entry.1
       ∙ ap (option_and_then (λ (list : List Before). option_map (λ (b : Before). entry.0.cells + instance + (b.cells + b.instances)) (slice_get list place))) found.1
       ∙ ap (option_map (λ (b : Before). entry.0.cells + instance + (b.cells + b.instances))) before.1
       ∙ ap₂ (λ (n k : ℕ). Some (entry.0.cells + instance + (n + k))) weighs.0 weighs.1

@@ -7,14 +7,14 @@ ghost use Rattle.vw_instances.specs.Tables.{ArePlaced};
 use itoa::Buffer;
 use std::alloc::{AllocError, Global};
 use vw_design::Design;
-use vw_instances::Placed;
+use vw_instances::ListedInstance;
 use vw_outside::Name;
 
 /// A net of an instance as it is printed: each place followed by `/`, from the root on, and then the name.
 pub fn print_net(
     alloc: Global,
     design: &Design,
-    table: &[Placed],
+    table: &[ListedInstance],
     instance: u32,
     name: &Name,
 ) -> Result<Name, AllocError>
@@ -34,7 +34,7 @@ pub fn print_net(
 fn places_of(
     alloc: Global,
     design: &Design,
-    table: &[Placed],
+    table: &[ListedInstance],
     instance: u32,
 ) -> Result<Vec<u32>, AllocError>
     requires { ArePlaced design.now table.now }

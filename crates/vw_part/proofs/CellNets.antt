@@ -8,14 +8,15 @@ use Rattle.std.proofs.lemmas.List.Elements.{All-cons, All-head, All-nil, All-tai
 use Rattle.std.proofs.lemmas.List.Folds.{Any-from_list_any, list_any-append, list_any-from_Any}
 use Rattle.std.proofs.lemmas.List.Kept.{AllPairs-from_increasing, Contains-dedup_nat, Contains-from_dedup}
 use Rattle.std.proofs.lemmas.List.Sorted.{list_any-IsPermutation}
+use Rattle.std.proofs.lemmas.List.Sums.{sum_by-cons}
 use Rattle.std.proofs.lemmas.Map.Keys.{IsStrictlyIncreasing-dedup}
 use Rattle.std.specs.Cmp.{both_ways}
 use Rattle.vw_net.proofs.Orders.{among_below, at_among}
 use Rattle.vw_net.specs.declared.cell.Cell.{Cell}
 use Rattle.vw_net.specs.Cells.{IsWellFormed, read_nets}
 use Rattle.vw_net.specs.Order.{is_among}
-use Rattle.vw_part.specs.Steps.Pins.{AreNetsOf, ArePins, times_among}
-use Rattle.vw_part.proofs.Totals.{at_other, at_same}
+use Rattle.vw_part.specs.Steps.CellNets.{AreNetsOf, AreCellNets, times_among}
+use Rattle.vw_part.proofs.Shares.{at, at_other, at_same}
 
 -- ---- numbers that rise
 
@@ -24,16 +25,17 @@ rising_none first [] number rise low = refl
 rising_none first (next ∷ numbers) number rise low =
     let above : first < next = rise 0 1 0 (omega arith) (omega arith) in
     let rest = rising_none next numbers number (λ i j default before within. rise (suc i) (suc j) default (omega arith) (omega arith)) (omega arith) in
-    omega (arith, at_other next 1 number (λ is. omega arith), rest)
+    omega (arith, sum_by-cons (λ x. at x 1 number) next numbers, at_other next 1 number (λ is. omega arith), rest)
 
 rising_once : (numbers : List ℕ) (number : ℕ) → AllPairs (λ x y. x < y) numbers → times_among numbers number ≤ 1
 rising_once [] number rise = omega arith
 rising_once (first ∷ numbers) number rise =
+    let times = sum_by-cons (λ x. at x 1 number) first numbers in
     let if_here = λ (here : first ≡ number).
-    let unit : times_among (first ∷ []) number ≡ 1 = subst (λ (x : ℕ). times_among (first ∷ []) x ≡ 1) here (omega (arith, at_same first 1)) in
-    let sum : times_among (first ∷ numbers) number ≤ 1 = omega (arith, unit, rising_none first numbers number rise (omega arith)) in sum in
+    let unit : at first 1 number ≡ 1 = subst (λ (x : ℕ). at first 1 x ≡ 1) here (at_same first 1) in
+    let sum : times_among (first ∷ numbers) number ≤ 1 = omega (arith, times, unit, rising_none first numbers number rise (omega arith)) in sum in
     let if_not = λ (apart : first ≡ number → ⊥).
-    let sum : times_among (first ∷ numbers) number ≤ 1 = omega (arith, at_other first 1 number apart, rising_once numbers number (λ i j default before within. rise (suc i) (suc j) default (omega arith) (omega arith))) in sum in
+    let sum : times_among (first ∷ numbers) number ≤ 1 = omega (arith, times, at_other first 1 number apart, rising_once numbers number (λ i j default before within. rise (suc i) (suc j) default (omega arith) (omega arith))) in sum in
     ⊎_elim if_here if_not (cases_eq first number)
 
 -- ---- one cell
@@ -72,23 +74,23 @@ kept_once own cell reads listed sorted kept read is moved in_order once = record
 
 -- ---- all cells
 
-pub pins_push : (own : ℕ) (cells : List Cell) (pins : List (List ℕ)) (cell : Cell) (nets : List ℕ) → ArePins own cells pins → AreNetsOf (own + length cells) cell nets → ArePins own (cells ++ cell ∷ []) (pins ++ nets ∷ [])
-pins_push own [] [] cell nets are next = (subst (λ (net : ℕ). AreNetsOf net cell nets) (omega arith) next, tt)
-pins_push own [] (other ∷ pins) cell nets are next = absurd are
-pins_push own (first ∷ cells) [] cell nets are next = absurd are
-pins_push own (first ∷ cells) (other ∷ pins) cell nets are next = (are.0, pins_push (own + 1) cells pins cell nets are.1 (subst (λ (net : ℕ). AreNetsOf net cell nets) (omega arith) next))
+pub nets_push : (own : ℕ) (cells : List Cell) (cell_nets : List (List ℕ)) (cell : Cell) (nets : List ℕ) → AreCellNets own cells cell_nets → AreNetsOf (own + length cells) cell nets → AreCellNets own (cells ++ cell ∷ []) (cell_nets ++ nets ∷ [])
+nets_push own [] [] cell nets are next = (subst (λ (net : ℕ). AreNetsOf net cell nets) (omega arith) next, tt)
+nets_push own [] (other ∷ cell_nets) cell nets are next = absurd are
+nets_push own (first ∷ cells) [] cell nets are next = absurd are
+nets_push own (first ∷ cells) (other ∷ cell_nets) cell nets are next = (are.0, nets_push (own + 1) cells cell_nets cell nets are.1 (subst (λ (net : ℕ). AreNetsOf net cell nets) (omega arith) next))
 
-pub pins_long : (own : ℕ) (cells : List Cell) (pins : List (List ℕ)) → ArePins own cells pins → length pins ≡ length cells
-pins_long own [] [] are = refl
-pins_long own [] (nets ∷ pins) are = absurd are
-pins_long own (cell ∷ cells) [] are = absurd are
-pins_long own (cell ∷ cells) (nets ∷ pins) are = omega (arith, pins_long (own + 1) cells pins are.1)
+pub nets_long : (own : ℕ) (cells : List Cell) (cell_nets : List (List ℕ)) → AreCellNets own cells cell_nets → length cell_nets ≡ length cells
+nets_long own [] [] are = refl
+nets_long own [] (nets ∷ cell_nets) are = absurd are
+nets_long own (cell ∷ cells) [] are = absurd are
+nets_long own (cell ∷ cells) (nets ∷ cell_nets) are = omega (arith, nets_long (own + 1) cells cell_nets are.1)
 
-pub pins_once : (own : ℕ) (cells : List Cell) (pins : List (List ℕ)) → ArePins own cells pins → All (λ nets. (net : ℕ) → times_among nets net ≤ 1) pins
-pins_once own [] [] are = All-nil (λ nets. (net : ℕ) → times_among nets net ≤ 1)
-pins_once own [] (nets ∷ pins) are = absurd are
-pins_once own (cell ∷ cells) [] are = absurd are
-pins_once own (cell ∷ cells) (nets ∷ pins) are = All-cons (λ nets. (net : ℕ) → times_among nets net ≤ 1) nets pins are.0.once (pins_once (own + 1) cells pins are.1)
+pub nets_once : (own : ℕ) (cells : List Cell) (cell_nets : List (List ℕ)) → AreCellNets own cells cell_nets → All (λ nets. (net : ℕ) → times_among nets net ≤ 1) cell_nets
+nets_once own [] [] are = All-nil (λ nets. (net : ℕ) → times_among nets net ≤ 1)
+nets_once own [] (nets ∷ cell_nets) are = absurd are
+nets_once own (cell ∷ cells) [] are = absurd are
+nets_once own (cell ∷ cells) (nets ∷ cell_nets) are = All-cons (λ nets. (net : ℕ) → times_among nets net ≤ 1) nets cell_nets are.0.once (nets_once (own + 1) cells cell_nets are.1)
 
 within_one : (own bound : ℕ) (cell : Cell) (nets : List ℕ) → own < bound → All (λ net. net < bound) (read_nets cell) → AreNetsOf own cell nets → All (λ net. net < bound) nets
 within_one own bound cell nets low reads are place default within =
@@ -98,9 +100,9 @@ within_one own bound cell nets low reads are place default within =
     let if_read = λ (read : is_among (read_nets cell) net ≡ true). among_below (read_nets cell) net bound reads read in
     ⊎_elim if_own if_read (or_cases (eqb own net) (is_among (read_nets cell) net) among)
 
-pub pins_within : (own bound : ℕ) (cells : List Cell) (pins : List (List ℕ)) → own + length cells ≤ bound → All (IsWellFormed bound) cells → ArePins own cells pins → All (λ nets. All (λ net. net < bound) nets) pins
-pins_within own bound [] [] low fit are = All-nil (λ nets. All (λ net. net < bound) nets)
-pins_within own bound [] (nets ∷ pins) low fit are = absurd are
-pins_within own bound (cell ∷ cells) [] low fit are = absurd are
-pins_within own bound (cell ∷ cells) (nets ∷ pins) low fit are =
-    All-cons (λ nets. All (λ net. net < bound) nets) nets pins (within_one own bound cell nets (omega arith) (All-head (IsWellFormed bound) cell cells fit).1 are.0) (pins_within (own + 1) bound cells pins (omega arith) (All-tail (IsWellFormed bound) cell cells fit) are.1)
+pub nets_within : (own bound : ℕ) (cells : List Cell) (cell_nets : List (List ℕ)) → own + length cells ≤ bound → All (IsWellFormed bound) cells → AreCellNets own cells cell_nets → All (λ nets. All (λ net. net < bound) nets) cell_nets
+nets_within own bound [] [] low fit are = All-nil (λ nets. All (λ net. net < bound) nets)
+nets_within own bound [] (nets ∷ cell_nets) low fit are = absurd are
+nets_within own bound (cell ∷ cells) [] low fit are = absurd are
+nets_within own bound (cell ∷ cells) (nets ∷ cell_nets) low fit are =
+    All-cons (λ nets. All (λ net. net < bound) nets) nets cell_nets (within_one own bound cell nets (omega arith) (All-head (IsWellFormed bound) cell cells fit).1 are.0) (nets_within (own + 1) bound cells cell_nets (omega arith) (All-tail (IsWellFormed bound) cell cells fit) are.1)

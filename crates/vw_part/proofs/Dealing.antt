@@ -1,18 +1,21 @@
 -- A deal after one more cell, and after a move.
 use Rattle.std.proofs.Common.{◌≡◌, ◌<◌, ◌≤◌, ◌+◌, ◌*◌, ℕ, List, [], ◌∷◌, ◌++◌, length, get_or, set, nat_lt, eqb, ap, sym, subst, ◌∙◌, ⊎_elim, All, arith}
+use Rattle.std.specs.Prelude.{sum_by}
 use Rattle.std.proofs.lemmas.Bool.{cases_eq}
 use Rattle.std.proofs.lemmas.List.{get_or-set_other, get_or-set_same, length-set, length_push}
 use Rattle.std.proofs.lemmas.List.Elements.{All-get_or, All-push, All-set}
+use Rattle.std.proofs.lemmas.List.Sums.{count_by-le-length}
 use Rattle.vw_plan.specs.declared.board.Board.{Board}
 use Rattle.vw_plan.specs.Chips.{IsChip, cells_on}
 use Rattle.vw_part.specs.declared.deal.Deal.{Deal}
 use Rattle.vw_part.specs.declared.load.Load.{Load}
-use Rattle.vw_part.specs.declared.pins.Pins.{Pins}
-use Rattle.vw_part.specs.Steps.Deals.{IsDeal, IsLoad, MayMoveTo, freed, pins_held, met, cell_nets}
-use Rattle.vw_part.specs.Steps.Pins.{times_among, total}
+use Rattle.vw_part.specs.declared.cell_nets.CellNets.{CellNets}
+use Rattle.vw_part.specs.Steps.Deals.{IsDeal, IsLoad, MayMoveTo, freed, cells_held, met, nets_at}
+use Rattle.vw_part.specs.Steps.CellNets.{times_among}
 use Rattle.vw_net.specs.Steps.Bits.{one_if}
+use Rattle.vw_net.proofs.SumsOverLists.{sum_agree}
 use Rattle.vw_part.proofs.ChipLoads.{all_full, held_push, held_set, on_all, on_push, on_set}
-use Rattle.vw_part.proofs.Totals.{at_other, at_same, total_same, total_tests-le}
+use Rattle.vw_part.proofs.Shares.{at_other, at_same}
 
 -- some chip has room
 pub not_all_full : (board : Board) (chips : List ℕ) → All (IsChip board) chips → length chips < board.chips * board.cells → ((chip : ℕ) → 1 ≤ chip → chip < 1 + board.chips → board.cells ≤ cells_on chips chip) → ⊥
@@ -25,108 +28,108 @@ pub record HasCellMore (own : List ℕ) (before after : Load) : Type 0 where
   pub long : length after.counts.items ≡ length before.counts.items
   pub counts : (net : ℕ) → get_or after.counts.items net 0 ≡ get_or before.counts.items net 0 + times_among own net
 
-load_same : (pins : Pins) (chips others : List ℕ) (chip : ℕ) (load : Load) → cells_on others chip ≡ cells_on chips chip → ((net : ℕ) → pins_held others pins.of_cells.items chip net ≡ pins_held chips pins.of_cells.items chip net) → IsLoad pins chips chip load → IsLoad pins others chip load
-load_same pins chips others chip load cells counts is = record {
+load_same : (cell_nets : CellNets) (chips others : List ℕ) (chip : ℕ) (load : Load) → cells_on others chip ≡ cells_on chips chip → ((net : ℕ) → cells_held others cell_nets.of_cells.items chip net ≡ cells_held chips cell_nets.of_cells.items chip net) → IsLoad cell_nets chips chip load → IsLoad cell_nets others chip load
+load_same cell_nets chips others chip load cells counts is = record {
   cells = is.cells ∙ sym cells;
   long = is.long;
   counts = λ net. is.counts net ∙ sym (counts net);
 }
 
-pub dealt_more : (board : Board) (pins : Pins) (before after : Deal) (chip : ℕ) (load : Load) → IsDeal board pins before → length before.chip_of.items < length pins.of_cells.items → IsChip board chip → cells_on before.chip_of.items chip < board.cells → after.chip_of.items ≡ before.chip_of.items ++ chip ∷ [] → after.loads.items ≡ set before.loads.items chip load → HasCellMore (cell_nets pins (length before.chip_of.items)) (get_or before.loads.items chip load) load → IsDeal board pins after
-dealt_more board pins before after chip load is next real room chip_of loads more =
+pub dealt_more : (board : Board) (cell_nets : CellNets) (before after : Deal) (chip : ℕ) (load : Load) → IsDeal board cell_nets before → length before.chip_of.items < length cell_nets.of_cells.items → IsChip board chip → cells_on before.chip_of.items chip < board.cells → after.chip_of.items ≡ before.chip_of.items ++ chip ∷ [] → after.loads.items ≡ set before.loads.items chip load → HasCellMore (nets_at cell_nets (length before.chip_of.items)) (get_or before.loads.items chip load) load → IsDeal board cell_nets after
+dealt_more board cell_nets before after chip load is next real room chip_of loads more =
     let chips = before.chip_of.items in
-    let own = cell_nets pins (length chips) in
+    let own = nets_at cell_nets (length chips) in
     let new = chips ++ chip ∷ [] in
     let within : chip < length before.loads.items = omega (arith, is.nodes, real.1) in
     let if_on : (other : ℕ) → cells_on new other ≤ board.cells = λ other.
     let if_here = λ (here : chip ≡ other). let fits : cells_on new other ≤ board.cells = subst (λ (x : ℕ). cells_on new x ≤ board.cells) here (omega (arith, on_push chips chip chip, at_same chip 1, room)) in fits in
     let if_not = λ (apart : chip ≡ other → ⊥). let fits : cells_on new other ≤ board.cells = omega (arith, on_push chips chip other, at_other chip 1 other apart, is.room other) in fits in
     ⊎_elim if_here if_not (cases_eq chip other) in
-    let load_of : (other : ℕ) (default : Load) → other ≤ board.chips → IsLoad pins new other (get_or (set before.loads.items chip load) other default) = λ other default low.
+    let load_of : (other : ℕ) (default : Load) → other ≤ board.chips → IsLoad cell_nets new other (get_or (set before.loads.items chip load) other default) = λ other default low.
     let if_here = λ (here : chip ≡ other).
     let old = is.loads chip load real.1 in
-    let own_load : IsLoad pins new chip load = record {
+    let own_load : IsLoad cell_nets new chip load = record {
       cells = omega (arith, more.cells, old.cells, on_push chips chip chip, at_same chip 1);
       long = more.long ∙ old.long;
-      counts = λ net. omega (arith, more.counts net, old.counts net, held_push chips pins.of_cells.items chip chip net next, at_same chip (times_among own net));
+      counts = λ net. omega (arith, more.counts net, old.counts net, held_push chips cell_nets.of_cells.items chip chip net next, at_same chip (times_among own net));
     } in
-    let found : IsLoad pins new chip (get_or (set before.loads.items chip load) chip default) = subst (λ (x : Load). IsLoad pins new chip x) (sym (get_or-set_same before.loads.items chip load default within)) own_load in
-    subst (λ (x : ℕ). IsLoad pins new x (get_or (set before.loads.items chip load) x default)) here found in
+    let found : IsLoad cell_nets new chip (get_or (set before.loads.items chip load) chip default) = subst (λ (x : Load). IsLoad cell_nets new chip x) (sym (get_or-set_same before.loads.items chip load default within)) own_load in
+    subst (λ (x : ℕ). IsLoad cell_nets new x (get_or (set before.loads.items chip load) x default)) here found in
     let if_not = λ (apart : chip ≡ other → ⊥).
-    let kept : IsLoad pins new other (get_or before.loads.items other default) = load_same pins chips new other (get_or before.loads.items other default) (omega (arith, on_push chips chip other, at_other chip 1 other apart)) (λ net. omega (arith, held_push chips pins.of_cells.items chip other net next, at_other chip (times_among own net) other apart)) (is.loads other default low) in
-    subst (λ (x : Load). IsLoad pins new other x) (sym (get_or-set_other before.loads.items chip other load default (λ same. apart (sym same)))) kept in
+    let kept : IsLoad cell_nets new other (get_or before.loads.items other default) = load_same cell_nets chips new other (get_or before.loads.items other default) (omega (arith, on_push chips chip other, at_other chip 1 other apart)) (λ net. omega (arith, held_push chips cell_nets.of_cells.items chip other net next, at_other chip (times_among own net) other apart)) (is.loads other default low) in
+    subst (λ (x : Load). IsLoad cell_nets new other x) (sym (get_or-set_other before.loads.items chip other load default (λ same. apart (sym same)))) kept in
     ⊎_elim if_here if_not (cases_eq chip other) in
     record {
       few = omega (arith, ap (λ (l : List ℕ). length l) chip_of, length_push chips chip, next);
       chips = subst (λ (l : List ℕ). All (IsChip board) l) (sym chip_of) (All-push (IsChip board) chips chip is.chips real);
       room = λ other. subst (λ (l : List ℕ). cells_on l other ≤ board.cells) (sym chip_of) (if_on other);
       nodes = ap (λ (l : List Load). length l) loads ∙ length-set before.loads.items chip load ∙ is.nodes;
-      loads = λ other default low. subst (λ (l : List ℕ). IsLoad pins l other (get_or after.loads.items other default)) (sym chip_of) (subst (λ (l : List Load). IsLoad pins new other (get_or l other default)) (sym loads) (load_of other default low));
+      loads = λ other default low. subst (λ (l : List ℕ). IsLoad cell_nets l other (get_or after.loads.items other default)) (sym chip_of) (subst (λ (l : List Load). IsLoad cell_nets new other (get_or l other default)) (sym loads) (load_of other default low));
     }
 
 -- after a move
-pub dealt_moved : (board : Board) (pins : Pins) (before after : Deal) (cell chip : ℕ) (left come : Load) → IsDeal board pins before → cell < length before.chip_of.items → MayMoveTo board before.chip_of.items cell chip → after.chip_of.items ≡ set before.chip_of.items cell chip → after.loads.items ≡ set (set before.loads.items (get_or before.chip_of.items cell 0) left) chip come → HasCellMore (cell_nets pins cell) left (get_or before.loads.items (get_or before.chip_of.items cell 0) left) → HasCellMore (cell_nets pins cell) (get_or before.loads.items chip come) come → IsDeal board pins after
-dealt_moved board pins before after cell chip left come is within target chip_of loads less more =
+pub dealt_moved : (board : Board) (cell_nets : CellNets) (before after : Deal) (cell chip : ℕ) (left come : Load) → IsDeal board cell_nets before → cell < length before.chip_of.items → MayMoveTo board before.chip_of.items cell chip → after.chip_of.items ≡ set before.chip_of.items cell chip → after.loads.items ≡ set (set before.loads.items (get_or before.chip_of.items cell 0) left) chip come → HasCellMore (nets_at cell_nets cell) left (get_or before.loads.items (get_or before.chip_of.items cell 0) left) → HasCellMore (nets_at cell_nets cell) (get_or before.loads.items chip come) come → IsDeal board cell_nets after
+dealt_moved board cell_nets before after cell chip left come is within target chip_of loads less more =
     let chips = before.chip_of.items in
-    let own = cell_nets pins cell in
+    let own = nets_at cell_nets cell in
     let from = get_or chips cell 0 in
     let new = set chips cell chip in
     let was = All-get_or (IsChip board) chips cell 0 within is.chips in
     let from_within : from < length before.loads.items = omega (arith, is.nodes, was.1) in
     let chip_within : chip < length (set before.loads.items from left) = omega (arith, length-set before.loads.items from left, is.nodes, target.real.1) in
     let on = λ (other : ℕ). on_set chips cell chip other within in
-    let nets_on = λ (other net : ℕ). held_set chips pins.of_cells.items cell chip other net within in
+    let nets_on = λ (other net : ℕ). held_set chips cell_nets.of_cells.items cell chip other net within in
     let room_of : (other : ℕ) → cells_on new other ≤ board.cells = λ other.
     let if_here = λ (here : chip ≡ other). let fits : cells_on new other ≤ board.cells = subst (λ (x : ℕ). cells_on new x ≤ board.cells) here (omega (arith, on chip, at_same chip 1, target.room)) in fits in
     let if_not = λ (apart : chip ≡ other → ⊥). let fits : cells_on new other ≤ board.cells = omega (arith, on other, at_other chip 1 other apart, is.room other) in fits in
     ⊎_elim if_here if_not (cases_eq chip other) in
-    let load_of : (other : ℕ) (default : Load) → other ≤ board.chips → IsLoad pins new other (get_or (set (set before.loads.items from left) chip come) other default) = λ other default low.
+    let load_of : (other : ℕ) (default : Load) → other ≤ board.chips → IsLoad cell_nets new other (get_or (set (set before.loads.items from left) chip come) other default) = λ other default low.
     let if_here = λ (here : chip ≡ other).
     let old = is.loads chip come target.real.1 in
-    let own_load : IsLoad pins new chip come = record {
+    let own_load : IsLoad cell_nets new chip come = record {
       cells = omega (arith, more.cells, old.cells, on chip, at_same chip 1, at_other from 1 chip target.away);
       long = more.long ∙ old.long;
       counts = λ net. omega (arith, more.counts net, old.counts net, nets_on chip net, at_same chip (times_among own net), at_other from (times_among own net) chip target.away);
     } in
-    let found : IsLoad pins new chip (get_or (set (set before.loads.items from left) chip come) chip default) = subst (λ (x : Load). IsLoad pins new chip x) (sym (get_or-set_same (set before.loads.items from left) chip come default chip_within)) own_load in
-    subst (λ (x : ℕ). IsLoad pins new x (get_or (set (set before.loads.items from left) chip come) x default)) here found in
+    let found : IsLoad cell_nets new chip (get_or (set (set before.loads.items from left) chip come) chip default) = subst (λ (x : Load). IsLoad cell_nets new chip x) (sym (get_or-set_same (set before.loads.items from left) chip come default chip_within)) own_load in
+    subst (λ (x : ℕ). IsLoad cell_nets new x (get_or (set (set before.loads.items from left) chip come) x default)) here found in
     let if_not = λ (apart : chip ≡ other → ⊥).
     let if_from = λ (here : from ≡ other).
     let old = is.loads from left was.1 in
-    let own_load : IsLoad pins new from left = record {
+    let own_load : IsLoad cell_nets new from left = record {
       cells = omega (arith, less.cells, old.cells, on from, at_same from 1, at_other chip 1 from (λ same. target.away (sym same)));
       long = sym less.long ∙ old.long;
       counts = λ net. omega (arith, less.counts net, old.counts net, nets_on from net, at_same from (times_among own net), at_other chip (times_among own net) from (λ same. target.away (sym same)));
     } in
-    let found : IsLoad pins new from (get_or (set before.loads.items from left) from default) = subst (λ (x : Load). IsLoad pins new from x) (sym (get_or-set_same before.loads.items from left default from_within)) own_load in
-    subst (λ (x : ℕ). IsLoad pins new x (get_or (set before.loads.items from left) x default)) here found in
+    let found : IsLoad cell_nets new from (get_or (set before.loads.items from left) from default) = subst (λ (x : Load). IsLoad cell_nets new from x) (sym (get_or-set_same before.loads.items from left default from_within)) own_load in
+    subst (λ (x : ℕ). IsLoad cell_nets new x (get_or (set before.loads.items from left) x default)) here found in
     let if_other = λ (away : from ≡ other → ⊥).
-    let kept : IsLoad pins new other (get_or before.loads.items other default) = load_same pins chips new other (get_or before.loads.items other default) (omega (arith, on other, at_other chip 1 other apart, at_other from 1 other away)) (λ net. omega (arith, nets_on other net, at_other chip (times_among own net) other apart, at_other from (times_among own net) other away)) (is.loads other default low) in
-    subst (λ (x : Load). IsLoad pins new other x) (sym (get_or-set_other before.loads.items from other left default (λ same. away (sym same)))) kept in
-    let before_last : IsLoad pins new other (get_or (set before.loads.items from left) other default) = ⊎_elim if_from if_other (cases_eq from other) in
-    subst (λ (x : Load). IsLoad pins new other x) (sym (get_or-set_other (set before.loads.items from left) chip other come default (λ same. apart (sym same)))) before_last in
+    let kept : IsLoad cell_nets new other (get_or before.loads.items other default) = load_same cell_nets chips new other (get_or before.loads.items other default) (omega (arith, on other, at_other chip 1 other apart, at_other from 1 other away)) (λ net. omega (arith, nets_on other net, at_other chip (times_among own net) other apart, at_other from (times_among own net) other away)) (is.loads other default low) in
+    subst (λ (x : Load). IsLoad cell_nets new other x) (sym (get_or-set_other before.loads.items from other left default (λ same. away (sym same)))) kept in
+    let before_last : IsLoad cell_nets new other (get_or (set before.loads.items from left) other default) = ⊎_elim if_from if_other (cases_eq from other) in
+    subst (λ (x : Load). IsLoad cell_nets new other x) (sym (get_or-set_other (set before.loads.items from left) chip other come default (λ same. apart (sym same)))) before_last in
     ⊎_elim if_here if_not (cases_eq chip other) in
     record {
       few = omega (arith, ap (λ (l : List ℕ). length l) chip_of, length-set chips cell chip, is.few);
       chips = subst (λ (l : List ℕ). All (IsChip board) l) (sym chip_of) (All-set (IsChip board) chips cell chip target.real is.chips);
       room = λ other. subst (λ (l : List ℕ). cells_on l other ≤ board.cells) (sym chip_of) (room_of other);
       nodes = ap (λ (l : List Load). length l) loads ∙ length-set (set before.loads.items from left) chip come ∙ length-set before.loads.items from left ∙ is.nodes;
-      loads = λ other default low. subst (λ (l : List ℕ). IsLoad pins l other (get_or after.loads.items other default)) (sym chip_of) (subst (λ (l : List Load). IsLoad pins new other (get_or l other default)) (sym loads) (load_of other default low));
+      loads = λ other default low. subst (λ (l : List ℕ). IsLoad cell_nets l other (get_or after.loads.items other default)) (sym chip_of) (subst (λ (l : List Load). IsLoad cell_nets new other (get_or l other default)) (sym loads) (load_of other default low));
     }
 
 -- ---- what a load says of its chip
 
-pub loaded : (board : Board) (pins : Pins) (deal : Deal) (chip : ℕ) (load : Load) → IsDeal board pins deal → chip ≤ board.chips → load ≡ get_or deal.loads.items chip load → IsLoad pins deal.chip_of.items chip load
-loaded board pins deal chip load is low found = subst (λ (x : Load). IsLoad pins deal.chip_of.items chip x) (sym found) (is.loads chip load low)
+pub loaded : (board : Board) (cell_nets : CellNets) (deal : Deal) (chip : ℕ) (load : Load) → IsDeal board cell_nets deal → chip ≤ board.chips → load ≡ get_or deal.loads.items chip load → IsLoad cell_nets deal.chip_of.items chip load
+loaded board cell_nets deal chip load is low found = subst (λ (x : Load). IsLoad cell_nets deal.chip_of.items chip x) (sym found) (is.loads chip load low)
 
-pub freed_is : (board : Board) (pins : Pins) (deal : Deal) (cell from lone : ℕ) (load : Load) (own : List ℕ) → IsDeal board pins deal → cell < length deal.chip_of.items → from ≡ get_or deal.chip_of.items cell 0 → load ≡ get_or deal.loads.items from load → own ≡ cell_nets pins cell → lone ≡ total (λ net. one_if (eqb (get_or load.counts.items net 0) 1)) own → lone ≡ freed pins deal.chip_of.items cell
-freed_is board pins deal cell from lone load own is within from_is found own_is count =
+pub freed_is : (board : Board) (cell_nets : CellNets) (deal : Deal) (cell from lone : ℕ) (load : Load) (own : List ℕ) → IsDeal board cell_nets deal → cell < length deal.chip_of.items → from ≡ get_or deal.chip_of.items cell 0 → load ≡ get_or deal.loads.items from load → own ≡ nets_at cell_nets cell → lone ≡ sum_by (λ net. one_if (eqb (get_or load.counts.items net 0) 1)) own → lone ≡ freed cell_nets deal.chip_of.items cell
+freed_is board cell_nets deal cell from lone load own is within from_is found own_is count =
     let chips = deal.chip_of.items in
     let was = All-get_or (IsChip board) chips cell 0 within is.chips in
     let low : from ≤ board.chips = omega (arith, from_is, was.1) in
-    let load_is = loaded board pins deal from load is low found in
-    let same = total_same (λ net. one_if (eqb (get_or load.counts.items net 0) 1)) (λ net. one_if (eqb (pins_held chips pins.of_cells.items from net) 1)) own (λ net. ap (λ (n : ℕ). one_if (eqb n 1)) (load_is.counts net)) in
-    count ∙ same ∙ ap (λ (nets : List ℕ). total (λ net. one_if (eqb (pins_held chips pins.of_cells.items from net) 1)) nets) own_is ∙ ap (λ (x : ℕ). total (λ net. one_if (eqb (pins_held chips pins.of_cells.items x net) 1)) (cell_nets pins cell)) from_is
+    let load_is = loaded board cell_nets deal from load is low found in
+    let same = sum_agree (λ net. one_if (eqb (get_or load.counts.items net 0) 1)) (λ net. one_if (eqb (cells_held chips cell_nets.of_cells.items from net) 1)) own (λ net. ap (λ (n : ℕ). one_if (eqb n 1)) (load_is.counts net)) in
+    count ∙ same ∙ ap (λ (nets : List ℕ). sum_by (λ net. one_if (eqb (cells_held chips cell_nets.of_cells.items from net) 1)) nets) own_is ∙ ap (λ (x : ℕ). sum_by (λ net. one_if (eqb (cells_held chips cell_nets.of_cells.items x net) 1)) (nets_at cell_nets cell)) from_is
 
-pub met-le : (pins : Pins) (chips : List ℕ) (cell chip : ℕ) → met pins chips cell chip ≤ length (cell_nets pins cell)
-met-le pins chips cell chip = total_tests-le (λ net. nat_lt 0 (pins_held chips pins.of_cells.items chip net)) (cell_nets pins cell)
+pub met-le : (cell_nets : CellNets) (chips : List ℕ) (cell chip : ℕ) → met cell_nets chips cell chip ≤ length (nets_at cell_nets cell)
+met-le cell_nets chips cell chip = count_by-le-length (λ net. nat_lt 0 (cells_held chips cell_nets.of_cells.items chip net)) (nets_at cell_nets cell)

@@ -1,4 +1,4 @@
-pub mod Totals
+pub mod Shares
 pub mod ChipLoads
 pub mod Gains
 pub mod PairsAndSpread

@@ -1,10 +1,14 @@
 -- The number of needed pairs, and the spread: they differ by what no partition changes.
 use Rattle.std.proofs.Common.{◌≡◌, ◌<◌, ◌≤◌, ◌+◌, ◌-◌, ◌&&◌, ◌||◌, ℕ, zero, suc, Bool, true, false, not, List, [], ◌∷◌, length, map, get_or, nat_lt, cond, eqb, ap, ap₂, refl, sym, subst, ◌∙◌, ⊎_elim, eq-eqb, ne_eqb, lt-ltb, le-ltb, if◌then◌else◌, All, arith}
+use Rattle.std.specs.Prelude.{sum_by}
 use Rattle.std.specs.List.{list_any, range_with_len, zip}
 use Rattle.std.proofs.Math.Bool.{or-false}
 use Rattle.std.proofs.lemmas.Bool.{cases_eq, cases_lt, and_left, and_right, or_from}
 use Rattle.std.proofs.lemmas.List.{length-map}
+use Rattle.std.proofs.lemmas.List.Concat.{length-flat_map}
 use Rattle.std.proofs.lemmas.List.Elements.{All-head, All-tail, All-get_or}
+use Rattle.std.proofs.lemmas.List.FromFn.{length-range_with_len}
+use Rattle.std.proofs.lemmas.List.Sums.{length-filter, sum_by-cons}
 use Rattle.vw_net.specs.declared.cell.Cell.{Cell}
 use Rattle.vw_net.specs.declared.flat.Flat.{Flat}
 use Rattle.vw_net.specs.Cells.{read_nets}
@@ -12,12 +16,13 @@ use Rattle.vw_net.specs.Order.{is_among}
 use Rattle.vw_plan.specs.Good.{pair_count}
 use Rattle.vw_net.specs.Lists.{greatest}
 use Rattle.vw_net.specs.Steps.Bits.{one_if}
+use Rattle.vw_net.proofs.SumsOverLists.{length_sum, range_agree, range_longer, range_one, sum_agree, sum_plus}
 use Rattle.vw_plan.specs.Needs.{needed_nodes, needed_pairs}
 use Rattle.vw_plan.specs.Nets.{is_needed, node_of}
 use Rattle.vw_plan.proofs.NeededPairs.{need_of}
-use Rattle.vw_part.specs.Steps.Deals.{pins_held, holders}
-use Rattle.vw_part.specs.Steps.Pins.{ArePins, times_among, total}
-use Rattle.vw_part.proofs.Totals.{among, at, length-filter, length-flat_map, range_at, range_longer, range_plus, range_same, total_ones, total_plus, total_same}
+use Rattle.vw_part.specs.Steps.Deals.{cells_held, holders}
+use Rattle.vw_part.specs.Steps.CellNets.{AreCellNets, times_among}
+use Rattle.vw_part.proofs.Shares.{among, at}
 
 -- ---- where a net is driven and read
 
@@ -47,16 +52,16 @@ more_than first second =
     ⊎_elim if_none if_some (cases_lt first 1)
 
 -- a chip holds a net where it has the cell that drives it, or one that reads it
-held_where : (own : ℕ) (chips : List ℕ) (cells : List Cell) (pins : List (List ℕ)) (chip net : ℕ) → ArePins own cells pins → length chips ≡ length cells → nat_lt 0 (pins_held chips pins chip net) ≡ (drives_at own chips net chip || list_any (reads_at net chip) (zip chips cells))
+held_where : (own : ℕ) (chips : List ℕ) (cells : List Cell) (cell_nets : List (List ℕ)) (chip net : ℕ) → AreCellNets own cells cell_nets → length chips ≡ length cells → nat_lt 0 (cells_held chips cell_nets chip net) ≡ (drives_at own chips net chip || list_any (reads_at net chip) (zip chips cells))
 held_where own [] [] [] chip net are same = refl
-held_where own [] [] (nets ∷ pins) chip net are same = absurd are
-held_where own [] (cell ∷ cells) pins chip net are same = absurd (omega (arith, same))
-held_where own (first ∷ chips) [] pins chip net are same = absurd (omega (arith, same))
+held_where own [] [] (nets ∷ cell_nets) chip net are same = absurd are
+held_where own [] (cell ∷ cells) cell_nets chip net are same = absurd (omega (arith, same))
+held_where own (first ∷ chips) [] cell_nets chip net are same = absurd (omega (arith, same))
 held_where own (first ∷ chips) (cell ∷ cells) [] chip net are same = absurd are
-held_where own (first ∷ chips) (cell ∷ cells) (nets ∷ pins) chip net are same =
-    let rest = held_where (own + 1) chips cells pins chip net are.1 (omega (arith, same)) in
+held_where own (first ∷ chips) (cell ∷ cells) (nets ∷ cell_nets) chip net are same =
+    let rest = held_where (own + 1) chips cells cell_nets chip net are.1 (omega (arith, same)) in
     let head : nat_lt 0 (at first (times_among nets net) chip) ≡ (eqb first chip && (eqb own net || is_among (read_nets cell) net)) = by_bit (eqb first chip) in
-    more_than (at first (times_among nets net) chip) (pins_held chips pins chip net)
+    more_than (at first (times_among nets net) chip) (cells_held chips cell_nets chip net)
     ∙ ap₂ (λ (one other : Bool). one || other) head rest
     ∙ sides (eqb first chip) (eqb own net) (is_among (read_nets cell) net) (drives_at (own + 1) chips net chip) (list_any (reads_at net chip) (zip chips cells))
   where
@@ -115,7 +120,7 @@ driven_is own (first ∷ chips) net chip some =
 abbrev pub at_host : Flat → ℕ → Bool
 at_host flat net = nat_lt net flat.inputs || is_among flat.outputs net
 
-module _ (flat : Flat) (pins : List (List ℕ)) (most : ℕ) (are : ArePins flat.inputs flat.cells pins) (chip_of : List ℕ) (each : length chip_of ≡ length flat.cells) (real : All (λ chip. (1 ≤ chip) × (chip ≤ most)) chip_of) where
+module _ (flat : Flat) (cell_nets : List (List ℕ)) (most : ℕ) (are : AreCellNets flat.inputs flat.cells cell_nets) (chip_of : List ℕ) (each : length chip_of ≡ length flat.cells) (real : All (λ chip. (1 ≤ chip) × (chip ≤ most)) chip_of) where
   abbrev net_total : ℕ
   net_total = flat.inputs + length flat.cells
 
@@ -165,15 +170,16 @@ module _ (flat : Flat) (pins : List (List ℕ)) (most : ℕ) (are : ArePins flat
       chip_low place = ⊎_elim (λ within. (All-get_or (λ chip. (1 ≤ chip) × (chip ≤ most)) chip_of place 0 within real).1) (λ beyond. subst (λ (chip : ℕ). chip ≤ most) (sym (past_end chip_of place beyond)) (omega arith)) (cases_lt place (length chip_of))
 
   -- the needed nodes of a net are one fewer than the touched ones
-  one_fewer : (net : ℕ) → length (needed_nodes flat chip_of net) + 1 ≡ total (λ node. one_if (touched net node)) (range_with_len 0 (suc most))
+  one_fewer : (net : ℕ) → length (needed_nodes flat chip_of net) + 1 ≡ sum_by (λ node. one_if (touched net node)) (range_with_len 0 (suc most))
   one_fewer net =
       let home = node_of flat chip_of net in
       let amount = λ (node : ℕ). one_if (is_needed flat chip_of net node) in
       let few : greatest chip_of + 1 ≤ suc most = omega (arith, low chip_of real) in
       let listed = length-filter (is_needed flat chip_of net) (range_with_len 0 (greatest chip_of + 1)) in
       let longer = range_longer amount 0 (greatest chip_of + 1) (suc most) few (λ node above. ap (λ (bit : Bool). one_if bit) (past net node (omega arith))) in
-      let both = total_plus amount (at home 1) (λ node. one_if (touched net node)) (range_with_len 0 (suc most)) (λ node. either (eqb home node) (reads net node)) in
-      omega (arith, listed, longer, both, range_at home 1 0 (suc most) (omega arith) (omega (arith, node_low net)))
+      let both = sum_plus amount (at home 1) (range_with_len 0 (suc most)) in
+      let same = sum_agree (λ node. amount node + at home 1 node) (λ node. one_if (touched net node)) (range_with_len 0 (suc most)) (λ node. either (eqb home node) (reads net node)) in
+      omega (arith, listed, longer, both, same, range_one (λ node. 1) home 0 (suc most) (omega arith) (omega (arith, node_low net)))
     where
       either : (home read : Bool) → one_if (not home && read) + one_if home ≡ one_if (home || read)
       either true read = refl
@@ -196,33 +202,30 @@ module _ (flat : Flat) (pins : List (List ℕ)) (most : ℕ) (are : ArePins flat
           ⊎_elim if_input if_cell (cases_lt net flat.inputs)
 
   -- a chip is touched where it holds the net
-  chip_touched : (net chip : ℕ) → 1 ≤ chip → touched net chip ≡ nat_lt 0 (pins_held chip_of pins chip net)
+  chip_touched : (net chip : ℕ) → 1 ≤ chip → touched net chip ≡ nat_lt 0 (cells_held chip_of cell_nets chip net)
   chip_touched net chip some =
       let away : (eqb chip 0 && is_among flat.outputs net) ≡ false = and_left (eqb chip 0) _ (ne_eqb chip 0 (λ is. omega arith)) in
       ap₂ (λ (home rest : Bool). home || (list_any (reads_at net chip) (zip chip_of flat.cells) || rest)) (sym (driven_is flat.inputs chip_of net chip some)) away
       ∙ ap (λ (rest : Bool). drives_at flat.inputs chip_of net chip || rest) (or-false (list_any (reads_at net chip) (zip chip_of flat.cells)))
-      ∙ sym (held_where flat.inputs chip_of flat.cells pins chip net are each)
+      ∙ sym (held_where flat.inputs chip_of flat.cells cell_nets chip net are each)
 
   -- net by net
-  of_net : (net : ℕ) → net < net_total → length (needed_nodes flat chip_of net) + 1 ≡ one_if (at_host flat net) + holders most chip_of pins net
+  of_net : (net : ℕ) → net < net_total → length (needed_nodes flat chip_of net) + 1 ≡ one_if (at_host flat net) + holders most chip_of cell_nets net
   of_net net below =
       let host_is : one_if (touched net 0) ≡ one_if (at_host flat net) = ap (λ (bit : Bool). one_if bit) (host net below) in
-      let chips_are : total (λ node. one_if (touched net node)) (range_with_len 1 most) ≡ holders most chip_of pins net = range_same (λ node. one_if (touched net node)) (λ chip. one_if (nat_lt 0 (pins_held chip_of pins chip net))) 1 most (λ chip above below. ap (λ (bit : Bool). one_if bit) (chip_touched net chip above)) in
-      omega (arith, one_fewer net, host_is, chips_are)
+      let chips_are : sum_by (λ node. one_if (touched net node)) (range_with_len 1 most) ≡ holders most chip_of cell_nets net = range_agree (λ node. one_if (touched net node)) (λ chip. one_if (nat_lt 0 (cells_held chip_of cell_nets chip net))) 1 most (λ chip above below. ap (λ (bit : Bool). one_if bit) (chip_touched net chip above)) in
+      omega (arith, one_fewer net, sum_by-cons (λ node. one_if (touched net node)) 0 (range_with_len 1 most), host_is, chips_are)
 
   -- and all nets together
-  pub count_is : pair_count flat chip_of + net_total ≡ total (λ net. one_if (at_host flat net)) (range_with_len 0 net_total) + total (holders most chip_of pins) (range_with_len 0 net_total)
+  pub count_is : pair_count flat chip_of + net_total ≡ sum_by (λ net. one_if (at_host flat net)) (range_with_len 0 net_total) + sum_by (holders most chip_of cell_nets) (range_with_len 0 net_total)
   unfolding needed_pairs
   count_is =
       let range = range_with_len 0 net_total in
       let needed = λ (net : ℕ). length (needed_nodes flat chip_of net) in
       let hosted = λ (net : ℕ). one_if (at_host flat net) in
       let listed = length-flat_map (λ net. map (need_of net) (needed_nodes flat chip_of net)) range in
-      let plain = total_same (λ net. length (map (need_of net) (needed_nodes flat chip_of net))) needed range (λ net. length-map (needed_nodes flat chip_of net) (need_of net)) in
-      let left = range_plus needed (λ net. 1) (λ net. hosted net + holders most chip_of pins net) 0 net_total (λ net above below. of_net net (omega arith)) in
-      let right = total_plus hosted (holders most chip_of pins) (λ net. hosted net + holders most chip_of pins net) range (λ net. refl) in
-      omega (arith, listed, plain, left, right, total_ones range, length_range 0 net_total)
-    where
-      length_range : (from many : ℕ) → length (range_with_len from many) ≡ many
-      length_range from zero = refl
-      length_range from (suc many) = omega (arith, length_range (from + 1) many)
+      let plain = sum_agree (λ net. length (map (need_of net) (needed_nodes flat chip_of net))) needed range (λ net. length-map (needed_nodes flat chip_of net) (need_of net)) in
+      let left = sum_plus needed (λ net. 1) range in
+      let each_net = range_agree (λ net. needed net + 1) (λ net. hosted net + holders most chip_of cell_nets net) 0 net_total (λ net above below. of_net net (omega arith)) in
+      let right = sum_plus hosted (holders most chip_of cell_nets) range in
+      omega (arith, listed, plain, left, each_net, right, length_sum range, length-range_with_len 0 net_total)

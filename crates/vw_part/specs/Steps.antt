@@ -1,3 +1,3 @@
 -- What functions of this crate compute, step by step. No public clause cites it.
-pub mod Pins
+pub mod CellNets
 pub mod Deals

@@ -5,9 +5,9 @@ ghost use Rattle.vw_plan.specs.Chips.{IsChip, cells_on};
 ghost use Rattle.vw_plan.specs.Good.{NoMoveHelps};
 ghost use Rattle.vw_part.specs.Faults.{IsPartFault};
 
+use crate::cell_nets::CellNets;
 use crate::deal::Deal;
 use crate::fault::PartFault;
-use crate::pins::Pins;
 use std::alloc::{AllocError, Global};
 use vw_hint::hint;
 use vw_net::{Flat, Ordered, Sequence};
@@ -21,11 +21,11 @@ fn dealt(alloc: Global, flat: &Flat, board: &Board) -> Result<Sequence<u32>, All
     ensures room { IfOk result (λ chip_of. (chip : ℕ) → cells_on chip_of chip ≤ board.now.cells) }
     ensures least { IfOk result (NoMoveHelps flat.now board.now) }
 {
-    let pins = Pins::of(alloc, flat)?;
-    let nets = u32::try_from(pins.nets).unwrap_or(u32::MAX);
-    let wishes = hint(alloc, nets, pins.of_cells.as_slice(), board)?;
-    let mut deal = Deal::of(alloc, board, &pins, wishes.as_slice())?;
-    deal.descend(board, &pins);
+    let cell_nets = CellNets::of(alloc, flat)?;
+    let nets = u32::try_from(cell_nets.nets).unwrap_or(u32::MAX);
+    let wishes = hint(alloc, nets, cell_nets.of_cells.as_slice(), board)?;
+    let mut deal = Deal::of(alloc, board, &cell_nets, wishes.as_slice())?;
+    deal.descend(board, &cell_nets);
     Ok(Sequence::of(deal.chip_of))
 }
 

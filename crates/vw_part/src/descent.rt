@@ -3,36 +3,36 @@ ghost use Rattle.std.specs.Prelude.{◌≡◌, ◌<◌, ℕ, true, false, length
 ghost use Rattle.vw_plan.specs.Chips.{IsChip};
 ghost use Rattle.vw_part.specs.Steps.Deals.{IsDeal, IsGain, HasNoGain, MayMoveTo, met, spread};
 
+use crate::cell_nets::CellNets;
 use crate::deal::Deal;
-use crate::pins::Pins;
 use vw_plan::Board;
 
 impl Deal {
     /// How many of a cell's nets a chip has cells of, where the cell may be moved to the chip; 0 where it may not.
-    fn reach(&self, board: &Board, pins: &Pins, cell: usize, chip: u32) -> usize
-        requires deal { IsDeal board.now pins.now self.now }
+    fn reach(&self, board: &Board, cell_nets: &CellNets, cell: usize, chip: u32) -> usize
+        requires deal { IsDeal board.now cell_nets.now self.now }
         requires cell { cell < length self.now.chip_of.items }
         requires chip { IsChip board.now chip }
         ensures allowed { 0 < result → MayMoveTo board.now self.now.chip_of.items cell chip }
         ensures met { MayMoveTo board.now self.now.chip_of.items cell chip
-            → result ≡ met pins.now self.now.chip_of.items cell chip }
+            → result ≡ met cell_nets.now self.now.chip_of.items cell chip }
     {
         let load = &self.loads[chip as usize];
         if self.chip_of[cell] == chip || load.cells >= board.cells() {
             return 0;
         }
-        load.met(pins.at(cell))
+        load.met(cell_nets.at(cell))
     }
 
     /// The chip to which a cell's move lowers the number of needed pairs most, where some move does. A net of the cell
     /// leaves its chip where no other cell there has it, and comes to a new chip where no cell there has it.
-    fn target(&self, board: &Board, pins: &Pins, cell: usize) -> Option<u32>
-        requires deal { IsDeal board.now pins.now self.now }
+    fn target(&self, board: &Board, cell_nets: &CellNets, cell: usize) -> Option<u32>
+        requires deal { IsDeal board.now cell_nets.now self.now }
         requires cell { cell < length self.now.chip_of.items }
-        ensures { MatchOption result (HasNoGain board.now pins.now self.now.chip_of.items cell)
-            (IsGain board.now pins.now self.now.chip_of.items cell) }
+        ensures { MatchOption result (HasNoGain board.now cell_nets.now self.now.chip_of.items cell)
+            (IsGain board.now cell_nets.now self.now.chip_of.items cell) }
     {
-        let own = pins.at(cell);
+        let own = cell_nets.at(cell);
         let from = self.chip_of[cell];
         let lone = self.loads[from as usize].lone(own);
         if lone == 0 {
@@ -41,7 +41,7 @@ impl Deal {
         let mut most = own.len() - lone;
         let mut best = None;
         for chip in 1..board.chips() + 1 {
-            let reach = self.reach(board, pins, cell, chip);
+            let reach = self.reach(board, cell_nets, cell, chip);
             if reach > most {
                 most = reach;
                 best = Some(chip);
@@ -51,20 +51,20 @@ impl Deal {
     }
 
     /// Moves a cell where that lowers the number of needed pairs most, and says whether some move does.
-    fn improve(&mut self, board: &Board, pins: &Pins, cell: usize) -> bool
-        requires deal { IsDeal board.now pins.now self.old }
+    fn improve(&mut self, board: &Board, cell_nets: &CellNets, cell: usize) -> bool
+        requires deal { IsDeal board.now cell_nets.now self.old }
         requires cell { cell < length self.old.chip_of.items }
-        ensures deal { IsDeal board.now pins.now self.new }
+        ensures deal { IsDeal board.now cell_nets.now self.new }
         ensures each { length self.new.chip_of.items ≡ length self.old.chip_of.items }
-        ensures lower { result ≡ true → spread board.now pins.now self.new.chip_of.items
-            < spread board.now pins.now self.old.chip_of.items }
+        ensures lower { result ≡ true → spread board.now cell_nets.now self.new.chip_of.items
+            < spread board.now cell_nets.now self.old.chip_of.items }
         ensures same { result ≡ false → self.new.chip_of.items ≡ self.old.chip_of.items }
         ensures settled { result ≡ false
-            → HasNoGain board.now pins.now self.new.chip_of.items cell }
+            → HasNoGain board.now cell_nets.now self.new.chip_of.items cell }
     {
-        match self.target(board, pins, cell) {
+        match self.target(board, cell_nets, cell) {
             Some(chip) => {
-                self.shift(board, cell, chip, pins);
+                self.shift(board, cell, chip, cell_nets);
                 true
             }
             None => false,
@@ -72,18 +72,18 @@ impl Deal {
     }
 
     /// Goes over all cells once, and says whether some move helped.
-    fn round(&mut self, board: &Board, pins: &Pins) -> bool
-        requires { IsDeal board.now pins.now self.old }
-        ensures deal { IsDeal board.now pins.now self.new }
+    fn round(&mut self, board: &Board, cell_nets: &CellNets) -> bool
+        requires { IsDeal board.now cell_nets.now self.old }
+        ensures deal { IsDeal board.now cell_nets.now self.new }
         ensures each { length self.new.chip_of.items ≡ length self.old.chip_of.items }
-        ensures lower { result ≡ true → spread board.now pins.now self.new.chip_of.items
-            < spread board.now pins.now self.old.chip_of.items }
+        ensures lower { result ≡ true → spread board.now cell_nets.now self.new.chip_of.items
+            < spread board.now cell_nets.now self.old.chip_of.items }
         ensures settled { result ≡ false → (cell : ℕ) → cell < length self.new.chip_of.items
-            → HasNoGain board.now pins.now self.new.chip_of.items cell }
+            → HasNoGain board.now cell_nets.now self.new.chip_of.items cell }
     {
         let mut moved = false;
         for cell in 0..self.chip_of.len() {
-            if self.improve(board, pins, cell) {
+            if self.improve(board, cell_nets, cell) {
                 moved = true;
             }
         }
@@ -91,13 +91,13 @@ impl Deal {
     }
 
     /// Goes over the cells until no move helps. Each round but the last lowers the number of needed pairs.
-    pub fn descend(&mut self, board: &Board, pins: &Pins)
-        requires { IsDeal board.now pins.now self.old }
-        ensures deal { IsDeal board.now pins.now self.new }
+    pub fn descend(&mut self, board: &Board, cell_nets: &CellNets)
+        requires { IsDeal board.now cell_nets.now self.old }
+        ensures deal { IsDeal board.now cell_nets.now self.new }
         ensures each { length self.new.chip_of.items ≡ length self.old.chip_of.items }
         ensures settled { (cell : ℕ) → cell < length self.new.chip_of.items
-            → HasNoGain board.now pins.now self.new.chip_of.items cell }
+            → HasNoGain board.now cell_nets.now self.new.chip_of.items cell }
     {
-        while self.round(board, pins) {}
+        while self.round(board, cell_nets) {}
     }
 }

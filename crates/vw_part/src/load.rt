@@ -1,8 +1,8 @@
 //! What one chip holds.
-ghost use Rattle.std.specs.Prelude.{◌≡◌, ◌+◌, ◌<◌, ◌≤◌, ◌^◌, ◌==◌, ℕ, nat_lt, length, replicate, slice_index, IfOk};
+ghost use Rattle.std.specs.Prelude.{◌≡◌, ◌+◌, ◌<◌, ◌≤◌, ◌^◌, ◌==◌, ℕ, nat_lt, length, replicate, slice_index, sum_by, IfOk};
 ghost use Rattle.std.specs.List.{All};
 ghost use Rattle.std.specs.Vec.{vec_len};
-ghost use Rattle.vw_part.specs.Steps.Pins.{times_among, total};
+ghost use Rattle.vw_part.specs.Steps.CellNets.{times_among};
 ghost use Rattle.vw_net.specs.Steps.Bits.{one_if};
 
 use std::alloc::{AllocError, Global};
@@ -63,7 +63,7 @@ impl Load {
 
     /// How many of these nets only one cell of the chip drives or reads.
     pub fn lone(&self, nets: &[u32]) -> usize
-        ensures { result ≡ total
+        ensures { result ≡ sum_by
             (λ net. one_if (slice_index self.now.counts.items net == 1)) nets.now }
     {
         let mut lone = 0;
@@ -77,7 +77,7 @@ impl Load {
 
     /// How many of these nets a cell of the chip drives or reads.
     pub fn met(&self, nets: &[u32]) -> usize
-        ensures { result ≡ total
+        ensures { result ≡ sum_by
             (λ net. one_if (nat_lt 0 (slice_index self.now.counts.items net))) nets.now }
     {
         let mut met = 0;

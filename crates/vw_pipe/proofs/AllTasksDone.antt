@@ -113,7 +113,7 @@ module _ (ordered : Ordered) (board : Board) (plan : Plan) (routes : List Route)
       let its_usable = usable_same route.net in
       record {
         when_usable = λ hop is. omega (arith, first hop is, its_usable);
-        earliest = subst (λ (moment : ℕ). AreEarliest board plan moment hops) (sym its_usable) (early_from board plan draft.table.taken in_use sent.before ready (steps_of route.nodes) hops sent.sent sent.stays);
+        earliest = subst (λ (microcycle : ℕ). AreEarliest board plan microcycle hops) (sym its_usable) (early_from board plan draft.table.taken in_use sent.before ready (steps_of route.nodes) hops sent.sent sent.stays);
       }
 
   pub all_well : All (IsSentWell planned) plan.wires

@@ -7,7 +7,8 @@ use Rattle.std.specs.HashMap.{HashMap}
 use Rattle.vw_plan.specs.declared.board.Board.{Board}
 use Rattle.vw_plan.specs.declared.need.Route.{Route}
 use Rattle.vw_plan.specs.declared.wire.Hop.{Hop}
-use Rattle.vw_leads.specs.Pairs.{first_pair, is_number_pair, number_if, pair_in, HasPairs}
+use Rattle.vw_net.specs.FirstFound.{found_if}
+use Rattle.vw_leads.specs.Pairs.{first_pair, is_number_pair, pair_in, HasPairs}
 use Rattle.vw_net.proofs.Orders.{eqb_comm}
 use Rattle.vw_plan.specs.Lead.{after_last}
 use Rattle.vw_leads.specs.Leads.{arrival_by}
@@ -22,7 +23,7 @@ module _ (node net : ℕ) where
   abbrev is_to : Route → Bool
   is_to route = eqb route.net net && eqb route.to node
 
-  finds_one : (from : ℕ) (route : Route) (routes : List Route) (sent : List Hop) (hops : List (List Hop)) (here : Bool) → is_to route ≡ here → (rest : Option ℕ) → FindsFrom (suc from) routes hops rest → FindsFrom from (route ∷ routes) (sent ∷ hops) (option_or (number_if here from) rest)
+  finds_one : (from : ℕ) (route : Route) (routes : List Route) (sent : List Hop) (hops : List (List Hop)) (here : Bool) → is_to route ≡ here → (rest : Option ℕ) → FindsFrom (suc from) routes hops rest → FindsFrom from (route ∷ routes) (sent ∷ hops) (option_or (found_if here from) rest)
   finds_one from route routes sent hops true is rest finds =
       let none : from - from ≡ 0 = omega arith in
       (omega arith, omega arith, rw (none, is) refl)
@@ -38,7 +39,7 @@ module _ (node net : ℕ) where
   finds_from from [] hops long = refl
   finds_from from (route ∷ routes) [] long = absurd (omega (arith, long))
   finds_from from (route ∷ routes) (sent ∷ hops) long =
-      subst (λ (here : Bool). FindsFrom from (route ∷ routes) (sent ∷ hops) (option_or (number_if here from) (first_pair (suc from) (route_pairs routes) net node))) (turned_to route)
+      subst (λ (here : Bool). FindsFrom from (route ∷ routes) (sent ∷ hops) (option_or (found_if here from) (first_pair (suc from) (route_pairs routes) net node))) (turned_to route)
       (finds_one from route routes sent hops (is_to route) refl (first_pair (suc from) (route_pairs routes) net node) (finds_from (suc from) routes hops (omega (arith, long))))
 
   -- the number of a route leads to the hops

@@ -14,7 +14,7 @@ use Rattle.vw_plan.specs.Lead.{after_last, arrival}
 use Rattle.vw_plan.specs.Nets.{greatest_read, node_of}
 use Rattle.vw_plan.proofs.GreatestReads.{greatest_read-small}
 use Rattle.vw_pipe.specs.Steps.Leads.{hops_to, lead_so_far}
-use Rattle.vw_pipe.proofs.UntouchedMoments.{hops_to-place, route_place}
+use Rattle.vw_pipe.proofs.UntouchedMicrocycles.{hops_to-place, route_place}
 
 pub last_low : (links : List Link) (top : ℕ) (hops : List Hop) → All (λ hop. arrival links hop + 1 ≤ top) hops → after_last links hops ≤ top
 last_low links top [] low = omega arith

@@ -17,10 +17,10 @@ use Rattle.vw_pipe.specs.declared.draft.Draft.{Draft}
 use Rattle.vw_pipe.specs.declared.task.Task.{Task}
 use Rattle.vw_pipe.specs.Steps.SentHops.{AreSent}
 use Rattle.vw_pipe.specs.Steps.Turns.{AreTurns}
-use Rattle.vw_pipe.specs.Steps.Drafts.{HasLead, hops_at, moment_limit}
+use Rattle.vw_pipe.specs.Steps.Drafts.{HasLead, hops_at, microcycle_limit}
 use Rattle.vw_pipe.specs.Steps.Underway.{AreTasks, IsSentOff, IsUnderway, is_passed, is_task, lead_at_place, task_at}
 use Rattle.vw_pipe.proofs.DoneTasks.{done_at, is_passed-more, is_task-true, kind_at, not_done_before}
-use Rattle.vw_pipe.proofs.UntouchedMoments.{AreUntouched, IsHomeDone, RestsOnDone, place_kept, ready_kept}
+use Rattle.vw_pipe.proofs.UntouchedMicrocycles.{AreUntouched, IsHomeDone, RestsOnDone, place_kept, ready_kept}
 use Rattle.vw_pipe.proofs.LeadLimits.{read_low}
 use Rattle.vw_net.proofs.ReadyNets.{order_within}
 use Rattle.vw_pipe.proofs.SettledReads.{home_before, home_later, settled_before, settled_later}
@@ -94,8 +94,8 @@ module _ (ordered : Ordered) (board : Board) (chip_of : List ℕ) (routes : List
       hops_same = λ number done. ap (λ hops. slice_index_or hops.items number []) has.hops;
     }
 
-    low : lead_at_place ordered board chip_of routes draft.hops.items draft.leads.items own ≤ moment_limit (length draft.table.taken)
-    low = read_low ordered.flat board chip_of routes draft.hops.items draft.leads.items (moment_limit (length draft.table.taken)) way.fit.long way.fit.early.sent way.fit.early.soon (slice_index chip_of (slice_index ordered.order own)) (slice_get ordered.flat.cells (slice_index ordered.order own))
+    low : lead_at_place ordered board chip_of routes draft.hops.items draft.leads.items own ≤ microcycle_limit (length draft.table.taken)
+    low = read_low ordered.flat board chip_of routes draft.hops.items draft.leads.items (microcycle_limit (length draft.table.taken)) way.fit.long way.fit.early.sent way.fit.early.soon (slice_index chip_of (slice_index ordered.order own)) (slice_get ordered.flat.cells (slice_index ordered.order own))
 
     off : (number : ℕ) (route : Route) → slice_get routes number ≡ Some route → is_passed tasks count true number ≡ true → IsSentOff ordered board chip_of routes draft route (hops_at draft number) → IsSentOff ordered board chip_of routes new route (hops_at new number)
     off number route is done sent = record {
@@ -129,7 +129,7 @@ module _ (ordered : Ordered) (board : Board) (chip_of : List ℕ) (routes : List
         widths = ap (λ table. table.widths) has.table ∙ way.fit.widths;
         early = record {
           few = rw has.table way.fit.early.few;
-          soon = rw (has.table, has.leads) (All-set (λ lead. lead ≤ moment_limit (length draft.table.taken)) draft.leads.items own_net _ low way.fit.early.soon);
+          soon = rw (has.table, has.leads) (All-set (λ lead. lead ≤ microcycle_limit (length draft.table.taken)) draft.leads.items own_net _ low way.fit.early.soon);
           sent = rw (has.table, has.hops) way.fit.early.sent;
           last = rw (has.table, has.last) way.fit.early.last;
         };

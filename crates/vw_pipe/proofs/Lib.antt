@@ -8,12 +8,12 @@ pub mod TaskWords
 pub mod Agenda
 pub mod NothingDone
 pub mod NeededRoutes
-pub mod UntouchedMoments
+pub mod UntouchedMicrocycles
 pub mod SettledReads
 pub mod TurnsKept
 pub mod TaskReady
 pub mod LeadLimits
-pub mod KnownMoments
+pub mod KnownMicrocycles
 pub mod LeadWorked
 pub mod RouteSent
 pub mod TaskDone

@@ -6,7 +6,8 @@ use Rattle.vw_net.proofs.Orders.{eqb_comm}
 use Rattle.vw_plan.specs.declared.link.Link.{Link}
 use Rattle.vw_plan.specs.Walks.{has_link}
 use Rattle.vw_leads.specs.Links.{link_number, link_pairs}
-use Rattle.vw_leads.specs.Pairs.{first_pair, is_number_pair, number_if}
+use Rattle.vw_net.specs.FirstFound.{found_if}
+use Rattle.vw_leads.specs.Pairs.{first_pair, is_number_pair}
 use Rattle.vw_pipe.specs.Steps.SentHops.{link_place}
 
 number_from : (links : List Link) (number from to : ℕ) → has_link links from to ≡ true → first_pair number (link_pairs links) from to ≡ Some (number + link_place links from to)
@@ -17,11 +18,11 @@ number_from (link ∷ links) number from to there =
     let rest = first_pair (suc number) (link_pairs links) from to in
     let if_here = λ (is : here ≡ true).
     let none : number ≡ number + link_place (link ∷ links) from to = rw is (omega arith) in
-    let whole : first_pair number (link_pairs (link ∷ links)) from to ≡ Some (number + link_place (link ∷ links) from to) = ap (λ (bit : Bool). option_or (number_if bit number) rest) (turned ∙ is) ∙ ap Some none in whole in
+    let whole : first_pair number (link_pairs (link ∷ links)) from to ≡ Some (number + link_place (link ∷ links) from to) = ap (λ (bit : Bool). option_or (found_if bit number) rest) (turned ∙ is) ∙ ap Some none in whole in
     let if_later = λ (is : here ≡ false).
     let later : has_link links from to ≡ true = sym (ap (λ (bit : Bool). bit || has_link links from to) is) ∙ there in
     let sum : suc number + link_place links from to ≡ number + link_place (link ∷ links) from to = rw is (omega arith) in
-    let whole : first_pair number (link_pairs (link ∷ links)) from to ≡ Some (number + link_place (link ∷ links) from to) = ap (λ (bit : Bool). option_or (number_if bit number) rest) (turned ∙ is) ∙ number_from links (suc number) from to later ∙ ap Some sum in whole in
+    let whole : first_pair number (link_pairs (link ∷ links)) from to ≡ Some (number + link_place (link ∷ links) from to) = ap (λ (bit : Bool). option_or (found_if bit number) rest) (turned ∙ is) ∙ number_from links (suc number) from to later ∙ ap Some sum in whole in
     ⊎_elim if_here if_later (cases_Bool here)
 
 pub number_there : (links : List Link) (from to : ℕ) → has_link links from to ≡ true → link_number links from to ≡ Some (link_place links from to)

@@ -24,11 +24,11 @@ use Rattle.vw_pipe.specs.declared.task.Task.{Task}
 use Rattle.vw_pipe.specs.Steps.SentHops.{AreSent, hop_link, taken_by}
 use Rattle.vw_pipe.specs.Steps.FinishedSchedules.{all_hops, uses}
 use Rattle.vw_pipe.specs.Steps.Turns.{AreTurns}
-use Rattle.vw_pipe.specs.Steps.Drafts.{Does, IsSentMore, hops_at, moment_limit}
+use Rattle.vw_pipe.specs.Steps.Drafts.{Does, IsSentMore, hops_at, microcycle_limit}
 use Rattle.vw_pipe.specs.Steps.Leads.{usable_so_far}
 use Rattle.vw_pipe.specs.Steps.Underway.{AreTasks, IsOfKind, IsSentOff, IsUnderway, is_passed, is_task, ready_by, task_at}
 use Rattle.vw_pipe.proofs.DoneTasks.{is_passed-more, is_task-own, is_task-true, kind_at, not_done_before}
-use Rattle.vw_pipe.proofs.UntouchedMoments.{AreUntouched, place_kept, ready_kept}
+use Rattle.vw_pipe.proofs.UntouchedMicrocycles.{AreUntouched, place_kept, ready_kept}
 use Rattle.vw_pipe.proofs.LeadLimits.{last_low, lead_low}
 use Rattle.vw_pipe.proofs.TaskReady.{its_route, room, route_linked, sent_long}
 use Rattle.std.proofs.lemmas.Option.{same_Some}
@@ -92,7 +92,7 @@ module _ (ordered : Ordered) (board : Board) (chip_of : List ℕ) (routes : List
       sent_hops = hops_at new number
 
       abbrev top : ℕ
-      top = moment_limit (length new.table.taken)
+      top = microcycle_limit (length new.table.taken)
 
       its : IsRoute ordered.flat board chip_of route
       its = its_route ordered board chip_of routes are_routes number route there
@@ -117,8 +117,8 @@ module _ (ordered : Ordered) (board : Board) (chip_of : List ℕ) (routes : List
       taken_long : length new.table.taken ≡ length draft.table.taken + length sent_hops
       taken_long = let long : length (map (taken_by board) sent_hops) ≡ length sent_hops = length-map sent_hops (taken_by board) in omega (arith, ap length has.taken, length-append draft.table.taken (map (taken_by board) sent_hops), long)
 
-      ready_low : ready ≤ moment_limit (length draft.table.taken) + 15
-      ready_low = omega (arith, lead_low ordered.flat board chip_of routes draft.hops.items draft.leads.items (moment_limit (length draft.table.taken)) way.fit.long way.fit.early.sent way.fit.early.soon (node_of ordered.flat chip_of route.net) route.net, settle_low board (is_gate (driving_cell ordered.flat route.net) && eqb (node_of ordered.flat chip_of route.net) (node_of ordered.flat chip_of route.net)))
+      ready_low : ready ≤ microcycle_limit (length draft.table.taken) + 15
+      ready_low = omega (arith, lead_low ordered.flat board chip_of routes draft.hops.items draft.leads.items (microcycle_limit (length draft.table.taken)) way.fit.long way.fit.early.sent way.fit.early.soon (node_of ordered.flat chip_of route.net) route.net, settle_low board (is_gate (driving_cell ordered.flat route.net) && eqb (node_of ordered.flat chip_of route.net) (node_of ordered.flat chip_of route.net)))
 
       sent_low : All (λ hop. arrival board.links hop + 1 ≤ top) sent_hops
       sent_low place default early = omega (arith, has.soon place default early, ready_low, as_long, taken_long, early)
@@ -127,7 +127,7 @@ module _ (ordered : Ordered) (board : Board) (chip_of : List ℕ) (routes : List
       off other its_own is done sent = record {
         before = sent.before;
         sent = subst (λ (hops : List Hop). AreSent board sent.before (ready_by ordered board chip_of routes new.hops.items new.leads.items its_own.net) (steps_of its_own.nodes) hops) (sym (hops_other other (not_own other done)))
-            (subst (λ (moment : ℕ). AreSent board sent.before moment (steps_of its_own.nodes) (hops_at draft other)) (sym (ready_kept ordered board chip_of routes tasks count draft.hops.items new.hops.items draft.leads.items new.leads.items kept its_own.net (home_done ordered board chip_of routes turns tasks each behind are are_routes count within other its_own is done))) sent.sent);
+            (subst (λ (microcycle : ℕ). AreSent board sent.before microcycle (steps_of its_own.nodes) (hops_at draft other)) (sym (ready_kept ordered board chip_of routes tasks count draft.hops.items new.hops.items draft.leads.items new.leads.items kept its_own.net (home_done ordered board chip_of routes turns tasks each behind are are_routes count within other its_own is done))) sent.sent);
         stays = λ link pin at is.
             ap (λ (list : List Taken). is_taken list link pin at) has.taken ∙ list_any-append (λ slot. (eqb slot.link link && eqb slot.at at) && eqb slot.pin pin) draft.table.taken (map (taken_by board) sent_hops)
             ∙ or_left _ _ (sent.stays link pin at (subst (λ (hops : List Hop). is_taken (sent.before ++ map (taken_by board) hops) link pin at ≡ true) (hops_other other (not_own other done)) is));
@@ -139,7 +139,7 @@ module _ (ordered : Ordered) (board : Board) (chip_of : List ℕ) (routes : List
       own_off : IsSentOff ordered board chip_of routes new route sent_hops
       own_off = record {
         before = draft.table.taken;
-        sent = subst (λ (moment : ℕ). AreSent board draft.table.taken moment (steps_of route.nodes) sent_hops) (sym ready_now) has.sent;
+        sent = subst (λ (microcycle : ℕ). AreSent board draft.table.taken microcycle (steps_of route.nodes) sent_hops) (sym ready_now) has.sent;
         stays = λ link pin at is. ap (λ (list : List Taken). is_taken list link pin at) has.taken ∙ is;
       }
 
@@ -169,9 +169,9 @@ module _ (ordered : Ordered) (board : Board) (chip_of : List ℕ) (routes : List
           widths = has.widths ∙ way.fit.widths;
           early = record {
             few = omega (arith, taken_long, as_long, room ordered board chip_of routes turns tasks are are_routes count draft within way number route there none_yet);
-            soon = subst (λ leads. All (λ lead. lead ≤ top) leads.items) (sym has.leads) (All-weaker (λ lead. lead ≤ moment_limit (length draft.table.taken)) (λ lead. lead ≤ top) (λ lead low. omega (arith, low, taken_long)) draft.leads.items way.fit.early.soon);
+            soon = subst (λ leads. All (λ lead. lead ≤ top) leads.items) (sym has.leads) (All-weaker (λ lead. lead ≤ microcycle_limit (length draft.table.taken)) (λ lead. lead ≤ top) (λ lead low. omega (arith, low, taken_long)) draft.leads.items way.fit.early.soon);
             sent = subst (All (All (λ hop. arrival board.links hop + 1 ≤ top))) (sym has.hops) (All-set (All (λ hop. arrival board.links hop + 1 ≤ top)) draft.hops.items number sent_hops sent_low
-                (All-weaker (All (λ hop. arrival board.links hop + 1 ≤ moment_limit (length draft.table.taken))) (All (λ hop. arrival board.links hop + 1 ≤ top)) (λ hops low. All-weaker (λ hop. arrival board.links hop + 1 ≤ moment_limit (length draft.table.taken)) (λ hop. arrival board.links hop + 1 ≤ top) (λ hop is. omega (arith, is, taken_long)) hops low) draft.hops.items way.fit.early.sent));
+                (All-weaker (All (λ hop. arrival board.links hop + 1 ≤ microcycle_limit (length draft.table.taken))) (All (λ hop. arrival board.links hop + 1 ≤ top)) (λ hops low. All-weaker (λ hop. arrival board.links hop + 1 ≤ microcycle_limit (length draft.table.taken)) (λ hop. arrival board.links hop + 1 ≤ top) (λ hop is. omega (arith, is, taken_long)) hops low) draft.hops.items way.fit.early.sent));
             last = omega (arith, has.last, way.fit.early.last, taken_long, last_low board.links top sent_hops sent_low);
           };
         };

@@ -1,4 +1,4 @@
--- How many hops and how late moments a schedule has.
+-- How many hops and how late microcycles a schedule has.
 use Rattle.std.proofs.Common.{◌≡◌, ◌<◌, ◌≤◌, ◌+◌, ◌^◌, ◌&&◌, ℕ, suc, true, false, List, [], ◌∷◌, length, eqb, slice_index, if◌then◌else◌, Some, ap, ap₂, refl, sym, ◌∙◌, arith, ⊎_elim}
 use Rattle.std.specs.Prelude.{slice_get}
 use Rattle.std.specs.List.{All, AllZip, sum_by}
@@ -19,8 +19,8 @@ use Rattle.vw_plan.specs.Lead.{after_last, arrival}
 use Rattle.vw_plan.specs.Nets.{driving_cell, node_of}
 use Rattle.vw_plan.specs.Routes.{steps_of}
 use Rattle.vw_pipe.specs.declared.draft.Draft.{Draft}
-use Rattle.vw_pipe.specs.Steps.FinishedSchedules.{IsAlong, cell_moment, latest}
-use Rattle.vw_pipe.specs.Steps.Drafts.{IsFit, moment_limit}
+use Rattle.vw_pipe.specs.Steps.FinishedSchedules.{IsAlong, cell_microcycle, latest}
+use Rattle.vw_pipe.specs.Steps.Drafts.{IsFit, microcycle_limit}
 use Rattle.vw_pipe.specs.Steps.Leads.{hops_to, lead_so_far, usable_so_far, wires_of}
 use Rattle.vw_pipe.proofs.Scheduled.{last_within, latest_at_most}
 
@@ -54,26 +54,26 @@ hops_to_early links bound node net (route ∷ routes) (sent ∷ hops) early =
     ⊎_elim if_here if_later (cases_Bool (eqb route.net net && eqb route.to node))
 
 module _ (ordered : Ordered) (board : Board) (chip_of : List ℕ) (routes : List Route) (draft : Draft) (fit : IsFit ordered board routes draft) where
-  abbrev last_moment : ℕ
-  last_moment = moment_limit (length draft.table.taken)
+  abbrev last_microcycle : ℕ
+  last_microcycle = microcycle_limit (length draft.table.taken)
 
-  pub lead_early : (node net : ℕ) → lead_so_far ordered.flat board chip_of routes draft.hops.items draft.leads.items node net ≤ last_moment
+  pub lead_early : (node net : ℕ) → lead_so_far ordered.flat board chip_of routes draft.hops.items draft.leads.items node net ≤ last_microcycle
   lead_early node net =
       let home = eqb (node_of ordered.flat chip_of net) node in
-      let at_home : slice_index draft.leads.items net ≤ last_moment = ⊎_elim (λ inside. fit.early.soon net 0 inside) (λ past. let none : slice_index draft.leads.items net ≡ 0 = get_or_past draft.leads.items net 0 past in omega (arith, none)) (cases_lt net (length draft.leads.items)) in
-      let away = hops_to_early board.links last_moment node net routes draft.hops.items fit.early.sent in
-      let if_home = λ (is : home ≡ true). let whole : lead_so_far ordered.flat board chip_of routes draft.hops.items draft.leads.items node net ≤ last_moment = rw is at_home in whole in
-      let if_away = λ (is : home ≡ false). let whole : lead_so_far ordered.flat board chip_of routes draft.hops.items draft.leads.items node net ≤ last_moment = rw is away in whole in
+      let at_home : slice_index draft.leads.items net ≤ last_microcycle = ⊎_elim (λ inside. fit.early.soon net 0 inside) (λ past. let none : slice_index draft.leads.items net ≡ 0 = get_or_past draft.leads.items net 0 past in omega (arith, none)) (cases_lt net (length draft.leads.items)) in
+      let away = hops_to_early board.links last_microcycle node net routes draft.hops.items fit.early.sent in
+      let if_home = λ (is : home ≡ true). let whole : lead_so_far ordered.flat board chip_of routes draft.hops.items draft.leads.items node net ≤ last_microcycle = rw is at_home in whole in
+      let if_away = λ (is : home ≡ false). let whole : lead_so_far ordered.flat board chip_of routes draft.hops.items draft.leads.items node net ≤ last_microcycle = rw is away in whole in
       ⊎_elim if_home if_away (cases_Bool home)
 
-  pub usable_early : (node net : ℕ) → usable_so_far ordered.flat board chip_of routes draft.hops.items draft.leads.items node net ≤ last_moment + 15
+  pub usable_early : (node net : ℕ) → usable_so_far ordered.flat board chip_of routes draft.hops.items draft.leads.items node net ≤ last_microcycle + 15
   usable_early node net =
       let gate = is_gate (driving_cell ordered.flat net) && eqb (node_of ordered.flat chip_of net) node in
       let settle : (if gate then board.settle else 0) ≤ 15 = elim gate as (λ is. (if is then board.settle else 0) ≤ 15) [ true ↦ board.quick | false ↦ omega arith ] in
       omega (arith, lead_early node net, settle)
 
-  pub latest_early : latest (cell_moment ordered.flat board chip_of routes draft.hops.items draft.leads.items) 0 ordered.flat.cells ≤ last_moment + 15
-  latest_early = latest_at_most (cell_moment ordered.flat board chip_of routes draft.hops.items draft.leads.items) (last_moment + 15) 0 ordered.flat.cells each where
-    each : (number : ℕ) (cell : Cell) → slice_get ordered.flat.cells number ≡ Some cell → cell_moment ordered.flat board chip_of routes draft.hops.items draft.leads.items (0 + number) cell ≤ last_moment + 15
+  pub latest_early : latest (cell_microcycle ordered.flat board chip_of routes draft.hops.items draft.leads.items) 0 ordered.flat.cells ≤ last_microcycle + 15
+  latest_early = latest_at_most (cell_microcycle ordered.flat board chip_of routes draft.hops.items draft.leads.items) (last_microcycle + 15) 0 ordered.flat.cells each where
+    each : (number : ℕ) (cell : Cell) → slice_get ordered.flat.cells number ≡ Some cell → cell_microcycle ordered.flat board chip_of routes draft.hops.items draft.leads.items (0 + number) cell ≤ last_microcycle + 15
     each number (Gate ins cover) is = omega arith
     each number (Latch d init) is = usable_early (slice_index chip_of (0 + number)) d

@@ -30,7 +30,7 @@ use Rattle.vw_plan.specs.declared.wire.Wire.{Wire}
 use Rattle.vw_plan.specs.Earliest.{AreEarliest}
 use Rattle.vw_pipe.specs.declared.draft.Draft.{Draft}
 use Rattle.vw_pipe.specs.Schedules.{IsSchedule}
-use Rattle.vw_pipe.specs.Steps.FinishedSchedules.{IsMadeOf, IsAlong, IsTasksDone, IsSentWell, all_hops, cell_moment, latest}
+use Rattle.vw_pipe.specs.Steps.FinishedSchedules.{IsMadeOf, IsAlong, IsTasksDone, IsSentWell, all_hops, cell_microcycle, latest}
 use Rattle.vw_pipe.specs.Steps.Leads.{wires_of}
 use Rattle.vw_pipe.proofs.WiresOfRoutes.{as_many, before_last, follows, leads_along, once_apart}
 use Rattle.vw_plan.proofs.LeadLevels.{LeadsFollowDrivers}
@@ -38,25 +38,25 @@ use Rattle.vw_pipe.proofs.BroughtLeads.{usable_is}
 use Rattle.vw_pipe.proofs.WellSent.{hops_same}
 use Rattle.vw_pipe.proofs.StepsOf.{steps_long}
 
--- ---- the greatest of some moments
+-- ---- the greatest of some microcycles
 
-at_most_latest : (moment_of : ℕ → Cell → ℕ) (from : ℕ) (cells : List Cell) (number : ℕ) (cell : Cell) → slice_get cells number ≡ Some cell → moment_of (from + number) cell ≤ latest moment_of from cells
-at_most_latest moment_of from [] number cell is = cc
-at_most_latest moment_of from (first ∷ cells) zero cell is =
+at_most_latest : (microcycle_of : ℕ → Cell → ℕ) (from : ℕ) (cells : List Cell) (number : ℕ) (cell : Cell) → slice_get cells number ≡ Some cell → microcycle_of (from + number) cell ≤ latest microcycle_of from cells
+at_most_latest microcycle_of from [] number cell is = cc
+at_most_latest microcycle_of from (first ∷ cells) zero cell is =
     let same : first ≡ cell = cc in
     let none : from + 0 ≡ from = omega arith in
-    let its : moment_of (from + 0) cell ≡ moment_of from first = ap₂ moment_of none (sym same) in
+    let its : microcycle_of (from + 0) cell ≡ microcycle_of from first = ap₂ microcycle_of none (sym same) in
     omega (arith, its)
-at_most_latest moment_of from (first ∷ cells) (suc number) cell is =
+at_most_latest microcycle_of from (first ∷ cells) (suc number) cell is =
     let next : from + suc number ≡ suc from + number = omega arith in
-    omega (arith, ap (λ (at : ℕ). moment_of at cell) next, at_most_latest moment_of (suc from) cells number cell is)
+    omega (arith, ap (λ (at : ℕ). microcycle_of at cell) next, at_most_latest microcycle_of (suc from) cells number cell is)
 
-pub latest_at_most : (moment_of : ℕ → Cell → ℕ) (limit from : ℕ) (cells : List Cell) → ((number : ℕ) (cell : Cell) → slice_get cells number ≡ Some cell → moment_of (from + number) cell ≤ limit) → latest moment_of from cells ≤ limit
-latest_at_most moment_of limit from [] each = omega arith
-latest_at_most moment_of limit from (first ∷ cells) each =
+pub latest_at_most : (microcycle_of : ℕ → Cell → ℕ) (limit from : ℕ) (cells : List Cell) → ((number : ℕ) (cell : Cell) → slice_get cells number ≡ Some cell → microcycle_of (from + number) cell ≤ limit) → latest microcycle_of from cells ≤ limit
+latest_at_most microcycle_of limit from [] each = omega arith
+latest_at_most microcycle_of limit from (first ∷ cells) each =
     let none : from + 0 ≡ from = omega arith in
-    let rest = latest_at_most moment_of limit (suc from) cells (λ number cell is. let next : from + suc number ≡ suc from + number = omega arith in subst (λ (at : ℕ). moment_of at cell ≤ limit) next (each (suc number) cell is)) in
-    omega (arith, rest, each 0 first refl, ap (λ (at : ℕ). moment_of at first) none)
+    let rest = latest_at_most microcycle_of limit (suc from) cells (λ number cell is. let next : from + suc number ≡ suc from + number = omega arith in subst (λ (at : ℕ). microcycle_of at cell ≤ limit) next (each (suc number) cell is)) in
+    omega (arith, rest, each 0 first refl, ap (λ (at : ℕ). microcycle_of at first) none)
 
 pub last_within : (links : List Link) (limit : ℕ) (hops : List Hop) → All (λ hop. arrival links hop < limit) hops → after_last links hops ≤ limit
 last_within links limit [] within = omega arith
@@ -130,11 +130,11 @@ module _ (ordered : Ordered) (board : Board) (plan : Plan) where
       All-head (λ net. net < nets) d [] (cell_fits nets flat.cells number (Latch d init) flat.cells_fit is).1
 
   module _ (chip_of : List ℕ) (routes : List Route) (draft : Draft) (done : IsTasksDone ordered board chip_of routes draft) (law : (one : PlannedBoard) → LeadsFollowDrivers one) (has : IsMadeOf chip_of routes draft.hops.items plan) where
-    abbrev moment_of : ℕ → Cell → ℕ
-    moment_of = cell_moment flat board chip_of routes draft.hops.items draft.leads.items
+    abbrev microcycle_of : ℕ → Cell → ℕ
+    microcycle_of = cell_microcycle flat board chip_of routes draft.hops.items draft.leads.items
 
-    -- what a latch reads is usable at its moment
-    latch_is : (number d : ℕ) (init : Init) → slice_get flat.cells number ≡ Some (Latch d init) → usable planned (home planned (flat.inputs + number)) d ≡ moment_of number (Latch d init)
+    -- what a latch reads is usable at its microcycle
+    latch_is : (number d : ℕ) (init : Init) → slice_get flat.cells number ≡ Some (Latch d init) → usable planned (home planned (flat.inputs + number)) d ≡ microcycle_of number (Latch d init)
     latch_is number d init is =
         let no_input : nat_lt (flat.inputs + number) flat.inputs ≡ false = le-ltb (flat.inputs + number) flat.inputs (omega arith) in
         let its_number : flat.inputs + number - flat.inputs ≡ number = omega arith in
@@ -142,33 +142,33 @@ module _ (ordered : Ordered) (board : Board) (plan : Plan) where
         let within : d < flat.inputs + length flat.cells = latch_within number d init is in
         ap (λ (node : ℕ). usable planned node d) its_home
         ∙ usable_is ordered board plan routes draft.hops.items draft.leads.items has.wires (law planned) (slice_index plan.chip_of number) d (done.leads plan has d within)
-        ∙ ap (λ (chips : List ℕ). cell_moment flat board chips routes draft.hops.items draft.leads.items number (Latch d init)) has.chips
+        ∙ ap (λ (chips : List ℕ). cell_microcycle flat board chips routes draft.hops.items draft.leads.items number (Latch d init)) has.chips
 
-    -- so the greatest of the moments is within the period where latches are in time
-    latest_within : ((number d : ℕ) (init : Init) → slice_get flat.cells number ≡ Some (Latch d init) → usable planned (home planned (flat.inputs + number)) d ≤ plan.period) → latest moment_of 0 flat.cells ≤ plan.period
-    latest_within in_time = latest_at_most moment_of plan.period 0 flat.cells each where
-      each : (number : ℕ) (cell : Cell) → slice_get flat.cells number ≡ Some cell → moment_of (0 + number) cell ≤ plan.period
+    -- so the greatest of the microcycles is within the period where latches are in time
+    latest_within : ((number d : ℕ) (init : Init) → slice_get flat.cells number ≡ Some (Latch d init) → usable planned (home planned (flat.inputs + number)) d ≤ plan.period) → latest microcycle_of 0 flat.cells ≤ plan.period
+    latest_within in_time = latest_at_most microcycle_of plan.period 0 flat.cells each where
+      each : (number : ℕ) (cell : Cell) → slice_get flat.cells number ≡ Some cell → microcycle_of (0 + number) cell ≤ plan.period
       each number (Gate ins cover) is = omega arith
-      each number (Latch d init) is = let same : 0 + number ≡ number = omega arith in subst (λ (at : ℕ). moment_of at (Latch d init) ≤ plan.period) (sym same) (omega (arith, latch_is number d init is, in_time number d init is))
+      each number (Latch d init) is = let same : 0 + number ≡ number = omega arith in subst (λ (at : ℕ). microcycle_of at (Latch d init) ≤ plan.period) (sym same) (omega (arith, latch_is number d init is, in_time number d init is))
 
     -- a sound plan with these wires has no shorter period
-    pub period_long : IsSound planned → max (max draft.after 1) (latest moment_of 0 flat.cells) ≤ plan.period
+    pub period_long : IsSound planned → max (max draft.after 1) (latest microcycle_of 0 flat.cells) ≤ plan.period
     period_long sound =
         let rising : All (IsRising planned) (wires_of routes draft.hops.items) = subst (All (IsRising planned)) has.wires sound.rising_microcycles in
         omega (arith, sound.a_period, done.last, last_all routes draft.hops.items done.fit.long rising, latest_within sound.latches_in_time)
 
     -- the latches are in time
-    latches : max (max draft.after 1) (latest moment_of 0 flat.cells) ≤ plan.period → (number d : ℕ) (init : Init) → slice_get flat.cells number ≡ Some (Latch d init) → usable planned (home planned (flat.inputs + number)) d ≤ plan.period
+    latches : max (max draft.after 1) (latest microcycle_of 0 flat.cells) ≤ plan.period → (number d : ℕ) (init : Init) → slice_get flat.cells number ≡ Some (Latch d init) → usable planned (home planned (flat.inputs + number)) d ≤ plan.period
     latches long number d init is =
         let same : 0 + number ≡ number = omega arith in
-        omega (arith, long, latch_is number d init is, at_most_latest moment_of 0 flat.cells number (Latch d init) is, ap (λ (at : ℕ). moment_of at (Latch d init)) same)
+        omega (arith, long, latch_is number d init is, at_most_latest microcycle_of 0 flat.cells number (Latch d init) is, ap (λ (at : ℕ). microcycle_of at (Latch d init)) same)
 
 -- ---- all of it
 
 module _ (ordered : Ordered) (board : Board) (plan : Plan) (routes : List Route) (draft : Draft) (law : (one : PlannedBoard) → LeadsFollowDrivers one) (listed : Listed) (once : Once)
     (each : length plan.chip_of ≡ length ordered.flat.cells) (chips : All (IsChip board) plan.chip_of) (room : (chip : ℕ) → cells_on plan.chip_of chip ≤ board.cells)
     (are : AreRoutes ordered.flat board plan.chip_of routes) (done : IsTasksDone ordered board plan.chip_of routes draft) (wires : plan.wires ≡ wires_of routes draft.hops.items)
-    (period : plan.period ≡ max (max draft.after 1) (latest (cell_moment ordered.flat board plan.chip_of routes draft.hops.items draft.leads.items) 0 ordered.flat.cells)) where
+    (period : plan.period ≡ max (max draft.after 1) (latest (cell_microcycle ordered.flat board plan.chip_of routes draft.hops.items draft.leads.items) 0 ordered.flat.cells)) where
   abbrev its : PlannedBoard
   its = planned_board ordered board plan
 
@@ -182,7 +182,7 @@ module _ (ordered : Ordered) (board : Board) (plan : Plan) (routes : List Route)
   needed_all = All-weaker (λ route. list_any (is_pair route.net route.to) (map need_of_route routes) ≡ true) (λ route. is_needed ordered.flat plan.chip_of route.net route.to ≡ true)
       (λ route is. sym (listed ordered.flat plan.chip_of route.net route.to) ∙ ap (list_any (is_pair route.net route.to)) (sym are.pairs) ∙ is) routes (all_listed routes)
 
-  long_enough : max (max draft.after 1) (latest (cell_moment ordered.flat board plan.chip_of routes hops draft.leads.items) 0 ordered.flat.cells) ≤ plan.period
+  long_enough : max (max draft.after 1) (latest (cell_microcycle ordered.flat board plan.chip_of routes hops draft.leads.items) 0 ordered.flat.cells) ≤ plan.period
   long_enough = omega (arith, period)
 
   sound : IsSound its
@@ -205,18 +205,18 @@ module _ (ordered : Ordered) (board : Board) (plan : Plan) (routes : List Route)
     earliest = All-weaker (IsSentWell its) (λ wire. AreEarliest board plan (usable its (home its wire.net) wire.net) wire.hops) (λ wire well. well.earliest) plan.wires (done.sent_well plan has);
     least_period = λ other same_chips same_wires shorter sound_other.
         let other_has : IsMadeOf plan.chip_of routes hops other = record { chips = same_chips; wires = same_wires ∙ wires } in
-        let not_shorter : max (max draft.after 1) (latest (cell_moment ordered.flat board plan.chip_of routes hops draft.leads.items) 0 ordered.flat.cells) ≤ other.period = period_long ordered board other plan.chip_of routes draft done law other_has sound_other in
+        let not_shorter : max (max draft.after 1) (latest (cell_microcycle ordered.flat board plan.chip_of routes hops draft.leads.items) 0 ordered.flat.cells) ≤ other.period = period_long ordered board other plan.chip_of routes draft done law other_has sound_other in
         omega (arith, not_shorter, period, shorter);
   }
 
 pub scheduled_for : (ordered : Ordered) (board : Board) (plan : Plan) (routes : List Route) (draft : Draft) (chip_of : List ℕ) → plan.chip_of ≡ chip_of → ((one : PlannedBoard) → LeadsFollowDrivers one) → Listed → Once
     → length chip_of ≡ length ordered.flat.cells → All (IsChip board) chip_of → ((chip : ℕ) → cells_on chip_of chip ≤ board.cells)
     → AreRoutes ordered.flat board chip_of routes → IsTasksDone ordered board chip_of routes draft → plan.wires ≡ wires_of routes draft.hops.items
-    → plan.period ≡ max (max draft.after 1) (latest (cell_moment ordered.flat board chip_of routes draft.hops.items draft.leads.items) 0 ordered.flat.cells)
+    → plan.period ≡ max (max draft.after 1) (latest (cell_microcycle ordered.flat board chip_of routes draft.hops.items draft.leads.items) 0 ordered.flat.cells)
     → IsSchedule ordered board chip_of routes plan
 scheduled_for ordered board plan routes draft chip_of same law listed once each chips room are done wires period =
     subst (λ (list : List ℕ). length list ≡ length ordered.flat.cells → All (IsChip board) list → ((chip : ℕ) → cells_on list chip ≤ board.cells) → AreRoutes ordered.flat board list routes → IsTasksDone ordered board list routes draft
-    → plan.period ≡ max (max draft.after 1) (latest (cell_moment ordered.flat board list routes draft.hops.items draft.leads.items) 0 ordered.flat.cells) → IsSchedule ordered board list routes plan)
+    → plan.period ≡ max (max draft.after 1) (latest (cell_microcycle ordered.flat board list routes draft.hops.items draft.leads.items) 0 ordered.flat.cells) → IsSchedule ordered board list routes plan)
     same (λ each_it chips_it room_it are_it done_it period_it. scheduled ordered board plan routes draft law listed once each_it chips_it room_it are_it done_it wires period_it) each chips room are done period
 
 -- ---- each route has a step, so there are few

@@ -39,8 +39,8 @@ pub lag_low : (board : Board) (hop : Hop) → lag board.links hop ≤ 15
 lag_low board hop = found_low hop board.links board.linked.separate.timely
 
 -- what a first free slot is doesn't depend on how much room there is
-pub free_in : (slots : Slots) (board : Board) (link moment : ℕ) (slot : Slot) → slots.widths ≡ map (λ link. link.width) board.links → IsFirstFree slots link moment slot → IsFirstFree (slots_of board slots.taken) link moment slot
-free_in slots board link moment slot same first = subst (λ (widths : List ℕ). IsFirstFree (record { widths = widths; taken = slots.taken; spare = 0 }) link moment slot) same (record { in_time = first.in_time; within = first.within; free = first.free; full_before = first.full_before; taken_below = first.taken_below })
+pub free_in : (slots : Slots) (board : Board) (link microcycle : ℕ) (slot : Slot) → slots.widths ≡ map (λ link. link.width) board.links → IsFirstFree slots link microcycle slot → IsFirstFree (slots_of board slots.taken) link microcycle slot
+free_in slots board link microcycle slot same first = subst (λ (widths : List ℕ). IsFirstFree (record { widths = widths; taken = slots.taken; spare = 0 }) link microcycle slot) same (record { in_time = first.in_time; within = first.within; free = first.free; full_before = first.full_before; taken_below = first.taken_below })
 
 abbrev slot_at : ℕ → ℕ → Slot
 slot_at pin at = record { pin = pin; at = at }
@@ -52,32 +52,32 @@ pub cut_at : (further : List ℕ) (place : ℕ) → place < length further → d
 cut_at further place within = let next : suc place ≡ place + 1 = omega arith in drop-cons further place 0 within ∙ ap (λ (from : ℕ). get_or further place 0 ∷ drop from further) next
 
 -- so far a way has been gone up to a place
-pub record IsOnItsWay (board : Board) (start : List Taken) (ready first : ℕ) (further : List ℕ) (slots : Slots) (hops : List Hop) (from moment place : ℕ) : Type 0 where
+pub record IsOnItsWay (board : Board) (start : List Taken) (ready first : ℕ) (further : List ℕ) (slots : Slots) (hops : List Hop) (from microcycle place : ℕ) : Type 0 where
   pub linked : AreLinked board.links from (drop place further)
   pub widths : slots.widths ≡ map (λ link. link.width) board.links
   pub taken : slots.taken ≡ start ++ map (taken_by board) hops
   pub count : length hops ≡ place
   pub room : length further ≤ place + slots.spare
-  pub soon : moment ≤ ready + place * (2 ^ 30 + 16)
-  pub early : All (λ hop. arrival board.links hop + 1 ≤ moment) hops
-  pub sent : (rest : List Hop) → AreSent board slots.taken moment (steps_of (from ∷ drop place further)) rest → AreSent board start ready (steps_of (first ∷ further)) (hops ++ rest)
+  pub soon : microcycle ≤ ready + place * (2 ^ 30 + 16)
+  pub early : All (λ hop. arrival board.links hop + 1 ≤ microcycle) hops
+  pub sent : (rest : List Hop) → AreSent board slots.taken microcycle (steps_of (from ∷ drop place further)) rest → AreSent board start ready (steps_of (first ∷ further)) (hops ++ rest)
 
 module _ (board : Board) (start : List Taken) (ready first : ℕ) (further : List ℕ) where
   -- one hop further
-  pub further_on : (slots : Slots) (hops : List Hop) (from moment place : ℕ) → IsOnItsWay board start ready first further slots hops from moment place → place < length further → length start + length further < 2 ^ 30
+  pub further_on : (slots : Slots) (hops : List Hop) (from microcycle place : ℕ) → IsOnItsWay board start ready first further slots hops from microcycle place → place < length further → length start + length further < 2 ^ 30
       → (hop : Hop) (link : ℕ) (slot : Slot) (after : Slots) (later : List Hop) (next : ℕ) → next ≡ arrival board.links hop + 1 → hop.from ≡ from → hop.to ≡ get_or further place 0 → hop.pin ≡ slot.pin → hop.at ≡ slot.at
-      → link ≡ link_place board.links from (get_or further place 0) → IsFirstFree slots link moment slot → slot.at ≤ moment + length slots.taken → after ≡ with_slot slots link slot → later ≡ hops ++ hop ∷ []
+      → link ≡ link_place board.links from (get_or further place 0) → IsFirstFree slots link microcycle slot → slot.at ≤ microcycle + length slots.taken → after ≡ with_slot slots link slot → later ≡ hops ++ hop ∷ []
       → IsOnItsWay board start ready first further after later (get_or further place 0) next (place + 1)
-  further_on slots hops from moment place way within few hop link slot after later next next_is from_is to_is pin_is at_is link_is free soon after_is later_is =
+  further_on slots hops from microcycle place way within few hop link slot after later next next_is from_is to_is pin_is at_is link_is free soon after_is later_is =
       let to = get_or further place 0 in
       let cut : drop place further ≡ to ∷ drop (place + 1) further = cut_at further place within in
       let linked : AreLinked board.links from (to ∷ drop (place + 1) further) = subst (λ (left : List ℕ). AreLinked board.links from left) cut way.linked in
       let its_link : link ≡ hop_link board hop = link_is ∙ ap₂ (link_place board.links) (sym from_is) (sym to_is) in
       let its_slot : slot ≡ slot_of hop = ap₂ slot_at (sym pin_is) (sym at_is) in
-      let its_free : IsFirstFree (slots_of board slots.taken) (hop_link board hop) moment (slot_of hop) = subst (λ (one : Slot). IsFirstFree (slots_of board slots.taken) (hop_link board hop) moment one) its_slot (subst (λ (number : ℕ). IsFirstFree (slots_of board slots.taken) number moment slot) its_link (free_in slots board link moment slot way.widths free)) in
+      let its_free : IsFirstFree (slots_of board slots.taken) (hop_link board hop) microcycle (slot_of hop) = subst (λ (one : Slot). IsFirstFree (slots_of board slots.taken) (hop_link board hop) microcycle one) its_slot (subst (λ (number : ℕ). IsFirstFree (slots_of board slots.taken) number microcycle slot) its_link (free_in slots board link microcycle slot way.widths free)) in
       let its_taken : after.taken ≡ slots.taken ++ taken_by board hop ∷ [] = ap (λ (s : Slots). s.taken) after_is ∙ ap₂ (λ (number : ℕ) (one : Slot). slots.taken ++ taken_at number one ∷ []) its_link its_slot in
       let long : length slots.taken ≡ length start + place = ap length way.taken ∙ length-append start (map (taken_by board) hops) ∙ ap (λ (count : ℕ). length start + count) (length-map hops (taken_by board) ∙ way.count) in
-      let in_time : moment ≤ slot.at = free.in_time in
+      let in_time : microcycle ≤ slot.at = free.in_time in
       record {
         linked = linked.1;
         widths = ap (λ (s : Slots). s.widths) after_is ∙ way.widths;
@@ -85,10 +85,10 @@ module _ (board : Board) (start : List Taken) (ready first : ℕ) (further : Lis
         count = ap length later_is ∙ length-append hops (hop ∷ []) ∙ ap (λ (count : ℕ). count + 1) way.count;
         room = omega (arith, ap (λ (s : Slots). s.spare) after_is, way.room);
         soon = omega (arith, way.soon, soon, long, few, next_is, at_is, lag_low board hop);
-        early = subst (All (λ one. arrival board.links one + 1 ≤ next)) (sym later_is) (All-push (λ one. arrival board.links one + 1 ≤ next) hops hop (All-weaker (λ one. arrival board.links one + 1 ≤ moment) (λ one. arrival board.links one + 1 ≤ next) (λ one is. omega (arith, is, in_time, next_is, at_is)) hops way.early) (omega (arith, next_is)));
+        early = subst (All (λ one. arrival board.links one + 1 ≤ next)) (sym later_is) (All-push (λ one. arrival board.links one + 1 ≤ next) hops hop (All-weaker (λ one. arrival board.links one + 1 ≤ microcycle) (λ one. arrival board.links one + 1 ≤ next) (λ one is. omega (arith, is, in_time, next_is, at_is)) hops way.early) (omega (arith, next_is)));
         sent = λ rest is.
             let rest_sent : AreSent board (slots.taken ++ taken_by board hop ∷ []) (arrival board.links hop + 1) (steps_of (to ∷ drop (place + 1) further)) rest = subst (λ (at : ℕ). AreSent board (slots.taken ++ taken_by board hop ∷ []) at (steps_of (to ∷ drop (place + 1) further)) rest) next_is (subst (λ (taken : List Taken). AreSent board taken next (steps_of (to ∷ drop (place + 1) further)) rest) its_taken is) in
             let step : (hop.from, hop.to) ≡ (from, to) = ap₂ (λ (a b : ℕ). (a, b)) from_is to_is in
-            let more : AreSent board slots.taken moment (steps_of (from ∷ to ∷ drop (place + 1) further)) (hop ∷ rest) = (step, its_free, rest_sent) in
-            subst (AreSent board start ready (steps_of (first ∷ further))) (sym (append_assoc hops (hop ∷ []) rest) ∙ ap (λ (list : List Hop). list ++ rest) (sym later_is)) (way.sent (hop ∷ rest) (subst (λ (left : List ℕ). AreSent board slots.taken moment (steps_of (from ∷ left)) (hop ∷ rest)) (sym cut) more));
+            let more : AreSent board slots.taken microcycle (steps_of (from ∷ to ∷ drop (place + 1) further)) (hop ∷ rest) = (step, its_free, rest_sent) in
+            subst (AreSent board start ready (steps_of (first ∷ further))) (sym (append_assoc hops (hop ∷ []) rest) ∙ ap (λ (list : List Hop). list ++ rest) (sym later_is)) (way.sent (hop ∷ rest) (subst (λ (left : List ℕ). AreSent board slots.taken microcycle (steps_of (from ∷ left)) (hop ∷ rest)) (sym cut) more));
       }

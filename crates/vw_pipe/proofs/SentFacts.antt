@@ -35,7 +35,7 @@ module _ (board : Board) where
       let later : arrival board.links hop < next.at = let in_time : arrival board.links hop + 1 ≤ next.at = sent.2.1.in_time in omega arith in
       and_from (nat_lt (arrival board.links hop) next.at) (rises board.links (next ∷ hops)) (lt-ltb (arrival board.links hop) next.at later) (sent_rises (taken ++ taken_by board hop ∷ []) (arrival board.links hop + 1) (second ∷ steps) (next ∷ hops) sent.2)
 
-  -- the first isn't before the moment
+  -- the first isn't before the microcycle
   pub sent_ready : (taken : List Taken) (ready : ℕ) (steps : List (ℕ × ℕ)) (hops : List Hop) → 0 < length steps → AreSent board taken ready steps hops → ForSome (slice_get hops 0) (λ hop. ready ≤ hop.at)
   sent_ready taken ready [] hops some sent = absurd (omega (arith, some))
   sent_ready taken ready (step ∷ steps) [] some sent = absurd sent

@@ -21,7 +21,7 @@ use Rattle.vw_pipe.specs.declared.task.Task.{Task}
 use Rattle.vw_pipe.specs.Steps.Turns.{AreTurns}
 use Rattle.vw_pipe.specs.Steps.Underway.{AreTasks, is_passed, task_at}
 use Rattle.vw_pipe.proofs.DoneTasks.{done_earlier, done_later, kind_at}
-use Rattle.vw_pipe.proofs.UntouchedMoments.{IsHomeDone, RestsOnDone, route_place}
+use Rattle.vw_pipe.proofs.UntouchedMicrocycles.{IsHomeDone, RestsOnDone, route_place}
 
 -- a net that a gate drives is past the inputs, and its number is a gate's
 pub gate_number : (flat : Flat) (net : ℕ) → is_gate (driving_cell flat net) ≡ true → (flat.inputs ≤ net) × (is_gate (slice_get flat.cells (net - flat.inputs)) ≡ true)

@@ -19,5 +19,5 @@ pub same_usable : (flat : Flat) (board : Board) (chip_of : List ℕ) (routes : L
 same_usable flat board chip_of routes hops leads node one_net other_net net node_is one_is other_is =
     ap₂ (λ (at read : ℕ). usable_so_far flat board chip_of routes hops leads at read) (node_is ∙ ap (node_of flat chip_of) one_is) other_is
 
-pub same_sent : (board : Board) (one route : Route) (number ready moment : ℕ) (old new : Draft) → one ≡ route → ready ≡ moment → IsSentMore board one number ready old new → IsSentMore board route number moment old new
-same_sent board one route number ready moment old new same_route same_moment sent = subst (λ (r : Route). IsSentMore board r number moment old new) same_route (subst (λ (m : ℕ). IsSentMore board one number m old new) same_moment sent)
+pub same_sent : (board : Board) (one route : Route) (number ready microcycle : ℕ) (old new : Draft) → one ≡ route → ready ≡ microcycle → IsSentMore board one number ready old new → IsSentMore board route number microcycle old new
+same_sent board one route number ready microcycle old new same_route same_microcycle sent = subst (λ (r : Route). IsSentMore board r number microcycle old new) same_route (subst (λ (m : ℕ). IsSentMore board one number m old new) same_microcycle sent)

@@ -22,7 +22,7 @@ fn link_between(given: &Given, from: u32, to: u32) -> u32
     }
 }
 
-/// Sends a bit from a node through others, from a moment on: each hop takes the first free slot of its link, not before
+/// Sends a bit from a node through others, from a microcycle on: each hop takes the first free slot of its link, not before
 /// the one before it has arrived.
 pub fn send_along(
     alloc: Global,
@@ -46,12 +46,12 @@ pub fn send_along(
     table.reserve(further.len() as u64)?;
     let mut hops = Vec::with_capacity(alloc, further.len())?;
     let mut from = first;
-    let mut moment = ready;
+    let mut microcycle = ready;
     for to in further {
         let link = link_between(given, from, *to);
-        let slot = table.take_first(link, moment);
+        let slot = table.take_first(link, microcycle);
         let hop = Hop::make(from, *to, slot.pin(), slot.at());
-        moment = given.links.arrival(&hop) + 1;
+        microcycle = given.links.arrival(&hop) + 1;
         hops.push(hop)?;
         from = *to;
     }

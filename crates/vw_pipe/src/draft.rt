@@ -27,7 +27,7 @@ pub struct Draft {
     pub after: u64,
 }
 
-/// Sends a net along its route, from a moment on.
+/// Sends a net along its route, from a microcycle on.
 pub fn send(
     alloc: Global,
     given: &Given,

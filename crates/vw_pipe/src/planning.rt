@@ -8,7 +8,7 @@ ghost use Rattle.vw_plan.specs.Routes.{AreRoutes};
 ghost use Rattle.vw_leads.specs.Pairs.{HasPairs};
 ghost use Rattle.vw_pipe.specs.Schedules.{IsSchedule};
 ghost use Rattle.vw_pipe.specs.Steps.FinishedSchedules.{latest};
-ghost use Rattle.vw_pipe.specs.Steps.Given.{IsFitFor, cell_moment_for, net_count};
+ghost use Rattle.vw_pipe.specs.Steps.Given.{IsFitFor, cell_microcycle_for, net_count};
 ghost use Rattle.vw_net.specs.Cells.{read_nets};
 ghost use Rattle.vw_pipe.specs.Steps.Leads.{route_pairs, wires_of};
 
@@ -32,12 +32,12 @@ fn route_table(alloc: Global, routes: &[Route]) -> Result<PairTable, AllocError>
     PairTable::of(alloc, &pairs)
 }
 
-/// The moment at which what a latch reads is usable on the latch's chip; 0 for a gate.
-fn cell_moment(given: &Given, draft: &Draft, number: usize, cell: &Cell) -> u64
+/// The microcycle at which what a latch reads is usable on the latch's chip; 0 for a gate.
+fn cell_microcycle(given: &Given, draft: &Draft, number: usize, cell: &Cell) -> u64
     requires number { number < length given.now.ordered.now.flat.cells }
     requires fits { All (λ net. net < net_count given.now) (read_nets cell.now) }
     requires fit { IsFitFor given.now draft.now }
-    ensures { result ≡ cell_moment_for given.now draft.now number cell.now }
+    ensures { result ≡ cell_microcycle_for given.now draft.now number cell.now }
 {
     match cell {
         Cell::Gate { .. } => 0,
@@ -49,12 +49,12 @@ fn cell_moment(given: &Given, draft: &Draft, number: usize, cell: &Cell) -> u64
 fn period_of(given: &Given, draft: &Draft) -> u64
     requires { IsFitFor given.now draft.now }
     ensures { result ≡ max (max draft.now.after 1)
-        (latest (cell_moment_for given.now draft.now) 0 given.now.ordered.now.flat.cells) }
+        (latest (cell_microcycle_for given.now draft.now) 0 given.now.ordered.now.flat.cells) }
 {
     let mut period = draft.after.max(1);
     for (number, cell) in given.ordered.flat().cells().iter().enumerate() {
-        let moment = cell_moment(given, draft, number, cell);
-        period = period.max(moment);
+        let microcycle = cell_microcycle(given, draft, number, cell);
+        period = period.max(microcycle);
     }
     period
 }

@@ -1,4 +1,4 @@
-pub mod SumsOverLists
+pub mod SumsByNumbers
 pub mod Renumbered
 pub mod Exchanges
 pub mod PairTables

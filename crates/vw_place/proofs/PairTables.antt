@@ -15,7 +15,7 @@ use Rattle.vw_plan.specs.Needs.{needed_nodes, needed_pairs}
 use Rattle.vw_plan.specs.Nets.{is_needed, node_of}
 use Rattle.vw_place.specs.Steps.Traffic.{IsTraffic, goes}
 use Rattle.vw_place.proofs.Renumbered.{greatest_low, needed_sum}
-use Rattle.vw_place.proofs.SumsOverLists.{length_sum}
+use Rattle.vw_net.proofs.SumsOverLists.{length_sum}
 
 -- ---- the pairs
 

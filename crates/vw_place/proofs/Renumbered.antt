@@ -23,7 +23,7 @@ use Rattle.vw_plan.specs.Nets.{is_needed, is_read_at, node_of}
 use Rattle.vw_plan.proofs.NeededPairs.{past_node}
 use Rattle.vw_place.specs.Numbering.{IsNumbering}
 use Rattle.vw_place.specs.Steps.NodeLists.{IsNodeList, moved}
-use Rattle.vw_place.proofs.SumsOverLists.{length_sum, range_longer, sum_agree, sum_filter, sum_flat_map, sum_map}
+use Rattle.vw_net.proofs.SumsOverLists.{length_sum, range_longer, sum_agree, sum_filter, sum_flat_map, sum_map}
 
 -- ---- a numbering, node by node
 

@@ -19,7 +19,8 @@ use Rattle.vw_place.specs.Steps.Traffic.{IsTraffic, goes, travel_by, travel_betw
 use Rattle.vw_place.specs.Steps.Tries.{NoneIsUseful}
 use Rattle.vw_place.proofs.Exchanges.{exchanged_itself, exchanged_turned, moved_exchanged, nodes_exchanged}
 use Rattle.vw_place.proofs.Renumbered.{old_chip, travel_moved}
-use Rattle.vw_place.proofs.SumsOverLists.{by_numbers, range_agree}
+use Rattle.vw_net.proofs.SumsOverLists.{range_agree}
+use Rattle.vw_place.proofs.SumsByNumbers.{by_numbers}
 use Rattle.vw_place.proofs.PairTables.{IsPairWithin, home_low, pairs_within}
 
 -- ---- distances are small
@@ -39,8 +40,8 @@ module _ (flat : Flat) (board : Board) (chip_of : List ℕ) (low : All (λ chip.
       let between = λ (from to : ℕ). distance board (moved at from) (moved at to) in
       let counted = λ (from to : ℕ). count_by (goes flat chip_of from to) needs * between from to in
       let within : All (λ need. (home need < many) × (need.to < many)) needs = All-weaker (IsPairWithin flat board.chips) (λ need. (home need < many) × (need.to < many)) (λ need is. (omega (arith, home_low flat chip_of board.chips need.net low), omega (arith, is.1))) needs (pairs_within flat chip_of board.chips low) in
-      let row = λ (from : ℕ) (from_within : from < 0 + many).
-      range_agree (travel_between table board at from) (counted from) 0 many (λ to to_within. ap (λ (count : ℕ). count * between from to) (traffic.counts from to (omega (arith, board.few_chips)) (omega (arith, board.few_chips)))) in
+      let row = λ (from : ℕ) (from_zero : 0 ≤ from) (from_within : from < 0 + many).
+      range_agree (travel_between table board at from) (counted from) 0 many (λ to from_zero to_within. ap (λ (count : ℕ). count * between from to) (traffic.counts from to (omega (arith, board.few_chips)) (omega (arith, board.few_chips)))) in
       range_agree (λ from. travel_from table board at from many) (λ from. sum_by (counted from) (range_with_len 0 many)) 0 many row
       ∙ sym (by_numbers home (λ need. need.to) between many needs within)
       ∙ sym (travel_moved flat board at nodes chip_of low)

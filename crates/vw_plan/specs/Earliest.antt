@@ -17,12 +17,11 @@ abbrev pub IsFull : Board → Plan → ℕ → ℕ → ℕ → Type 0
 IsFull board plan from to at = (pin : ℕ) → let hop : Hop = record { from = from; to = to; pin = pin; at = at } in
     IsTrue (has_pin board.links hop) → IsTrue (is_in_use plan hop)
 
--- a hop is earliest: from the moment at which it is ready up to the microcycle before its own, every pin of its link is in
--- use
+-- a hop is earliest: from the microcycle in which it is ready up to the one before its own, every pin of its link is in use
 abbrev pub IsEarliest : Board → Plan → ℕ → Hop → Type 0
 IsEarliest board plan ready hop = (at : ℕ) → ready ≤ at → at < hop.at → IsFull board plan hop.from hop.to at
 
--- so are the hops of a wire, of which the first is ready at a moment, and each later one when the one before it has arrived
+-- so are the hops of a wire, of which the first is ready in a microcycle, and each later one when the one before has arrived
 abbrev pub AreEarliest : Board → Plan → ℕ → List Hop → Type 0
 AreEarliest board plan ready [] = Unit {0}
 AreEarliest board plan ready (hop ∷ hops) = IsEarliest board plan ready hop × AreEarliest board plan (arrival board.links hop + 1) hops

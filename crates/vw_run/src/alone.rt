@@ -27,7 +27,7 @@ impl Engine for RunningBoard {
         self.flat()
     }
 
-    fn run(
+    fn work_out(
         &mut self,
         alloc: Global,
         first: u64,

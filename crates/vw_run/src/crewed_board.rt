@@ -70,7 +70,7 @@ impl<R: Threads + Wait + Sync, F: Fabric, G: BurstGate> CrewedBoard<'_, '_, '_, 
     ///
     /// It takes memory for these clocks, all of it before the first. Where there is none, no clock was worked out, and
     /// nothing is known of `state`.
-    pub fn run(
+    pub fn work_out(
         &mut self,
         alloc: Global,
         first: u64,

@@ -57,7 +57,7 @@ fn write_batch<R: Threads + Wait + Sync, F: Fabric, G: BurstGate, O: Sink>(
     ensures state { OnOk result (state.new
         ≡ state_after crewed.old.board.now.job.checked.ordered.flat state.old rows) }
 {
-    let batch = crewed.run(alloc, done, rows, state)?;
+    let batch = crewed.work_out(alloc, done, rows, state)?;
     let lines = trace_rows(alloc, done, &batch.outputs, &batch.states);
     put_text(lines, out)
 }

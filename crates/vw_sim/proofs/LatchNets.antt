@@ -8,7 +8,7 @@ use Rattle.vw_net.specs.declared.cell.Cell.{Cell}
 use Rattle.vw_net.specs.declared.cell.Cell.TheVariants.{Gate, Latch}
 use Rattle.vw_net.specs.Cells.{latch_count}
 use Rattle.vw_net.specs.Order.{is_latch}
-use Rattle.vw_sim.specs.Steps.Machine.{latch_nets, with_bits}
+use Rattle.vw_sim.specs.Steps.Simulator.{latch_nets, with_bits}
 
 -- each latch has one net, which is one of the cells' nets
 pub length-latch_nets : (first : ℕ) (cells : List Cell) → length (latch_nets first cells) ≡ latch_count cells

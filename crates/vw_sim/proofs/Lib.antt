@@ -2,6 +2,6 @@ pub mod PartlyWritten
 pub mod Latches
 pub mod Gates
 pub mod Values
-pub mod Machines
+pub mod Simulators
 pub mod LatchNets
 pub mod Starts

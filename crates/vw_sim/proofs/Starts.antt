@@ -1,11 +1,11 @@
--- Values before the gates, where a machine has put the bits of the inputs and of the latches.
+-- Values before the gates, where a simulator has put the bits of the inputs and of the latches.
 use Rattle.std.proofs.Common.{◌≡◌, ◌<◌, ◌+◌, ◌++◌, ℕ, Bool, true, false, List, [], length, drop, slice_index_or, ap, ◌∙◌, arith}
 use Rattle.std.proofs.lemmas.List.{get_or_append_left, length-append, length-drop}
 use Rattle.vw_net.specs.declared.flat.Flat.{Flat}
 use Rattle.vw_net.specs.Cells.{latch_count}
 use Rattle.vw_net.specs.Order.{is_ready}
 use Rattle.vw_net.specs.Value.{net_value}
-use Rattle.vw_sim.specs.Steps.Machine.{latch_nets, with_bits}
+use Rattle.vw_sim.specs.Steps.Simulator.{latch_nets, with_bits}
 use Rattle.vw_sim.proofs.LatchNets.{bits_latch, bits_rest, length-with_bits}
 use Rattle.vw_sim.proofs.Values.{net_value-before_gates}
 

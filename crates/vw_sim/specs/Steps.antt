@@ -1,3 +1,3 @@
 -- What functions of this crate keep and compute, step by step. No public clause cites it.
 pub mod Values
-pub mod Machine
+pub mod Simulator

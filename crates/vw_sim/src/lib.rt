@@ -2,7 +2,7 @@
 #![tactic(auto)]
 
 mod clock;
-mod machine;
+mod simulator;
 
 pub use clock::step;
-pub use machine::Machine;
+pub use simulator::Simulator;

@@ -1,4 +1,4 @@
-pub mod WrittenMoments
+pub mod WrittenPinUses
 pub mod Chained
 pub mod TakenSlots
 pub mod Taking

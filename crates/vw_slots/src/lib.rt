@@ -2,7 +2,7 @@
 #![tactic(auto)]
 
 mod laws;
-mod moment;
+mod pin_use;
 mod slot;
 mod slot_table;
 

@@ -1,7 +1,7 @@
 ghost use Rattle.std.specs.Prelude.{◌≡◌, ◌≤◌, ◌<◌, ◌+◌, ◌^◌, max, length, IfOk, OnOk, OnErr};
 ghost use Rattle.vw_slots.specs.Slots.{no_slots, with_slot, IsFirstFree};
 
-use crate::moment::{Moments, first_free, shorten, take_pin};
+use crate::pin_use::{PinUses, first_free, shorten, take_pin};
 use crate::slot::{Slot, Taken};
 use std::alloc::{AllocError, Global};
 use std::collections::HashMap;
@@ -19,7 +19,7 @@ pub struct SlotTable {
     /// The taken slots, in the order in which they were taken.
     taken: Vec<Taken>,
     /// The same slots, counted by link and microcycle.
-    moments: Moments,
+    pin_uses: PinUses,
     /// How many more slots there is room for.
     spare: u64,
 }
@@ -30,12 +30,12 @@ impl Model for SlotTable {
     ghost Value = { Slots };
 
     ghost use Rattle.std.specs.Prelude.{vec_capacity};
-    ghost use Rattle.vw_slots.specs.Steps.Tables.{IsMomentTable};
+    ghost use Rattle.vw_slots.specs.Steps.Tables.{IsPinUseTable};
 
     ghost view = { λ t. record { widths = t.widths; taken = t.taken.items; spare = t.spare } };
 
-    ghost invariant = { λ t. IsMomentTable t.widths t.taken.items
-        (vec_capacity t.taken) t.moments t.spare };
+    ghost invariant = { λ t. IsPinUseTable t.widths t.taken.items
+        (vec_capacity t.taken) t.pin_uses t.spare };
 }
 
 impl SlotTable {
@@ -51,7 +51,7 @@ impl SlotTable {
         Ok(SlotTable {
             widths: Sequence::of(widths),
             taken: Vec::new(alloc),
-            moments: HashMap::with_hasher(alloc, BuildHasherDefault::new()),
+            pin_uses: HashMap::with_hasher(alloc, BuildHasherDefault::new()),
             spare: 0,
         })
     }
@@ -71,7 +71,7 @@ impl SlotTable {
         if more <= self.spare {
             return Ok(());
         }
-        self.moments.reserve(more as usize)?;
+        self.pin_uses.reserve(more as usize)?;
         self.taken.reserve(more as usize)?;
         self.spare = more;
         Ok(())
@@ -87,15 +87,15 @@ impl SlotTable {
         ensures soon { result.at ≤ not_before + length self.old.taken }
         ensures slots { self.new ≡ with_slot self.old link result }
     {
-        let at = first_free(&self.moments, self.widths.as_slice(), link, not_before);
+        let at = first_free(&self.pin_uses, self.widths.as_slice(), link, not_before);
         shorten(
-            &mut self.moments,
+            &mut self.pin_uses,
             self.widths.as_slice(),
             link,
             not_before,
             at,
         );
-        let pin = take_pin(&mut self.moments, link, at);
+        let pin = take_pin(&mut self.pin_uses, link, at);
         match self.taken.push(Taken { link, pin, at }) {
             Ok(()) => {}
             Err(_) => unreachable!(),

@@ -7,7 +7,7 @@ ghost use Rattle.vw_net.specs.History.{outputs_at, next_state, outputs_of, state
 use crate::engine::Batch;
 use std::alloc::{AllocError, Global};
 use vw_net::{Bits, Rows};
-use vw_sim::Machine;
+use vw_sim::Simulator;
 
 /// Rows of this many bits.
 fn blank_rows(alloc: Global, count: usize, width: usize) -> Result<Vec<Bits>, AllocError>
@@ -46,75 +46,82 @@ fn pick(values: &Bits, nets: &[u32], to: &mut Bits)
 
 /// One clock, whose outputs and latch values before the step are written over two lists of bits.
 fn record_clock(
-    machine: &Machine,
+    simulator: &Simulator,
     row: &Bits,
     state: &mut Bits,
     values: &mut Bits,
     outputs: &mut Bits,
     before: &mut Bits,
 )
-    requires columns { length row.now ≡ machine.now.flat.inputs }
-    requires latches { length state.old ≡ latch_count machine.now.flat.cells }
-    requires nets { length values.old ≡ machine.now.flat.inputs + length machine.now.flat.cells }
-    requires outputs { length outputs.old ≡ length machine.now.flat.outputs }
+    requires columns { length row.now ≡ simulator.now.flat.inputs }
+    requires latches { length state.old ≡ latch_count simulator.now.flat.cells }
+    requires nets { length values.old ≡ simulator.now.flat.inputs + length simulator.now.flat.cells }
+    requires outputs { length outputs.old ≡ length simulator.now.flat.outputs }
     requires before { length before.old ≡ length state.old }
-    ensures outputs { outputs.new ≡ outputs_at machine.now.flat row.now state.old }
+    ensures outputs { outputs.new ≡ outputs_at simulator.now.flat row.now state.old }
     ensures before { before.new ≡ state.old }
-    ensures state { state.new ≡ next_state machine.now.flat row.now state.old }
+    ensures state { state.new ≡ next_state simulator.now.flat row.now state.old }
     ensures nets { length values.new ≡ length values.old }
 {
     copy_bits(state, before);
-    machine.step(row, state, values);
-    pick(values, machine.flat().outputs(), outputs);
+    simulator.step(row, state, values);
+    pick(values, simulator.flat().outputs(), outputs);
 }
 
 /// Clocks for some rows, written over as many lists of bits.
 fn record_clocks(
-    machine: &Machine,
+    simulator: &Simulator,
     rows: &[Bits],
     state: &mut Bits,
     values: &mut Bits,
     outputs: &mut [Bits],
     states: &mut [Bits],
 )
-    requires columns { All (λ row. length row ≡ machine.now.flat.inputs) rows.now }
-    requires latches { length state.old ≡ latch_count machine.now.flat.cells }
-    requires nets { length values.old ≡ machine.now.flat.inputs + length machine.now.flat.cells }
-    requires outputs { All (λ bits. length bits ≡ length machine.now.flat.outputs) outputs.old }
-    requires states { All (λ bits. length bits ≡ latch_count machine.now.flat.cells) states.old }
+    requires columns { All (λ row. length row ≡ simulator.now.flat.inputs) rows.now }
+    requires latches { length state.old ≡ latch_count simulator.now.flat.cells }
+    requires nets { length values.old ≡ simulator.now.flat.inputs + length simulator.now.flat.cells }
+    requires outputs { All (λ bits. length bits ≡ length simulator.now.flat.outputs) outputs.old }
+    requires states { All (λ bits. length bits ≡ latch_count simulator.now.flat.cells) states.old }
     requires count { (length outputs.old ≡ length rows.now) × (length states.old
         ≡ length rows.now) }
-    ensures outputs { outputs.new ≡ outputs_of machine.now.flat state.old rows.now }
-    ensures states { states.new ≡ states_of machine.now.flat state.old rows.now }
-    ensures state { state.new ≡ state_after machine.now.flat state.old rows.now }
+    ensures outputs { outputs.new ≡ outputs_of simulator.now.flat state.old rows.now }
+    ensures states { states.new ≡ states_of simulator.now.flat state.old rows.now }
+    ensures state { state.new ≡ state_after simulator.now.flat state.old rows.now }
     ensures nets { length values.new ≡ length values.old }
 {
     for (i, row) in rows.iter().enumerate() {
-        record_clock(machine, row, state, values, &mut outputs[i], &mut states[i]);
+        record_clock(
+            simulator,
+            row,
+            state,
+            values,
+            &mut outputs[i],
+            &mut states[i],
+        );
     }
 }
 
 /// Clocks for some rows from a state on. All memory is taken before the first.
 pub fn run_batch(
     alloc: Global,
-    machine: &Machine,
+    simulator: &Simulator,
     rows: &[Bits],
     state: &mut Bits,
     values: &mut Bits,
 ) -> Result<Batch, AllocError>
-    requires columns { All (λ row. length row ≡ machine.now.flat.inputs) rows.now }
-    requires latches { length state.old ≡ latch_count machine.now.flat.cells }
-    requires nets { length values.old ≡ machine.now.flat.inputs + length machine.now.flat.cells }
+    requires columns { All (λ row. length row ≡ simulator.now.flat.inputs) rows.now }
+    requires latches { length state.old ≡ latch_count simulator.now.flat.cells }
+    requires nets { length values.old ≡ simulator.now.flat.inputs + length simulator.now.flat.cells }
     ensures outputs { IfOk result (λ batch. batch.outputs
-        ≡ outputs_of machine.now.flat state.old rows.now) }
+        ≡ outputs_of simulator.now.flat state.old rows.now) }
     ensures states { IfOk result (λ batch. batch.states
-        ≡ states_of machine.now.flat state.old rows.now) }
-    ensures state { IfOk result (λ _. state.new ≡ state_after machine.now.flat state.old rows.now) }
+        ≡ states_of simulator.now.flat state.old rows.now) }
+    ensures state { IfOk result (λ _. state.new ≡ state_after simulator.now.flat state.old rows.now) }
     ensures nets { length values.new ≡ length values.old }
 {
-    let mut outputs = blank_rows(alloc, rows.len(), machine.flat().outputs().len())?;
+    let mut outputs = blank_rows(alloc, rows.len(), simulator.flat().outputs().len())?;
     let mut states = blank_rows(alloc, rows.len(), state.len())?;
-    record_clocks(machine, rows, state, values, &mut outputs, &mut states);
+    record_clocks(simulator, rows, state, values, &mut outputs, &mut states);
     Ok(Batch {
         outputs: Rows::of(outputs),
         states: Rows::of(states),

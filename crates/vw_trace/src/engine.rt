@@ -33,7 +33,7 @@ pub trait Engine {
     ///
     /// It takes memory for these clocks, all of it before the first. Where there is none, no clock was worked out, and
     /// nothing is known of `state`.
-    fn run(
+    fn work_out(
         &mut self,
         alloc: Global,
         first: u64,

@@ -5,14 +5,14 @@ use crate::batch::run_batch;
 use crate::engine::{Batch, Engine};
 use std::alloc::{AllocError, Global};
 use vw_net::{Bits, Flat, Ordered, Rows};
-use vw_sim::Machine;
+use vw_sim::Simulator;
 
-/// A machine, with a value for each net of its netlist.
+/// A simulator, with a value for each net of its netlist.
 #[derive(Drop)]
 pub struct Simulation<'a> {
-    pub machine: Machine<'a>,
+    pub simulator: Simulator<'a>,
     pub values: Bits,
-    ghost nets: { length values ≡ machine.flat.inputs + length machine.flat.cells },
+    ghost nets: { length values ≡ simulator.flat.inputs + length simulator.flat.cells },
 }
 
 /// A value for each net of a netlist.
@@ -24,28 +24,28 @@ fn blank_values(alloc: Global, flat: &Flat) -> Result<Bits, AllocError>
 }
 
 impl<'a> Simulation<'a> {
-    /// The simulation of a netlist with an order. It takes memory for the machine, and for each net.
+    /// The simulation of a netlist with an order. It takes memory for the simulator, and for each net.
     pub fn make(alloc: Global, ordered: &'a Ordered) -> Result<Self, AllocError>
-        ensures { IfOk result (λ simulation. simulation.machine ≡ ordered.now) }
+        ensures { IfOk result (λ simulation. simulation.simulator ≡ ordered.now) }
     {
-        let machine = Machine::make(alloc, ordered)?;
-        let values = blank_values(alloc, machine.flat())?;
-        Ok(Simulation { machine, values })
+        let simulator = Simulator::make(alloc, ordered)?;
+        let values = blank_values(alloc, simulator.flat())?;
+        Ok(Simulation { simulator, values })
     }
 }
 
 impl Engine for Simulation<'_> {
     ghost use Rattle.std.specs.Prelude.{None};
 
-    ghost netlist = { λ simulation. simulation.machine.flat };
+    ghost netlist = { λ simulation. simulation.simulator.flat };
 
     ghost done = { λ _. None };
 
     fn flat(&self) -> &Flat {
-        self.machine.flat()
+        self.simulator.flat()
     }
 
-    fn run(
+    fn work_out(
         &mut self,
         alloc: Global,
         _first: u64,
@@ -54,7 +54,7 @@ impl Engine for Simulation<'_> {
     ) -> Result<Batch, AllocError> {
         run_batch(
             alloc,
-            &self.machine,
+            &self.simulator,
             rows.as_slice(),
             state,
             &mut self.values,

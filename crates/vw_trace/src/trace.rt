@@ -42,7 +42,7 @@ fn write_batch<E: Engine, O: Sink>(
         (O.seen out.old) (O.seen out.new) result }
     ensures state { OnOk result (state.new ≡ state_after (E.netlist engine.old) state.old rows) }
 {
-    let batch = engine.run(alloc, done, rows, state)?;
+    let batch = engine.work_out(alloc, done, rows, state)?;
     let lines = trace_rows(alloc, done, &batch.outputs, &batch.states);
     put_text(lines, out)
 }

@@ -13,7 +13,7 @@ use Rattle.vw_check.specs.declared.fault.PlanFault.{PlanFault}
 use Rattle.vw_check.specs.declared.fault.PlanFault.TheVariants.{BrokenRoute, BadPin, OutOfOrder, PastPeriod}
 use Rattle.vw_check.specs.declared.hops.Rule.{Rule}
 use Rattle.vw_check.specs.declared.hops.Rule.TheVariants.{Route, Pin, Order, Period}
-use Rattle.vw_check.specs.FirstFound.{first_at, found_unless}
+use Rattle.vw_net.specs.FirstFound.{first_at, found_unless}
 use Rattle.vw_check.specs.HopFaults.{fits_route, is_later}
 
 -- the number of pins of the link from a node to another; 0 where there is none

@@ -6,7 +6,7 @@ use Rattle.vw_plan.specs.declared.need.Need.{Need}
 use Rattle.vw_plan.specs.declared.wire.Wire.{Wire}
 use Rattle.vw_check.specs.declared.fault.PlanFault.{PlanFault}
 use Rattle.vw_check.specs.declared.fault.PlanFault.TheVariants.{MissingWire, ExtraWire}
-use Rattle.vw_check.specs.FirstFound.{first_at, found_if, found_unless}
+use Rattle.vw_net.specs.FirstFound.{first_at, found_if, found_unless}
 use Rattle.vw_leads.specs.Pairs.{pair_in}
 
 abbrev pub first_missing : {S : Type 0} → hash.HashMap (ℕ × ℕ) ℕ S → List Need → Option PlanFault

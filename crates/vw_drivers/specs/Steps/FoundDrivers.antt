@@ -6,7 +6,7 @@ use Rattle.vw_design.specs.Accepted.{HasNoModelFault}
 use Rattle.vw_drivers.specs.declared.claim.Claim.{Claim}
 use Rattle.vw_drivers.specs.declared.claim.Claim.TheVariants as claims
 use Rattle.vw_drivers.specs.Firsts.{claim_at}
-use Rattle.vw_instances.specs.declared.tables.Placed.{Placed}
+use Rattle.vw_instances.specs.declared.tables.ListedInstance.{ListedInstance}
 use Rattle.vw_instances.specs.declared.sizes.Before.{Before}
 use Rattle.vw_drivers.specs.declared.model_names.Way.{Way}
 use Rattle.vw_drivers.specs.declared.model_names.Way.TheVariants as ways
@@ -36,26 +36,26 @@ placed_of tables model place =
     if place == 0 then None else option_and_then (λ names. slice_get names.placed (place - 1)) (slice_get tables.names model)
 
 -- the cell that is an item of an instance
-abbrev pub cell_source : Tables → Placed → ℕ → Option Source
+abbrev pub cell_source : Tables → ListedInstance → ℕ → Option Source
 cell_source tables entry item =
     option_and_then (λ before. if nat_lt (entry.cells + before.cells) (2 ^ 32) then Some (Cell (entry.cells + before.cells)) else None)
     (before_of tables entry.model item)
 
 -- the number of the instance at a place of an instance
-abbrev pub child_of : Tables → ℕ → Placed → ℕ → Option ℕ
+abbrev pub child_of : Tables → ℕ → ListedInstance → ℕ → Option ℕ
 child_of tables instance entry place =
     option_and_then (λ placed. option_map (λ before. instance + 1 + before.instances) (before_of tables entry.model placed.item))
     (placed_of tables entry.model place)
 
 -- the driver to which a claim with a number leads
-abbrev pub led_by : Tables → DriverRows → DriverRows → ℕ → Placed → ℕ → Option Claim → Option Source
+abbrev pub led_by : Tables → DriverRows → DriverRows → ℕ → ListedInstance → ℕ → Option Claim → Option Source
 led_by tables outputs ports instance entry number None = None
 led_by tables outputs ports instance entry number (Some claims.Port) = if instance == 0 then Some (Port number) else at_rows ports instance number
 led_by tables outputs ports instance entry number (Some (claims.Driven item)) = cell_source tables entry item
 led_by tables outputs ports instance entry number (Some (claims.Bound place bind)) =
     option_and_then (λ child. at_rows outputs child bind) (child_of tables instance entry place)
 
-abbrev pub led_at : Tables → DriverRows → DriverRows → ℕ → ℕ → Placed → Option Source
+abbrev pub led_at : Tables → DriverRows → DriverRows → ℕ → ℕ → ListedInstance → Option Source
 led_at tables outputs ports instance number entry =
     led_by tables outputs ports instance entry number (claim_at (firsts_of tables.claims (Some entry.model)) number)
 
@@ -64,7 +64,7 @@ led tables outputs ports instance None = None
 led tables outputs ports instance (Some number) = option_and_then (led_at tables outputs ports instance number) (slice_get tables.instances instance)
 
 -- the ways from the formals of the item that places an instance; none at the root
-abbrev pub ways_of : Tables → Placed → List Way
+abbrev pub ways_of : Tables → ListedInstance → List Way
 ways_of tables entry =
     unwrap_or (option_map (λ placed. placed.ways)
     (option_and_then (λ parent. placed_of tables parent.model entry.place) (slice_get tables.instances entry.parent))) []
@@ -74,7 +74,7 @@ abbrev pub output_led : Tables → DriverRows → ℕ → Way → Option Source
 output_led tables outputs instance (ways.Output claim) = led tables outputs [] instance claim
 output_led tables outputs instance (ways.Port port actual) = None
 
-abbrev pub outputs_made : Tables → DriverRows → ℕ → Placed → List (Option Source)
+abbrev pub outputs_made : Tables → DriverRows → ℕ → ListedInstance → List (Option Source)
 outputs_made tables outputs instance entry = map (output_led tables outputs instance) (ways_of tables entry)
 
 -- a row with a driver at a number, with nothing where it was shorter
@@ -93,5 +93,5 @@ abbrev pub with_ways : Tables → DriverRows → DriverRows → ℕ → List Way
 with_ways tables outputs ports parent [] row = row
 with_ways tables outputs ports parent (way ∷ list) row = with_ways tables outputs ports parent list (with_way tables outputs ports parent way row)
 
-abbrev pub ports_made : Tables → DriverRows → DriverRows → Placed → List (Option Source)
+abbrev pub ports_made : Tables → DriverRows → DriverRows → ListedInstance → List (Option Source)
 ports_made tables outputs ports entry = with_ways tables outputs ports entry.parent (ways_of tables entry) []

@@ -8,7 +8,7 @@ use Rattle.vw_design.specs.Paths.{Path, placings, model_at}
 use Rattle.vw_design.specs.Claims.{numbered}
 use Rattle.vw_design.specs.Preorder.{Site, with_inside, sites_below, sites, is_cell, paths_of}
 use Rattle.vw_design.specs.Limits.{instance_count, cell_count}
-use Rattle.vw_instances.specs.declared.tables.Placed.{Placed}
+use Rattle.vw_instances.specs.declared.tables.ListedInstance.{ListedInstance}
 use Rattle.vw_instances.specs.declared.tables.CellSite.{CellSite}
 use Rattle.vw_instances.specs.declared.frame.Frame.{Frame}
 use Rattle.vw_instances.specs.Tables.{AreNumbered, IsEntryAt, IsCellSite}
@@ -55,11 +55,11 @@ behind_item frame before = record { instance = frame.instance; model = frame.mod
 abbrev pub site_of_frame : Frame → CellSite
 site_of_frame frame = record { instance = frame.instance; item = frame.item }
 
-abbrev pub placed_in_frame : Frame → ℕ → ℕ → Placed
+abbrev pub placed_in_frame : Frame → ℕ → ℕ → ListedInstance
 placed_in_frame frame model cells = record { model = model; parent = frame.instance; place = frame.before + 1; cells = cells }
 
 -- the tables have the sites that are done, and the frames, of which the last one comes first, have the others
-pub record IsPartlyListed (design : Design) (table : List Placed) (made : List CellSite) (frames : List Frame) : Type 0 where
+pub record IsPartlyListed (design : Design) (table : List ListedInstance) (made : List CellSite) (frames : List Frame) : Type 0 where
   pub done : List Site
   pub levels : List FrameLevel
   pub all : done ++ flat_map (sites_left design) levels ≡ sites design
@@ -68,6 +68,6 @@ pub record IsPartlyListed (design : Design) (table : List Placed) (made : List C
   pub stack : AllZip (IsFrame design (listed_with done) (length done)) levels (reverse frames)
 
 -- how many steps a walk has left at most
-abbrev pub steps_left : Design → List Placed → List CellSite → List Frame → ℕ
+abbrev pub steps_left : Design → List ListedInstance → List CellSite → List Frame → ℕ
 steps_left design table made frames =
     2 * (instance_count design + cell_count design - (length table + length made)) + length frames

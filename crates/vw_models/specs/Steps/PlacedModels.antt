@@ -7,7 +7,7 @@ use Rattle.vw_design.specs.declared.model.Model.{Model}
 use Rattle.vw_design.specs.declared.design.Design.{Design}
 use Rattle.vw_design.specs.Paths.{model_named}
 use Rattle.vw_design.specs.ModelFaults.{by_placing, reached}
-use Rattle.vw_models.specs.declared.placement.Placement.{Placement}
+use Rattle.vw_models.specs.declared.numbered_placing.NumberedPlacing.{NumberedPlacing}
 
 -- a model that is placed, with the line and the bindings of its item
 pub record PlacedModel : Type 0 where
@@ -23,17 +23,17 @@ abbrev pub placed_models : Design → List PlacedModel
 placed_models design = flat_map (λ model. filter_map (placed_by design) model.items) (reached design)
 
 -- a placed model by its number
-pub record IsPlacement (design : Design) (placed : PlacedModel) (placement : Placement) : Type 0 where
-  pub line : placement.line ≡ placed.line
-  pub model : slice_get design.models placement.number ≡ Some placed.model
-  pub binds : placement.binds.now ≡ placed.binds
+pub record IsNumberedPlacing (design : Design) (placed : PlacedModel) (numbered : NumberedPlacing) : Type 0 where
+  pub line : numbered.line ≡ placed.line
+  pub model : slice_get design.models numbered.number ≡ Some placed.model
+  pub binds : numbered.binds.now ≡ placed.binds
 
--- behind placements of some placed models those of some more were added
-abbrev pub AreAdded : Design → List Placement → List PlacedModel → List Placement → Type 0
+-- behind all_numbered of some placed models those of some more were added
+abbrev pub AreAdded : Design → List NumberedPlacing → List PlacedModel → List NumberedPlacing → Type 0
 AreAdded design old added new =
-    (before : List PlacedModel) → AllZip (IsPlacement design) before old → AllZip (IsPlacement design) (before ++ added) new
+    (before : List PlacedModel) → AllZip (IsNumberedPlacing design) before old → AllZip (IsNumberedPlacing design) (before ++ added) new
 
 -- what a search finds at a placed model, given line, model and bindings
-abbrev pub at_placement : {A : Type 0} → Design → (ℕ → Model → List Bind → Option A) → Placement → Option A
-at_placement design search placement =
-    option_and_then (λ model. search placement.line model placement.binds.now) (slice_get design.models placement.number)
+abbrev pub at_numbered : {A : Type 0} → Design → (ℕ → Model → List Bind → Option A) → NumberedPlacing → Option A
+at_numbered design search numbered =
+    option_and_then (λ model. search numbered.line model numbered.binds.now) (slice_get design.models numbered.number)

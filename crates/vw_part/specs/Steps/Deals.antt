@@ -1,53 +1,53 @@
 -- Cells on chips, what each chip holds, and which moves of one cell help.
-use Rattle.std.specs.Prelude.{◌≡◌, ◌≢◌, ◌≤◌, ◌<◌, ◌+◌, ◌==◌, ℕ, List, [], ◌∷◌, length, nat_lt, slice_index, slice_index_or, if◌then◌else◌}
+use Rattle.std.specs.Prelude.{◌≡◌, ◌≢◌, ◌≤◌, ◌<◌, ◌+◌, ◌==◌, ℕ, List, [], ◌∷◌, length, nat_lt, slice_index, slice_index_or, sum_by, if◌then◌else◌}
 use Rattle.std.specs.List.{All, range_with_len}
 use Rattle.vw_plan.specs.declared.board.Board.{Board}
 use Rattle.vw_plan.specs.Chips.{IsChip, cells_on}
 use Rattle.vw_part.specs.declared.deal.Deal.{Deal}
 use Rattle.vw_part.specs.declared.load.Load.{Load}
-use Rattle.vw_part.specs.declared.pins.Pins.{Pins}
-use Rattle.vw_part.specs.Steps.Pins.{times_among, total}
+use Rattle.vw_part.specs.declared.cell_nets.CellNets.{CellNets}
+use Rattle.vw_part.specs.Steps.CellNets.{times_among}
 use Rattle.vw_net.specs.Steps.Bits.{one_if}
 
 -- how many cells on a chip drive or read a net, given the nets of each cell
-abbrev pub pins_held : List ℕ → List (List ℕ) → ℕ → ℕ → ℕ
-pins_held [] pins chip net = 0
-pins_held (other ∷ chips) [] chip net = 0
-pins_held (other ∷ chips) (nets ∷ pins) chip net = (if other == chip then times_among nets net else 0) + pins_held chips pins chip net
+abbrev pub cells_held : List ℕ → List (List ℕ) → ℕ → ℕ → ℕ
+cells_held [] cell_nets chip net = 0
+cells_held (other ∷ chips) [] chip net = 0
+cells_held (other ∷ chips) (nets ∷ cell_nets) chip net = (if other == chip then times_among nets net else 0) + cells_held chips cell_nets chip net
 
 -- on how many chips a net is driven or read
 abbrev pub holders : ℕ → List ℕ → List (List ℕ) → ℕ → ℕ
-holders chips chip_of pins net = total (λ chip. one_if (nat_lt 0 (pins_held chip_of pins chip net))) (range_with_len 1 chips)
+holders chips chip_of cell_nets net = sum_by (λ chip. one_if (nat_lt 0 (cells_held chip_of cell_nets chip net))) (range_with_len 1 chips)
 
 -- all nets together
-unfoldable pub spread : Board → Pins → List ℕ → ℕ
-spread board pins chip_of = total (holders board.chips chip_of pins.of_cells.items) (range_with_len 0 pins.nets)
+unfoldable pub spread : Board → CellNets → List ℕ → ℕ
+spread board cell_nets chip_of = sum_by (holders board.chips chip_of cell_nets.of_cells.items) (range_with_len 0 cell_nets.nets)
 
 -- what a chip holds
-pub record IsLoad (pins : Pins) (chip_of : List ℕ) (chip : ℕ) (load : Load) : Type 0 where
+pub record IsLoad (cell_nets : CellNets) (chip_of : List ℕ) (chip : ℕ) (load : Load) : Type 0 where
   pub cells : load.cells ≡ cells_on chip_of chip
-  pub long : length load.counts.items ≡ pins.nets
-  pub counts : (net : ℕ) → slice_index load.counts.items net ≡ pins_held chip_of pins.of_cells.items chip net
+  pub long : length load.counts.items ≡ cell_nets.nets
+  pub counts : (net : ℕ) → slice_index load.counts.items net ≡ cells_held chip_of cell_nets.of_cells.items chip net
 
 -- the chips of the first cells, none of them overfull, and what each chip holds
-pub record IsDeal (board : Board) (pins : Pins) (deal : Deal) : Type 0 where
-  pub few : length deal.chip_of.items ≤ length pins.of_cells.items
+pub record IsDeal (board : Board) (cell_nets : CellNets) (deal : Deal) : Type 0 where
+  pub few : length deal.chip_of.items ≤ length cell_nets.of_cells.items
   pub chips : All (IsChip board) deal.chip_of.items
   pub room : (chip : ℕ) → cells_on deal.chip_of.items chip ≤ board.cells
   pub nodes : length deal.loads.items ≡ board.chips + 1
-  pub loads : (chip : ℕ) (default : Load) → chip ≤ board.chips → IsLoad pins deal.chip_of.items chip (slice_index_or deal.loads.items chip default)
+  pub loads : (chip : ℕ) (default : Load) → chip ≤ board.chips → IsLoad cell_nets deal.chip_of.items chip (slice_index_or deal.loads.items chip default)
 
 -- the nets of a cell
-abbrev pub cell_nets : Pins → ℕ → List ℕ
-cell_nets pins cell = slice_index_or pins.of_cells.items cell []
+abbrev pub nets_at : CellNets → ℕ → List ℕ
+nets_at cell_nets cell = slice_index_or cell_nets.of_cells.items cell []
 
 -- of its nets, how many only this cell of its chip drives or reads
-abbrev pub freed : Pins → List ℕ → ℕ → ℕ
-freed pins chip_of cell = total (λ net. one_if (pins_held chip_of pins.of_cells.items (slice_index chip_of cell) net == 1)) (cell_nets pins cell)
+abbrev pub freed : CellNets → List ℕ → ℕ → ℕ
+freed cell_nets chip_of cell = sum_by (λ net. one_if (cells_held chip_of cell_nets.of_cells.items (slice_index chip_of cell) net == 1)) (nets_at cell_nets cell)
 
 -- of its nets, how many some cell of a chip drives or reads
-abbrev pub met : Pins → List ℕ → ℕ → ℕ → ℕ
-met pins chip_of cell chip = total (λ net. one_if (nat_lt 0 (pins_held chip_of pins.of_cells.items chip net))) (cell_nets pins cell)
+abbrev pub met : CellNets → List ℕ → ℕ → ℕ → ℕ
+met cell_nets chip_of cell chip = sum_by (λ net. one_if (nat_lt 0 (cells_held chip_of cell_nets.of_cells.items chip net))) (nets_at cell_nets cell)
 
 -- a chip to which a cell may be moved: another one, with room
 pub record MayMoveTo (board : Board) (chip_of : List ℕ) (cell chip : ℕ) : Type 0 where
@@ -56,14 +56,14 @@ pub record MayMoveTo (board : Board) (chip_of : List ℕ) (cell chip : ℕ) : Ty
   pub room : cells_on chip_of chip < board.cells
 
 -- a move there lowers the spread: more of the cell's nets are freed or met than it has
-abbrev pub Helps : Pins → List ℕ → ℕ → ℕ → Type 0
-Helps pins chip_of cell chip = length (cell_nets pins cell) < freed pins chip_of cell + met pins chip_of cell chip
+abbrev pub Helps : CellNets → List ℕ → ℕ → ℕ → Type 0
+Helps cell_nets chip_of cell chip = length (nets_at cell_nets cell) < freed cell_nets chip_of cell + met cell_nets chip_of cell chip
 
 -- a move that is allowed, and lowers the spread
-pub record IsGain (board : Board) (pins : Pins) (chip_of : List ℕ) (cell chip : ℕ) : Type 0 where
+pub record IsGain (board : Board) (cell_nets : CellNets) (chip_of : List ℕ) (cell chip : ℕ) : Type 0 where
   pub target : MayMoveTo board chip_of cell chip
-  pub helps : Helps pins chip_of cell chip
+  pub helps : Helps cell_nets chip_of cell chip
 
 -- no move of a cell lowers the spread
-abbrev pub HasNoGain : Board → Pins → List ℕ → ℕ → Type 0
-HasNoGain board pins chip_of cell = (chip : ℕ) → MayMoveTo board chip_of cell chip → ¬ (Helps pins chip_of cell chip)
+abbrev pub HasNoGain : Board → CellNets → List ℕ → ℕ → Type 0
+HasNoGain board cell_nets chip_of cell = (chip : ℕ) → MayMoveTo board chip_of cell chip → ¬ (Helps cell_nets chip_of cell chip)

@@ -13,16 +13,16 @@ use Rattle.vw_pipe.specs.declared.draft.Draft.{Draft}
 use Rattle.vw_pipe.specs.Steps.SentHops.{AreLinked, AreSent, taken_by}
 use Rattle.vw_pipe.specs.Steps.Leads.{lead_so_far, usable_so_far}
 
--- how late the moments of a draft may be that has so many taken slots
-abbrev pub moment_limit : ℕ → ℕ
-moment_limit taken = taken * 2 ^ 31
+-- how late the microcycles of a draft may be that has so many taken slots
+abbrev pub microcycle_limit : ℕ → ℕ
+microcycle_limit taken = taken * 2 ^ 31
 
--- few slots of a draft are taken, and its moments are early
+-- few slots of a draft are taken, and its microcycles are early
 pub record IsEarly (board : Board) (draft : Draft) : Type 0 where
   pub few : length draft.table.taken < 2 ^ 30
-  pub soon : All (λ lead. lead ≤ moment_limit (length draft.table.taken)) draft.leads.items
-  pub sent : All (All (λ hop. arrival board.links hop + 1 ≤ moment_limit (length draft.table.taken))) draft.hops.items
-  pub last : draft.after ≤ moment_limit (length draft.table.taken)
+  pub soon : All (λ lead. lead ≤ microcycle_limit (length draft.table.taken)) draft.leads.items
+  pub sent : All (All (λ hop. arrival board.links hop + 1 ≤ microcycle_limit (length draft.table.taken))) draft.hops.items
+  pub last : draft.after ≤ microcycle_limit (length draft.table.taken)
 
 -- nothing is done yet
 pub record IsUntouched (ordered : Ordered) (board : Board) (routes : List Route) (draft : Draft) : Type 0 where
@@ -37,7 +37,7 @@ pub record IsUntouched (ordered : Ordered) (board : Board) (routes : List Route)
 abbrev pub hops_at : Draft → ℕ → List Hop
 hops_at draft number = slice_index_or draft.hops.items number []
 
--- one draft is another, but for the hops of one route, which are sent from a moment on
+-- one draft is another, but for the hops of one route, which are sent from a microcycle on
 pub record IsSentMore (board : Board) (route : Route) (number ready : ℕ) (old new : Draft) : Type 0 where
   pub leads : new.leads ≡ old.leads
   pub hops : new.hops.items ≡ slice_set old.hops.items number (hops_at new number)
@@ -65,7 +65,7 @@ Does ordered board chip_of routes true number old new =
     (route : Route) → slice_get routes number ≡ Some route
     → IsSentMore board route number (usable_so_far ordered.flat board chip_of routes old.hops.items old.leads.items (node_of ordered.flat chip_of route.net) route.net) old new
 
--- a draft is as long as it has to be, it has the arrivals of its hops, and its moments are early
+-- a draft is as long as it has to be, it has the arrivals of its hops, and its microcycles are early
 pub record IsFit (ordered : Ordered) (board : Board) (routes : List Route) (draft : Draft) : Type 0 where
   pub nets : length draft.leads.items ≡ ordered.flat.inputs + length ordered.flat.cells
   pub long : length draft.hops.items ≡ length routes

@@ -54,12 +54,12 @@ pub record IsTasksDone (ordered : Ordered) (board : Board) (chip_of : List ℕ) 
       → let planned = planned_board ordered board plan in lead planned (home planned net) net ≡ slice_index draft.leads.items net
   pub last : draft.after ≡ greatest (map (after_last board.links) draft.hops.items)
 
--- the moment at which what a latch reads is usable on the latch's chip; 0 for a gate
-abbrev pub cell_moment : Flat → Board → List ℕ → List Route → List (List Hop) → List ℕ → ℕ → Cell → ℕ
-cell_moment flat board chip_of routes hops leads number (Gate ins cover) = 0
-cell_moment flat board chip_of routes hops leads number (Latch d init) = usable_so_far flat board chip_of routes hops leads (slice_index chip_of number) d
+-- the microcycle at which what a latch reads is usable on the latch's chip; 0 for a gate
+abbrev pub cell_microcycle : Flat → Board → List ℕ → List Route → List (List Hop) → List ℕ → ℕ → Cell → ℕ
+cell_microcycle flat board chip_of routes hops leads number (Gate ins cover) = 0
+cell_microcycle flat board chip_of routes hops leads number (Latch d init) = usable_so_far flat board chip_of routes hops leads (slice_index chip_of number) d
 
--- the greatest of these moments, of some cells that are numbered from a number on
+-- the greatest of these microcycles, of some cells that are numbered from a number on
 abbrev pub latest : (ℕ → Cell → ℕ) → ℕ → List Cell → ℕ
-latest moment_of number [] = 0
-latest moment_of number (cell ∷ cells) = max (moment_of number cell) (latest moment_of (suc number) cells)
+latest microcycle_of number [] = 0
+latest microcycle_of number (cell ∷ cells) = max (microcycle_of number cell) (latest microcycle_of (suc number) cells)

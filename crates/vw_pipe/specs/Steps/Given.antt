@@ -5,7 +5,7 @@ use Rattle.vw_net.specs.declared.cell.Cell.{Cell}
 use Rattle.vw_plan.specs.declared.wire.Hop.{Hop}
 use Rattle.vw_pipe.specs.declared.draft.Draft.{Draft}
 use Rattle.vw_pipe.specs.declared.given.Given.{Given}
-use Rattle.vw_pipe.specs.Steps.FinishedSchedules.{IsTasksDone, cell_moment}
+use Rattle.vw_pipe.specs.Steps.FinishedSchedules.{IsTasksDone, cell_microcycle}
 use Rattle.vw_pipe.specs.Steps.Drafts.{Does, IsFit, IsDraftReady, IsUntouched}
 use Rattle.vw_pipe.specs.Steps.Leads.{lead_so_far, usable_so_far}
 
@@ -21,15 +21,15 @@ lead_for given hops leads node net = lead_so_far given.ordered.now.flat given.bo
 abbrev pub usable_for : Given → List (List Hop) → List ℕ → ℕ → ℕ → ℕ
 usable_for given hops leads node net = usable_so_far given.ordered.now.flat given.board.now given.chip_of.now given.routes.now hops leads node net
 
--- the moment at which what a latch reads is usable; 0 for a gate
-abbrev pub cell_moment_for : Given → Draft → ℕ → Cell → ℕ
-cell_moment_for given draft number cell = cell_moment given.ordered.now.flat given.board.now given.chip_of.now given.routes.now draft.hops.items draft.leads.items number cell
+-- the microcycle at which what a latch reads is usable; 0 for a gate
+abbrev pub cell_microcycle_for : Given → Draft → ℕ → Cell → ℕ
+cell_microcycle_for given draft number cell = cell_microcycle given.ordered.now.flat given.board.now given.chip_of.now given.routes.now draft.hops.items draft.leads.items number cell
 
 -- nothing is done yet
 abbrev pub IsUntouchedFor : Given → Draft → Type 0
 IsUntouchedFor given draft = IsUntouched given.ordered.now given.board.now given.routes.now draft
 
--- a draft is as long as it has to be, and its moments are early
+-- a draft is as long as it has to be, and its microcycles are early
 abbrev pub IsFitFor : Given → Draft → Type 0
 IsFitFor given draft = IsFit given.ordered.now given.board.now given.routes.now draft
 

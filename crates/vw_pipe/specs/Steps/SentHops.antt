@@ -34,7 +34,7 @@ abbrev pub taken_by : Board → Hop → Taken
 taken_by board hop = record { link = hop_link board hop; pin = hop.pin; at = hop.at }
 
 -- hops go these steps, one after the other: each takes the first free slot of its link, the first of them not before a
--- moment, and each later one not before the one before it has arrived
+-- microcycle, and each later one not before the one before it has arrived
 abbrev pub AreSent : Board → List Taken → ℕ → List (ℕ × ℕ) → List Hop → Type 0
 AreSent board taken ready [] [] = Unit {0}
 AreSent board taken ready [] (hop ∷ hops) = ⊥

@@ -1,5 +1,5 @@
 -- Schedules of which some tasks are done. Source: this project.
-use Rattle.std.specs.Prelude.{◌≡◌, ◌<◌, ◌+◌, ◌==◌, ◌&&◌, ◌++◌, ℕ, Bool, true, false, List, [], length, map, take, get_or, slice_get, slice_index, if◌then◌else◌, Some}
+use Rattle.std.specs.Prelude.{◌≡◌, ◌<◌, ◌+◌, ◌==◌, ◌&&◌, ◌++◌, ℕ, Bool, true, false, List, [], length, map, take, slice_get, slice_index, slice_index_or, if◌then◌else◌, Some}
 use Rattle.std.specs.List.{list_any}
 use Rattle.vw_net.specs.declared.ordered.Ordered.{Ordered}
 use Rattle.vw_net.specs.Order.{is_gate}
@@ -34,7 +34,7 @@ abbrev pub no_task : Task
 no_task = record { turn = 0; sends = false; place = 0 }
 
 abbrev pub task_at : List Task → ℕ → Task
-task_at tasks place = get_or tasks place no_task
+task_at tasks place = slice_index_or tasks place no_task
 
 -- what a task is for
 abbrev pub IsOfKind : Ordered → List ℕ → List Route → Bool → Task → Type 0

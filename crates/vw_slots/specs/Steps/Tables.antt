@@ -3,14 +3,14 @@ use Rattle.std.specs.Prelude.{◌≡◌, ◌≤◌, ◌+◌, ℕ, List, length, 
 use Rattle.std.specs.HashMap as hash
 use Rattle.vw_slots.specs.declared.slot.Taken.{Taken}
 use Rattle.vw_slots.specs.Slots.{is_taken}
-use Rattle.vw_slots.specs.Steps.Moments.{Moments, used_at, AreWide, IsChained}
+use Rattle.vw_slots.specs.Steps.PinUses.{PinUses, used_at, AreWide, IsChained}
 
-pub record IsMomentTable (widths : List ℕ) (taken : List Taken) (capacity : ℕ) (moments : Moments) (spare : ℕ) : Type 0 where
+pub record IsPinUseTable (widths : List ℕ) (taken : List Taken) (capacity : ℕ) (pin_uses : PinUses) (spare : ℕ) : Type 0 where
   pub wide : AreWide widths
-  pub chained : IsChained widths moments
+  pub chained : IsChained widths pin_uses
   -- the pins fill from the least on
-  pub used : (link pin at : ℕ) → is_taken taken link pin at ≡ nat_lt pin (used_at moments link at)
-  pub within : (link at : ℕ) → used_at moments link at ≤ slice_index widths link
+  pub used : (link pin at : ℕ) → is_taken taken link pin at ≡ nat_lt pin (used_at pin_uses link at)
+  pub within : (link at : ℕ) → used_at pin_uses link at ≤ slice_index widths link
   -- each further slot lists one microcycle more at most
-  pub places : spare ≤ hash.spare moments
+  pub places : spare ≤ hash.spare pin_uses
   pub room : length taken + spare ≤ capacity

@@ -1,8 +1,8 @@
 use Rattle.std.proofs.Common.{◌∙◌, ℕ, Bool, ap, sym}
 use Rattle.vw_check.specs.CellFaults.{is_chip}
 use Rattle.vw_check.specs.declared.fault.PlanFault.TheVariants.{BadChip}
-use Rattle.vw_check.specs.FirstFound.{found_unless}
-use Rattle.vw_check.proofs.ListSearches.{search_ends, search_on}
+use Rattle.vw_net.specs.FirstFound.{found_unless}
+use Rattle.vw_net.proofs.FirstFound.{search_ends, search_on}
 use Rattle.vw_check.proofs.cells.bad_chip.Goals as goal
 
 pub returns-then-not-is_chip : goal.returns-then-not-is_chip

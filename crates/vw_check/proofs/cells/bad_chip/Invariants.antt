@@ -1,7 +1,7 @@
 -- the first cell without a chip is the first of the rest
 use Rattle.std.proofs.Common.{◌≡◌, drop}
 use Rattle.vw_check.specs.declared.fault.PlanFault.TheVariants.{BadChip}
-use Rattle.vw_check.specs.FirstFound.{first_at, found_unless}
+use Rattle.vw_net.specs.FirstFound.{first_at, found_unless}
 use Rattle.vw_check.specs.CellFaults.{bad_chip, is_chip}
 use Rattle.vw_check.proofs.cells.bad_chip.Given as goal
 

@@ -1,7 +1,7 @@
 use Rattle.std.proofs.Common.{◌≡◌, ◌+◌, ◌∙◌, ℕ, Bool, true, false, Some, None, ap, nat_le, arith}
 use Rattle.std.proofs.lemmas.Bool.{le-leb, lt-leb}
 use Rattle.vw_check.specs.declared.fault.PlanFault.TheVariants.{Overfull}
-use Rattle.vw_check.specs.FirstFound.{found_unless}
+use Rattle.vw_net.specs.FirstFound.{found_unless}
 use Rattle.vw_plan.specs.Chips.{cells_on}
 use Rattle.vw_check.proofs.ChipRange.{chip_found, chip_next}
 use Rattle.vw_check.proofs.cells.overfull.Goals as goal

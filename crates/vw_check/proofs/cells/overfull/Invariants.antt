@@ -3,7 +3,7 @@ use Rattle.std.proofs.Common.{◌≡◌, ◌+◌, ◌-◌}
 use Rattle.std.specs.Prelude.{nat_le}
 use Rattle.std.specs.List.{range_with_len}
 use Rattle.vw_check.specs.declared.fault.PlanFault.TheVariants.{Overfull}
-use Rattle.vw_check.specs.FirstFound.{first_at, found_unless}
+use Rattle.vw_net.specs.FirstFound.{first_at, found_unless}
 use Rattle.vw_check.specs.CellFaults.{overfull}
 use Rattle.vw_plan.specs.Chips.{cells_on}
 use Rattle.vw_check.proofs.cells.overfull.Given as goal

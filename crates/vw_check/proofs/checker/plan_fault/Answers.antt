@@ -3,7 +3,7 @@ use Rattle.vw_net.specs.declared.flat.Flat.{Flat}
 use Rattle.vw_plan.specs.PlannedBoard.{planned_board}
 use Rattle.vw_check.specs.declared.fault.PlanFault.{PlanFault}
 use Rattle.vw_check.specs.Faults.{cell_fault}
-use Rattle.vw_check.proofs.FaultOrder.{by_cells, by_hops, by_moments, by_wires, cells, no_fault, wires}
+use Rattle.vw_check.proofs.FaultOrder.{by_cells, by_hops, by_microcycles, by_wires, cells, no_fault, wires}
 use Rattle.vw_check.proofs.NeededNets.{chips_fine, wires_fine}
 use Rattle.vw_check.proofs.checker.plan_fault.Goals as goal
 use Rattle.vw_check.proofs.checker.plan_fault.Goals.{Else-is_some, Else-is_some-2}
@@ -53,10 +53,10 @@ returns-then-is_some-3 c =
     let at = goal.at.returns-then-is_some-3 c in
     c.in_ok-hops.ensures ∙ by_hops planned (no_cells at.Else-is_some) (no_wires at.Else-is_some-2) (c.if-is_some-3.ensures ∙ ap is_some c.in_ok-hops.ensures)
 
--- and then one of the moments
+-- and then one of the microcycles
 pub returns : goal.returns
 returns c =
     let planned = planned_board c.args.ordered.now c.args.board.now c.args.plan.now in
     let at = goal.at.returns c in
     let no_hops = sym c.in_ok-hops.ensures ∙ no_fault c.in_ok-hops.hops c.if-is_some-3.ensures in
-    subst (λ (fault : Option PlanFault). IfOk c.moment_fault.result (λ found. found ≡ fault)) (by_moments planned (no_cells at.Else-is_some) (no_wires at.Else-is_some-2) no_hops) c.moment_fault.ensures
+    subst (λ (fault : Option PlanFault). IfOk c.microcycle_fault.result (λ found. found ≡ fault)) (by_microcycles planned (no_cells at.Else-is_some) (no_wires at.Else-is_some-2) no_hops) c.microcycle_fault.ensures

@@ -7,7 +7,7 @@ use Rattle.vw_plan.specs.declared.wire.Wire.{Wire}
 use Rattle.vw_check.specs.declared.fault.PlanFault.{PlanFault}
 use Rattle.vw_check.specs.declared.hops.Rule.{Rule}
 use Rattle.vw_check.specs.Steps.Rules.{first_in_wire}
-use Rattle.vw_check.proofs.ListSearches.{search_finds, search_passes}
+use Rattle.vw_net.proofs.FirstFound.{search_finds, search_passes}
 use Rattle.vw_check.proofs.hops.first_breaking.Goals as goal
 
 module _ (rule : Rule) (planned : PlannedBoard) where

@@ -1,9 +1,9 @@
 use Rattle.std.proofs.Common.{◌<◌, ◌∙◌, ℕ, Bool, length, get_or, ap, sym, List, arith}
 use Rattle.vw_plan.specs.declared.wire.Hop.{Hop}
-use Rattle.vw_check.specs.FirstFound.{found_unless}
+use Rattle.vw_net.specs.FirstFound.{found_unless}
 use Rattle.vw_check.specs.Steps.Rules.{keeps, rule_fault}
 use Rattle.vw_check.proofs.Clashes.{no_hop}
-use Rattle.vw_check.proofs.ListSearches.{search_on}
+use Rattle.vw_net.proofs.FirstFound.{search_on}
 use Rattle.vw_check.proofs.hops.first_in_wire.Goals as goal
 
 -- a hop that keeps the rule leaves the rest

@@ -1,6 +1,6 @@
 -- the first hop that breaks the rule is the first of the rest
 use Rattle.std.proofs.Common.{◌≡◌, drop}
-use Rattle.vw_check.specs.FirstFound.{first_at, found_unless}
+use Rattle.vw_net.specs.FirstFound.{first_at, found_unless}
 use Rattle.vw_check.specs.Steps.Rules.{first_in_wire, keeps, rule_fault}
 use Rattle.vw_check.proofs.hops.first_in_wire.Given as goal
 

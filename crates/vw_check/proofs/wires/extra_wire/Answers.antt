@@ -1,9 +1,9 @@
 use Rattle.std.proofs.Common.{◌∙◌, ℕ, Bool, ap, sym}
 use Rattle.vw_plan.specs.declared.wire.Wire.{Wire}
 use Rattle.vw_check.specs.declared.fault.PlanFault.TheVariants.{ExtraWire}
-use Rattle.vw_check.specs.FirstFound.{found_if}
+use Rattle.vw_net.specs.FirstFound.{found_if}
 use Rattle.vw_check.specs.Steps.Wires.{is_extra}
-use Rattle.vw_check.proofs.ListSearches.{search_ends, search_on}
+use Rattle.vw_net.proofs.FirstFound.{search_ends, search_on}
 use Rattle.vw_check.proofs.wires.extra_wire.Goals as goal
 
 pub returns-then-is_extra : goal.returns-then-is_extra

@@ -1,7 +1,7 @@
 -- the first extra wire is the first of the rest
 use Rattle.std.proofs.Common.{◌≡◌, drop}
 use Rattle.vw_check.specs.declared.fault.PlanFault.TheVariants.{ExtraWire}
-use Rattle.vw_check.specs.FirstFound.{first_at, found_if}
+use Rattle.vw_net.specs.FirstFound.{first_at, found_if}
 use Rattle.vw_check.specs.Steps.Wires.{first_extra, is_extra}
 use Rattle.vw_check.proofs.wires.extra_wire.Given as goal
 

@@ -8,5 +8,5 @@ use Rattle.vw_leads.proofs.home.arrivals_of.Given as goal
 abbrev pub invariant-loop-wire : goal.invariant-loop-wire
 invariant-loop-wire l = record {
   are : l.arrivals.items ++ map (λ wire. after_last l.wired.board.now.links wire.hops) (drop l.wire-index l.wired.plan.now.wires) ≡ arrivals_of (planned_in l.wired);
-  early : All (λ moment. moment < 2 ^ 63) l.arrivals.items;
+  early : All (λ microcycle. microcycle < 2 ^ 63) l.arrivals.items;
 }

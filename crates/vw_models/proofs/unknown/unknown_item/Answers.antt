@@ -1,11 +1,11 @@
 use Rattle.std.proofs.Common.{◌+◌, not, List, ℕ, ◌∙◌, ap, sym, subst, drop}
 use Rattle.std.specs.List.{AllZip}
 use Rattle.std.proofs.lemmas.List.{drop_all}
-use Rattle.vw_design.specs.Lists.{first_found}
+use Rattle.vw_net.specs.FirstFound.{first_found}
 use Rattle.vw_design.specs.Paths.{Placing}
 use Rattle.vw_design.specs.ModelNumbers.{IsNumberOfModel}
 use Rattle.vw_models.specs.Steps.Unknown.{unknown_of}
-use Rattle.vw_models.proofs.AddedPlacements.{sub_cut}
+use Rattle.vw_models.proofs.AddedPlacings.{sub_cut}
 use Rattle.vw_models.proofs.Unknowns.{AreAlong, sub_step, other_step}
 use Rattle.vw_models.proofs.unknown.unknown_item.Goals as goal
 use Rattle.vw_models.proofs.unknown.unknown_item.Goals.{in-Sub+else-is_none, in_default}

@@ -1,6 +1,6 @@
 -- nothing is found yet, and the lists go along
 use Rattle.std.proofs.Common.{◌≡◌, drop, filter}
-use Rattle.vw_design.specs.Lists.{first_found}
+use Rattle.vw_net.specs.FirstFound.{first_found}
 use Rattle.vw_design.specs.ModelFaults.{is_reached}
 use Rattle.vw_models.specs.Steps.Unknown.{unknown_of}
 use Rattle.vw_models.proofs.unknown.unknown_model.Given as goal

@@ -22,9 +22,9 @@ pub loop-to-preserved : goal.loop-to-preserved
 loop-to-preserved c =
     let given = c.args.given.now in
     let hop = c.make-hop.result in
-    let next : c.arrival-moment.result + 1 ≡ arrival given.board.now.links hop + 1 = ap (λ (at : ℕ). at + 1) (c.arrival-moment.ensures.value ∙ ap (λ (links : List Link). arrival links hop) given.has_links) in
-    further_on given.board.now c.args.table.now.taken c.args.ready c.args.first c.args.further.now c.loop-to.table c.loop-to.hops.items c.loop-to.from c.loop-to.moment c.loop-to.to-index c.loop-to.invariant c.loop-to-test.true c.requires.few
-    hop c.link_between-link.result c.take_first-slot.result c.take_first-slot.new.self c.push.new.self.items (c.arrival-moment.result + 1) next c.make-hop.ensures.from c.make-hop.ensures.to (c.make-hop.ensures.pin ∙ c.pin.ensures) (c.make-hop.ensures.at ∙ c.at.ensures) c.link_between-link.ensures c.take_first-slot.ensures.first c.take_first-slot.ensures.soon c.take_first-slot.ensures.slots c.in_ok-push.ensures.items
+    let next : c.arrival-microcycle.result + 1 ≡ arrival given.board.now.links hop + 1 = ap (λ (at : ℕ). at + 1) (c.arrival-microcycle.ensures.value ∙ ap (λ (links : List Link). arrival links hop) given.has_links) in
+    further_on given.board.now c.args.table.now.taken c.args.ready c.args.first c.args.further.now c.loop-to.table c.loop-to.hops.items c.loop-to.from c.loop-to.microcycle c.loop-to.to-index c.loop-to.invariant c.loop-to-test.true c.requires.few
+    hop c.link_between-link.result c.take_first-slot.result c.take_first-slot.new.self c.push.new.self.items (c.arrival-microcycle.result + 1) next c.make-hop.ensures.from c.make-hop.ensures.to (c.make-hop.ensures.pin ∙ c.pin.ensures) (c.make-hop.ensures.at ∙ c.at.ensures) c.link_between-link.ensures c.take_first-slot.ensures.first c.take_first-slot.ensures.soon c.take_first-slot.ensures.slots c.in_ok-push.ensures.items
 
 pub returns : goal.returns
 returns c =
@@ -34,7 +34,7 @@ returns c =
     let board = c.args.given.now.board.now in
     let whole : length further ≤ place = omega arith in
     let none : drop place further ≡ [] = drop_of_length-le further whole in
-    let end : AreSent board c.loop-to.table.taken c.loop-to.moment (steps_of (c.loop-to.from ∷ drop place further)) [] = rw none tt in
+    let end : AreSent board c.loop-to.table.taken c.loop-to.microcycle (steps_of (c.loop-to.from ∷ drop place further)) [] = rw none tt in
     record {
       soon = λ number hop within. omega (arith, way.early number hop within, way.soon);
       ok = (subst (AreSent board c.args.table.now.taken c.args.ready (steps_of (c.args.first ∷ further))) (append-nil c.loop-to.hops.items) (way.sent [] end), way.taken, way.widths ∙ sym c.requires.widths);

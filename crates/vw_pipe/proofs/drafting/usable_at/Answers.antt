@@ -1,9 +1,9 @@
 use Rattle.std.proofs.Common.{◌∙◌, ℕ, List, length, ap, ap₂}
 use Rattle.vw_leads.specs.Leads as by_table
-use Rattle.vw_pipe.proofs.KnownMoments.{arrivals_low, arrived_so_far, leads_low}
+use Rattle.vw_pipe.proofs.KnownMicrocycles.{arrivals_low, arrived_so_far, leads_low}
 use Rattle.vw_pipe.proofs.drafting.usable_at.Goals as goal
 
--- what is known of moments is so far
+-- what is known of microcycles is so far
 pub invariant_of-known : goal.invariant_of-known
 invariant_of-known c =
     let given = c.args.given.now in

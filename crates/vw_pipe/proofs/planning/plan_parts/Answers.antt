@@ -1,7 +1,7 @@
 use Rattle.std.proofs.Common.{◌≤◌, ◌∙◌, ◌^◌, length, ap, sym, subst, arith}
 use Rattle.std.specs.List.{All, sum_by}
 use Rattle.vw_plan.specs.declared.wire.Wire.{Wire}
-use Rattle.vw_pipe.specs.Steps.Drafts.{moment_limit}
+use Rattle.vw_pipe.specs.Steps.Drafts.{microcycle_limit}
 use Rattle.vw_pipe.proofs.ScheduleBounds.{as_many_hops, as_many_wires, latest_early, wires_early}
 use Rattle.vw_pipe.proofs.Scheduled.{scheduled_for}
 use Rattle.vw_pipe.proofs.planning.plan_parts.Goals as goal
@@ -20,7 +20,7 @@ pub returns-clause-early : goal.returns-clause-early
 returns-clause-early c =
     let done = c.in_ok-draft.ensures in
     let taken = length c.in_ok-draft.draft.table.taken in
-    subst (All (λ wire. All (λ hop. hop.at ≤ 2 ^ 62) wire.hops)) (sym c.in_ok-wires.ensures) (wires_early c.args.board.now.links (moment_limit taken) c.args.routes.now c.in_ok-draft.draft.hops.items (omega (arith, done.fit.early.few)) done.fit.early.sent)
+    subst (All (λ wire. All (λ hop. hop.at ≤ 2 ^ 62) wire.hops)) (sym c.in_ok-wires.ensures) (wires_early c.args.board.now.links (microcycle_limit taken) c.args.routes.now c.in_ok-draft.draft.hops.items (omega (arith, done.fit.early.few)) done.fit.early.sent)
 
 pub returns-clause-short : goal.returns-clause-short
 returns-clause-short c =

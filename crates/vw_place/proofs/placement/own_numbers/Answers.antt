@@ -2,7 +2,7 @@ use Rattle.std.proofs.Common.{◌≡◌, ◌+◌, ◌++◌, ℕ, List, [], ◌�
 use Rattle.std.specs.List.{range_with_len}
 use Rattle.vw_place.specs.Steps.NodeLists.{IsNodeList}
 use Rattle.vw_place.proofs.Exchanges.{own_nodes}
-use Rattle.vw_place.proofs.SumsOverLists.{range_end}
+use Rattle.vw_net.proofs.SumsOverLists.{range_end}
 use Rattle.vw_place.proofs.placement.own_numbers.Goals as goal
 
 pub loop-node-preserved : goal.loop-node-preserved

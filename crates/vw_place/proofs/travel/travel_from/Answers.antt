@@ -1,6 +1,6 @@
 use Rattle.std.proofs.Common.{arith}
 use Rattle.vw_place.specs.Steps.Traffic.{travel_between}
-use Rattle.vw_place.proofs.SumsOverLists.{range_next}
+use Rattle.vw_net.proofs.SumsOverLists.{range_next}
 use Rattle.vw_place.proofs.travel.travel_from.Goals as goal
 
 pub loop-to-preserved : goal.loop-to-preserved

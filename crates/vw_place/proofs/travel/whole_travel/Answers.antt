@@ -1,6 +1,6 @@
 use Rattle.std.proofs.Common.{◌+◌, arith}
 use Rattle.vw_place.specs.Steps.Traffic.{travel_from}
-use Rattle.vw_place.proofs.SumsOverLists.{range_next}
+use Rattle.vw_net.proofs.SumsOverLists.{range_next}
 use Rattle.vw_place.proofs.travel.whole_travel.Goals as goal
 
 pub loop-from-preserved : goal.loop-from-preserved

@@ -37,5 +37,5 @@ returns-in_err-batch-clause-carried g c =
 -- whether the lines were written or not
 pub returns-clause-carried : goal.returns-clause-carried
 returns-clause-carried g c =
-    done_for_all (HaveCarried (planned_of c.args.crewed.now.board.now.job) c.args.done c.args.state.now (g.F.Fabric.carried c.args.crewed.now.fabric.now) (g.F.Fabric.carried c.run.new.self.fabric.now))
+    done_for_all (HaveCarried (planned_of c.args.crewed.now.board.now.job) c.args.done c.args.state.now (g.F.Fabric.carried c.args.crewed.now.fabric.now) (g.F.Fabric.carried c.work_out.new.self.fabric.now))
     c.args.rows c.put_text.result c.in_ok-batch.ensures.carried

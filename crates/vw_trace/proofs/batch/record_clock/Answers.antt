@@ -5,7 +5,7 @@ use Rattle.vw_trace.proofs.batch.record_clock.Goals as goal
 
 pub returns-clause-outputs : goal.returns-clause-outputs
 returns-clause-outputs c =
-    let flat = c.args.machine.now.flat in
+    let flat = c.args.simulator.now.flat in
     let value : ℕ → Bool = λ net. slice_index_or c.step.new.values net false in
     let nets : c.outputs.result.now ≡ flat.outputs = cc in
     c.pick.ensures ∙ ap (map value) nets

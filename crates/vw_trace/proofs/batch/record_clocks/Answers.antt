@@ -9,7 +9,7 @@ use Rattle.vw_trace.proofs.batch.record_clocks.Goals as goal
 
 pub loop-i-preserved : goal.loop-i-preserved
 loop-i-preserved c =
-    let flat = c.args.machine.now.flat in
+    let flat = c.args.simulator.now.flat in
     let kept = c.loop-i.invariant in
     let clock = c.record_clock.ensures in
     let i = c.loop-i.i in
@@ -61,7 +61,7 @@ all_rows_written rows count few = sym (take_all count rows few) ∙ sym (append-
 
 pub returns : goal.returns
 returns c =
-    let flat = c.args.machine.now.flat in
+    let flat = c.args.simulator.now.flat in
     let kept = c.loop-i.invariant in
     let i = c.loop-i.i in
     let outputs = c.loop-i.outputs in

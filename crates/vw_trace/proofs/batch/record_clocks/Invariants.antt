@@ -7,11 +7,11 @@ use Rattle.vw_trace.proofs.batch.record_clocks.Given as goal
 
 abbrev pub invariant-loop-i : goal.invariant-loop-i
 invariant-loop-i l = record {
-  outputs : take l.i l.outputs ++ outputs_of l.machine.flat l.state (drop l.i l.rows) ≡ outputs_of l.machine.flat l.fn.state l.rows;
-  states : take l.i l.states ++ states_of l.machine.flat l.state (drop l.i l.rows) ≡ states_of l.machine.flat l.fn.state l.rows;
-  state : state_after l.machine.flat l.state (drop l.i l.rows) ≡ state_after l.machine.flat l.fn.state l.rows;
-  output_widths : All (λ bits. length bits ≡ length l.machine.flat.outputs) l.outputs;
-  state_widths : All (λ bits. length bits ≡ latch_count l.machine.flat.cells) l.states;
-  latches : length l.state ≡ latch_count l.machine.flat.cells;
-  nets : length l.values ≡ l.machine.flat.inputs + length l.machine.flat.cells;
+  outputs : take l.i l.outputs ++ outputs_of l.simulator.flat l.state (drop l.i l.rows) ≡ outputs_of l.simulator.flat l.fn.state l.rows;
+  states : take l.i l.states ++ states_of l.simulator.flat l.state (drop l.i l.rows) ≡ states_of l.simulator.flat l.fn.state l.rows;
+  state : state_after l.simulator.flat l.state (drop l.i l.rows) ≡ state_after l.simulator.flat l.fn.state l.rows;
+  output_widths : All (λ bits. length bits ≡ length l.simulator.flat.outputs) l.outputs;
+  state_widths : All (λ bits. length bits ≡ latch_count l.simulator.flat.cells) l.states;
+  latches : length l.state ≡ latch_count l.simulator.flat.cells;
+  nets : length l.values ≡ l.simulator.flat.inputs + length l.simulator.flat.cells;
 }

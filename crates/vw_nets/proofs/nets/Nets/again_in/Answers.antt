@@ -1,5 +1,5 @@
 use Rattle.std.proofs.Common.{◌≡◌, ℕ, Some, slice_get, refl, sym, ◌∙◌}
-use Rattle.vw_instances.specs.declared.tables.Placed.{Placed}
+use Rattle.vw_instances.specs.declared.tables.ListedInstance.{ListedInstance}
 use Rattle.vw_drivers.specs.declared.model_claims.ModelClaims.{ModelClaims}
 use Rattle.vw_drivers.specs.declared.tables.Tables.{Tables}
 use Rattle.vw_nets.specs.Steps.SecondClaims.{again_by}
@@ -7,7 +7,7 @@ use Rattle.vw_nets.proofs.CellItems.{listed_at}
 use Rattle.vw_nets.proofs.nets.Nets.again_in.Goals as goal
 
 -- look-up by look-up
-again_found : (tables : Tables) (instance : ℕ) (entry : Placed) (claims : ModelClaims) → slice_get tables.instances instance ≡ Some entry → slice_get tables.claims entry.model ≡ Some claims
+again_found : (tables : Tables) (instance : ℕ) (entry : ListedInstance) (claims : ModelClaims) → slice_get tables.instances instance ≡ Some entry → slice_get tables.claims entry.model ≡ Some claims
     → again_by tables instance ≡ claims.again
 again_found tables instance entry claims first second = rw (first, second) refl
 

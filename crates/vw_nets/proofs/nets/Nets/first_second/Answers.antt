@@ -1,7 +1,7 @@
 use Rattle.std.proofs.Common.{◌≡◌, ◌<◌, ◌∙◌, ◌+◌, ℕ, List, Option, length, sym, ap, subst, arith}
 use Rattle.vw_design.specs.Preorder.{instances}
 use Rattle.vw_design.proofs.ListPlaces.{at_within}
-use Rattle.vw_instances.specs.declared.tables.Placed.{Placed}
+use Rattle.vw_instances.specs.declared.tables.ListedInstance.{ListedInstance}
 use Rattle.vw_nets.specs.declared.two_drivers.Second.{Second}
 use Rattle.vw_nets.specs.Steps.SecondClaims.{IsFirstSecond}
 use Rattle.vw_nets.proofs.FirstAgain.{taken, kept}
@@ -12,7 +12,7 @@ pub loop-instance-preserved : goal.loop-instance-preserved
 loop-instance-preserved c =
     let design = c.args.self.now.design.now in
     let i = c.loop-instance.instance in
-    let many : length c.instances.result.now ≡ length c.args.self.now.tables.now.instances = ap (λ (list : List Placed). length list) c.instances.ensures in
+    let many : length c.instances.result.now ≡ length c.args.self.now.tables.now.instances = ap (λ (list : List ListedInstance). length list) c.instances.ensures in
     let within : i < length (instances design) = omega (arith, c.loop-instance-test.true, many, c.requires.tables.placed.same_length) in
     let path = at_within (instances design) i within in
     let found = c.second_in-found.result in
@@ -28,6 +28,6 @@ loop-instance-preserved c =
 
 pub returns : goal.returns
 returns c =
-    let many : length c.instances.result.now ≡ length c.args.self.now.tables.now.instances = ap (λ (list : List Placed). length list) c.instances.ensures in
+    let many : length c.instances.result.now ≡ length c.args.self.now.tables.now.instances = ap (λ (list : List ListedInstance). length list) c.instances.ensures in
     let last : c.loop-instance.instance ≡ length c.args.self.now.tables.now.instances = omega (arith, c.loop-instance-test.false, c.loop-instance.auto.instance-end, many) in
     subst (λ (n : ℕ). IsFirstSecond c.args.self.now.design.now n c.loop-instance.first) last c.loop-instance.invariant

@@ -1,6 +1,6 @@
 use Rattle.std.proofs.Common.{◌≡◌, ℕ, List, Option, Some, slice_get, refl, sym, ap, ◌∙◌}
 use Rattle.vw_instances.specs.declared.tables.CellSite.{CellSite}
-use Rattle.vw_instances.specs.declared.tables.Placed.{Placed}
+use Rattle.vw_instances.specs.declared.tables.ListedInstance.{ListedInstance}
 use Rattle.vw_drivers.specs.declared.model_names.ModelNames.{ModelNames}
 use Rattle.vw_drivers.specs.declared.tables.Tables.{Tables}
 use Rattle.vw_nets.specs.Steps.Items.{numbers_by}
@@ -8,7 +8,7 @@ use Rattle.vw_nets.proofs.CellItems.{listed_at}
 use Rattle.vw_nets.proofs.nets.Nets.numbers_by.Goals as goal
 
 -- look-up by look-up
-numbers_found : (tables : Tables) (cell : CellSite) (entry : Placed) (names : ModelNames) (numbers : List (Option ℕ)) → slice_get tables.instances cell.instance ≡ Some entry
+numbers_found : (tables : Tables) (cell : CellSite) (entry : ListedInstance) (names : ModelNames) (numbers : List (Option ℕ)) → slice_get tables.instances cell.instance ≡ Some entry
     → slice_get tables.names entry.model ≡ Some names → slice_get names.reads cell.item ≡ Some numbers → numbers_by tables cell ≡ Some numbers
 numbers_found tables cell entry names numbers first second third = rw (first, second, third) refl
 

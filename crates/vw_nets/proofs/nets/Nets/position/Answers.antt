@@ -1,13 +1,13 @@
 use Rattle.std.proofs.Common.{◌≡◌, ◌+◌, ℕ, List, Some, slice_get, refl, sym, ap, ◌∙◌}
 use Rattle.vw_instances.specs.declared.sizes.Before.{Before}
-use Rattle.vw_instances.specs.declared.tables.Placed.{Placed}
+use Rattle.vw_instances.specs.declared.tables.ListedInstance.{ListedInstance}
 use Rattle.vw_drivers.specs.declared.tables.Tables.{Tables}
 use Rattle.vw_nets.specs.Steps.SecondClaims.{position_by}
 use Rattle.vw_nets.proofs.CellItems.{listed_at}
 use Rattle.vw_nets.proofs.nets.Nets.position.Goals as goal
 
 -- look-up by look-up
-position_found : (tables : Tables) (instance item : ℕ) (entry : Placed) (list : List Before) (before : Before) → slice_get tables.instances instance ≡ Some entry
+position_found : (tables : Tables) (instance item : ℕ) (entry : ListedInstance) (list : List Before) (before : Before) → slice_get tables.instances instance ≡ Some entry
     → slice_get tables.before entry.model ≡ Some list → slice_get list item ≡ Some before → position_by tables instance item ≡ Some (entry.cells + instance + (before.cells + before.instances))
 position_found tables instance item entry list before first second third = rw (first, second, third) refl
 

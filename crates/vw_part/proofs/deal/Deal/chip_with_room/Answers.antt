@@ -13,7 +13,7 @@ loop-chip-preserved c = λ chip some low.
     let if_here = λ (here : at ≤ chip).
     let is : at ≡ chip = omega arith in
     let few : at ≤ c.args.board.now.chips = omega (arith, c.chips-chip-end.ensures, c.loop-chip-test.true) in
-    let load = loaded c.args.board.now c.args.pins.now c.args.self.now at c.index-in-loop-chip.result.now c.requires.deal few c.index-in-loop-chip.ensures in
+    let load = loaded c.args.board.now c.args.cell_nets.now c.args.self.now at c.index-in-loop-chip.result.now c.requires.deal few c.index-in-loop-chip.ensures in
     let full : c.args.board.now.cells ≤ cells_on chips at = omega (arith, load.cells, c.cells-in-loop-chip.ensures, c.if-index-cells-2.false) in
     subst (λ (x : ℕ). c.args.board.now.cells ≤ cells_on chips x) is full in
     ⊎_elim if_before if_here (cases_lt chip at)

@@ -4,7 +4,7 @@ use Rattle.std.proofs.lemmas.List.{length_push}
 use Rattle.std.proofs.lemmas.List.Elements.{All-nil, All-push}
 use Rattle.vw_plan.specs.Chips.{IsChip}
 use Rattle.vw_part.specs.declared.load.Load.{Load}
-use Rattle.vw_part.specs.declared.pins.Pins.{Pins}
+use Rattle.vw_part.specs.declared.cell_nets.CellNets.{CellNets}
 use Rattle.vw_part.specs.Steps.Deals.{IsLoad}
 use Rattle.vw_part.proofs.deal.Deal.empty.Goals as goal
 
@@ -13,22 +13,22 @@ none_anywhere zero net = refl
 none_anywhere (suc many) zero = refl
 none_anywhere (suc many) (suc net) = none_anywhere many net
 
-empty_load : (pins : Pins) (load : Load) → load.cells ≡ 0 → load.counts.items ≡ replicate pins.nets 0 → IsLoad pins [] 0 load
-empty_load pins load cells counts = record {
+empty_load : (cell_nets : CellNets) (load : Load) → load.cells ≡ 0 → load.counts.items ≡ replicate cell_nets.nets 0 → IsLoad cell_nets [] 0 load
+empty_load cell_nets load cells counts = record {
   cells = cells;
-  long = ap length counts ∙ length-replicate pins.nets 0;
-  counts = λ net. ap (λ (numbers : List ℕ). get_or numbers net 0) counts ∙ none_anywhere pins.nets net;
+  long = ap length counts ∙ length-replicate cell_nets.nets 0;
+  counts = λ net. ap (λ (numbers : List ℕ). get_or numbers net 0) counts ∙ none_anywhere cell_nets.nets net;
 }
 
-at_any_chip : (pins : Pins) (chip : ℕ) (load : Load) → IsLoad pins [] 0 load → IsLoad pins [] chip load
-at_any_chip pins chip load is = record { cells = is.cells; long = is.long; counts = is.counts }
+at_any_chip : (cell_nets : CellNets) (chip : ℕ) (load : Load) → IsLoad cell_nets [] 0 load → IsLoad cell_nets [] chip load
+at_any_chip cell_nets chip load is = record { cells = is.cells; long = is.long; counts = is.counts }
 
 pub loop-chip-preserved : goal.loop-chip-preserved
 loop-chip-preserved c =
-    let pins = c.args.pins.now in
+    let cell_nets = c.args.cell_nets.now in
     let loads = c.loop-chip.loads.items in
     let load = c.in_ok-load.load in
-    let all = All-push (IsLoad pins [] 0) loads load c.loop-chip.invariant.0 (empty_load pins load c.in_ok-load.ensures.cells c.in_ok-load.ensures.counts) in
+    let all = All-push (IsLoad cell_nets [] 0) loads load c.loop-chip.invariant.0 (empty_load cell_nets load c.in_ok-load.ensures.cells c.in_ok-load.ensures.counts) in
     (rw c.in_ok-push.ensures.items all, ap (λ (loads : List Load). length loads) c.in_ok-push.ensures.items ∙ length_push loads load ∙ omega arith)
 
 pub returns-clause-deal : goal.returns-clause-deal
@@ -39,5 +39,5 @@ returns-clause-deal c =
       chips = rw none (All-nil (IsChip c.args.board.now));
       room = λ chip. rw none (omega arith);
       nodes = omega (arith, c.loop-chip.invariant.1, c.chips-chip-end.ensures);
-      loads = λ chip default low. rw none (at_any_chip c.args.pins.now chip (get_or c.loop-chip.loads.items chip default) (c.loop-chip.invariant.0 chip default (omega (arith, c.loop-chip.invariant.1, c.chips-chip-end.ensures))));
+      loads = λ chip default low. rw none (at_any_chip c.args.cell_nets.now chip (get_or c.loop-chip.loads.items chip default) (c.loop-chip.invariant.0 chip default (omega (arith, c.loop-chip.invariant.1, c.chips-chip-end.ensures))));
     }

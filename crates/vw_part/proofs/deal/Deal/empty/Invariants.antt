@@ -4,4 +4,4 @@ use Rattle.vw_part.specs.Steps.Deals.{IsLoad}
 use Rattle.vw_part.proofs.deal.Deal.empty.Given as goal
 
 abbrev pub invariant-loop-chip : goal.invariant-loop-chip
-invariant-loop-chip l = All (IsLoad l.pins [] 0) l.loads.items × (length l.loads.items ≡ l._chip)
+invariant-loop-chip l = All (IsLoad l.cell_nets [] 0) l.loads.items × (length l.loads.items ≡ l._chip)

@@ -7,8 +7,8 @@ use Rattle.vw_part.proofs.deal.Deal.improve.Goals as goal
 pub returns-in-Some-clause-lower : goal.returns-in-Some-clause-lower
 returns-in-Some-clause-lower c = λ moved.
     let board = c.args.board.now in
-    let pins = c.args.pins.now in
+    let cell_nets = c.args.cell_nets.now in
     let chips = c.args.self.now.chip_of.items in
-    let gain : IsGain board pins chips c.args.cell c.in-Some.chip = c.in-Some.ensures in
-    let change = spread_moved board pins chips c.args.cell c.in-Some.chip c.requires.cell c.requires.deal.few c.requires.deal.chips gain.target.real gain.target.away in
-    omega (arith, change, gain.helps, ap (λ (l : List ℕ). spread board pins l) c.shift.ensures.chip_of)
+    let gain : IsGain board cell_nets chips c.args.cell c.in-Some.chip = c.in-Some.ensures in
+    let change = spread_moved board cell_nets chips c.args.cell c.in-Some.chip c.requires.cell c.requires.deal.few c.requires.deal.chips gain.target.real gain.target.away in
+    omega (arith, change, gain.helps, ap (λ (l : List ℕ). spread board cell_nets l) c.shift.ensures.chip_of)

@@ -1,8 +1,8 @@
 use Rattle.std.proofs.Common.{◌≡◌, ◌<◌, ◌≤◌, ◌∙◌, ℕ, List, [], length, get_or, ap, refl, sym, subst, arith}
 use Rattle.std.proofs.lemmas.List.{get_or_default}
 use Rattle.vw_part.specs.declared.load.Load.{Load}
-use Rattle.vw_part.specs.Steps.Deals.{cell_nets}
-use Rattle.vw_part.specs.Steps.Pins.{times_among}
+use Rattle.vw_part.specs.Steps.Deals.{nets_at}
+use Rattle.vw_part.specs.Steps.CellNets.{times_among}
 use Rattle.vw_part.proofs.Dealing.{HasCellMore, dealt_more, loaded}
 use Rattle.vw_part.proofs.ChipLoads.{held-le}
 use Rattle.vw_part.proofs.deal.Deal.put.Goals as goal
@@ -10,25 +10,25 @@ use Rattle.vw_part.proofs.deal.Deal.put.Goals as goal
 -- each cell so far counts once at most
 pub add-requires-clause-fits : goal.add-requires-clause-fits
 add-requires-clause-fits c = λ net.
-    let pins = c.args.pins.now in
+    let cell_nets = c.args.cell_nets.now in
     let chips = c.args.self.now.chip_of.items in
-    let load = loaded c.args.board.now pins c.args.self.now c.args.chip c.index_mut.result.now c.requires.deal c.requires.chip.1 c.index_mut.ensures.value in
+    let load = loaded c.args.board.now cell_nets c.args.self.now c.args.chip c.index_mut.result.now c.requires.deal c.requires.chip.1 c.index_mut.ensures.value in
     let next : c.len.result ≡ length chips = omega (arith, c.len.ensures, c.args.self.now.chip_of.ok) in
-    let own : c.at-own.result.now ≡ cell_nets pins (length chips) = c.at-own.ensures ∙ ap (λ (cell : ℕ). cell_nets pins cell) next in
-    let once : times_among c.at-own.result.now net ≤ 1 = subst (λ (nets : List ℕ). times_among nets net ≤ 1) (sym own) (pins.once (length chips) [] c.requires.next net) in
-    omega (arith, load.counts net, held-le chips pins.of_cells.items c.args.chip net pins.once, once, c.requires.next, pins.few_cells)
+    let own : c.at-own.result.now ≡ nets_at cell_nets (length chips) = c.at-own.ensures ∙ ap (λ (cell : ℕ). nets_at cell_nets cell) next in
+    let once : times_among c.at-own.result.now net ≤ 1 = subst (λ (nets : List ℕ). times_among nets net ≤ 1) (sym own) (cell_nets.once (length chips) [] c.requires.next net) in
+    omega (arith, load.counts net, held-le chips cell_nets.of_cells.items c.args.chip net cell_nets.once, once, c.requires.next, cell_nets.few_cells)
 
 pub returns-clause-deal : goal.returns-clause-deal
 returns-clause-deal c =
-    let pins = c.args.pins.now in
+    let cell_nets = c.args.cell_nets.now in
     let chips = c.args.self.now.chip_of.items in
     let loads = c.args.self.now.loads.items in
     let old = c.index_mut.result.now in
     let new = c.add.new.self in
     let next : c.len.result ≡ length chips = omega (arith, c.len.ensures, c.args.self.now.chip_of.ok) in
-    let own : c.at-own.result.now ≡ cell_nets pins (length chips) = c.at-own.ensures ∙ ap (λ (cell : ℕ). cell_nets pins cell) next in
+    let own : c.at-own.result.now ≡ nets_at cell_nets (length chips) = c.at-own.ensures ∙ ap (λ (cell : ℕ). nets_at cell_nets cell) next in
     let within : c.args.chip < length loads = omega (arith, c.requires.deal.nodes, c.requires.chip.1) in
     let found : old ≡ get_or loads c.args.chip new = c.index_mut.ensures.value ∙ get_or_default loads c.args.chip old new within in
     let raw : HasCellMore c.at-own.result.now old new = record { cells = c.add.ensures.cells; long = omega (arith, c.add.ensures.long, old.counts.ok, new.counts.ok); counts = c.add.ensures.counts } in
-    let more : HasCellMore (cell_nets pins (length chips)) (get_or loads c.args.chip new) new = subst (λ (nets : List ℕ). HasCellMore nets (get_or loads c.args.chip new) new) own (subst (λ (load : Load). HasCellMore c.at-own.result.now load new) found raw) in
-    dealt_more c.args.board.now pins c.args.self.now _ c.args.chip new c.requires.deal c.requires.next c.requires.chip c.requires.room c.in_ok-push.ensures.items refl more
+    let more : HasCellMore (nets_at cell_nets (length chips)) (get_or loads c.args.chip new) new = subst (λ (nets : List ℕ). HasCellMore nets (get_or loads c.args.chip new) new) own (subst (λ (load : Load). HasCellMore c.at-own.result.now load new) found raw) in
+    dealt_more c.args.board.now cell_nets c.args.self.now _ c.args.chip new c.requires.deal c.requires.next c.requires.chip c.requires.room c.in_ok-push.ensures.items refl more

@@ -5,9 +5,9 @@ use Rattle.vw_part.proofs.deal.Deal.round.Given as goal
 
 abbrev pub invariant-loop-cell : goal.invariant-loop-cell
 invariant-loop-cell l = record {
-  deal : IsDeal l.board l.pins l.self;
+  deal : IsDeal l.board l.cell_nets l.self;
   each : length l.self.chip_of.items ≡ length l.initial.self.chip_of.items;
-  no_higher : spread l.board l.pins l.self.chip_of.items ≤ spread l.board l.pins l.initial.self.chip_of.items;
-  lower : l.moved ≡ true → spread l.board l.pins l.self.chip_of.items < spread l.board l.pins l.initial.self.chip_of.items;
-  settled : l.moved ≡ false → (cell : ℕ) → cell < l.cell → HasNoGain l.board l.pins l.self.chip_of.items cell;
+  no_higher : spread l.board l.cell_nets l.self.chip_of.items ≤ spread l.board l.cell_nets l.initial.self.chip_of.items;
+  lower : l.moved ≡ true → spread l.board l.cell_nets l.self.chip_of.items < spread l.board l.cell_nets l.initial.self.chip_of.items;
+  settled : l.moved ≡ false → (cell : ℕ) → cell < l.cell → HasNoGain l.board l.cell_nets l.self.chip_of.items cell;
 }

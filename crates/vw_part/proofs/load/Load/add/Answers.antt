@@ -1,6 +1,6 @@
 use Rattle.std.proofs.Common.{◌≡◌, ◌<◌, ◌∙◌, length, get_or, arith}
 use Rattle.std.proofs.lemmas.List.{get_or_default}
-use Rattle.vw_part.proofs.Totals.{one_left}
+use Rattle.vw_part.proofs.Shares.{one_left}
 use Rattle.vw_part.proofs.load.Load.add.Goals as goal
 
 -- a net that is left is still to be counted

@@ -1,6 +1,6 @@
 -- the nets that are left are still to be taken away
 use Rattle.std.proofs.Common.{◌≡◌, ◌+◌, ℕ, length, drop, get_or}
-use Rattle.vw_part.specs.Steps.Pins.{times_among}
+use Rattle.vw_part.specs.Steps.CellNets.{times_among}
 use Rattle.vw_part.proofs.load.Load.remove.Given as goal
 
 abbrev pub invariant-loop-net : goal.invariant-loop-net

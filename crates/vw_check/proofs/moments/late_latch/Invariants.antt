@@ -1,9 +1,0 @@
--- the first late latch is the first of the rest
-use Rattle.std.proofs.Common.{◌≡◌, drop}
-use Rattle.vw_leads.specs.LeadTables.{planned_in}
-use Rattle.vw_check.specs.FirstFound.{first_at}
-use Rattle.vw_check.specs.MomentFaults.{late_cell, late_latch}
-use Rattle.vw_check.proofs.moments.late_latch.Given as goal
-
-abbrev pub invariant-loop-number : goal.invariant-loop-number
-invariant-loop-number l = first_at (late_cell (planned_in l.wired)) l.number (drop l.number l.wired.ordered.now.flat.cells) ≡ late_latch (planned_in l.wired)
