@@ -1,0 +1,68 @@
+-- The order of hops by the pins by which they leave.
+use Rattle.std.proofs.Common.{◌≡◌, ℕ, Bool, true, false, cond, nat_lt, eqb, refl, true≢false, eqb-true}
+use Rattle.std.specs.Cmp.{IsStrictWeakOrder, IsTotalOrder}
+use Rattle.std.specs.Ordering.{is_lt, nat_cmp, ordering_reverse, ordering_then}
+use Rattle.std.specs.declared.cmp.Ordering.{Ordering}
+use Rattle.std.specs.declared.cmp.Ordering.TheVariants.{Less, Equal, Greater}
+use Rattle.std.proofs.lemmas.Cmp.{nat_cmp_total, on_total, then_total}
+use Rattle.std.proofs.lemmas.List.Sorted.{ranks_by}
+use Rattle.vw_emit.specs.declared.numbered_hop.NumberedHop.{NumberedHop}
+use Rattle.vw_emit.specs.Outlets.{hop_cmp, leaves_before}
+
+pub hop_cmp_total : IsTotalOrder hop_cmp
+hop_cmp_total =
+    then_total (on_total (λ (hop : NumberedHop). hop.link) nat_cmp_total)
+    (then_total (on_total (λ (hop : NumberedHop). hop.pin) nat_cmp_total)
+    (then_total (on_total (λ (hop : NumberedHop). hop.at) nat_cmp_total)
+    (then_total (on_total (λ (hop : NumberedHop). hop.wire) nat_cmp_total)
+    (then_total (on_total (λ (hop : NumberedHop). hop.hop) nat_cmp_total)
+    (then_total (on_total (λ (hop : NumberedHop). hop.net) nat_cmp_total)
+    (then_total (on_total (λ (hop : NumberedHop). hop.from) nat_cmp_total)
+    (then_total (on_total (λ (hop : NumberedHop). hop.to) nat_cmp_total) (on_total (λ (hop : NumberedHop). hop.arrival) nat_cmp_total))))))))
+
+pub is_order : IsStrictWeakOrder leaves_before
+is_order = ranks_by hop_cmp_total (λ (hop : NumberedHop). hop)
+
+-- ---- hops of which none is before the other are the same
+
+then_equal : (first second : Ordering) → ordering_then first second ≡ Equal → (first ≡ Equal) × (second ≡ Equal)
+then_equal Less second is = cc
+then_equal Equal second is = (refl, is)
+then_equal Greater second is = cc
+
+by_tests : (less same : Bool) → cond less Less (cond same Equal Greater) ≡ Equal → same ≡ true
+by_tests true same is = cc
+by_tests false true is = refl
+by_tests false false is = cc
+
+nat_cmp-equal : (a b : ℕ) → nat_cmp a b ≡ Equal → a ≡ b
+nat_cmp-equal a b is = eqb-true a b (by_tests (nat_lt a b) (eqb a b) is)
+
+equal_from : (one other : Ordering) → one ≡ ordering_reverse other → is_lt one ≡ false → is_lt other ≡ false → one ≡ Equal
+equal_from Less other turned one_not other_not = absurd (true≢false one_not)
+equal_from Equal other turned one_not other_not = refl
+equal_from Greater Less turned one_not other_not = absurd (true≢false other_not)
+equal_from Greater Equal turned one_not other_not = cc
+equal_from Greater Greater turned one_not other_not = cc
+
+pub same_hop : (one other : NumberedHop) → leaves_before one other ≡ false → leaves_before other one ≡ false → one ≡ other
+same_hop one other one_not other_not =
+    let equal : hop_cmp one other ≡ Equal = equal_from (hop_cmp one other) (hop_cmp other one) (hop_cmp_total.antisymm one other) one_not other_not in
+    let links = then_equal (nat_cmp one.link other.link) _ equal in
+    let pins = then_equal (nat_cmp one.pin other.pin) _ links.1 in
+    let times = then_equal (nat_cmp one.at other.at) _ pins.1 in
+    let wires = then_equal (nat_cmp one.wire other.wire) _ times.1 in
+    let hops = then_equal (nat_cmp one.hop other.hop) _ wires.1 in
+    let nets = then_equal (nat_cmp one.net other.net) _ hops.1 in
+    let all_nodes = then_equal (nat_cmp one.from other.from) _ nets.1 in
+    let ends = then_equal (nat_cmp one.to other.to) _ all_nodes.1 in
+    let link : one.link ≡ other.link = nat_cmp-equal one.link other.link links.0 in
+    let pin : one.pin ≡ other.pin = nat_cmp-equal one.pin other.pin pins.0 in
+    let at : one.at ≡ other.at = nat_cmp-equal one.at other.at times.0 in
+    let wire : one.wire ≡ other.wire = nat_cmp-equal one.wire other.wire wires.0 in
+    let hop : one.hop ≡ other.hop = nat_cmp-equal one.hop other.hop hops.0 in
+    let net : one.net ≡ other.net = nat_cmp-equal one.net other.net nets.0 in
+    let from : one.from ≡ other.from = nat_cmp-equal one.from other.from all_nodes.0 in
+    let to : one.to ≡ other.to = nat_cmp-equal one.to other.to ends.0 in
+    let arrival : one.arrival ≡ other.arrival = nat_cmp-equal one.arrival other.arrival ends.1 in
+    λ i. record { link = link i; pin = pin i; at = at i; wire = wire i; hop = hop i; net = net i; from = from i; to = to i; arrival = arrival i }

@@ -1,0 +1,4 @@
+pub mod HopOrder
+pub mod WrittenPieces
+pub mod ChosenLines
+pub mod ModelLines

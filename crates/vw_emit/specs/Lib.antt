@@ -1,0 +1,6 @@
+pub mod Names
+pub mod Lines
+pub mod Outlets
+pub mod Nodes
+pub mod Emitted
+pub mod Steps

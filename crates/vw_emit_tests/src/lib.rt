@@ -1,0 +1,7 @@
+//! Tests of emitted boards: their text, their limits, and that they behave as the design.
+#![tactic(auto)]
+
+#[cfg(test)]
+mod boards;
+#[cfg(test)]
+mod emitted;
