@@ -1,5 +1,6 @@
 //! Emitted boards.
 use crate::boards::{LONG_PLAN, SHARED, SLOW, TOGGLE, Texts, emitted};
+use crate::traces::last_outputs;
 use std::alloc::Global;
 use std::process::Abort;
 use std::test::Fail;
@@ -137,22 +138,6 @@ fn text_is(rt: &impl Abort, alloc: Global, texts: &Texts, wanted: &[u8]) -> Resu
     let text = emitted(alloc, texts)?;
     are_found(rt, &text, wanted);
     Ok(())
-}
-
-/// The output bits of each clock of a trace that is the last of so many, a line each.
-fn last_outputs(alloc: Global, trace: &[u8], group: usize) -> Result<Vec<u8>, Fail> {
-    let mut outputs = Vec::new(alloc);
-    let mut left = group;
-    for line in trace.split(|byte| *byte == b'\n').skip(1) {
-        left = left.saturating_sub(1);
-        if left == 0 {
-            let word = line.split(|byte| *byte == b' ').nth(1).unwrap_or(b"");
-            outputs.extend_from_slice(word)?;
-            outputs.push(b'\n')?;
-            left = group;
-        }
-    }
-    Ok(outputs)
 }
 
 /// Asserts the outputs of an emitted board at the last of each so many clocks.

@@ -4,4 +4,8 @@
 #[cfg(test)]
 mod boards;
 #[cfg(test)]
+mod demos;
+#[cfg(test)]
 mod emitted;
+#[cfg(test)]
+mod traces;
