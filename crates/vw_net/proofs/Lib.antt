@@ -8,6 +8,11 @@ pub mod GatheredLists
 pub mod Histories
 pub mod Orders
 pub mod ReadyNets
+pub mod DrivenValues
+pub mod FoundLevels
 pub mod Levels
+pub mod LatchValues
+pub mod Places
 pub mod TruthTables
+pub mod RowMasks
 pub mod SameCovers

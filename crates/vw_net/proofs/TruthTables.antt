@@ -1,58 +1,30 @@
 -- The truth table of a cover, bit by bit.
-use mir.Val.{bool_byte}
-use Rattle.std.proofs.Common.{◌≡◌, ◌≤◌, ◌<◌, ◌+◌, ◌-◌, ◌*◌, ◌/◌, ◌%◌, ◌^◌, ◌&&◌, ◌||◌, not, ℕ, zero, suc, min, max, Bool, true, false, List, [], ◌∷◌, ◌++◌, length, get_or, nat_le, nat_eq, bit_and, bit_or, if◌then◌else◌, w64, ap, ap₂, sym, refl, ◌∙◌, ⊎_elim, All, le-leb, eqb-true, leb-true, subst, arith}
-use Rattle.std.specs.List.{list_any}
+use Rattle.std.proofs.Common.{◌≡◌, ◌≤◌, ◌<◌, ◌+◌, ◌-◌, ◌*◌, ◌/◌, ◌%◌, ◌^◌, ◌&&◌, ◌||◌, not, ℕ, zero, suc, min, max, Bool, true, false, List, [], ◌∷◌, ◌++◌, length, map, get_or, nat_le, nat_eq, bit_and, bit_or, if◌then◌else◌, w64, ap, ap₂, sym, refl, ◌∙◌, ⊎_elim, All, le-leb, eqb-true, leb-true, subst, arith}
+use Rattle.std.specs.List.{list_any, range_with_len}
 use Rattle.std.specs.Int.{bit_at}
 use Rattle.std.proofs.Math.Nat.{pow-suc}
 use Rattle.std.proofs.Math.Pow.{pow_mono}
 use Rattle.std.proofs.lemmas.Bool.{and_parts, cases_eq}
-use Rattle.std.proofs.lemmas.List.{append-nil, get_or_append_left, length-append}
+use Rattle.std.proofs.lemmas.List.{append-nil, get_or_append_left, length-append, length-map}
+use Rattle.std.proofs.lemmas.List.FromFn.{get_or-map-range_with_len, length-range_with_len}
 use Rattle.std.proofs.lemmas.List.Elements.{All-head, All-tail}
 use Rattle.std.proofs.lemmas.Nat.{and_le_l, or_lt}
-use Rattle.std.proofs.lemmas.Nat.Bits.{bit_at_lowest, bit_at-suc, bit_at-zero, bit_at_and, bit_at_or, bit_at_not, bit_at_ones, shr_and_one}
+use Rattle.std.proofs.lemmas.Nat.Bits.{bit_at_lowest, bit_at-suc, bit_at-zero, bit_at_and, bit_at_or, bit_at_not, bit_at_ones, shr_and_one, same_from_bits_below}
 use Rattle.vw_net.specs.declared.cover.Mark.{Mark}
 use Rattle.vw_net.specs.declared.cover.Mark.TheVariants.{Zero, One, Any}
 use Rattle.vw_net.specs.declared.cover.Row.{Row}
-use Rattle.vw_net.specs.declared.cover.Cover.{Cover}
 use Rattle.vw_net.specs.Mark.{mark_matches, row_matches}
+use Rattle.vw_net.specs.Table.{Table}
 use Rattle.vw_net.specs.Cover.{cover_value}
-use Rattle.vw_net.specs.TruthTable.{place_of, bit_of}
+use Rattle.vw_net.specs.TruthTable.{place_of, values_at, bit_of, truth_table}
 use Rattle.vw_net.specs.Steps.MatchedPlaces.{input_tables, mark_places, row_places, rows_places, truth_table_of}
+use Rattle.vw_net.proofs.Places.{bit, place_of-lt, bit_at-place_of, place_of-values_at, values_at-front, length-values_at}
 
 -- ---- places
-
--- a truth value as a byte
-pub byte-le : (value : Bool) → bool_byte value ≤ 1
-byte-le true = omega arith
-byte-le false = omega arith
-
-place_of-lt : (bits : List Bool) → place_of bits < 2 ^ length bits
-place_of-lt [] = omega arith
-place_of-lt (true ∷ bits) = omega (arith, place_of-lt bits, pow-suc 2 (length bits))
-place_of-lt (false ∷ bits) = omega (arith, place_of-lt bits, pow-suc 2 (length bits))
 
 -- the place of at most six values is one of 64
 pub place_of-below : (bits : List Bool) → length bits ≤ 6 → place_of bits < 64
 place_of-below bits few = omega (arith, place_of-lt bits, pow_mono few)
-
--- a truth value as a bit
-abbrev bit : Bool → ℕ
-bit value = if value then 1 else 0
-
-half : (value : Bool) (rest : ℕ) → (bit value + 2 * rest) / 2 ≡ rest
-half true rest = omega arith
-half false rest = omega arith
-
-lowest : (value : Bool) (rest : ℕ) → (bit value + 2 * rest) % 2 ≡ bit value
-lowest true rest = omega arith
-lowest false rest = omega arith
-
--- bit i of a place is the value of input i
-bit_at-place_of : (bits : List Bool) (input : ℕ) → bit_at (place_of bits) input ≡ bit (get_or bits input false)
-bit_at-place_of [] input = bit_at-zero input
-bit_at-place_of (value ∷ bits) zero = bit_at_lowest (bit value + 2 * place_of bits) ∙ lowest value (place_of bits)
-bit_at-place_of (value ∷ bits) (suc input) =
-    bit_at-suc (bit value + 2 * place_of bits) input ∙ ap (λ (n : ℕ). bit_at n input) (half value (place_of bits)) ∙ bit_at-place_of bits input
 
 -- ---- inputs by themselves
 
@@ -206,18 +178,58 @@ table_bit inputs on rows own more few size all_few even = rw narrow (by on) wher
   by false =
       bit_at_not w64 (rows_places 0 rows) (place_of (own ++ more)) (rows_places-lt 0 rows (omega arith)) (place_of-below (own ++ more) all_few) ∙ ap (λ (b : ℕ). 1 - b) matched ∙ bit-off (list_any (λ (row : Row). row_matches row.marks own) rows)
 
+-- ---- the truth table by its places
+
+-- bit k of the truth table that is worked out is the value at place k
+table_at : (inputs : ℕ) (on : Bool) (rows : List Row) → inputs ≤ 6 → All (λ row. length row.marks ≡ inputs) rows → (place : ℕ) → place < 64
+    → bit_at (truth_table_of inputs on rows) place ≡ bit (if list_any (λ row. row_matches row.marks (values_at inputs place)) rows then on else not on)
+table_at inputs on rows few even place low =
+    let own = values_at inputs place in
+    let rest = values_at-front inputs 6 place own refl few in
+    let is : place_of (own ++ rest.0) ≡ place = ap place_of rest.1 ∙ place_of-values_at 6 place low in
+    let all_few : length (own ++ rest.0) ≤ 6 = omega (arith, ap (λ (list : List Bool). length list) rest.1 ∙ length-values_at 6 place) in
+    ap (bit_at (truth_table_of inputs on rows)) (sym is) ∙ table_bit inputs on rows own rest.0 few (length-values_at inputs place) all_few even
+
+table-lt : (on : Bool) (matched : ℕ) → matched < 2 ^ 64 → (if on then matched else 2 ^ 64 - 1 - matched) < 2 ^ 64
+table-lt true matched small = small
+table-lt false matched small = omega arith
+
+-- what is worked out is the truth table
+pub truth_table_is : (table : Table) → truth_table_of table.inputs table.on table.rows ≡ truth_table table
+unfolding truth_table
+truth_table_is table = by (nat_le table.inputs 6) refl where
+  values : List Bool
+  values = map (λ place. cover_value table (values_at table.inputs place)) (range_with_len 0 64)
+
+  few_values : length values ≡ 64
+  few_values = length-map (range_with_len 0 64) (λ place. cover_value table (values_at table.inputs place)) ∙ length-range_with_len 0 64
+
+  matched : ℕ
+  matched = rows_places 0 table.rows
+
+  by : (few : Bool) → nat_le table.inputs 6 ≡ few → truth_table_of table.inputs table.on table.rows ≡ (if few then place_of values else 0)
+  by false is = rw is refl
+  by true is =
+      let small : truth_table_of table.inputs table.on table.rows < 2 ^ 64 = rw is (table-lt table.on matched (rows_places-lt 0 table.rows (omega arith))) in
+      let listed : place_of values < 2 ^ 64 = subst (λ (n : ℕ). place_of values < 2 ^ n) few_values (place_of-lt values) in
+      same_from_bits_below 64 _ _ small listed (λ place low.
+          let value = λ (at : ℕ). cover_value table (values_at table.inputs at) in
+          let there : 0 + place ≡ place = omega arith in
+          table_at table.inputs table.on table.rows (leb-true table.inputs 6 is) table.even place low
+          ∙ sym (bit_at-place_of values place ∙ ap bit (get_or-map-range_with_len value 0 64 place place false low there)))
+
 test-bit : (value : Bool) → nat_eq (bit value) 1 ≡ value
 test-bit true = refl
 test-bit false = refl
 
--- the truth table of a cover of at most six inputs has the cover's value at the place of any values, whatever values follow
-pub truth_table_repeats : (cover : Cover) (bits more : List Bool) → length bits ≡ cover.inputs → length (bits ++ more) ≤ 6 → bit_of cover.truth_table (place_of (bits ++ more)) ≡ cover_value cover bits
-truth_table_repeats cover bits more size all_few =
-    let few : cover.inputs ≤ 6 = omega (arith, size, all_few, length-append bits more) in
-    let its = table_bit cover.inputs cover.on cover.rows bits more few size all_few cover.even in
-    ap (λ (truth_table : ℕ). bit_of truth_table (place_of (bits ++ more))) cover.truth_table_is ∙ ap (λ (n : ℕ). nat_eq n 1) (shr_and_one (truth_table_of cover.inputs cover.on cover.rows) (place_of (bits ++ more)) ∙ its) ∙ test-bit (cover_value cover bits)
+-- the truth table of a table of at most six inputs has the table's value at the place of any values, whatever values follow
+pub truth_table_repeats : (table : Table) (bits more : List Bool) → length bits ≡ table.inputs → length (bits ++ more) ≤ 6 → bit_of (truth_table table) (place_of (bits ++ more)) ≡ cover_value table bits
+truth_table_repeats table bits more size all_few =
+    let few : table.inputs ≤ 6 = omega (arith, size, all_few, length-append bits more) in
+    let its = table_bit table.inputs table.on table.rows bits more few size all_few table.even in
+    ap (λ (number : ℕ). bit_of number (place_of (bits ++ more))) (sym (truth_table_is table)) ∙ ap (λ (n : ℕ). nat_eq n 1) (shr_and_one (truth_table_of table.inputs table.on table.rows) (place_of (bits ++ more)) ∙ its) ∙ test-bit (cover_value table bits)
 
-pub truth_table_agrees : (cover : Cover) (bits : List Bool) → cover.inputs ≤ 6 → length bits ≡ cover.inputs → bit_of cover.truth_table (place_of bits) ≡ cover_value cover bits
-truth_table_agrees cover bits few size =
+pub truth_table_agrees : (table : Table) (bits : List Bool) → table.inputs ≤ 6 → length bits ≡ table.inputs → bit_of (truth_table table) (place_of bits) ≡ cover_value table bits
+truth_table_agrees table bits few size =
     let same : bits ++ [] ≡ bits = append-nil bits in
-    ap (λ (all : List Bool). bit_of cover.truth_table (place_of all)) (sym same) ∙ truth_table_repeats cover bits [] size (omega (arith, few, size, ap (λ (all : List Bool). length all) same))
+    ap (λ (all : List Bool). bit_of (truth_table table) (place_of all)) (sym same) ∙ truth_table_repeats table bits [] size (omega (arith, few, size, ap (λ (all : List Bool). length all) same))

@@ -1,11 +1,13 @@
 pub mod Lists
 pub mod FirstFound
 pub mod Mark
+pub mod Table
 pub mod Cover
 pub mod TruthTable
 pub mod Cells
 pub mod Parts
 pub mod Order
 pub mod Value
+pub mod FoundValue
 pub mod History
 pub mod Steps

@@ -1,5 +1,5 @@
 //! Cells and netlists of parts that come from anywhere: each rule that they have to keep is tested.
-ghost use Rattle.std.specs.Prelude.{◌≡◌, ◌<◌, ◌+◌, ◌↔◌, length, IfSome, IsSome};
+ghost use Rattle.std.specs.Prelude.{◌≡◌, ◌<◌, ◌+◌, ◌↔◌, length, IfOk, IfSome, IsSome};
 ghost use Rattle.std.specs.Bool.{OnFalse, OnTrue};
 ghost use Rattle.std.specs.List.{All};
 ghost use Rattle.vw_net.specs.Cells.{IsWellFormed};
@@ -9,21 +9,27 @@ use crate::cell::Cell;
 use crate::cover::{Cover, Row};
 use crate::flat::Flat;
 use crate::sequence::Sequence;
+use std::alloc::{AllocError, Global};
 use std::slice;
 
 impl Cell {
     /// The gate that reads these nets, by a table of these rows; nothing where there are more than 128 nets, or where a
-    /// row hasn't a mark for each net. It takes no memory, and its work grows with the number of rows.
-    pub fn gate(ins: Sequence<u32>, on: bool, rows: Sequence<Row>) -> Option<Self>
-        ensures exactly { IsSome result ↔ AreRows (length ins) rows }
-        ensures gate { IfSome result (IsGateOf ins on rows) }
+    /// row hasn't a mark for each net. It takes memory for each row, and its work grows with the number of rows.
+    pub fn gate(
+        alloc: Global,
+        ins: Sequence<u32>,
+        on: bool,
+        rows: Sequence<Row>,
+    ) -> Result<Option<Self>, AllocError>
+        ensures exactly { IfOk result (λ gate. IsSome gate ↔ AreRows (length ins) rows) }
+        ensures gate { IfOk result (λ gate. IfSome gate (IsGateOf ins on rows)) }
     {
         let inputs = ins.len();
         if inputs > 128 || !are_even(rows.as_slice(), inputs) {
-            return None;
+            return Ok(None);
         }
-        let cover = Cover::make(inputs as u32, on, rows);
-        Some(Cell::Gate { ins, cover })
+        let cover = Cover::make(alloc, inputs as u32, on, rows)?;
+        Ok(Some(Cell::Gate { ins, cover }))
     }
 }
 

@@ -1,11 +1,15 @@
-ghost use Rattle.std.specs.Prelude.{◌≡◌, ◌≤◌, length, IfOk};
+ghost use Rattle.std.specs.Prelude.{◌≡◌, ◌≤◌, ◌<◌, ◌^◌, Bool, List, Some, length, IfOk};
 ghost use Rattle.std.specs.List.{All};
-ghost use Rattle.vw_net.specs.Mark.{mark_matches, row_matches};
+ghost use Rattle.vw_net.specs.Mark.{mark_matches};
+ghost use Rattle.vw_net.specs.TruthTable.{place_of};
 ghost use Rattle.vw_net.specs.Steps.MatchedPlaces.{truth_table_of};
+ghost use Rattle.vw_net.specs.Steps.Masks.{rows_of};
 
+use crate::masks::{Masks, all_masks, number_of};
 use crate::sequence::{Bits, Sequence};
 use crate::truth_table::{TRUTH_TABLE_INPUTS, bit_of, place_of, truth_table_of};
 use std::alloc::{AllocError, Global};
+use std::marker::Model;
 
 /// What a row asks of one input of its table. Source: the characters `0`, `1` and `-` of a BLIF table.
 #[derive(Clone, Copy, Debug, PartialEq, Eq)]
@@ -49,63 +53,64 @@ impl Row {
     {
         self.marks.as_slice()
     }
-
-    /// A copy of the row.
-    fn copy(&self, alloc: Global) -> Result<Self, AllocError>
-        ensures { IfOk result (λ copy. copy ≡ self.now) }
-    {
-        let marks = Vec::from_slice(alloc, self.marks.as_slice())?;
-        Ok(Row::make(Sequence::of(marks)))
-    }
-
-    /// Whether each mark matches the bit of its place.
-    fn matches(&self, bits: &[bool]) -> bool
-        requires { length bits.now ≡ length self.now.marks }
-        ensures { result ≡ row_matches self.now.marks bits.now }
-    {
-        let marks = self.marks.as_slice();
-        for (i, mark) in marks.iter().enumerate() {
-            if !mark.matches(bits[i]) {
-                return false;
-            }
-        }
-        true
-    }
 }
 
-/// The table of a gate: its value is `on` where some row matches the inputs, and the other value where none does.
+/// The table of a gate: its value is `on` where some row matches the inputs, and the other value where none does. Contracts
+/// see its inputs, at most 128, the value where a row matches, and the rows. It takes 32 bytes a row.
 /// Source: the on-set and the off-set of a BLIF table.
 #[derive(Drop)]
 pub struct Cover {
-    /// The number of inputs, at most 128.
-    pub inputs: u32,
-    pub on: bool,
-    pub rows: Sequence<Row>,
-    /// Where there are at most six inputs: bit k is the value where input i has bit i of k. The law `truth_tables_agree` says so.
-    pub truth_table: u64,
+    inputs: u32,
+    on: bool,
+    masks: Vec<Masks>,
+    truth_table: u64,
     ghost narrow: { inputs ≤ 128 },
-    ghost even: { All (λ row. length row.marks ≡ inputs) rows },
-    ghost truth_table_is: { truth_table ≡ truth_table_of inputs on rows },
+    ghost even: { All (λ row. length row.marks ≡ inputs) (rows_of inputs masks.items) },
+    ghost within: { All (λ row. row.looked < 2 ^ inputs) masks.items },
+    ghost truth_table_is: { truth_table
+        ≡ truth_table_of inputs on (rows_of inputs masks.items) },
+}
+
+impl Model for Cover {
+    ghost use Rattle.vw_net.specs.Table.{Table};
+    ghost use Rattle.vw_net.specs.Steps.Masks.{rows_of};
+
+    ghost Value = { Table };
+
+    ghost view = { λ cover. record {
+        inputs = cover.inputs;
+        on = cover.on;
+        rows = rows_of cover.inputs cover.masks.items;
+        narrow = cover.narrow;
+        even = cover.even;
+    } };
 }
 
 impl Cover {
-    ghost use Rattle.vw_net.specs.Cover.{cover_value};
+    ghost use Rattle.vw_net.specs.Cover.{cover_value, mark_at};
+    ghost use Rattle.vw_net.specs.TruthTable.{truth_table};
 
-    /// The table with these rows. It takes no memory.
-    pub fn make(inputs: u32, on: bool, rows: Sequence<Row>) -> Self
+    /// The table with these rows. It takes memory for each row, and gives the rows up where there is none.
+    pub fn make(
+        alloc: Global,
+        inputs: u32,
+        on: bool,
+        rows: Sequence<Row>,
+    ) -> Result<Self, AllocError>
         requires narrow { inputs ≤ 128 }
         requires even { All (λ row. length row.marks ≡ inputs) rows }
-        ensures inputs { result.inputs ≡ inputs }
-        ensures on { result.on ≡ on }
-        ensures rows { result.rows ≡ rows }
+        ensures inputs { IfOk result (λ cover. cover.inputs ≡ inputs) }
+        ensures on { IfOk result (λ cover. cover.on ≡ on) }
+        ensures rows { IfOk result (λ cover. cover.rows ≡ rows) }
     {
         let truth_table = truth_table_of(inputs, on, rows.as_slice());
-        Cover {
+        let masks = all_masks(alloc, rows.as_slice())?;
+        Ok(Cover {
             inputs,
             on,
-            rows,
+            masks,
             truth_table,
-        }
+        })
     }
 
     /// The number of inputs.
@@ -122,16 +127,32 @@ impl Cover {
         self.on
     }
 
-    /// The rows, in the order of the table.
-    pub fn rows(&self) -> &[Row]
-        ensures { result.now ≡ self.now.rows }
+    /// How many rows it has.
+    pub fn count(&self) -> u64
+        ensures { result ≡ length self.now.rows }
     {
-        self.rows.as_slice()
+        self.masks.len() as u64
     }
 
-    /// Its truth table, where it has at most six inputs: bit k is the value where input i has bit i of k.
+    /// The mark of a row, from 0, for an input.
+    pub fn mark(&self, row: u64, input: u32) -> Mark
+        requires row { row < length self.now.rows }
+        requires input { input < self.now.inputs }
+        ensures { mark_at self.now row input ≡ Some result }
+    {
+        let masks = self.masks[row as usize];
+        if (masks.looked >> input) & 1 == 0 {
+            return Mark::Any;
+        }
+        if (masks.wanted >> input) & 1 == 0 {
+            return Mark::Zero;
+        }
+        Mark::One
+    }
+
+    /// Its truth table, where it has at most six inputs: bit k is the value where input i has bit i of k. Else 0.
     pub fn truth_table(&self) -> u64
-        ensures { result ≡ self.now.truth_table }
+        ensures { result ≡ truth_table self.now }
     {
         self.truth_table
     }
@@ -142,11 +163,12 @@ impl Cover {
         ensures on { IfOk result (λ copy. copy.on ≡ self.now.on) }
         ensures rows { IfOk result (λ copy. copy.rows ≡ self.now.rows) }
     {
-        let mut rows = Vec::with_capacity(alloc, self.rows.len())?;
-        for row in self.rows.as_slice() {
-            rows.push(row.copy(alloc)?)?;
-        }
-        Ok(Cover::make(self.inputs, self.on, Sequence::of(rows)))
+        Ok(Cover {
+            inputs: self.inputs,
+            on: self.on,
+            masks: Vec::from_slice(alloc, self.masks.as_slice())?,
+            truth_table: self.truth_table,
+        })
     }
 
     /// The table's value for one bit per input. It takes no memory.
@@ -165,16 +187,16 @@ impl Cover {
         if self.inputs <= TRUTH_TABLE_INPUTS {
             return bit_of(self.truth_table, place_of(bits));
         }
-        self.value_by_rows(bits)
+        self.value_by_rows(number_of(bits))
     }
 
-    /// The same, row by row.
-    fn value_by_rows(&self, bits: &[bool]) -> bool
-        requires { length bits.now ≡ self.now.inputs }
-        ensures { result ≡ cover_value self.now bits.now }
+    /// The value where the inputs' values are the bits of this number.
+    fn value_by_rows(&self, place: u128) -> bool
+        ensures { (bits : List Bool) → length bits ≡ self.now.inputs → place_of bits ≡ place
+            → result ≡ cover_value self.now bits }
     {
-        for row in self.rows.as_slice() {
-            if row.matches(bits) {
+        for masks in self.masks.as_slice() {
+            if masks.is_matched(place) {
                 return self.on;
             }
         }

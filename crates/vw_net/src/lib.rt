@@ -6,6 +6,7 @@ mod checked;
 mod cover;
 mod flat;
 mod laws;
+mod masks;
 mod ordered;
 mod sequence;
 mod truth_table;
@@ -14,7 +15,8 @@ pub use cell::{Cell, Init};
 pub use cover::{Cover, Mark, Row};
 pub use flat::Flat;
 pub use laws::{
-    gates_settle, histories_join, levels_settle, truth_tables_agree, truth_tables_repeat,
+    found_gates_settle, found_levels_settle, gates_settle, histories_join, levels_settle,
+    plain_values_are_found, truth_tables_agree, truth_tables_repeat,
 };
 pub use ordered::Ordered;
 pub use sequence::{Bits, Rows, Sequence};

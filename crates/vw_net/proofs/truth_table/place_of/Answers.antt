@@ -1,6 +1,7 @@
 use Rattle.std.proofs.Common.{◌≤◌, length, drop, arith}
 use Rattle.std.proofs.lemmas.List.{length-drop}
-use Rattle.vw_net.proofs.TruthTables.{byte-le, place_of-below}
+use Rattle.vw_net.proofs.Places.{byte-le}
+use Rattle.vw_net.proofs.TruthTables.{place_of-below}
 use Rattle.vw_net.proofs.truth_table.place_of.Goals as goal
 
 -- a place is below 64
