@@ -1,5 +1,5 @@
 //! Cells and netlists of parts that come from anywhere: each rule that they have to keep is tested.
-ghost use Rattle.std.specs.Prelude.{◌≡◌, ◌<◌, ◌+◌, ◌↔◌, length, IfOk, IfSome, IsSome};
+ghost use Rattle.std.specs.Prelude.{◌≡◌, ◌<◌, ◌≤◌, ◌+◌, ◌↔◌, length, IfOk, IfSome, IsSome};
 ghost use Rattle.std.specs.Bool.{OnFalse, OnTrue};
 ghost use Rattle.std.specs.List.{All};
 ghost use Rattle.vw_net.specs.Cells.{IsWellFormed};
@@ -8,6 +8,7 @@ ghost use Rattle.vw_net.specs.Parts.{AreParts, AreRows, IsGateOf};
 use crate::cell::Cell;
 use crate::cover::{Cover, Row};
 use crate::flat::Flat;
+use crate::limits::{MOST_CELLS, MOST_INPUTS, MOST_OUTPUTS, MOST_TABLE_INPUTS};
 use crate::sequence::Sequence;
 use std::alloc::{AllocError, Global};
 use std::slice;
@@ -25,7 +26,7 @@ impl Cell {
         ensures gate { IfOk result (λ gate. IfSome gate (IsGateOf ins on rows)) }
     {
         let inputs = ins.len();
-        if inputs > 128 || !are_even(rows.as_slice(), inputs) {
+        if inputs > MOST_TABLE_INPUTS as usize || !are_even(rows.as_slice(), inputs) {
             return Ok(None);
         }
         let cover = Cover::make(alloc, inputs as u32, on, rows)?;
@@ -56,7 +57,7 @@ impl Flat {
         ensures cells { IfSome result (λ flat. flat.cells ≡ cells) }
         ensures outputs { IfSome result (λ flat. flat.outputs ≡ outputs) }
     {
-        if inputs > 4096 || cells.len() > 65536 || outputs.len() > 4160 {
+        if !is_small(inputs, cells.len(), outputs.len()) {
             return None;
         }
         let nets = inputs + cells.len() as u32;
@@ -65,6 +66,18 @@ impl Flat {
         }
         Some(Flat::make(inputs, cells, outputs))
     }
+}
+
+/// Whether a netlist may have so many inputs, cells and outputs.
+fn is_small(inputs: u32, cells: usize, outputs: usize) -> bool
+    ensures fits { OnTrue result ((inputs ≤ MOST_INPUTS) × (cells ≤ MOST_CELLS)
+        × (outputs ≤ MOST_OUTPUTS)) }
+    ensures fails { OnFalse result (¬ ((inputs ≤ MOST_INPUTS) × (cells ≤ MOST_CELLS)
+        × (outputs ≤ MOST_OUTPUTS))) }
+{
+    inputs <= MOST_INPUTS
+        && cells <= MOST_CELLS as usize
+        && outputs <= MOST_OUTPUTS as usize
 }
 
 /// Whether each of these cells is well formed among so many nets.

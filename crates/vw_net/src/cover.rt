@@ -1,5 +1,6 @@
 ghost use Rattle.std.specs.Prelude.{◌≡◌, ◌≤◌, ◌<◌, ◌^◌, Bool, List, Some, length, IfOk};
 ghost use Rattle.std.specs.List.{All};
+ghost use Rattle.vw_net.specs.declared.limits.TheConstants.{MOST_TABLE_INPUTS};
 ghost use Rattle.vw_net.specs.Mark.{mark_matches};
 ghost use Rattle.vw_net.specs.TruthTable.{place_of};
 ghost use Rattle.vw_net.specs.Steps.MatchedPlaces.{truth_table_of};
@@ -64,7 +65,7 @@ pub struct Cover {
     on: bool,
     masks: Vec<Masks>,
     truth_table: u64,
-    ghost narrow: { inputs ≤ 128 },
+    ghost narrow: { inputs ≤ MOST_TABLE_INPUTS },
     ghost even: { All (λ row. length row.marks ≡ inputs) (rows_of inputs masks.items) },
     ghost within: { All (λ row. row.looked < 2 ^ inputs) masks.items },
     ghost truth_table_is: { truth_table
@@ -97,7 +98,7 @@ impl Cover {
         on: bool,
         rows: Sequence<Row>,
     ) -> Result<Self, AllocError>
-        requires narrow { inputs ≤ 128 }
+        requires narrow { inputs ≤ MOST_TABLE_INPUTS }
         requires even { All (λ row. length row.marks ≡ inputs) rows }
         ensures inputs { IfOk result (λ cover. cover.inputs ≡ inputs) }
         ensures on { IfOk result (λ cover. cover.on ≡ on) }

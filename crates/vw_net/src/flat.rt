@@ -1,5 +1,6 @@
 ghost use Rattle.std.specs.Prelude.{◌≡◌, ◌≤◌, ◌+◌, ◌<◌, length, IfOk};
 ghost use Rattle.std.specs.List.{All};
+ghost use Rattle.vw_net.specs.declared.limits.TheConstants.{MOST_INPUTS, MOST_CELLS, MOST_OUTPUTS};
 ghost use Rattle.vw_net.specs.Cells.{IsWellFormed, start_value, start_values};
 
 use crate::cell::{Cell, Init};
@@ -16,9 +17,9 @@ pub struct Flat {
     pub cells: Sequence<Cell>,
     /// The nets whose values are the outputs, at most 4,160: the 4,096 of a design at most, and 64 further ones.
     pub outputs: Sequence<u32>,
-    ghost few_inputs: { inputs ≤ 4096 },
-    ghost few_cells: { length cells ≤ 65536 },
-    ghost few_outputs: { length outputs ≤ 4160 },
+    ghost few_inputs: { inputs ≤ MOST_INPUTS },
+    ghost few_cells: { length cells ≤ MOST_CELLS },
+    ghost few_outputs: { length outputs ≤ MOST_OUTPUTS },
     ghost cells_fit: { All (IsWellFormed (inputs + length cells)) cells },
     ghost outputs_fit: { All (λ net. net < inputs + length cells) outputs },
 }
@@ -26,9 +27,9 @@ pub struct Flat {
 impl Flat {
     /// The netlist of these cells. It takes no memory.
     pub fn make(inputs: u32, cells: Sequence<Cell>, outputs: Sequence<u32>) -> Self
-        requires few_inputs { inputs ≤ 4096 }
-        requires few_cells { length cells ≤ 65536 }
-        requires few_outputs { length outputs ≤ 4160 }
+        requires few_inputs { inputs ≤ MOST_INPUTS }
+        requires few_cells { length cells ≤ MOST_CELLS }
+        requires few_outputs { length outputs ≤ MOST_OUTPUTS }
         requires cells_fit { All (IsWellFormed (inputs + length cells)) cells }
         requires outputs_fit { All (λ net. net < inputs + length cells) outputs }
         ensures inputs { result.inputs ≡ inputs }
