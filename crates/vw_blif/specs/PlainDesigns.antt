@@ -13,6 +13,7 @@ use Rattle.vw_text.specs.PlainLines.{is_plain}
 use Rattle.vw_design.specs.Paths.{Word}
 use Rattle.vw_blif.specs.Spelled.{Binding, SpelledItem, table, latch, place, SpelledModel}
 use Rattle.vw_blif.specs.Printed.{item_lines, head_lines, model_lines, printed_design}
+use Rattle.vw_text.specs.declared.limits.TheConstants.{MOST_DESIGN_BYTES}
 
 -- a table: plain nets, at most 128 inputs, a mark for each of them in each row, and a row at least in an off-set
 abbrev pub is_plain_table : List Word → Word → Bool → List (List Mark) → Bool
@@ -73,4 +74,4 @@ pub record IsPlainDesign (design : List SpelledModel) : Type 0 where
   pub models : IsTrue (list_all is_plain_model design)
   pub names : IsTrue (are_distinct (map (λ model. model.name) design))
   pub numbers : IsTrue (have_numbers 1 design)
-  pub short : length (printed_design design) ≤ 16777216
+  pub short : length (printed_design design) ≤ MOST_DESIGN_BYTES

@@ -9,6 +9,7 @@ use Rattle.vw_blif.specs.declared.fault.TextFault.TheVariants.{TooLarge, NoModel
 use Rattle.vw_blif.specs.Spelled.{SpelledModel}
 use Rattle.vw_blif.specs.Designs.{spelled_models}
 use Rattle.vw_blif.specs.Faults.{fault_at}
+use Rattle.vw_text.specs.declared.limits.TheConstants.{MOST_DESIGN_BYTES}
 
 -- the fault of the first line at fault, behind these lines
 abbrev pub first_fault : List Line → List Line → Option TextFault
@@ -25,7 +26,7 @@ design_of_lines [] = Err (NoModel 0)
 design_of_lines (line ∷ lines) = unless (first_fault [] (line ∷ lines)) (spelled_models (line ∷ lines))
 
 abbrev pub design_of : List ℕ → Result (List SpelledModel) TextFault
-design_of text = if nat_lt 16777216 (length text) then Err TooLarge else design_of_lines (word_lines text)
+design_of text = if nat_lt MOST_DESIGN_BYTES (length text) then Err TooLarge else design_of_lines (word_lines text)
 
 -- whether a fault lies in the text; want of memory doesn't
 abbrev pub is_text_fault : TextFault → Bool

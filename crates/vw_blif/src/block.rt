@@ -52,11 +52,11 @@ impl<'a> Block<'a> {
     }
 
     /// Puts the open table behind the items.
-    pub fn close(&mut self) -> Result<(), AllocError>
+    pub fn close(&mut self, alloc: Global) -> Result<(), AllocError>
         ensures { OnOk result (ClosesTable self.old self.new) }
     {
         if let Some(table) = self.table.take() {
-            self.items.push(close_table(table))?;
+            self.items.push(close_table(alloc, table)?)?;
         }
         Ok(())
     }
@@ -72,7 +72,7 @@ impl<'a> Block<'a> {
         ensures takes { OnOk result (TakesLine self.old line.now self.new) }
         ensures refuses { IfErr result (RefusesInModel self.old line.now) }
     {
-        self.close()?;
+        self.close(alloc)?;
         self.inputs.extend(alloc, arena, line)?;
         Ok(())
     }
@@ -88,7 +88,7 @@ impl<'a> Block<'a> {
         ensures takes { OnOk result (TakesLine self.old line.now self.new) }
         ensures refuses { IfErr result (RefusesInModel self.old line.now) }
     {
-        self.close()?;
+        self.close(alloc)?;
         self.outputs.extend(alloc, arena, line)?;
         Ok(())
     }
@@ -104,7 +104,7 @@ impl<'a> Block<'a> {
         ensures takes { OnOk result (TakesLine self.old line.now self.new) }
         ensures refuses { IfErr result (RefusesInModel self.old line.now) }
     {
-        self.close()?;
+        self.close(alloc)?;
         self.clocks.extend(alloc, arena, line)?;
         Ok(())
     }
@@ -115,7 +115,7 @@ impl<'a> Block<'a> {
         ensures takes { OnOk result (TakesLine self.old line.now self.new) }
         ensures refuses { IfErr result (RefusesInModel self.old line.now) }
     {
-        self.close()?;
+        self.close(alloc)?;
         self.table = Some(begin_table(alloc, line)?);
         Ok(())
     }
@@ -130,7 +130,7 @@ impl<'a> Block<'a> {
         if words.len() < 2 || words.len() > 5 {
             return Err(TextFault::BadWords(line.number()));
         }
-        self.close()?;
+        self.close(alloc)?;
         let latch = latch_of(alloc, line.number(), words)?;
         self.items.push(latch)?;
         Ok(())
@@ -146,7 +146,7 @@ impl<'a> Block<'a> {
         if words.is_empty() {
             return Err(TextFault::BadWords(line.number()));
         }
-        self.close()?;
+        self.close(alloc)?;
         let place = subckt_of(alloc, line.number(), words)?;
         self.items.push(place)?;
         Ok(())

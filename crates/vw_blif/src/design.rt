@@ -12,7 +12,6 @@ use vw_net::Sequence;
 use vw_text::LineReader;
 
 /// The most bytes that a design text has.
-const TEXT_LIMIT: usize = 16_777_216;
 
 /// Reads the design that a text spells, or says what is wrong with the text: the fault of the first line at fault.
 pub fn read(alloc: Global, text: &[u8]) -> Result<Design, TextFault>
@@ -21,7 +20,7 @@ pub fn read(alloc: Global, text: &[u8]) -> Result<Design, TextFault>
     ensures fault { IfErr result
         (λ fault. is_text_fault fault ≡ true → design_of text.now ≡ Err fault) }
 {
-    if text.len() > TEXT_LIMIT {
+    if text.len() > MOST_DESIGN_BYTES {
         return Err(TextFault::TooLarge);
     }
     // the words that are looked for again

@@ -85,9 +85,9 @@ pub fn add_row(alloc: Global, table: GrowingTable, line: &Line) -> Result<Growin
 }
 
 /// The item of a table that has all its rows.
-pub fn close_table(table: GrowingTable) -> Item
-    ensures item { spelled_item result ≡ table_made table [] }
-    ensures shape { IsTrue (has_its_shape result) }
+pub fn close_table(alloc: Global, table: GrowingTable) -> Result<Item, AllocError>
+    ensures item { IfOk result (λ item. spelled_item item ≡ table_made table []) }
+    ensures shape { IfOk result (λ item. IsTrue (has_its_shape item)) }
 {
     let GrowingTable {
         line,
@@ -97,11 +97,11 @@ pub fn close_table(table: GrowingTable) -> Item
         rows,
     } = table;
     let inputs = ins.len() as u32;
-    let cover = Cover::make(inputs, on.unwrap_or(true), Sequence::of(rows));
-    Item::Names {
+    let cover = Cover::make(alloc, inputs, on.unwrap_or(true), Sequence::of(rows))?;
+    Ok(Item::Names {
         line,
         ins,
         out,
         cover,
-    }
+    })
 }

@@ -7,6 +7,7 @@ use Rattle.vw_text.specs.Physical.{text_lines}
 use Rattle.vw_text.specs.Bare.{bare}
 use Rattle.vw_text.specs.Logical.{Logical, before_backslash, continued, with_line, joined_lines, logical_lines}
 use Rattle.vw_text.specs.WordLines.{is_empty, word_line, word_lines}
+use Rattle.vw_board.specs.declared.limits.TheConstants.{MOST_BOARD_BYTES}
 
 -- a line that is joined has the number of its first part
 continued_below : (bound number : ℕ) (front : List ℕ) (lines : List Logical) → number < bound → All (λ line. line.number < bound) lines → All (λ line. line.number < bound) (continued number front lines)
@@ -21,7 +22,7 @@ joined_below : (bound number : ℕ) (lines : List (List ℕ)) → number + lengt
 joined_below bound number [] few = All-nil (λ line. line.number < bound)
 joined_below bound number (line ∷ lines) few = with_line_below bound number line (before_backslash line) (joined_lines (number + 1) lines) (omega arith) (joined_below bound (number + 1) lines (omega arith))
 
-pub numbers_below : (text : List ℕ) → length text ≤ 1048576 → All (λ line. line.number < 2 ^ 63) (word_lines text)
+pub numbers_below : (text : List ℕ) → length text ≤ MOST_BOARD_BYTES → All (λ line. line.number < 2 ^ 63) (word_lines text)
 numbers_below text small =
     let few : length (map bare (text_lines text)) ≤ length text = omega (arith, length-map (text_lines text) bare, length-text_lines text) in
     let logical : All (λ line. line.number < 2 ^ 63) (logical_lines text) = joined_below (2 ^ 63) 1 (map bare (text_lines text)) (omega arith) in

@@ -11,6 +11,7 @@ use Rattle.vw_board.specs.declared.fault.BoardFault.TheVariants.{TooLarge, BadLi
 use Rattle.vw_board.specs.Headers.{headers_fault, version_of, chips_of, cells_of, settle_of, pins_of}
 use Rattle.vw_board.specs.LinkLines.{first_link_fault, links_of}
 use Rattle.vw_board.specs.Pins.{AreEnoughPins, IsFirstOver}
+use Rattle.vw_board.specs.declared.limits.TheConstants.{MOST_BOARD_BYTES}
 
 -- the fault of the first line at fault
 abbrev pub line_fault : List Line → Option BoardFault
@@ -62,13 +63,13 @@ pub record IsBoardOfLines (lines : List Line) (board : Board) : Type 0 where
 
 -- a text spells this board
 pub record Spells (text : List ℕ) (board : Board) : Type 0 where
-  pub small : length text ≤ 1048576
+  pub small : length text ≤ MOST_BOARD_BYTES
   pub spells : IsBoardOfLines (word_lines text) board
 
 -- a text is refused for this reason: it is too large, or its lines are
 abbrev pub Refuses : List ℕ → BoardFault → Type 0
 Refuses text fault =
-    ((fault ≡ TooLarge) × (1048576 < length text)) ⊎ ((length text ≤ 1048576) × RefusesLines (word_lines text) fault)
+    ((fault ≡ TooLarge) × (MOST_BOARD_BYTES < length text)) ⊎ ((length text ≤ MOST_BOARD_BYTES) × RefusesLines (word_lines text) fault)
 
 -- whether a fault lies in the text; want of memory doesn't
 abbrev pub is_text_fault : BoardFault → Bool

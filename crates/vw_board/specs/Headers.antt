@@ -5,6 +5,9 @@ use Rattle.vw_text.specs.declared.line.Line.{Line}
 use Rattle.vw_board.specs.declared.fault.BoardFault.{BoardFault}
 use Rattle.vw_board.specs.declared.fault.BoardFault.TheVariants.{BadLine, BadNumber}
 use Rattle.vw_board.specs.Words.{is_line_of, number_within, number_at}
+use Rattle.vw_net.specs.declared.limits.TheConstants.{MOST_CELLS}
+use Rattle.vw_plan.specs.declared.limits.TheConstants.{MOST_CHIPS, MOST_SETTLE}
+use Rattle.vw_board.specs.declared.limits.TheConstants.{MOST_PINS}
 
 -- one of these lines: a word, and a number from the least to the greatest
 pub record Header : Type 0 where
@@ -16,16 +19,16 @@ abbrev pub board_header : Header
 board_header = record { word = codes "board"; least = 1; greatest = 2 }
 
 abbrev pub chips_header : Header
-chips_header = record { word = codes "chips"; least = 1; greatest = 32 }
+chips_header = record { word = codes "chips"; least = 1; greatest = MOST_CHIPS }
 
 abbrev pub cells_header : Header
-cells_header = record { word = codes "cells"; least = 1; greatest = 65536 }
+cells_header = record { word = codes "cells"; least = 1; greatest = MOST_CELLS }
 
 abbrev pub settle_header : Header
-settle_header = record { word = codes "settle"; least = 0; greatest = 15 }
+settle_header = record { word = codes "settle"; least = 0; greatest = MOST_SETTLE }
 
 abbrev pub pins_header : Header
-pins_header = record { word = codes "pins"; least = 1; greatest = 4096 }
+pins_header = record { word = codes "pins"; least = 1; greatest = MOST_PINS }
 
 -- the fault of a line that has to be one of these; of two the one of the lesser number
 abbrev pub header_fault : Header → Line → Option BoardFault

@@ -16,6 +16,7 @@ use std::alloc::Global;
 use vw_net::Sequence;
 use vw_plan::{Board, Link};
 use vw_text::{Line, lines};
+use crate::limits::MOST_BOARD_BYTES;
 
 /// The board of these numbers and links, where the chips have enough pins and walks lead everywhere.
 fn make_board(alloc: Global, head: BoardHead, links: Vec<Link>) -> Result<Board, BoardFault>
@@ -58,7 +59,7 @@ pub fn read(alloc: Global, bytes: &[u8]) -> Result<Board, BoardFault>
     ensures accepts { IfOk result (Spells bytes.now) }
     ensures refuses { IfErr result (Refuses bytes.now) }
 {
-    if bytes.len() > 1_048_576 {
+    if bytes.len() > MOST_BOARD_BYTES {
         return Err(BoardFault::TooLarge);
     }
     let lines = lines(alloc, bytes)?;

@@ -8,6 +8,9 @@ ghost use Rattle.vw_board.specs.Steps.Heads.{IsBoardHead};
 
 use crate::fault::BoardFault;
 use vw_text::{Line, number};
+use crate::limits::MOST_PINS;
+use vw_net::MOST_CELLS;
+use vw_plan::{MOST_CHIPS, MOST_SETTLE};
 
 /// The numbers of the first five lines.
 #[derive(Clone, Copy)]
@@ -91,10 +94,10 @@ pub fn read_head(lines: &[Line]) -> Result<BoardHead, BoardFault>
     ensures of_line { IfErr result (λ fault. IsTrue (is_line_fault fault)) }
 {
     let version = header(lines, 0, b"board", 1, 2)?;
-    let chips = header(lines, 1, b"chips", 1, 32)?;
-    let cells = header(lines, 2, b"cells", 1, 65_536)?;
-    let settle = header(lines, 3, b"settle", 0, 15)?;
-    let pins = header(lines, 4, b"pins", 1, 4_096)?;
+    let chips = header(lines, 1, b"chips", 1, u64::from(MOST_CHIPS))?;
+    let cells = header(lines, 2, b"cells", 1, u64::from(MOST_CELLS))?;
+    let settle = header(lines, 3, b"settle", 0, u64::from(MOST_SETTLE))?;
+    let pins = header(lines, 4, b"pins", 1, u64::from(MOST_PINS))?;
     Ok(BoardHead {
         version,
         chips,

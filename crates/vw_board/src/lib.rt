@@ -7,6 +7,7 @@ mod distances;
 mod fault;
 mod head;
 mod laws;
+mod limits;
 mod link_lines;
 mod pins;
 mod walks;

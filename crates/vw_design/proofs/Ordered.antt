@@ -4,7 +4,7 @@ use Rattle.std.specs.List.{list_any, list_all, AllZip}
 use Rattle.std.proofs.lemmas.Bool.{or_cases, eqb-true, le-ltb}
 use Rattle.std.proofs.lemmas.List.{length-take, get_or-take, take_all}
 use Rattle.std.proofs.lemmas.Option.{same_Some, slice_get_within, get_or_from_slice_get}
-use Rattle.vw_net.proofs.Levels.{is_gate-latch}
+use Rattle.vw_net.proofs.DrivenValues.{is_gate-latch}
 use Rattle.vw_net.specs.declared.cell.Cell.{Cell}
 use Rattle.vw_net.specs.declared.cell.Cell.TheVariants.{Gate as FlatGate, Latch}
 use Rattle.vw_net.specs.declared.flat.Flat.{Flat}

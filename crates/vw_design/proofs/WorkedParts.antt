@@ -6,7 +6,6 @@ use Rattle.std.proofs.lemmas.List.Elements.{All-cons, All-nil}
 use Rattle.vw_net.specs.declared.cover.Mark.{Mark}
 use Rattle.vw_net.specs.declared.cover.Row.{Row}
 use Rattle.vw_net.specs.declared.cover.Cover.{Cover}
-use Rattle.vw_net.specs.Steps.MatchedPlaces.{truth_table_of}
 use Rattle.vw_design.specs.declared.item.Bind.{Bind}
 use Rattle.vw_design.specs.declared.model.Model.{Model}
 use Rattle.vw_design.specs.declared.design.Design.{Design}
@@ -35,7 +34,7 @@ even_table inputs rows fits = even_rows inputs rows (and_parts (nat_le inputs 12
 
 -- a table, whose rows have its width
 abbrev pub table : (inputs : ℕ) (on : Bool) (rows : List (List Mark)) → (nat_le inputs 128 && list_all (λ (marks : List Mark). length marks == inputs) rows) ≡ true → Cover
-table inputs on rows fits = record { inputs = inputs; on = on; rows = map row rows; truth_table = truth_table_of inputs on (map row rows); narrow = narrow_table inputs rows fits; even = even_table inputs rows fits; truth_table_is = refl }
+table inputs on rows fits = record { inputs = inputs; on = on; rows = map row rows; narrow = narrow_table inputs rows fits; even = even_table inputs rows fits }
 
 -- whether a model is well made, and whether some models are a design
 abbrev pub is_well_made : Model → Bool

@@ -8,6 +8,8 @@ use Rattle.vw_net.specs.Lists.{greatest}
 use Rattle.vw_design.specs.Paths.{Path, model_at, model_outputs}
 use Rattle.vw_design.specs.Preorder.{Site, sites, instances, cells}
 use Rattle.vw_design.specs.Clocks.{inputs_of, clocks_of}
+use Rattle.vw_net.specs.declared.limits.TheConstants.{MOST_INPUTS, MOST_CELLS, MOST_DESIGN_OUTPUTS}
+use Rattle.vw_design.specs.declared.limits.TheConstants.{MOST_INSTANCES, MOST_BINDINGS, MOST_DEPTH}
 
 -- the inputs of the root that it doesn't declare as clocks, and its outputs
 abbrev pub input_count : Design → ℕ
@@ -47,12 +49,12 @@ greatest_depth design = greatest (map depth_at (instances design))
 
 -- no quantity is above its limit
 pub record IsSmall (design : Design) : Type 0 where
-  pub inputs : input_count design ≤ 4096
-  pub outputs : output_count design ≤ 4096
-  pub instances : instance_count design ≤ 65536
-  pub bindings : binding_count design ≤ 1048576
-  pub cells : cell_count design ≤ 65536
-  pub depth : greatest_depth design ≤ 64
+  pub inputs : input_count design ≤ MOST_INPUTS
+  pub outputs : output_count design ≤ MOST_DESIGN_OUTPUTS
+  pub instances : instance_count design ≤ MOST_INSTANCES
+  pub bindings : binding_count design ≤ MOST_BINDINGS
+  pub cells : cell_count design ≤ MOST_CELLS
+  pub depth : greatest_depth design ≤ MOST_DEPTH
 
 -- the quantities with a limit
 pub data Counted : Type 0 where
@@ -72,12 +74,12 @@ count_of design gates_and_latches = cell_count design
 count_of design levels = greatest_depth design
 
 abbrev pub limit_of : Counted → ℕ
-limit_of inputs = 4096
-limit_of outputs = 4096
-limit_of placed = 65536
-limit_of bindings = 1048576
-limit_of gates_and_latches = 65536
-limit_of levels = 64
+limit_of inputs = MOST_INPUTS
+limit_of outputs = MOST_DESIGN_OUTPUTS
+limit_of placed = MOST_INSTANCES
+limit_of bindings = MOST_BINDINGS
+limit_of gates_and_latches = MOST_CELLS
+limit_of levels = MOST_DEPTH
 
 -- 18: the first quantity above its limit
 abbrev pub too_big : Design → Option Counted

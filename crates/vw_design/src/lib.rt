@@ -4,6 +4,7 @@
 mod design;
 mod item;
 mod laws;
+mod limits;
 mod model;
 mod word_set;
 
@@ -17,5 +18,6 @@ pub use laws::{
     reached_models, reads_agree, reads_are_numbered, sites_are_items, sizes_are_small,
     values_agree, weights_are_counted,
 };
+pub use limits::{MOST_BINDINGS, MOST_DEPTH, MOST_INSTANCES};
 pub use model::Model;
 pub use word_set::WordSet;

@@ -1,17 +1,21 @@
+ghost use Rattle.std.specs.Prelude.{◌<◌, length};
+
 use crate::plain::{add_behind, add_number, add_words, assert_number, assert_same};
 use std::alloc::{AllocError, Global};
 use std::process::Abort;
 use std::test::Fail;
 use vw_blif::read;
 use vw_design::{Bind, Design, Edge, Item, Model};
-use vw_net::{Cover, Init, Mark, Row};
+use vw_net::{Cover, Init, Mark};
 use vw_outside::Name;
 
-/// Adds a row of a table.
-fn add_row(shown: &mut Vec<u8>, row: &Row) -> Result<(), AllocError> {
+/// Adds a row of a table, by its number.
+fn add_row(shown: &mut Vec<u8>, cover: &Cover, row: u64) -> Result<(), AllocError>
+    requires { row < length cover.now.rows }
+{
     shown.push(b' ')?;
-    for mark in row.marks() {
-        shown.push(match *mark {
+    for input in 0..cover.inputs() {
+        shown.push(match cover.mark(row, input) {
             Mark::Zero => b'0',
             Mark::One => b'1',
             Mark::Any => b'-',
@@ -23,8 +27,8 @@ fn add_row(shown: &mut Vec<u8>, row: &Row) -> Result<(), AllocError> {
 
 /// Adds the rows of a table and the value where none matches.
 fn add_cover(shown: &mut Vec<u8>, cover: &Cover) -> Result<(), AllocError> {
-    for row in cover.rows() {
-        add_row(shown, row)?;
+    for row in 0..cover.count() {
+        add_row(shown, cover, row)?;
     }
     shown.push(if cover.on() { b'1' } else { b'0' })?;
     Ok(())

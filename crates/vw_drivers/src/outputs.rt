@@ -2,6 +2,7 @@
 ghost use Rattle.std.specs.Prelude.{◌≡◌, ◌≤◌, ℕ, length, map, IfOk};
 ghost use Rattle.vw_drivers.specs.Drivers.{HasOutputs};
 ghost use Rattle.vw_drivers.specs.Steps.FoundDrivers.{OfTables, output_led, outputs_made};
+ghost use Rattle.vw_design.specs.declared.limits.TheConstants.{MOST_INSTANCES};
 
 use crate::led::{led_driver, ways_into};
 use crate::model_names::Way;
@@ -61,7 +62,7 @@ pub fn outputs_by(
     alloc: Global,
     tables: &Tables,
 ) -> Result<Vec<Sequence<Option<Source>>>, AllocError>
-    requires { length tables.now.instances ≤ 65536 }
+    requires { length tables.now.instances ≤ MOST_INSTANCES }
     ensures { IfOk result (λ rows. OfTables tables.now
         (λ design. (instance : ℕ) → HasOutputs design tables.now rows.items instance)) }
 {

@@ -1,4 +1,5 @@
 pub mod HopOrder
-pub mod WrittenPieces
+pub mod CoverRows
+mod WrittenPieces
 pub mod ChosenLines
 pub mod ModelLines

@@ -12,6 +12,8 @@ use Rattle.vw_emit.specs.Lines.{spaced_line, blif_model}
 use Rattle.vw_emit.specs.Names.{column_name, node_name, output_name, shown_name}
 use Rattle.vw_emit.specs.Nodes.{NodePort, node_inputs, node_items, node_outputs}
 use Rattle.vw_emit.specs.Outlets.{outlets}
+use Rattle.vw_net.specs.declared.limits.TheConstants.{MOST_CELLS, MOST_DESIGN_OUTPUTS}
+use Rattle.vw_text.specs.declared.limits.TheConstants.{MOST_DESIGN_BYTES}
 
 -- ---- the text
 
@@ -61,13 +63,13 @@ emitted_outputs planned = length planned.ordered.flat.outputs + latch_count plan
 
 -- it is within the limits of designs and their texts
 pub record FitsDesigns (planned : PlannedBoard) : Type 0 where
-  pub cells : emitted_cells planned ≤ 65536
-  pub outputs : emitted_outputs planned ≤ 4096
-  pub bytes : length (emitted_text planned) ≤ 16777216
+  pub cells : emitted_cells planned ≤ MOST_CELLS
+  pub outputs : emitted_outputs planned ≤ MOST_DESIGN_OUTPUTS
+  pub bytes : length (emitted_text planned) ≤ MOST_DESIGN_BYTES
 
 -- why it isn't: the first limit that it is above
 abbrev pub IsEmitFault : PlannedBoard → EmitFault → Type 0
-IsEmitFault planned (TooManyCells cells) = (cells ≡ emitted_cells planned) × (65536 < cells)
-IsEmitFault planned (TooManyOutputs outputs) = (emitted_cells planned ≤ 65536) × (outputs ≡ emitted_outputs planned) × (4096 < outputs)
-IsEmitFault planned (TooLong bytes) = (emitted_cells planned ≤ 65536) × (emitted_outputs planned ≤ 4096) × (bytes ≡ length (emitted_text planned)) × (16777216 < bytes)
+IsEmitFault planned (TooManyCells cells) = (cells ≡ emitted_cells planned) × (MOST_CELLS < cells)
+IsEmitFault planned (TooManyOutputs outputs) = (emitted_cells planned ≤ MOST_CELLS) × (outputs ≡ emitted_outputs planned) × (MOST_DESIGN_OUTPUTS < outputs)
+IsEmitFault planned (TooLong bytes) = (emitted_cells planned ≤ MOST_CELLS) × (emitted_outputs planned ≤ MOST_DESIGN_OUTPUTS) × (bytes ≡ length (emitted_text planned)) × (MOST_DESIGN_BYTES < bytes)
 IsEmitFault planned NoMemory = Unit {0}

@@ -1,7 +1,8 @@
 -- What is written piece by piece.
-use Rattle.std.specs.Prelude.{◌+◌, ◌-◌, ◌==◌, ℕ, Bool, List, [], ◌∷◌, ◌++◌, map, codes, if◌then◌else◌}
+use Rattle.std.specs.Prelude.{◌+◌, ◌-◌, ◌==◌, ℕ, Bool, List, [], ◌∷◌, ◌++◌, map, codes, slice_index_or, if◌then◌else◌}
 use Rattle.std.specs.Fmt.{decimal}
 use Rattle.std.specs.List.{flat_map, range_with_len}
+use Rattle.vw_net.specs.declared.cover.Cover.{Cover}
 use Rattle.vw_net.specs.declared.cover.Mark.{Mark}
 use Rattle.vw_plan.specs.PlannedBoard.{PlannedBoard, planned_board}
 use Rattle.vw_emit.specs.declared.emitter.Emitter.{Emitter}
@@ -36,6 +37,10 @@ numbered_ports letter count = ports_from letter 0 count
 -- marks as they stand in a row
 abbrev pub marks_text : List Mark → List ℕ
 marks_text marks = map mark_code marks
+
+-- the marks of a row, by its number
+abbrev pub row_marks : Cover → ℕ → List Mark
+row_marks cover row = (slice_index_or cover.rows row (record { marks = [] })).marks
 
 -- so many stages of a sequencer, each of which reads the one before it
 abbrev pub stages_from : ℕ → ℕ → List (List ℕ)

@@ -11,14 +11,9 @@ use crate::numbered_hop::numbered_hops;
 use crate::outlet::{Outlet, outlets};
 use std::alloc::{AllocError, Global};
 use vw_leads::{LinkTable, wire_table};
+use vw_net::{MOST_CELLS, MOST_DESIGN_OUTPUTS};
 use vw_plan::Checked;
-
-/// The most cells that a design has, its most outputs, and the most bytes of its text.
-const MOST_CELLS: u128 = 65_536;
-
-const MOST_OUTPUTS: u64 = 4_096;
-
-const MOST_BYTES: u128 = 16_777_216;
+use vw_text::MOST_DESIGN_BYTES;
 
 /// The cells of the pins: one for each microcycle of their delays.
 fn pin_cells(outlets: &[Outlet]) -> u128
@@ -73,16 +68,16 @@ fn within_limits(alloc: Global, emitter: &Emitter) -> Result<Vec<u8>, EmitFault>
     ensures fault { IfErr result (IsEmitFault (planned_by emitter.now)) }
 {
     let cells = emitted_cells(emitter);
-    if cells > MOST_CELLS {
+    if cells > u128::from(MOST_CELLS) {
         return Err(EmitFault::TooManyCells(cells));
     }
     let outputs = emitted_outputs(emitter);
-    if outputs > MOST_OUTPUTS {
+    if outputs > u64::from(MOST_DESIGN_OUTPUTS) {
         return Err(EmitFault::TooManyOutputs(outputs));
     }
     let text = text_of(alloc, emitter)?;
     let bytes = text.len() as u128;
-    if bytes > MOST_BYTES {
+    if bytes > MOST_DESIGN_BYTES as u128 {
         return Err(EmitFault::TooLong(bytes));
     }
     Ok(text)

@@ -6,6 +6,7 @@ ghost use Rattle.vw_text.specs.Physical.{lines_text};
 ghost use Rattle.vw_emit.specs.Emitted.{board_model_lines, node_model_lines, all_nodes, placed_line};
 ghost use Rattle.vw_emit.specs.Nodes.{core_items, node_items, output_lines_at, pin_items};
 ghost use Rattle.vw_emit.specs.Steps.{with_newline, numbered_ports, planned_by, ports_text};
+ghost use Rattle.vw_net.specs.declared.limits.TheConstants.{MOST_CELLS};
 
 use crate::cells::{push_gates, push_latches, push_output_lines, push_registers, push_sequencer};
 use crate::emitter::Emitter;
@@ -17,7 +18,7 @@ use vw_net::Cell;
 
 /// How many latches there are.
 pub(crate) fn latch_count(cells: &[Cell]) -> u32
-    requires { length cells.now ≤ 65536 }
+    requires { length cells.now ≤ MOST_CELLS }
     ensures { result ≡ latch_count cells.now }
 {
     let mut count = 0;

@@ -3,6 +3,7 @@ ghost use Rattle.std.specs.Prelude.{◌≡◌, ◌≤◌, ◌++◌, ◌∷◌, l
 ghost use Rattle.std.specs.Fmt.{decimal};
 ghost use Rattle.vw_emit.specs.Nodes.{node_inputs, latch_port, latch_ports, node_outputs, port_in, port_out, ports_in, ports_out, same_port};
 ghost use Rattle.vw_emit.specs.Steps.{numbered_ports, planned_by, port_text, ports_text};
+ghost use Rattle.vw_net.specs.declared.limits.TheConstants.{MOST_CELLS};
 
 use crate::emitter::Emitter;
 use crate::numbered_hop::NumberedHop;
@@ -122,7 +123,7 @@ fn push_latches(
     node: u32,
     cells: &[Cell],
 ) -> Result<(), AllocError>
-    requires { length cells.now ≤ 65536 }
+    requires { length cells.now ≤ MOST_CELLS }
     ensures { OnOk result (text.new.items
         ≡ text.old.items ++ ports_text bound (latch_ports chip_of.now node 0 0 cells.now)) }
 {

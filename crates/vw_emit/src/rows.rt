@@ -1,12 +1,12 @@
 //! The rows of tables, and the lines that many items have.
-ghost use Rattle.std.specs.Prelude.{◌≡◌, ◌++◌, ◌∷◌, [], replicate, OnOk};
+ghost use Rattle.std.specs.Prelude.{◌≡◌, ◌<◌, ◌++◌, ◌∷◌, [], length, replicate, OnOk};
 ghost use Rattle.vw_net.specs.declared.cover.Mark.TheVariants.{Any};
 ghost use Rattle.vw_text.specs.Physical.{lines_text};
 ghost use Rattle.vw_emit.specs.Lines.{cover_lines, start_word, mark_code, off_lines, row_line, row_lines};
-ghost use Rattle.vw_emit.specs.Steps.{with_newline, marks_text};
+ghost use Rattle.vw_emit.specs.Steps.{with_newline, marks_text, row_marks};
 
 use std::alloc::AllocError;
-use vw_net::{Cover, Init, Mark, Row};
+use vw_net::{Cover, Init, Mark};
 
 fn mark_code(mark: Mark) -> u8
     ensures { result ≡ mark_code mark }
@@ -18,23 +18,26 @@ fn mark_code(mark: Mark) -> u8
     }
 }
 
-/// Appends marks.
-fn push_marks(text: &mut Vec<u8>, marks: &[Mark]) -> Result<(), AllocError>
-    ensures { OnOk result (text.new.items ≡ text.old.items ++ marks_text marks.now) }
+/// Appends the marks of a row, by its number.
+fn push_marks(text: &mut Vec<u8>, cover: &Cover, row: u64) -> Result<(), AllocError>
+    requires { row < length cover.now.rows }
+    ensures { OnOk result (text.new.items
+        ≡ text.old.items ++ marks_text (row_marks cover.now row)) }
 {
-    for mark in marks {
-        text.push(mark_code(*mark))?;
+    for input in 0..cover.inputs() {
+        text.push(mark_code(cover.mark(row, input)))?;
     }
     Ok(())
 }
 
 /// Appends the line of a row with its value.
-fn push_row(text: &mut Vec<u8>, marks: &[Mark], value: u8) -> Result<(), AllocError>
+fn push_row(text: &mut Vec<u8>, cover: &Cover, row: u64, value: u8) -> Result<(), AllocError>
+    requires { row < length cover.now.rows }
     ensures { OnOk result (text.new.items
-        ≡ text.old.items ++ with_newline (row_line marks.now (value ∷ []))) }
+        ≡ text.old.items ++ with_newline (row_line (row_marks cover.now row) (value ∷ []))) }
 {
-    push_marks(text, marks)?;
-    if !marks.is_empty() {
+    push_marks(text, cover, row)?;
+    if cover.inputs() > 0 {
         text.push(b' ')?;
     }
     text.push(value)?;
@@ -42,13 +45,13 @@ fn push_row(text: &mut Vec<u8>, marks: &[Mark], value: u8) -> Result<(), AllocEr
     Ok(())
 }
 
-/// Appends the lines of rows with their value.
-fn push_rows(text: &mut Vec<u8>, rows: &[Row], value: u8) -> Result<(), AllocError>
+/// Appends the lines of the rows of a table with their value.
+fn push_rows(text: &mut Vec<u8>, cover: &Cover, value: u8) -> Result<(), AllocError>
     ensures { OnOk result (text.new.items
-        ≡ text.old.items ++ lines_text (row_lines rows.now (value ∷ []))) }
+        ≡ text.old.items ++ lines_text (row_lines cover.now.rows (value ∷ []))) }
 {
-    for row in rows {
-        push_row(text, row.marks(), value)?;
+    for row in 0..cover.count() {
+        push_row(text, cover, row, value)?;
     }
     Ok(())
 }
@@ -81,12 +84,12 @@ pub(crate) fn push_cover(text: &mut Vec<u8>, cover: &Cover) -> Result<(), AllocE
     ensures { OnOk result (text.new.items ≡ text.old.items ++ lines_text (cover_lines cover.now)) }
 {
     if cover.on() {
-        return push_rows(text, cover.rows(), b'1');
+        return push_rows(text, cover, b'1');
     }
-    if cover.rows().is_empty() {
+    if cover.count() == 0 {
         return push_always(text, cover.inputs());
     }
-    push_rows(text, cover.rows(), b'0')
+    push_rows(text, cover, b'0')
 }
 
 /// What a latch starts at.

@@ -3,6 +3,9 @@ ghost use Rattle.std.specs.Prelude.{◌≡◌};
 ghost use Rattle.vw_design.specs.Limits.{limit_of};
 ghost use Rattle.vw_instances.specs.Quantities.{counted_of, quantity_word};
 
+use vw_design::{MOST_BINDINGS, MOST_DEPTH, MOST_INSTANCES};
+use vw_net::{MOST_CELLS, MOST_DESIGN_OUTPUTS, MOST_INPUTS};
+
 /// A quantity of a design that has a limit, in the order in which they are tried.
 #[derive(Clone, Copy, Debug, PartialEq, Eq)]
 pub enum Quantity {
@@ -26,12 +29,12 @@ impl Quantity {
         ensures { result ≡ limit_of (counted_of self) }
     {
         match self {
-            Quantity::Inputs => 4096,
-            Quantity::Outputs => 4096,
-            Quantity::Instances => 65536,
-            Quantity::Bindings => 1048576,
-            Quantity::Cells => 65536,
-            Quantity::Depth => 64,
+            Quantity::Inputs => u64::from(MOST_INPUTS),
+            Quantity::Outputs => u64::from(MOST_DESIGN_OUTPUTS),
+            Quantity::Instances => u64::from(MOST_INSTANCES),
+            Quantity::Bindings => u64::from(MOST_BINDINGS),
+            Quantity::Cells => u64::from(MOST_CELLS),
+            Quantity::Depth => u64::from(MOST_DEPTH),
         }
     }
 

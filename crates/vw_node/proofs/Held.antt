@@ -12,7 +12,7 @@ use Rattle.vw_net.specs.declared.cover.Cover.{Cover}
 use Rattle.vw_net.specs.declared.flat.Flat.{Flat}
 use Rattle.vw_net.specs.Cover.{cover_value}
 use Rattle.vw_net.specs.Order.{gate_inputs, is_latch}
-use Rattle.vw_net.proofs.Levels.{map_agree}
+use Rattle.vw_net.proofs.DrivenValues.{map_agree}
 use Rattle.vw_plan.specs.Nets.{driving_cell}
 use Rattle.vw_plan.specs.PlannedBoard.{PlannedBoard, home}
 use Rattle.vw_prog.specs.declared.entry.Entry.{Entry}

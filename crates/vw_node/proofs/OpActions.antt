@@ -10,7 +10,7 @@ use Rattle.vw_net.specs.declared.flat.Flat.{Flat}
 use Rattle.vw_net.specs.Cover.{cover_value}
 use Rattle.vw_net.specs.TruthTable.{bit_of, place_of}
 use Rattle.vw_net.proofs.FittingCells.{cell_fits}
-use Rattle.vw_net.proofs.Levels.{map_agree}
+use Rattle.vw_net.proofs.DrivenValues.{map_agree}
 use Rattle.vw_net.proofs.TruthTables.{truth_table_repeats}
 use Rattle.vw_plan.specs.PlannedBoard.{PlannedBoard}
 use Rattle.vw_prog.specs.declared.action.Action.{Action}

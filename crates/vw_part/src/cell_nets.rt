@@ -3,6 +3,7 @@ ghost use Rattle.std.specs.Prelude.{◌≡◌, ◌+◌, ◌<◌, ◌≤◌, ℕ,
 ghost use Rattle.std.specs.List.{All};
 ghost use Rattle.vw_net.specs.Cells.{read_nets};
 ghost use Rattle.vw_part.specs.Steps.CellNets.{AreNetsOf, AreCellNets, times_among};
+ghost use Rattle.vw_net.specs.declared.limits.TheConstants.{MOST_CELLS};
 
 use std::alloc::{AllocError, Global};
 use vw_net::{Cell, Flat, Sequence};
@@ -35,7 +36,7 @@ pub struct CellNets {
     pub nets: usize,
     /// Those of each cell, each once.
     pub of_cells: Vec<Sequence<u32>>,
-    ghost few_cells: { length of_cells.items ≤ 65536 },
+    ghost few_cells: { length of_cells.items ≤ MOST_CELLS },
     ghost within: { All (λ own. All (λ net. net < nets) own) of_cells.items },
     ghost once: { All (λ own. (net : ℕ) → times_among own net ≤ 1) of_cells.items },
 }

@@ -9,7 +9,7 @@ use Rattle.vw_net.specs.declared.cell.Cell.{Cell}
 use Rattle.vw_net.specs.declared.cell.Cell.TheVariants.{Gate, Latch}
 use Rattle.vw_net.specs.declared.ordered.Ordered.{Ordered}
 use Rattle.vw_net.specs.Order.{is_gate, is_latch, is_among, is_ready, read_nets_at, gate_inputs}
-use Rattle.vw_net.proofs.Levels.{is_gate-latch}
+use Rattle.vw_net.proofs.DrivenValues.{is_gate-latch}
 use Rattle.vw_plan.specs.Nets.{driving_cell}
 
 -- what holds of all that a cell reads holds of all that it reads as a gate

@@ -5,7 +5,7 @@ use Rattle.vw_net.specs.declared.cell.Cell.{Cell}
 use Rattle.vw_net.specs.declared.cell.Cell.TheVariants.{Gate, Latch}
 use Rattle.vw_net.specs.Lists.{greatest}
 use Rattle.vw_net.specs.Order.{is_among, gate_inputs}
-use Rattle.vw_net.proofs.Levels.{map_agree}
+use Rattle.vw_net.proofs.DrivenValues.{map_agree}
 use Rattle.vw_plan.specs.Nets.{greatest_read}
 
 -- it depends on the nets that the gate reads, and on no other

@@ -54,10 +54,8 @@ xor = record {
   inputs = 2;
   on = true;
   rows = record { marks = one_mark ∷ zero_mark ∷ [] } ∷ record { marks = zero_mark ∷ one_mark ∷ [] } ∷ [];
-  truth_table = 7378697629483820646;
   narrow = omega arith;
   even = two (λ row. length row.marks ≡ 2) (record { marks = one_mark ∷ zero_mark ∷ [] }) (record { marks = zero_mark ∷ one_mark ∷ [] }) refl refl;
-  truth_table_is = refl;
 }
 
 -- net 0 is the input `en`; net 1 is the exclusive or of `en` and net 2; net 2 is the latch of net 1, and the output

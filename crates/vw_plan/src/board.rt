@@ -1,5 +1,7 @@
 ghost use Rattle.std.specs.Prelude.{◌≡◌, ◌≤◌};
 ghost use Rattle.vw_plan.specs.Links.{AreLinks};
+ghost use Rattle.vw_net.specs.declared.limits.TheConstants.{MOST_CELLS};
+ghost use Rattle.vw_plan.specs.declared.limits.TheConstants.{MOST_CHIPS, MOST_SETTLE};
 
 use crate::link::Link;
 use vw_net::Sequence;
@@ -17,10 +19,10 @@ pub struct Board {
     /// The links, by their numbers.
     pub links: Sequence<Link>,
     ghost some_chips: { 1 ≤ chips },
-    ghost few_chips: { chips ≤ 32 },
+    ghost few_chips: { chips ≤ MOST_CHIPS },
     ghost some_cells: { 1 ≤ cells },
-    ghost few_cells: { cells ≤ 65536 },
-    ghost quick: { settle ≤ 15 },
+    ghost few_cells: { cells ≤ MOST_CELLS },
+    ghost quick: { settle ≤ MOST_SETTLE },
     ghost linked: { AreLinks chips links },
 }
 
@@ -28,10 +30,10 @@ impl Board {
     /// The board with these links. It takes no memory.
     pub fn make(chips: u32, cells: u32, settle: u32, links: Sequence<Link>) -> Self
         requires some_chips { 1 ≤ chips }
-        requires few_chips { chips ≤ 32 }
+        requires few_chips { chips ≤ MOST_CHIPS }
         requires some_cells { 1 ≤ cells }
-        requires few_cells { cells ≤ 65536 }
-        requires quick { settle ≤ 15 }
+        requires few_cells { cells ≤ MOST_CELLS }
+        requires quick { settle ≤ MOST_SETTLE }
         requires linked { AreLinks chips links }
         ensures chips { result.chips ≡ chips }
         ensures cells { result.cells ≡ cells }

@@ -4,6 +4,7 @@
 mod board;
 mod checked;
 mod laws;
+mod limits;
 mod link;
 mod need;
 mod node;
@@ -17,6 +18,7 @@ pub use laws::{
     leads_follow_drivers, links_differ, needed_nets_are_nets, needed_pairs_are_needed,
     pins_have_one_user, read_nets_are_there,
 };
+pub use limits::{MOST_CHIPS, MOST_SETTLE};
 pub use link::Link;
 pub use need::{Need, Route};
 pub use node::node_of;

@@ -42,7 +42,7 @@ fn value(alloc: Global, width: u32, on: bool, rows: &[&[u8]], text: &[u8]) -> Re
     for marks in rows {
         table.push(row(alloc, width, marks)?)?;
     }
-    let cover = Cover::make(width, on, Sequence::of(table));
+    let cover = Cover::make(alloc, width, on, Sequence::of(table))?;
     Ok(cover.value(&bits(alloc, width, text)?))
 }
 

@@ -7,7 +7,7 @@ use vw_order::order;
 /// A gate that reads these nets. Its value is always zero.
 pub fn gate(alloc: Global, ins: &[u32]) -> Result<Cell, Fail> {
     let ins = Sequence::of(ins.to_vec(alloc)?);
-    match Cell::gate(ins, true, Sequence::of(Vec::new(alloc))) {
+    match Cell::gate(alloc, ins, true, Sequence::of(Vec::new(alloc)))? {
         Some(cell) => Ok(cell),
         None => Err("no gate".into()),
     }

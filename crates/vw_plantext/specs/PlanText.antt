@@ -6,17 +6,18 @@ use Rattle.vw_plantext.specs.declared.fault.PlanTextFault.TheVariants.{TooLarge,
 use Rattle.vw_plantext.specs.Content.{content_of, IsInRange}
 use Rattle.vw_plantext.specs.Grammar.{spelling}
 use Rattle.vw_plantext.specs.CanStand.{IsFirstBadLine}
+use Rattle.vw_plantext.specs.declared.limits.TheConstants.{MOST_PLAN_BYTES}
 
 -- a text within the limit is the spelling of a plan
 pub record Spells (text : List ℕ) (plan : Plan) : Type 0 where
-  pub small : length text ≤ 67108864
+  pub small : length text ≤ MOST_PLAN_BYTES
   pub in_range : IsInRange (content_of plan)
   pub spelled : spelling (content_of plan) ≡ text
 
 -- a text is refused for this reason; want of memory says nothing of it
 abbrev pub Refuses : List ℕ → PlanTextFault → Type 0
-Refuses text TooLarge = 67108864 < length text
-Refuses text (BadLine line) = (length text ≤ 67108864) × IsFirstBadLine text line
+Refuses text TooLarge = MOST_PLAN_BYTES < length text
+Refuses text (BadLine line) = (length text ≤ MOST_PLAN_BYTES) × IsFirstBadLine text line
 Refuses text NoMemory = ⊤
 
 -- whether a fault lies in the text; want of memory doesn't

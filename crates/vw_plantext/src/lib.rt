@@ -4,6 +4,7 @@
 mod body;
 mod fault;
 mod laws;
+mod limits;
 mod line;
 mod plan_text;
 mod start;

@@ -13,6 +13,7 @@ use crate::start::begin;
 use std::alloc::Global;
 use vw_net::Sequence;
 use vw_plan::Plan;
+use crate::limits::MOST_PLAN_BYTES;
 
 /// The plan whose wires were all read.
 fn finish(body: Body) -> Plan
@@ -50,7 +51,7 @@ fn end_of(body: Body, line: &[u8], after: &[u8], number: u64) -> Result<Plan, Pl
 
 /// The plan that a text spells, however long the text is.
 fn read_lines(alloc: Global, bytes: &[u8]) -> Result<Plan, PlanTextFault>
-    requires { length bytes.now ≤ 67108864 }
+    requires { length bytes.now ≤ MOST_PLAN_BYTES }
     ensures spelled { IfOk result (IsSpelled bytes.now) }
     ensures fault { IfErr result (IsFaultOfText bytes.now) }
 {
@@ -77,7 +78,7 @@ pub fn read(alloc: Global, bytes: &[u8]) -> Result<Plan, PlanTextFault>
     ensures spells { IfOk result (Spells bytes.now) }
     ensures refuses { IfErr result (Refuses bytes.now) }
 {
-    if bytes.len() > 67_108_864 {
+    if bytes.len() > MOST_PLAN_BYTES {
         return Err(PlanTextFault::TooLarge);
     }
     read_lines(alloc, bytes)

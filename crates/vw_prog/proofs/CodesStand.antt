@@ -11,6 +11,7 @@ use Rattle.vw_net.specs.declared.cell.Cell.TheVariants.{Gate, Latch}
 use Rattle.vw_net.specs.declared.cover.Cover.{Cover}
 use Rattle.vw_net.specs.declared.flat.Flat.{Flat}
 use Rattle.vw_net.specs.Order.{gate_inputs, is_among, is_gate, is_latch}
+use Rattle.vw_net.specs.TruthTable.{truth_table as truth_table_of}
 use Rattle.vw_net.proofs.FittingCells.{cell_fits}
 use Rattle.vw_plan.specs.Nets.{driving_cell}
 use Rattle.vw_plan.specs.PlannedBoard.{PlannedBoard, home}
@@ -268,11 +269,11 @@ module _ (planned : PlannedBoard) (sound : IsSound planned) (node : ℕ) where
       some_slot = let low = below nets (inputs + number) (slot_in table (inputs + number)) own_in in omega (arith, low)
 
       abbrev its_gate : TableGate
-      its_gate = table_gate table ins cover.truth_table
+      its_gate = table_gate table ins (truth_table_of cover)
 
       is_table_gate : cover.inputs ≤ 6 → IsTableGate flat nets number its_gate (slot_in table (inputs + number))
       is_table_gate few =
-          let six = six_slots ins cover.truth_table (omega (arith, few, fits.0)) in
+          let six = six_slots ins (truth_table_of cover) (omega (arith, few, fits.0)) in
           record {
             ins = ins;
             cover = cover;
@@ -360,7 +361,7 @@ module _ (planned : PlannedBoard) (sound : IsSound planned) (node : ℕ) where
               let op_is : action_op flat table (kept place (action.Evaluate number) at).first (kept place (action.Evaluate number) at).wide (action.Evaluate number) ≡ op.Run (kept place (action.Evaluate number) at).first ((kept place (action.Evaluate number) at).first + 1) (slot_in table (inputs + number)) =
               ap (λ (net : ℕ). cell_op (slot_in table net) (kept place (action.Evaluate number) at).first (kept place (action.Evaluate number) at).wide (slice_get flat.cells number)) (net_low is) ∙ ap (cell_op (slot_in table (inputs + number)) (kept place (action.Evaluate number) at).first (kept place (action.Evaluate number) at).wide) is ∙ ap (λ (one : Bool). if one then op.Run (kept place (action.Evaluate number) at).first ((kept place (action.Evaluate number) at).first + 1) (slot_in table (inputs + number)) else op.Wide (kept place (action.Evaluate number) at).wide) test in
               let run = subst (λ (one : Op). Becomes one (two place (action.Evaluate number) at).0) op_is (two place (action.Evaluate number) at).2 in
-              let gates : action_gates flat table (action.Evaluate number) ≡ its_gate number ins cover is all own_in ∷ [] = ap (cell_gates inputs table number) is ∙ ap (λ (one : Bool). if one then table_gate table ins cover.truth_table ∷ [] else []) test in
+              let gates : action_gates flat table (action.Evaluate number) ≡ its_gate number ins cover is all own_in ∷ [] = ap (cell_gates inputs table number) is ∙ ap (λ (one : Bool). if one then table_gate table ins (truth_table_of cover) ∷ [] else []) test in
               let there : slice_get code.gates.items (kept place (action.Evaluate number) at).first ≡ Some (its_gate number ins cover is all own_in) = ap (λ (list : List TableGate). slice_get list (kept place (action.Evaluate number) at).first) made.gates ∙ (kept place (action.Evaluate number) at).gate (its_gate number ins cover is all own_in) gates in
               subst (BeginsWith flat code (action.Evaluate number)) (sym run.1) (run.2, its_gate number ins cover is all own_in, there, is_table_gate number ins cover is all own_in (leb-true cover.inputs 6 test))
           by false test =

@@ -7,6 +7,7 @@ use Rattle.vw_net.specs.declared.cell.Cell.TheVariants.{Gate, Latch}
 use Rattle.vw_net.specs.declared.cover.Cover.{Cover}
 use Rattle.vw_net.specs.declared.flat.Flat.{Flat}
 use Rattle.vw_net.specs.Cells.{latch_count}
+use Rattle.vw_net.specs.TruthTable.{truth_table as truth_table_of}
 use Rattle.vw_plan.specs.Nets.{driving_cell}
 use Rattle.vw_plan.specs.PlannedBoard.{PlannedBoard}
 use Rattle.vw_prog.specs.declared.action.Action.{Action}
@@ -37,7 +38,7 @@ pub record IsTableGate (flat : Flat) (nets : List ℕ) (number : ℕ) (gate : Ta
   pub reads : gate.reads ≡ own ++ more
   pub slots : map (slot_of nets) ins ≡ map Some own
   pub within : All (λ read. read < length nets) gate.reads
-  pub truth_table : gate.truth_table ≡ cover.truth_table
+  pub truth_table : gate.truth_table ≡ truth_table_of cover
   pub target : slot_of nets (flat.inputs + number) ≡ Some slot
 
 -- the gate with a cell number by its rows, with the slots of its inputs

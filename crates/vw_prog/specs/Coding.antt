@@ -7,6 +7,7 @@ use Rattle.vw_net.specs.declared.cell.Cell.{Cell}
 use Rattle.vw_net.specs.declared.cell.Cell.TheVariants.{Gate, Latch}
 use Rattle.vw_net.specs.declared.flat.Flat.{Flat}
 use Rattle.vw_net.specs.Cells.{latch_count}
+use Rattle.vw_net.specs.TruthTable.{truth_table as truth_table_of}
 use Rattle.vw_plan.specs.Nets.{driving_cell}
 use Rattle.vw_prog.specs.declared.action.Action.{Action}
 use Rattle.vw_prog.specs.declared.action.Action.TheVariants as action
@@ -79,7 +80,7 @@ wide_gate table number net ins = record { number = number; reads = map (slot_in 
 -- what a cell adds to the gates of a code, and the op for it
 abbrev pub cell_gates : ℕ → List ℕ → ℕ → Option Cell → List TableGate
 cell_gates inputs table number None = []
-cell_gates inputs table number (Some (Gate ins cover)) = if nat_le cover.inputs 6 then table_gate table ins cover.truth_table ∷ [] else []
+cell_gates inputs table number (Some (Gate ins cover)) = if nat_le cover.inputs 6 then table_gate table ins (truth_table_of cover) ∷ [] else []
 cell_gates inputs table number (Some (Latch d init)) = []
 
 abbrev pub cell_wide : ℕ → List ℕ → ℕ → Option Cell → List WideGate

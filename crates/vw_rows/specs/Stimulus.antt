@@ -9,6 +9,7 @@ use Rattle.vw_text.specs.Physical.{text_lines}
 use Rattle.vw_text.specs.WordLines.{words_of}
 use Rattle.vw_rows.specs.declared.fault.StimFault.{StimFault}
 use Rattle.vw_rows.specs.declared.fault.StimFault.TheVariants.{TooLarge, BadLine, WrongWidth, TooManyClocks, ReadFault, NoMemory}
+use Rattle.vw_rows.specs.declared.limits.TheConstants.{MOST_CLOCKS, MOST_STIMULUS_BYTES}
 
 -- ---- words
 
@@ -29,7 +30,7 @@ bits_of word =
 
 -- a number of clocks that a run can have
 abbrev pub clocks_within : ℕ → Option ℕ
-clocks_within number = if nat_le number 4294967295 then Some number else None
+clocks_within number = if nat_le number MOST_CLOCKS then Some number else None
 
 -- how often two words, `hold` and a number, repeat the row before them
 abbrev pub held_times : List ℕ → List ℕ → Option ℕ
@@ -67,7 +68,7 @@ last_row row (next ∷ rows) = last_row next rows
 abbrev pub within_run : ℕ → Result (List (List Bool)) StimFault → Result (List (List Bool)) StimFault
 within_run count (Err fault) = Err fault
 within_run count (Ok added) =
-    if nat_lt 4294967295 (count + length added) then Err (TooManyClocks (count + length added)) else Ok added
+    if nat_lt MOST_CLOCKS (count + length added) then Err (TooManyClocks (count + length added)) else Ok added
 
 -- what comes of rows, unless there is a fault
 abbrev pub and_then : Result (List (List Bool)) StimFault → (List (List Bool) → Result (List (List Bool)) StimFault) → Result (List (List Bool)) StimFault
@@ -89,7 +90,7 @@ rows_of_lines width number count before (line ∷ lines) =
 -- the rows of a text, before which there is a row of zeros; that it is too large is decided before all lines
 abbrev pub stimulus_rows : ℕ → List ℕ → Result (List (List Bool)) StimFault
 stimulus_rows width text =
-    if nat_lt 1073741824 (length text) then Err TooLarge
+    if nat_lt MOST_STIMULUS_BYTES (length text) then Err TooLarge
     else rows_of_lines width 1 0 (replicate width false) (text_lines text)
 
 -- ---- faults

@@ -4,6 +4,7 @@ ghost use Rattle.vw_rows.specs.Stimulus.{last_row};
 ghost use Rattle.vw_rows.specs.Steps.Batches.{IsPaid, IsFit, GivesCopies, AddsToBatch, EndsLineOf, TakesLineOf, TakesPieceOf, EndsTextOf, GathersOf};
 ghost use Rattle.vw_outside.specs.Told.{held};
 ghost use Rattle.vw_outside.specs.Reads.{CountsFault};
+ghost use Rattle.vw_rows.specs.declared.limits.TheConstants.{MOST_CLOCKS, MOST_STIMULUS_BYTES};
 
 use crate::fault::StimFault;
 use crate::pieces::{PIECE, read_piece};
@@ -81,7 +82,7 @@ impl Batch {
 
     /// Adds what the line adds, now that it has ended, and begins the next.
     pub fn end_line(&mut self, alloc: Global, before: &Bits) -> Result<(), StimFault>
-        requires few { self.old.scan.clocks ≤ 4294967295 }
+        requires few { self.old.scan.clocks ≤ MOST_CLOCKS }
         requires number { self.old.scan.number + 1 < 2 ^ 64 }
         requires paid { self.old.owed ≡ 0 }
         requires room { length self.old.rows.items < self.old.wanted }
@@ -100,7 +101,7 @@ impl Batch {
         requires some { 0 < length piece.now }
         requires fit { IsFit self.old }
         requires room { length self.old.rows.items < self.old.wanted }
-        requires limit { self.old.read + length piece.now ≤ 1073741824 }
+        requires limit { self.old.read + length piece.now ≤ MOST_STIMULUS_BYTES }
         ensures takes { TakesLineOf before.now piece.now self.old self.new result }
         ensures fit { OnOk result (IsFit self.new) }
         ensures progress { IfOk result (λ count. 0 < count) }
@@ -121,7 +122,7 @@ impl Batch {
     /// Reads the lines at the front of a piece, until there are as many rows as are wanted.
     pub fn take(&mut self, alloc: Global, before: &Bits, piece: &[u8]) -> Result<(), StimFault>
         requires fit { IsFit self.old }
-        requires limit { self.old.read + length piece.now ≤ 1073741824 }
+        requires limit { self.old.read + length piece.now ≤ MOST_STIMULUS_BYTES }
         ensures takes { TakesPieceOf before.now piece.now self.old self.new result }
         ensures fit { OnOk result (IsFit self.new) }
         ensures wanted { OnOk result (self.new.wanted ≡ self.old.wanted) }
@@ -180,7 +181,7 @@ impl Batch {
     ) -> Result<(), StimFault>
         requires fit { IsFit self.old }
         requires short { (bytes : List ℕ) → (S.seen shelf.old).told name.now ≡ held bytes
-            → length bytes ≤ 1073741824 }
+            → length bytes ≤ MOST_STIMULUS_BYTES }
         ensures gathers { GathersOf ((S.seen shelf.old).told name.now) before.now self.old self.new result }
         ensures fit { OnOk result (IsFit self.new) }
         ensures full { OnOk result (length self.new.rows.items ≡ self.old.wanted) }

@@ -5,6 +5,7 @@ mod batch;
 mod counting;
 mod fault;
 mod laws;
+mod limits;
 mod line_so_far;
 mod pieces;
 mod said;
@@ -14,5 +15,6 @@ mod trace;
 
 pub use fault::StimFault;
 pub use laws::plain_rows_read;
+pub use limits::{MOST_CLOCKS, MOST_STIMULUS_BYTES};
 pub use stimulus::Stimulus;
 pub use trace::{trace_end, trace_head, trace_rows};

@@ -4,9 +4,7 @@ ghost use Rattle.vw_text.specs.Number.{is_digit};
 ghost use Rattle.vw_rows.specs.Steps.Saying.{GoesOn, EndsWord, TakesByte};
 
 use vw_text::is_blank;
-
-/// The most clocks of a run.
-pub const CLOCKS_LIMIT: u64 = 4_294_967_295;
+use crate::limits::MOST_CLOCKS;
 
 /// What the words of a line say so far, as long as some line begins with them.
 #[derive(Clone, Copy)]
@@ -102,7 +100,7 @@ fn number_with(times: u64, byte: u8) -> Option<Said>
     match digit_of(byte) {
         Some(digit) => {
             let longer = times.saturating_mul(10).saturating_add(digit);
-            if longer > CLOCKS_LIMIT {
+            if longer > MOST_CLOCKS {
                 return None;
             }
             Some(Said::Number(longer))

@@ -2,10 +2,12 @@
 ghost use Rattle.std.specs.Prelude.{◌≡◌, ◌≢◌, ◌≤◌, ◌<◌, ◌+◌, ◌^◌, [], OnOk, Err};
 ghost use Rattle.vw_rows.specs.Steps.Lines.{IsLine};
 ghost use Rattle.vw_rows.specs.Steps.Scans.{count_of, AddsLine, EndsLine};
+ghost use Rattle.vw_rows.specs.declared.limits.TheConstants.{MOST_CLOCKS};
 
 use crate::fault::StimFault;
 use crate::line_so_far::LineSoFar;
-use crate::said::{CLOCKS_LIMIT, Said, ends_word};
+use crate::limits::MOST_CLOCKS;
+use crate::said::{Said, ends_word};
 use std::alloc::Global;
 
 /// What a line adds.
@@ -84,14 +86,14 @@ impl Scan {
 
     /// What the line adds, now that it has ended, and counts it.
     pub fn end(&mut self) -> Result<Adds, StimFault>
-        requires few { self.old.clocks ≤ 4294967295 }
+        requires few { self.old.clocks ≤ MOST_CLOCKS }
         ensures ends { EndsLine self.old self.new result }
-        ensures few { OnOk result (self.new.clocks ≤ 4294967295) }
+        ensures few { OnOk result (self.new.clocks ≤ MOST_CLOCKS) }
         ensures reads_nothing { result ≢ Err StimFault.ReadFault }
     {
         let adds = self.adds()?;
         let clocks = self.clocks.saturating_add(count_of(adds));
-        if clocks > CLOCKS_LIMIT {
+        if clocks > MOST_CLOCKS {
             return Err(StimFault::TooManyClocks(clocks));
         }
         self.clocks = clocks;

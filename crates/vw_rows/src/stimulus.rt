@@ -1,5 +1,6 @@
 //! A stimulus that is read once to check it, and once more in batches of rows.
 ghost use Rattle.std.specs.Prelude.{◌≡◌, ◌≤◌, ◌+◌, length};
+ghost use Rattle.vw_rows.specs.declared.limits.TheConstants.{MOST_CLOCKS, MOST_STIMULUS_BYTES};
 
 use crate::batch::{Batch, copy_of_last};
 use crate::counting::count_rows;
@@ -30,11 +31,11 @@ pub struct Stimulus {
     /// How many copies of that row are given before that line is read.
     pub owed: u64,
     ghost some_left: { done ≤ clocks },
-    ghost few: { clocks ≤ 4294967295 },
+    ghost few: { clocks ≤ MOST_CLOCKS },
     ghost wide: { length before ≡ width },
-    ghost inside: { at ≤ 1073741824 },
+    ghost inside: { at ≤ MOST_STIMULUS_BYTES },
     ghost numbered: { line ≤ at + 1 },
-    ghost few_owed: { done + owed ≤ 4294967295 },
+    ghost few_owed: { done + owed ≤ MOST_CLOCKS },
 }
 
 impl Stimulus {

@@ -12,24 +12,15 @@ use Rattle.vw_net.specs.declared.cell.Cell.TheVariants.{Gate}
 use Rattle.vw_net.specs.declared.cover.Cover.{Cover}
 use Rattle.vw_net.specs.Cover.{cover_value}
 use Rattle.vw_net.specs.Order.{IsOrder, is_ready, read_nets_at}
-use Rattle.vw_net.proofs.ReadyNets.{order_within, ready_before}
-use Rattle.vw_net.proofs.Levels.{map_agree}
+use Rattle.vw_net.proofs.ReadyNets.{ready_before, reads_ready}
+use Rattle.vw_net.proofs.DrivenValues.{map_agree}
 
 module _ {inputs : ℕ} {cells : List Cell} {order : List ℕ} (is_order : IsOrder inputs cells order) where
-  -- what is read at the number at a place of the order is the cell of that number
-  pub order_cell : (place : ℕ) (items : List ℕ) (list : List Cell) (cell : Cell) → place < length order → items ≡ order → list ≡ cells → cell ≡ get_or list (get_or items place 0) cell → slice_get cells (get_or order place 0) ≡ Some cell
-  order_cell place items list cell within same_items same_list is =
-      slice_get_read cells (length cells) (get_or order place 0) cell refl (order_within is_order place within) (is ∙ ap₂ (λ (from : List Cell) (numbers : List ℕ). get_or from (get_or numbers place 0) cell) same_list same_items)
-
   module _ (place : ℕ) (within : place < length order) (ins : List ℕ) (cover : Cover) (here : slice_get cells (get_or order place 0) ≡ Some (Gate ins cover)) where
-    -- the nets that the gate at a place reads are ready when those before it are done
-    reads_ready : All (λ net. is_ready inputs cells (take place order) net ≡ true) ins
-    reads_ready = AllPass-from_list_all (is_ready inputs cells (take place order)) ins (ap (λ (cell : Option Cell). list_all (is_ready inputs cells (take place order)) (read_nets_at cell)) (sym here) ∙ is_order.after place within)
-
     -- where the nets that are ready have their values, its table gives it its value
     cover_value-gate : (value other : ℕ → Bool) → value (inputs + get_or order place 0) ≡ cover_value cover (map value ins) → ((net : ℕ) → is_ready inputs cells (take place order) net ≡ true → other net ≡ value net) → cover_value cover (map other ins) ≡ value (inputs + get_or order place 0)
     cover_value-gate value other its have =
-        let agree : All (λ net. other net ≡ value net) ins = All-weaker (λ net. is_ready inputs cells (take place order) net ≡ true) (λ net. other net ≡ value net) have ins reads_ready in
+        let agree : All (λ net. other net ≡ value net) ins = All-weaker (λ net. is_ready inputs cells (take place order) net ≡ true) (λ net. other net ≡ value net) have ins (reads_ready is_order place within ins cover here) in
         ap (cover_value cover) (map_agree other value ins agree) ∙ sym its
 
     -- so when it is written, the nets that are ready then have theirs

@@ -3,6 +3,7 @@
 
 mod bare;
 mod laws;
+mod limits;
 mod line;
 mod message;
 mod numbers;
@@ -12,6 +13,7 @@ mod words;
 
 pub use bare::{is_blank, without_comment};
 pub use laws::{lines_join, plain_lines_read};
+pub use limits::MOST_DESIGN_BYTES;
 pub use line::Line;
 pub use message::numbered_line;
 pub use numbers::{number, number_in};

@@ -5,7 +5,7 @@ use Rattle.std.proofs.lemmas.List.Elements.{All-weaker}
 use Rattle.vw_net.specs.declared.flat.Flat.{Flat}
 use Rattle.vw_net.specs.Value.{net_value}
 use Rattle.vw_net.specs.History.{outputs_at, next_state, outputs_of, states_of, state_after}
-use Rattle.vw_net.proofs.Levels.{map_agree}
+use Rattle.vw_net.proofs.DrivenValues.{map_agree}
 
 -- the outputs, from what gives each net its value
 pub outputs_at-from_values : (flat : Flat) (row state : List Bool) (value : ℕ → Bool) → ((net : ℕ) → net < flat.inputs + length flat.cells → value net ≡ net_value flat row state net) → map value flat.outputs ≡ outputs_at flat row state

@@ -9,6 +9,7 @@ use Rattle.vw_rows.specs.declared.batch.Batch.{Batch}
 use Rattle.vw_rows.specs.Stimulus.{line_words, rows_added, last_row, within_run, behind, rows_of_lines, is_text_fault}
 use Rattle.vw_rows.specs.Steps.Lines.{IsLine}
 use Rattle.vw_rows.specs.Steps.Scans.{count_of, rows_by, AddsToRun, IsReadSoFar}
+use Rattle.vw_rows.specs.declared.limits.TheConstants.{MOST_CLOCKS, MOST_STIMULUS_BYTES}
 
 -- the rows of a batch and the copies that are owed, where this is the row before them
 abbrev pub all_rows : List Bool → Batch → List (List Bool)
@@ -22,10 +23,10 @@ pub record IsPaid (batch : Batch) : Type 0 where
 -- the numbers of a batch are within their limits
 pub record IsFit (batch : Batch) : Type 0 where
   pub rows : IsPaid batch
-  pub few : batch.scan.clocks ≤ 4294967295
+  pub few : batch.scan.clocks ≤ MOST_CLOCKS
   pub kept : batch.scan.line.kept ≡ batch.scan.width
   pub places : batch.at ≤ batch.read
-  pub limit : batch.read ≤ 1073741824
+  pub limit : batch.read ≤ MOST_STIMULUS_BYTES
   pub number : batch.scan.number ≤ batch.at + 1
   pub settled : length batch.rows.items ≡ batch.wanted → batch.at ≡ batch.read
 
@@ -59,7 +60,7 @@ pub record EndsCounted (before : List Bool) (old new : Batch) : Type 0 where
   pub width : new.scan.width ≡ old.scan.width
   pub number : new.scan.number ≡ old.scan.number + 1
   pub clocks : new.scan.clocks ≡ old.scan.clocks + count_of adds
-  pub few : new.scan.clocks ≤ 4294967295
+  pub few : new.scan.clocks ≤ MOST_CLOCKS
   pub at : new.at ≡ old.read
   pub read : new.read ≡ old.read
   pub wanted : new.wanted ≡ old.wanted

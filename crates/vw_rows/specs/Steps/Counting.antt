@@ -5,6 +5,7 @@ use Rattle.vw_rows.specs.declared.fault.StimFault.{StimFault}
 use Rattle.vw_rows.specs.declared.scan.Scan.{Scan}
 use Rattle.vw_rows.specs.Stimulus.{rows_of_lines, is_text_fault}
 use Rattle.vw_rows.specs.Steps.Scans.{IsReadSoFar}
+use Rattle.vw_rows.specs.declared.limits.TheConstants.{MOST_STIMULUS_BYTES}
 
 -- some bytes more were read, and there may be more rows
 abbrev pub IsReadFurther : List ℕ → Scan → Scan → Type 0
@@ -35,12 +36,12 @@ pub record HasRows (width : ℕ) (text : List ℕ) (clocks : ℕ) : Type 0 where
   pub rows : List (List Bool)
   pub are : rows_in width text ≡ Ok rows
   pub count : length rows ≡ clocks
-  pub short : length text ≤ 1073741824
+  pub short : length text ≤ MOST_STIMULUS_BYTES
 
 -- a text that isn't too large has a fault
 pub record HasFault (width : ℕ) (text : List ℕ) (fault : StimFault) : Type 0 where
   pub is : rows_in width text ≡ Err fault
-  pub short : length text ≤ 1073741824
+  pub short : length text ≤ MOST_STIMULUS_BYTES
 
 abbrev pub CountsRows : ℕ → List ℕ → Result ℕ StimFault → Type 0
 CountsRows width text (Ok clocks) = HasRows width text clocks

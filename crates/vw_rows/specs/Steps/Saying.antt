@@ -9,6 +9,7 @@ use Rattle.vw_rows.specs.declared.fault.StimFault.TheVariants.{BadLine}
 use Rattle.vw_rows.specs.declared.said.Said.{Said}
 use Rattle.vw_rows.specs.declared.said.Said.TheVariants.{Nothing, Bits, Dash, Row, Letters, Hold, Number, Times}
 use Rattle.vw_rows.specs.Stimulus.{is_bits, bits_of, held_times, rows_added}
+use Rattle.vw_rows.specs.declared.limits.TheConstants.{MOST_CLOCKS}
 
 -- no line has these words
 abbrev pub AreBad : List (List ℕ) → Type 0
@@ -35,8 +36,8 @@ IsSaid Dash done part row = (done ≡ []) × (part ≡ codes "-") × (row ≡ []
 IsSaid (Row count) done part row = (word : List ℕ) × (done ≡ word ∷ []) × (part ≡ []) × SpellsRow word row × (count ≡ counted (length row))
 IsSaid (Letters count) done part row = (done ≡ []) × (part ≡ take count (codes "hold")) × (0 < count) × (count ≤ 4) × (row ≡ [])
 IsSaid Hold done part row = (done ≡ codes "hold" ∷ []) × (part ≡ []) × (row ≡ [])
-IsSaid (Number times) done part row = (done ≡ codes "hold" ∷ []) × (is_number part ≡ true) × (value_from 0 part ≡ times) × (times ≤ 4294967295) × (row ≡ [])
-IsSaid (Times times) done part row = (word : List ℕ) × (done ≡ codes "hold" ∷ word ∷ []) × (part ≡ []) × (held_times (codes "hold") word ≡ Some times) × (times ≤ 4294967295) × (row ≡ [])
+IsSaid (Number times) done part row = (done ≡ codes "hold" ∷ []) × (is_number part ≡ true) × (value_from 0 part ≡ times) × (times ≤ MOST_CLOCKS) × (row ≡ [])
+IsSaid (Times times) done part row = (word : List ℕ) × (done ≡ codes "hold" ∷ word ∷ []) × (part ≡ []) × (held_times (codes "hold") word ≡ Some times) × (times ≤ MOST_CLOCKS) × (row ≡ [])
 
 -- the row so far with a byte more
 abbrev pub row_with : Said → ℕ → List Bool → List Bool

@@ -7,6 +7,7 @@ use Rattle.vw_rows.specs.declared.scan.Adds.TheVariants.{Nothing, Row, Copies}
 use Rattle.vw_rows.specs.declared.scan.Scan.{Scan}
 use Rattle.vw_rows.specs.Stimulus.{line_words, rows_added, last_row, within_run, behind, rows_of_lines}
 use Rattle.vw_rows.specs.Steps.Lines.{IsLine}
+use Rattle.vw_rows.specs.declared.limits.TheConstants.{MOST_CLOCKS}
 
 -- how many rows a line adds
 abbrev pub count_of : Adds → ℕ
@@ -24,7 +25,7 @@ rows_by (Copies times) row before = replicate times before
 abbrev pub FitsWidth : ℕ → Adds → List Bool → Type 0
 FitsWidth width Nothing row = Unit {0}
 FitsWidth width Row row = length row ≡ width
-FitsWidth width (Copies times) row = times ≤ 4294967295
+FitsWidth width (Copies times) row = times ≤ MOST_CLOCKS
 
 -- what a whole line adds
 pub record AddsRows (scan : Scan) (adds : Adds) (line : List ℕ) : Type 0 where

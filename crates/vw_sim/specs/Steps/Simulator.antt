@@ -4,13 +4,14 @@ use Rattle.vw_net.specs.declared.cell.Cell.{Cell}
 use Rattle.vw_net.specs.declared.cell.Cell.TheVariants.{Gate, Latch}
 use Rattle.vw_net.specs.declared.ordered.Ordered.{Ordered}
 use Rattle.vw_net.specs.Cells.{latch_inputs}
+use Rattle.vw_net.specs.TruthTable.{truth_table}
 use Rattle.vw_net.specs.Order.{gate_inputs}
 use Rattle.vw_sim.specs.declared.simulator.GateStep.{GateStep}
 
 -- how a gate is kept: its cell number, the number of its inputs, and its truth table
 abbrev pub step_of : ℕ → Option Cell → GateStep
 step_of number None = record { number = number; width = 0; truth_table = 0 }
-step_of number (Some (Gate ins cover)) = record { number = number; width = cover.inputs; truth_table = cover.truth_table }
+step_of number (Some (Gate ins cover)) = record { number = number; width = cover.inputs; truth_table = truth_table cover }
 step_of number (Some (Latch d init)) = record { number = number; width = 0; truth_table = 0 }
 
 -- the gates of an order, and the nets that they read, gate after gate

@@ -21,13 +21,13 @@ returns-in_err-reader-2-clause-fault c =
     let kept = subst (λ (ls : List Line). IsReadSoFar (word_lines c.args.text.now) ls c.loop-reader.reader) next.0 c.loop-reader.invariant in
     let p = err_from_is_err_and c.from_residual-in_err-reader-2.result c.from_residual-in_err-reader-2.ensures.1 in
     rw (p.1, p.2) (has_fault c.args.text.now (lines_left c.next_line.new.self) c.in-Some.line c.loop-reader.reader c.in_err-reader-2.field-0.0
-    (omega (c.if-text-gt-TEXT_LIMIT.false, arith)) kept c.in_err-reader-2.ensures.refuses)
+    (omega (c.if-text-gt-MOST_DESIGN_BYTES.false, arith)) kept c.in_err-reader-2.ensures.refuses)
 
 pub make-requires-clause-few : goal.make-requires-clause-few
 make-requires-clause-few c =
     let none = rw c.in_default.is at c.in_ok-line.ensures.read in
     let kept = subst (λ (ls : List Line). IsReadSoFar (word_lines c.args.text.now) ls c.loop-reader.reader) none.0 c.loop-reader.invariant in
-    has_few c.args.text.now c.loop-reader.reader c.of.result (omega (c.if-text-gt-TEXT_LIMIT.false, arith)) kept
+    has_few c.args.text.now c.loop-reader.reader c.of.result (omega (c.if-text-gt-MOST_DESIGN_BYTES.false, arith)) kept
     (subst (λ (models : List Model). IsRead c.loop-reader.reader models) (sym c.of.ensures) c.in_ok-models.ensures)
 
 pub loop-reader-preserved : goal.loop-reader-preserved
@@ -41,7 +41,7 @@ returns-then-is_empty-clause-fault c = λ is.
     let none = rw c.in_default.is at c.in_ok-line.ensures.read in
     let kept = subst (λ (ls : List Line). IsReadSoFar (word_lines c.args.text.now) ls c.loop-reader.reader) none.0 c.loop-reader.invariant in
     let empty : vec_len c.in_ok-models.models ≡ 0 = eqb-true (vec_len c.in_ok-models.models) 0 (sym c.if-is_empty.ensures) in
-    has_no_model c.args.text.now c.loop-reader.reader c.in_ok-models.models.items (omega (c.if-text-gt-TEXT_LIMIT.false, arith)) kept c.in_ok-models.ensures
+    has_no_model c.args.text.now c.loop-reader.reader c.in_ok-models.models.items (omega (c.if-text-gt-MOST_DESIGN_BYTES.false, arith)) kept c.in_ok-models.ensures
     (omega (empty, c.in_ok-models.models.ok, arith))
 
 pub returns-clause-design : goal.returns-clause-design
@@ -49,6 +49,6 @@ returns-clause-design c =
     let none = rw c.in_default.is at c.in_ok-line.ensures.read in
     let kept = subst (λ (ls : List Line). IsReadSoFar (word_lines c.args.text.now) ls c.loop-reader.reader) none.0 c.loop-reader.invariant in
     let some : 0 < vec_len c.in_ok-models.models = some_words (vec_len c.in_ok-models.models) c.if-is_empty.ensures in
-    is_design c.args.text.now c.loop-reader.reader c.in_ok-models.models.items (omega (c.if-text-gt-TEXT_LIMIT.false, arith)) kept c.in_ok-models.ensures
+    is_design c.args.text.now c.loop-reader.reader c.in_ok-models.models.items (omega (c.if-text-gt-MOST_DESIGN_BYTES.false, arith)) kept c.in_ok-models.ensures
     (omega (some, c.in_ok-models.models.ok, arith))
     ∙ ap (λ (models : List Model). Ok (map spelled_model models)) (sym (c.make.ensures ∙ c.of.ensures))

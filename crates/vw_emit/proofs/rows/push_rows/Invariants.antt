@@ -5,4 +5,4 @@ use Rattle.vw_emit.specs.Lines.{row_lines}
 use Rattle.vw_emit.proofs.rows.push_rows.Given as goal
 
 abbrev pub invariant-loop-row : goal.invariant-loop-row
-invariant-loop-row l = l.text.items ++ lines_text (row_lines (drop l.row-index l.rows) (l.value ∷ [])) ≡ l.initial.text.items ++ lines_text (row_lines l.rows (l.value ∷ []))
+invariant-loop-row l = l.text.items ++ lines_text (row_lines (drop l.row l.cover.rows) (l.value ∷ [])) ≡ l.initial.text.items ++ lines_text (row_lines l.cover.rows (l.value ∷ []))

@@ -1,5 +1,5 @@
 use Rattle.std.proofs.Common.{ℕ, false, get_or, arith}
-use Rattle.vw_net.proofs.TruthTables.{byte-le}
+use Rattle.vw_net.proofs.Places.{byte-le}
 use Rattle.vw_node.proofs.Places.{rest_below}
 use Rattle.vw_node.proofs.gates.place_at.Goals as goal
 

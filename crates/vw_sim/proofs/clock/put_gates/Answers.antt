@@ -7,7 +7,8 @@ use Rattle.vw_net.specs.declared.flat.Flat.{Flat}
 use Rattle.vw_net.specs.Cover.{cover_value}
 use Rattle.vw_net.specs.Order.{is_gate}
 use Rattle.vw_net.proofs.FittingCells.{cell_fits}
-use Rattle.vw_sim.proofs.Gates.{order_cell, more_have_values}
+use Rattle.vw_net.proofs.ReadyNets.{order_cell}
+use Rattle.vw_sim.proofs.Gates.{more_have_values}
 use Rattle.vw_net.proofs.ReadyNets.{order_gate, order_within, all_ready}
 use Rattle.vw_sim.proofs.clock.put_gates.Goals as goal
 use Rattle.vw_sim.proofs.clock.put_gates.Goals.{in-Gate, in_default}

@@ -4,7 +4,8 @@ use Rattle.vw_net.specs.declared.flat.Flat.{Flat}
 use Rattle.vw_net.specs.Cells.{latch_inputs}
 use Rattle.vw_net.specs.Order.{is_ready}
 use Rattle.vw_net.specs.Value.{net_value}
-use Rattle.vw_sim.proofs.Values.{net_value-before_gates, next_state-from_values}
+use Rattle.vw_net.proofs.LatchValues.{next_state-from_values}
+use Rattle.vw_sim.proofs.Values.{net_value-before_gates}
 use Rattle.vw_sim.proofs.clock.step.Goals as goal
 
 -- the inputs and the latches give their nets their values, and from there the gates give the others theirs

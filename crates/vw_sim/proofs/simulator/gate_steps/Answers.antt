@@ -1,6 +1,6 @@
 use Rattle.std.proofs.Common.{◌≡◌, ◌<◌, ◌++◌, [], ◌∷◌, length, get_or, slice_get, Some, ap, ap₂, ◌∙◌, arith}
 use Rattle.vw_sim.specs.declared.simulator.GateStep.{GateStep}
-use Rattle.vw_sim.proofs.Gates.{order_cell}
+use Rattle.vw_net.proofs.ReadyNets.{order_cell}
 use Rattle.vw_net.proofs.ReadyNets.{order_within}
 use Rattle.vw_sim.proofs.Simulators.{steps_more}
 use Rattle.vw_sim.proofs.simulator.gate_steps.Goals as goal

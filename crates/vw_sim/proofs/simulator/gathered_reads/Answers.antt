@@ -1,7 +1,7 @@
 use Rattle.std.proofs.Common.{◌≡◌, ◌<◌, ◌++◌, ℕ, List, length, get_or, slice_get, Some, ap, ap₂, ◌∙◌, sym, append-nil, arith}
 use Rattle.vw_net.specs.declared.cell.Cell.{Cell}
 use Rattle.vw_net.specs.Order.{gate_inputs}
-use Rattle.vw_sim.proofs.Gates.{order_cell}
+use Rattle.vw_net.proofs.ReadyNets.{order_cell}
 use Rattle.vw_net.proofs.ReadyNets.{order_within}
 use Rattle.vw_sim.proofs.Simulators.{reads_more}
 use Rattle.vw_sim.proofs.simulator.gathered_reads.Goals as goal

@@ -7,7 +7,7 @@ use Rattle.vw_sim.specs.Steps.Simulator.{latch_nets}
 use Rattle.vw_sim.proofs.LatchNets.{length-latch_nets, latch_nets-within}
 use Rattle.vw_net.proofs.Counts.{length-latch_inputs}
 use Rattle.vw_sim.proofs.Starts.{starts, filled, both_put}
-use Rattle.vw_sim.proofs.Values.{next_state-from_values, latch_inputs-within}
+use Rattle.vw_net.proofs.LatchValues.{next_state-from_values, latch_inputs-within}
 use Rattle.vw_sim.proofs.simulator.Simulator.step.Goals as goal
 
 -- there are as many bits as latches
