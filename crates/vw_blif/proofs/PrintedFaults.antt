@@ -5,7 +5,6 @@ use Rattle.std.specs.Str.{bytes_eq}
 use Rattle.std.specs.List.{list_any, list_all, flat_map}
 use Rattle.std.proofs.lemmas.Bool.{and_parts, and_from, or_parts, not-true, lt-ltb, le-ltb, leb-true}
 use Rattle.std.proofs.lemmas.List.{length-map}
-use Rattle.std.proofs.lemmas.List.Folds.{list_any-append}
 use Rattle.vw_net.specs.declared.cover.Mark.{Mark}
 use Rattle.vw_net.specs.declared.cover.Mark.TheVariants.{Zero as zero_mark, One as one_mark, Any}
 use Rattle.vw_net.specs.declared.cell.Init.{Init}
@@ -30,8 +29,8 @@ use Rattle.std.specs.Option.{option_or}
 use Rattle.vw_blif.specs.Read.{first_fault}
 use Rattle.vw_blif.specs.Printed.{FreeNumber, dont_care, unknown, Printing, mark_byte, row_words, free_word, init_word, latch_words, bind_word, item_lines, port_lines, bare_lines, open_port_lines, model_lines, design_lines}
 use Rattle.vw_blif.specs.PlainDesigns.{is_plain_bind, is_plain_item, are_plain_ports, is_plain_model}
-use Rattle.vw_blif.proofs.Binds.{same_bytes}
 use Rattle.vw_design.proofs.Names.{name_same}
+use Rattle.vw_design.proofs.DistinctNames.{fresh_behind}
 use Rattle.vw_blif.proofs.PrintedWords.{plain_parts}
 use Rattle.vw_blif.proofs.PrintedGroups.{numbered-append, row_kind, row_last, rows_at, formal_back, actual_back}
 use Rattle.vw_blif.proofs.PrintedModels.{item_first, lines_between, model_line, end_line, model_cut}
@@ -50,18 +49,10 @@ fine_then before line rest fine further = ap (λ (o : Option TextFault). option_
 
 -- ---- names that are all different
 
-apart : (before : List Word) (word : Word) (words : List Word) → are_distinct (before ++ word ∷ words) ≡ true → has_name before word ≡ false
-apart [] word words all = refl
-apart (name ∷ before) word words all =
-    let parts = and_parts (not (has_name (before ++ word ∷ words) name)) (are_distinct (before ++ word ∷ words)) all in
-    let others = sym (list_any-append (λ other. bytes_eq other name) before (word ∷ words)) ∙ not-true _ parts.0 in
-    let here = or_parts (bytes_eq word name) (has_name words name) (or_parts (has_name before name) (has_name (word ∷ words) name) others).1 in
-    ap₂ (λ (a b : Bool). a || b) (same_bytes word name here.0) (apart before word words parts.1)
-
 pub repeats_none : (before words : List Word) → are_distinct (before ++ words) ≡ true → repeats before words ≡ false
 repeats_none before [] all = refl
 repeats_none before (word ∷ words) all =
-    ap₂ (λ (a b : Bool). a || b) (apart before word words all)
+    ap₂ (λ (a b : Bool). a || b) (fresh_behind before word words all)
     (repeats_none (before ++ word ∷ []) words (ap are_distinct (append_assoc before (word ∷ []) words) ∙ all))
 
 -- ---- rows

@@ -35,3 +35,6 @@ pub mod FlatOnce
 pub mod WordSets
 pub mod FewPlaces
 pub mod WatchedNets
+pub mod DistinctNames
+pub mod NumberedNames
+pub mod OneDriver
