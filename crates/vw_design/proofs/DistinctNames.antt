@@ -1,10 +1,10 @@
 -- Lists of names that are all different: their parts, two of them together, and names that are made from different things.
-use Rattle.std.proofs.Common.{◌≡◌, ◌<◌, ◌≤◌, ◌+◌, ◌&&◌, ℕ, zero, suc, Bool, true, false, not, List, [], ◌∷◌, ◌++◌, map, flat_map, inl, inr, ⊎_elim, refl, sym, ◌∙◌, ap, subst, true≢false, arith}
+use Rattle.std.proofs.Common.{◌≡◌, ◌<◌, ◌≤◌, ◌+◌, ℕ, zero, suc, true, false, not, List, [], ◌∷◌, ◌++◌, map, flat_map, inl, inr, ⊎_elim, refl, sym, ◌∙◌, subst, true≢false, arith}
 use Rattle.std.specs.List.{range_with_len}
 use Rattle.std.proofs.lemmas.Bool.{and_parts, and_from, not-true, not_from_false, false_from_ne_true}
 use Rattle.vw_design.specs.Distinct.{has_name, are_distinct}
 use Rattle.vw_design.specs.Paths.{Word}
-use Rattle.vw_design.proofs.ListElements.{Has, Has-left, Has-right, Has-append, Has-map, from-map, Has-flat_map, from-flat_map}
+use Rattle.vw_design.proofs.ListElements.{Has, Has-left, Has-right, Has-append, from-map, from-flat_map}
 use Rattle.vw_design.proofs.Names.{has_name-Has, Has-has_name}
 
 -- a name that is none of some names isn't found among them

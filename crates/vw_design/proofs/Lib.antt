@@ -38,3 +38,8 @@ pub mod WatchedNets
 pub mod DistinctNames
 pub mod NumberedNames
 pub mod OneDriver
+pub mod ListedClaims
+pub mod ClaimedDrivers
+pub mod LatchPlaces
+pub mod NetValues
+pub mod RankedGates

@@ -1,19 +1,18 @@
 -- Where the names that each instance claims are all different, no net has two drivers.
-use Rattle.std.proofs.Common.{◌≡◌, ℕ, suc, true, List, [], ◌∷◌, ◌++◌, take, drop, Option, Some, None, slice_get, if◌then◌else◌, flat_map, option_map, inl, inr, ⊎_elim, refl, sym, ◌∙◌, ap, ap₂, subst, append_assoc}
+use Rattle.std.proofs.Common.{◌≡◌, ℕ, suc, true, List, [], ◌∷◌, ◌++◌, take, drop, Option, Some, None, slice_get, if◌then◌else◌, flat_map, option_map, inl, inr, ⊎_elim, refl, sym, ◌∙◌, ap, subst, append_assoc}
 use Rattle.std.proofs.lemmas.List.Concat.{flat_map-append}
 use Rattle.std.proofs.lemmas.Option.{none-some}
 use Rattle.vw_design.specs.declared.item.Item.{Item}
 use Rattle.vw_design.specs.declared.model.Model.{Model}
 use Rattle.vw_design.specs.declared.design.Design.{Design}
-use Rattle.vw_net.specs.FirstFound.{first_found}
-use Rattle.vw_design.specs.Distinct.{has_name, are_distinct}
+use Rattle.vw_design.specs.Distinct.{are_distinct}
 use Rattle.vw_design.specs.Paths.{Word, Path, model_at, items_of}
 use Rattle.vw_design.specs.Preorder.{Site, sites}
 use Rattle.vw_design.specs.NetReads.{net_at}
 use Rattle.vw_design.specs.NetFaults.{claimed_by, claimed_before, first_again, claimed_again, two_drivers}
 use Rattle.vw_design.specs.PathValue.{item_at}
 use Rattle.vw_net.proofs.FirstFound.{found_nowhere}
-use Rattle.vw_design.proofs.ListElements.{Has, Has-at, Has-left, Has-right}
+use Rattle.vw_design.proofs.ListElements.{Has, Has-at, Has-left}
 use Rattle.vw_design.proofs.DistinctNames.{none_named, distinct_first, distinct_rest, distinct_front, distinct_back, distinct_apart}
 use Rattle.vw_design.proofs.Sites.{site_item}
 use Rattle.vw_design.proofs.ClaimedOnce.{cut_at}
