@@ -43,3 +43,5 @@ pub mod ClaimedDrivers
 pub mod LatchPlaces
 pub mod NetValues
 pub mod RankedGates
+pub mod HistoryByClocks
+pub mod ModelsBelow

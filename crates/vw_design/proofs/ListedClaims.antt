@@ -5,6 +5,7 @@ use Rattle.std.specs.Str.{bytes_eq}
 use Rattle.std.proofs.lemmas.Bool.{and_parts, false_from_ne_true}
 use Rattle.std.proofs.lemmas.List.{map-append}
 use Rattle.std.proofs.lemmas.List.Folds.{list_any-append}
+use Rattle.std.proofs.lemmas.Option.{same_Some, none-some}
 use Rattle.vw_design.specs.declared.item.Bind.{Bind}
 use Rattle.vw_design.specs.declared.item.Item.{Item}
 use Rattle.vw_design.specs.declared.item.Item.TheVariants.{Names, Latch, Sub}
@@ -16,10 +17,10 @@ use Rattle.vw_design.specs.Claims.{Numbered, and_behind, numbered, Claim, port, 
 use Rattle.vw_design.specs.Preorder.{is_cell}
 use Rattle.vw_design.specs.NetReads.{driven_name}
 use Rattle.vw_design.specs.NetFaults.{bound_actual, claimed_by}
-use Rattle.vw_design.proofs.ListElements.{Has, Has-map, Has-flat_map, Has-filter_map}
+use Rattle.vw_design.proofs.ListElements.{Has, Has-map, Has-flat_map, Has-filter_map, Has-append, from-map, from-filter, from-flat_map, from-filter_map}
 use Rattle.vw_design.proofs.Names.{same_name, equal_names, Has-has_name}
 use Rattle.vw_design.proofs.DistinctNames.{distinct_first, distinct_rest, distinct_back, distinct_apart}
-use Rattle.vw_design.proofs.Entries.{item_entry, placing_entry}
+use Rattle.vw_design.proofs.Entries.{IsEntry, entry_of, item_entry, placing_entry}
 use Rattle.vw_design.proofs.OneDriver.{claimed_names}
 
 -- a name with a claim on it
@@ -217,6 +218,69 @@ module _ (design : Design) (model : Model) (all : are_distinct (claimed_names de
       (subst (λ (n : ℕ). Has listed (filter_map (bind_entry outputs (suc n)) placing.binds)) (sym entry.before_is) mine) in
       listed_claim listed (Has-flat_map (λ (e : Numbered). item_entries design e.number e.before e.item) entry.entry (numbered 0 0 model.items) listed entry.has here)
 
+-- ---- where claims come from
+
+-- an item with a number that drives a name
+pub record DrivesName (model : Model) (number : ℕ) (name : Word) : Type 0 where
+  pub item : Item
+  pub at : slice_get model.items number ≡ Some item
+  pub cell : is_cell item ≡ true
+  pub name_is : driven_name item ≡ name
+
+driven_same : (one other : ℕ) → driven one ≡ driven other → one ≡ other
+driven_same one other e = cc
+
+not_port : (number : ℕ) → port ≡ driven number → ⊥
+not_port number e = cc
+
+not_bound : (place : ℕ) (formal : Word) (number : ℕ) → bound place formal ≡ driven number → ⊥
+not_bound place formal number e = cc
+
+driven_entry : (design : Design) (model : Model) (number : ℕ) (listed : ClaimedName) → listed.claim ≡ driven number → (entry : Numbered) → IsEntry model.items entry → (item : Item) → entry.item ≡ item
+    → Has listed (item_entries design entry.number entry.before item) → DrivesName model number listed.name
+driven_entry design model number listed claims entry is (Names line ins out cover) same has =
+    ⊎_elim (λ here. record {
+      item = entry.item;
+      at = ap (slice_get model.items) (sym (driven_same entry.number number (ap (λ (e : ClaimedName). e.claim) here ∙ claims))) ∙ is.item;
+      cell = ap is_cell same;
+      name_is = ap driven_name same ∙ ap (λ (e : ClaimedName). e.name) here;
+    }) (λ none. absurd none) has
+driven_entry design model number listed claims entry is (Latch line d q edge control init) same has =
+    ⊎_elim (λ here. record {
+      item = entry.item;
+      at = ap (slice_get model.items) (sym (driven_same entry.number number (ap (λ (e : ClaimedName). e.claim) here ∙ claims))) ∙ is.item;
+      cell = ap is_cell same;
+      name_is = ap driven_name same ∙ ap (λ (e : ClaimedName). e.name) here;
+    }) (λ none. absurd none) has
+driven_entry design model number listed claims entry is (Sub line placed binds) same has =
+    let outputs = model_outputs (model_named design.models placed) in
+    let from = from-filter_map (bind_entry outputs (suc entry.before)) listed binds has in
+    absurd (by from.0 (has_name outputs from.0.formal) from.2)
+  where
+    by : (bind : Bind) (b : Bool) → (if b then Some (record { name = bind.actual; claim = bound (suc entry.before) bind.formal }) else None) ≡ Some listed → ⊥
+    by bind true gives =
+        not_bound (suc entry.before) bind.formal number
+        (ap (λ (e : ClaimedName). e.claim) (same_Some (record { name = bind.actual; claim = bound (suc entry.before) bind.formal }) listed gives) ∙ claims)
+    by bind false gives = none-some listed gives
+
+-- a claim that an item drives a name is one of an item that drives this name
+pub driven_is : (design : Design) (model : Model) (name : Word) (number : ℕ) → Has (driven number) (claims design model name) → DrivesName model number name
+driven_is design model name number has =
+    let list = claim_list design model in
+    let ports = if is_port model name then port ∷ [] else [] in
+    let listed = λ (found : Has (driven number) (claims_in name list)).
+    let of_map = from-map (λ (e : ClaimedName). e.claim) (driven number) (filter (λ (e : ClaimedName). bytes_eq e.name name) list) found in
+    let of_filter = from-filter (λ (e : ClaimedName). bytes_eq e.name name) of_map.0 list of_map.1 in
+    let from = from-flat_map (λ (e : Numbered). item_entries design e.number e.before e.item) (numbered 0 0 model.items) of_map.0 of_filter.0 in
+    subst (DrivesName model number) (same_name of_map.0.name name of_filter.1)
+    (driven_entry design model number of_map.0 of_map.2 from.0 (entry_of model.items from.0 from.1) from.0.item refl from.2) in
+    ⊎_elim (λ found. absurd (by (is_port model name) found)) listed
+    (Has-append (driven number) ports (claims_in name list) (subst (λ (cs : List Claim). Has (driven number) cs) (claims_listed design model name) has))
+  where
+    by : (b : Bool) → Has (driven number) (if b then port ∷ [] else []) → ⊥
+    by true found = ⊎_elim (not_port number) (λ none. none) found
+    by false found = found
+
 -- ---- models that place none
 
 -- no item of a model places another
@@ -232,6 +296,11 @@ leaf_names design (Sub line model binds ∷ items) all = absurd (true≢false (s
 -- it claims its inputs and clocks, and the names that its items drive
 pub leaf_claims : (design : Design) (model : Model) → IsLeaf model → claimed_names design model ≡ (model.inputs ++ model.clocks) ++ map driven_name model.items
 leaf_claims design model leaf = ap (λ (ws : List Word). (model.inputs ++ model.clocks) ++ ws) (leaf_names design model.items leaf)
+
+-- so these claims are different where those names are
+pub leaf_distinct : (design : Design) (model : Model) → IsLeaf model → are_distinct ((model.inputs ++ model.clocks) ++ map driven_name model.items) ≡ true
+    → are_distinct (claimed_names design model) ≡ true
+leaf_distinct design model leaf all = ap are_distinct (leaf_claims design model leaf) ∙ all
 
 -- ---- models that only place
 
