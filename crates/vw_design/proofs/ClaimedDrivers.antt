@@ -48,6 +48,7 @@ module _ (design : Design) where
   no_driver path name is = ap (λ (c : Option Claim). follow_turn (source_after design 127) (turn_by design path name c)) is
 
   module _ (faultless : HasNoModelFault design) where
+    -- the driver of a net is where its first claim leads
     one_turn : (path : Path) (name : Word) (claim : Claim) → first_claim design (model_at design path) name ≡ Some claim
         → driver design path name ≡ follow_turn (driver design) (turn_by design path name (Some claim))
     one_turn path name claim is =

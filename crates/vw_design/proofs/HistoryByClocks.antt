@@ -39,6 +39,7 @@ module _ (design : Design) where
       outputs_at watched (path_start unknown design) rows clock
       ∙ ap (option_map (λ (r : List Bool). path_outputs design watched r (state_before design (path_start unknown design) rows clock))) at
 
+  -- and the state before each step
   pub state_at_clock : (watched : List Net) (unknown : Bool) (rows : List (List Bool)) (clock : ℕ) (row : List Bool) → slice_get rows clock ≡ Some row
       → slice_get ((path_history design watched unknown rows).states) clock ≡ Some (state_before design (path_start unknown design) rows clock)
   state_at_clock watched unknown rows clock row at =

@@ -46,6 +46,7 @@ claim_list design model = flat_map (λ entry. item_entries design entry.number e
 abbrev pub claims_in : Word → List ClaimedName → List Claim
 claims_in name list = map (λ entry. entry.claim) (filter (λ entry. bytes_eq entry.name name) list)
 
+-- the claims on a name in two lists
 in_append : (name : Word) (one other : List ClaimedName) → claims_in name (one ++ other) ≡ claims_in name one ++ claims_in name other
 in_append name [] other = refl
 in_append name (entry ∷ one) other = by (bytes_eq entry.name name) (in_append name one other) where
@@ -57,7 +58,7 @@ in_append name (entry ∷ one) other = by (bytes_eq entry.name name) (in_append 
 
 -- ---- the list has the claims, and their names
 
--- a name before others that passes the test, or doesn't
+-- a name before others that is the one that is asked for
 passing : (name : Word) (entry : ClaimedName) (list : List ClaimedName) → bytes_eq entry.name name ≡ true → claims_in name (entry ∷ list) ≡ entry.claim ∷ claims_in name list
 passing name entry list is = by (bytes_eq entry.name name) is where
   by : (b : Bool) → b ≡ true
@@ -65,6 +66,7 @@ passing name entry list is = by (bytes_eq entry.name name) is where
   by true passes = refl
   by false passes = absurd (true≢false (sym passes))
 
+-- and one that isn't
 failing : (name : Word) (entry : ClaimedName) (list : List ClaimedName) → bytes_eq entry.name name ≡ false → claims_in name (entry ∷ list) ≡ claims_in name list
 failing name entry list is = by (bytes_eq entry.name name) is where
   by : (b : Bool) → b ≡ false
@@ -72,6 +74,7 @@ failing name entry list is = by (bytes_eq entry.name name) is where
   by true fails = absurd (true≢false fails)
   by false fails = refl
 
+-- the claims of bindings on a name are those in their list
 bind_claims_in : (outputs : List Word) (place : ℕ) (name : Word) (binds : List Bind) → filter_map (bind_claim outputs place name) binds ≡ claims_in name (filter_map (bind_entry outputs place) binds)
 bind_claims_in outputs place name [] = refl
 bind_claims_in outputs place name (bind ∷ binds) = by (bytes_eq bind.actual name) refl (has_name outputs bind.formal) (bind_claims_in outputs place name binds) where
@@ -86,6 +89,7 @@ bind_claims_in outputs place name (bind ∷ binds) = by (bytes_eq bind.actual na
   by false is true rest = rest ∙ sym (failing name (record { name = bind.actual; claim = bound place bind.formal }) (filter_map (bind_entry outputs place) binds) is)
   by false is false rest = rest
 
+-- so are those of an item
 item_claims_in : (design : Design) (name : Word) (number before : ℕ) (item : Item) → item_claims design name number before item ≡ claims_in name (item_entries design number before item)
 item_claims_in design name number before (Names line ins out cover) = by (bytes_eq out name) where
   by : (b : Bool) → (if b then driven number ∷ [] else []) ≡ map (λ (e : ClaimedName). e.claim) (cond b (record { name = out; claim = driven number } ∷ []) [])
@@ -97,6 +101,7 @@ item_claims_in design name number before (Latch line d q edge control init) = by
   by false = refl
 item_claims_in design name number before (Sub line model binds) = bind_claims_in (model_outputs (model_named design.models model)) (suc before) name binds
 
+-- and those of numbered items
 items_claims_in : (design : Design) (name : Word) (list : List Numbered)
     → flat_map (λ entry. item_claims design name entry.number entry.before entry.item) list ≡ claims_in name (flat_map (λ entry. item_entries design entry.number entry.before entry.item) list)
 items_claims_in design name [] = refl
@@ -109,6 +114,7 @@ pub claims_listed : (design : Design) (model : Model) (name : Word) → claims d
 claims_listed design model name =
     ap (λ (cs : List Claim). (if is_port model name then port ∷ [] else []) ++ cs) (items_claims_in design name (numbered 0 0 model.items))
 
+-- the names in the list of bindings are their actuals
 bind_names : (outputs : List Word) (place : ℕ) (binds : List Bind) → map (λ entry. entry.name) (filter_map (bind_entry outputs place) binds) ≡ filter_map (bound_actual outputs) binds
 bind_names outputs place [] = refl
 bind_names outputs place (bind ∷ binds) = by (has_name outputs bind.formal) (bind_names outputs place binds) where
@@ -118,11 +124,13 @@ bind_names outputs place (bind ∷ binds) = by (has_name outputs bind.formal) (b
   by true rest = ap (λ (ws : List Word). bind.actual ∷ ws) rest
   by false rest = rest
 
+-- those of an item are what it claims
 item_names : (design : Design) (number before : ℕ) (item : Item) → map (λ entry. entry.name) (item_entries design number before item) ≡ claimed_by design item
 item_names design number before (Names line ins out cover) = refl
 item_names design number before (Latch line d q edge control init) = refl
 item_names design number before (Sub line model binds) = bind_names (model_outputs (model_named design.models model)) (suc before) binds
 
+-- and so for numbered items
 items_names : (design : Design) (number before : ℕ) (items : List Item)
     → map (λ entry. entry.name) (flat_map (λ entry. item_entries design entry.number entry.before entry.item) (numbered number before items)) ≡ flat_map (claimed_by design) items
 items_names design number before [] = refl
@@ -138,12 +146,14 @@ names_listed design model = items_names design 0 0 model.items
 
 -- ---- one claim each
 
+-- a name that is none of a list has no claim in it
 none_in : (name : Word) (list : List ClaimedName) → (Has name (map (λ entry. entry.name) list) → ⊥) → claims_in name list ≡ []
 none_in name [] none = refl
 none_in name (entry ∷ list) none =
     failing name entry list (false_from_ne_true (bytes_eq entry.name name) (λ is. none (inl (same_name entry.name name is))))
     ∙ none_in name list (λ has. none (inr has))
 
+-- a name of a list in which names differ has its claim alone
 one_in : (entry : ClaimedName) (list : List ClaimedName) → are_distinct (map (λ entry. entry.name) list) ≡ true → Has entry list → claims_in entry.name list ≡ entry.claim ∷ []
 one_in entry [] all has = absurd has
 one_in entry (first ∷ list) all has =
@@ -227,6 +237,7 @@ pub record DrivesName (model : Model) (number : ℕ) (name : Word) : Type 0 wher
   pub cell : is_cell item ≡ true
   pub name_is : driven_name item ≡ name
 
+-- claims that are the same are of the same kind, and of the same item
 driven_same : (one other : ℕ) → driven one ≡ driven other → one ≡ other
 driven_same one other e = cc
 
@@ -236,6 +247,7 @@ not_port number e = cc
 not_bound : (place : ℕ) (formal : Word) (number : ℕ) → bound place formal ≡ driven number → ⊥
 not_bound place formal number e = cc
 
+-- a claim of an item, in the list of a numbered item, is of that item
 driven_entry : (design : Design) (model : Model) (number : ℕ) (listed : ClaimedName) → listed.claim ≡ driven number → (entry : Numbered) → IsEntry model.items entry → (item : Item) → entry.item ≡ item
     → Has listed (item_entries design entry.number entry.before item) → DrivesName model number listed.name
 driven_entry design model number listed claims entry is (Names line ins out cover) same has =
@@ -287,6 +299,7 @@ driven_is design model name number has =
 abbrev pub IsLeaf : Model → Type 0
 IsLeaf model = list_all is_cell model.items ≡ true
 
+-- cells claim the names that they drive
 leaf_names : (design : Design) (items : List Item) → list_all is_cell items ≡ true → flat_map (claimed_by design) items ≡ map driven_name items
 leaf_names design [] all = refl
 leaf_names design (Names line ins out cover ∷ items) all = ap (λ (ws : List Word). out ∷ ws) (leaf_names design items all)
@@ -314,6 +327,7 @@ placed_entries design before [] = []
 placed_entries design before (placing ∷ others) =
     filter_map (bind_entry (model_outputs (model_named design.models placing.model)) (suc before)) placing.binds ++ placed_entries design (suc before) others
 
+-- what items claim that only place models
 place_entries : (design : Design) (number before : ℕ) (items : List Item) → list_all (λ item. not (is_cell item)) items ≡ true
     → flat_map (λ entry. item_entries design entry.number entry.before entry.item) (numbered number before items) ≡ placed_entries design before (placings items)
 place_entries design number before [] all = refl

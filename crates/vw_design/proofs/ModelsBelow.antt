@@ -30,10 +30,11 @@ none_below_leaf design path model stands leaf (suc before) =
     ap (option_and_then (model_placed design (suc before))) stands
     ∙ ap (λ (ps : List Placing). option_and_then (λ (p : Placing). model_named design.models p.model) (slice_get ps before)) (leaf_placings model.items leaf)
 
--- nor below what is no instance, or at a place that isn't there
+-- nor below what is no instance
 pub none_below : (design : Design) (path : Path) (place : ℕ) → model_at design path ≡ None → model_at design (place ∷ path) ≡ None
 none_below design path place none = ap (option_and_then (model_placed design place)) none
 
+-- or at a place where nothing is placed
 pub none_at_place : (design : Design) (path : Path) (model : Model) (place : ℕ) → model_at design path ≡ Some model → placing_at model.items place ≡ None → model_at design (place ∷ path) ≡ None
 none_at_place design path model place stands none =
     ap (option_and_then (model_placed design place)) stands ∙ ap (option_and_then (λ (p : Placing). model_named design.models p.model)) none

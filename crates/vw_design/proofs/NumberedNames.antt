@@ -13,9 +13,11 @@ use Rattle.vw_design.proofs.ListElements.{Has}
 abbrev pub IsDigit : ℕ → Type 0
 IsDigit byte = (48 ≤ byte) × (byte ≤ 57)
 
+-- the digit of a number below ten
 glyph : (number : ℕ) → digit_glyph false (number % 10) ≡ 48 + number % 10
 glyph number = ap (λ (small : Bool). if small then 48 + number % 10 else 87 + number % 10) (lt-ltb (number % 10) 10 (omega arith))
 
+-- it is one
 glyph_digit : (number : ℕ) → IsDigit (digit_glyph false (number % 10))
 glyph_digit number = subst IsDigit (sym (glyph number)) (omega arith, omega arith)
 
@@ -42,6 +44,7 @@ no_sign number has = omega (arith, (decimal_digits number 95 has).1)
 
 -- ---- words that are cut at a sign
 
+-- lists that are the same begin alike and go on alike
 head_same : {a b : ℕ} {xs ys : Word} → a ∷ xs ≡ b ∷ ys → a ≡ b
 head_same e = cc
 
@@ -80,6 +83,7 @@ abbrev pub AreSmall : List ℕ → Type 0
 AreSmall [] = Unit {0}
 AreSmall (number ∷ numbers) = (number < 2 ^ 64) × AreSmall numbers
 
+-- joined numbers that are the same are the same numbers
 joined_same : (one : ℕ) (more : List ℕ) (other : ℕ) (others : List ℕ) → AreSmall (one ∷ more) → AreSmall (other ∷ others) → joined_numbers one more ≡ joined_numbers other others
     → (one ≡ other) × (more ≡ others)
 joined_same one [] other [] small small_too same = (decimal_injective one other small.0 small_too.0 same, refl)

@@ -132,6 +132,7 @@ module _ (design : Design) (rank : Path → Word → ℕ) (ranking : IsTurnRanki
   abbrev pub IsNoGreater : (Path → Word → Option Source) → Path → Word → Type 0
   IsNoGreater found path name = (at : Path) (number : ℕ) (item : Item) → found path name ≡ Some (at_cell at number) → item_at design at number ≡ Some item → rank at (driven_name item) ≤ rank path name
 
+  -- cells are no ports, and the same only where path and number are
   no_port : (name : Word) (at : Path) (number : ℕ) → at_port name ≡ at_cell at number → ⊥
   no_port name at number e = cc
 
@@ -150,6 +151,7 @@ module _ (design : Design) (rank : Path → Word → ℕ) (ranking : IsTurnRanki
         let drives = driven_is design model name one (Has-at (driven one) (claims design model name) 0 is) in
         ap driven_name (same_Some item drives.item (sym at ∙ drives.at)) ∙ drives.name_is
 
+  -- what is found after some turns has no greater rank
   after : (turns : ℕ) (path : Path) (name : Word) → IsNoGreater (source_after design turns) path name
   after zero path name at number item found is = absurd (none-some (at_cell at number) found)
   after (suc turns) path name at number item found is = by path (first_claim design (model_at design path) name) refl found (λ p n. after turns p n at number item) where
@@ -173,6 +175,7 @@ module _ (design : Design) (rank : Path → Word → ℕ) (ranking : IsTurnRanki
         omega (arith, equal)
     by path (Some (bound place formal)) claimed found further = omega (arith, further (place ∷ path) formal found is, ranking.down path name place formal claimed)
 
+  -- so it is for drivers
   pub driver_rank : (path : Path) (name : Word) → IsNoGreater (driver design) path name
   unfolding driver
   driver_rank path name = after 128 path name
