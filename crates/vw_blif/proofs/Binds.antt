@@ -1,35 +1,15 @@
 -- Bindings, one after the other.
-use Rattle.std.proofs.Common.{◌≡◌, Bool, true, false, not, ◌||◌, List, [], ◌∷◌, ◌++◌, map, refl, sym, ◌∙◌, ap, ap₂, true≢false}
-use Rattle.std.specs.Str.{bytes_eq}
-use Rattle.std.proofs.Math.Bool.{or-false}
-use Rattle.std.proofs.lemmas.Bool.{or_parts, and_parts, and_from}
+use Rattle.std.proofs.Common.{◌≡◌, Bool, true, false, ◌||◌, List, [], ◌∷◌, ◌++◌, map, sym, ◌∙◌, ap, ap₂}
 use Rattle.std.proofs.lemmas.List.{map-append}
 use Rattle.std.proofs.lemmas.List.Folds.{list_any-append}
-use Rattle.std.proofs.lemmas.Slice.Eq.{bytes_eq-Decides}
 use Rattle.vw_design.specs.declared.item.Bind.{Bind}
 use Rattle.vw_design.specs.Distinct.{has_name, are_distinct}
 use Rattle.vw_design.specs.Paths.{Word}
+use Rattle.vw_design.proofs.DistinctNames.{distinct_push}
 use Rattle.vw_blif.specs.Spelled.{Binding, spelled_bind}
 use Rattle.vw_blif.specs.Bindings.{formal_of, actual_part, is_no_bind, bind_of, repeats}
 use Rattle.vw_blif.specs.Steps.FaultAnswers.{AreBinds}
-use Rattle.vw_blif.proofs.Repeats.{has_name-push, repeats-append}
-
-pub same_bytes : (a b : Word) → bytes_eq a b ≡ false → bytes_eq b a ≡ false
-same_bytes a b differs = by_test (bytes_eq b a) refl
-  where
-    by_test : (t : Bool) → bytes_eq b a ≡ t → t ≡ false
-    by_test true same = absurd (true≢false (sym ((bytes_eq-Decides a b).1 (sym ((bytes_eq-Decides b a).0 same))) ∙ differs))
-    by_test false same = refl
-
--- a further name keeps names distinct
-pub are_distinct-push : (names : List Word) (name : Word) → are_distinct names ≡ true → has_name names name ≡ false → are_distinct (names ++ name ∷ []) ≡ true
-are_distinct-push [] name all new = refl
-are_distinct-push (other ∷ names) name all new =
-    let parts = and_parts (not (has_name names other)) (are_distinct names) all in
-    let apart = or_parts (bytes_eq other name) (has_name names name) new in
-    and_from (not (has_name (names ++ name ∷ []) other)) (are_distinct (names ++ name ∷ []))
-    (ap not (has_name-push names name other ∙ ap (λ b. has_name names other || b) (same_bytes other name apart.0)) ∙ ap not (or-false (has_name names other)) ∙ parts.0)
-    (are_distinct-push names name parts.1 apart.1)
+use Rattle.vw_blif.proofs.Repeats.{repeats-append}
 
 -- one binding more
 pub binds_more : (words : List Word) (word : Word) (binds : List Bind) (bind : Bind) → AreBinds words binds → is_no_bind word ≡ false
@@ -42,7 +22,7 @@ binds_more words word binds bind are sides formal actual new =
       formals = formals ∙ sym (map-append formal_of words (word ∷ []));
       sides = list_any-append is_no_bind words (word ∷ []) ∙ ap₂ (λ (a b : Bool). a || (b || false)) are.sides sides;
       once = ap (repeats []) (map-append formal_of words (word ∷ [])) ∙ repeats-append [] (map formal_of words) (formal_of word ∷ []) ∙ ap₂ (λ (a b : Bool). a || (b || false)) are.once new;
-      distinct = ap are_distinct formals ∙ are_distinct-push (map formal_of words) (formal_of word) (ap are_distinct (sym are.formals) ∙ are.distinct) new;
+      distinct = ap are_distinct formals ∙ distinct_push (map formal_of words) (formal_of word) (ap are_distinct (sym are.formals) ∙ are.distinct) new;
     }
 
 -- a formal that stands before

@@ -5,13 +5,13 @@ use Rattle.vw_design.specs.Distinct.{has_name, are_distinct}
 use Rattle.vw_design.specs.Paths.{Word}
 use Rattle.vw_blif.specs.Bindings.{repeats}
 use Rattle.vw_blif.proofs.Repeats.{more_words}
-use Rattle.vw_blif.proofs.Binds.{are_distinct-push}
+use Rattle.vw_design.proofs.DistinctNames.{distinct_push}
 
 pub are_distinct-append : (names words : List Word) → are_distinct names ≡ true → repeats names words ≡ false → are_distinct (names ++ words) ≡ true
 are_distinct-append names [] all new = ap are_distinct (append-nil names) ∙ all
 are_distinct-append names (word ∷ words) all new =
     let parts = or_parts (has_name names word) (repeats (names ++ word ∷ []) words) new in
-    sym (ap are_distinct (append_assoc names (word ∷ []) words)) ∙ are_distinct-append (names ++ word ∷ []) words (are_distinct-push names word all parts.0) parts.1
+    sym (ap are_distinct (append_assoc names (word ∷ []) words)) ∙ are_distinct-append (names ++ word ∷ []) words (distinct_push names word all parts.0) parts.1
 
 pub none_again : (all_new again : Bool) → all_new ≡ not again → all_new ≡ true → again ≡ false
 none_again all_new true answer all = absurd (true≢false (sym all ∙ answer))

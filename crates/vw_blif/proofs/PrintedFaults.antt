@@ -5,7 +5,6 @@ use Rattle.std.specs.Str.{bytes_eq}
 use Rattle.std.specs.List.{list_any, list_all, flat_map}
 use Rattle.std.proofs.lemmas.Bool.{and_parts, and_from, or_parts, not-true, lt-ltb, le-ltb, leb-true}
 use Rattle.std.proofs.lemmas.List.{length-map}
-use Rattle.std.proofs.lemmas.List.Folds.{list_any-append}
 use Rattle.vw_net.specs.declared.cover.Mark.{Mark}
 use Rattle.vw_net.specs.declared.cover.Mark.TheVariants.{Zero as zero_mark, One as one_mark, Any}
 use Rattle.vw_net.specs.declared.cell.Init.{Init}
@@ -28,10 +27,10 @@ use Rattle.vw_blif.specs.Before.{OpenTable, is_open, open_behind, or_value, tabl
 use Rattle.vw_blif.specs.Faults.{differs_from, faults_by, first_of, fault_at}
 use Rattle.std.specs.Option.{option_or}
 use Rattle.vw_blif.specs.Read.{first_fault}
-use Rattle.vw_blif.specs.Printed.{mark_byte, row_words, init_word, latch_words, bind_word, item_lines, port_lines, model_lines, design_lines}
+use Rattle.vw_blif.specs.Printed.{FreeNumber, dont_care, unknown, Printing, mark_byte, row_words, free_word, init_word, latch_words, bind_word, item_lines, port_lines, bare_lines, open_port_lines, model_lines, design_lines}
 use Rattle.vw_blif.specs.PlainDesigns.{is_plain_bind, is_plain_item, are_plain_ports, is_plain_model}
-use Rattle.vw_blif.proofs.Binds.{same_bytes}
 use Rattle.vw_design.proofs.Names.{name_same}
+use Rattle.vw_design.proofs.DistinctNames.{fresh_behind}
 use Rattle.vw_blif.proofs.PrintedWords.{plain_parts}
 use Rattle.vw_blif.proofs.PrintedGroups.{numbered-append, row_kind, row_last, rows_at, formal_back, actual_back}
 use Rattle.vw_blif.proofs.PrintedModels.{item_first, lines_between, model_line, end_line, model_cut}
@@ -50,18 +49,10 @@ fine_then before line rest fine further = ap (λ (o : Option TextFault). option_
 
 -- ---- names that are all different
 
-apart : (before : List Word) (word : Word) (words : List Word) → are_distinct (before ++ word ∷ words) ≡ true → has_name before word ≡ false
-apart [] word words all = refl
-apart (name ∷ before) word words all =
-    let parts = and_parts (not (has_name (before ++ word ∷ words) name)) (are_distinct (before ++ word ∷ words)) all in
-    let others = sym (list_any-append (λ other. bytes_eq other name) before (word ∷ words)) ∙ not-true _ parts.0 in
-    let here = or_parts (bytes_eq word name) (has_name words name) (or_parts (has_name before name) (has_name (word ∷ words) name) others).1 in
-    ap₂ (λ (a b : Bool). a || b) (same_bytes word name here.0) (apart before word words parts.1)
-
 pub repeats_none : (before words : List Word) → are_distinct (before ++ words) ≡ true → repeats before words ≡ false
 repeats_none before [] all = refl
 repeats_none before (word ∷ words) all =
-    ap₂ (λ (a b : Bool). a || b) (apart before word words all)
+    ap₂ (λ (a b : Bool). a || b) (fresh_behind before word words all)
     (repeats_none (before ++ word ∷ []) words (ap are_distinct (append_assoc before (word ∷ []) words) ∙ all))
 
 -- ---- rows
@@ -118,10 +109,15 @@ rows_fine names width n on (row ∷ rows) rest even further before inside value 
 not_none : {A : Type 0} (x : A) (xs : List A) → eqb (length (x ∷ xs)) 0 ≡ false
 not_none x xs = ne_eqb (length (x ∷ xs)) 0 (λ none. absurd (omega arith))
 
-init_fine : (init : Init) → is_init (Some (init_word init)) ≡ true
-init_fine Zero = refl
-init_fine One = refl
-init_fine Free = refl
+-- the words of initial values may stand there
+free_fine : (free : FreeNumber) → is_init (Some (free_word free)) ≡ true
+free_fine dont_care = refl
+free_fine unknown = refl
+
+init_fine : (printing : Printing) (init : Init) → is_init (Some (init_word printing init)) ≡ true
+init_fine printing Zero = refl
+init_fine printing One = refl
+init_fine printing Free = free_fine printing.free
 
 some_bytes : (word : Word) → is_plain word ≡ true → eqb (length word) 0 ≡ false
 some_bytes word plain = not-true _ (and_parts (not (is_empty word)) (not (list_any is_special word)) plain).0
@@ -153,8 +149,8 @@ place_fine model binds plain once =
 kept : (names : List Word) (before : List Line) (line : Line) → Inside names before → is_open (line ∷ before) ≡ is_open before → names_of_models (line ∷ before) ≡ names_of_models before → Inside names (line ∷ before)
 kept names before line inside stays same = record { open_ = stays ∙ inside.open_; names_ = same ∙ inside.names_ }
 
-item_fine : (names : List Word) (n : ℕ) (item : SpelledItem) (rest : List Line) → is_plain_item item ≡ true → IsFineInside names rest → IsFineInside names (lines_from n (item_lines item) ++ rest)
-item_fine names n (table line ins out on rows) rest plain further before inside =
+item_fine : (printing : Printing) (names : List Word) (n : ℕ) (item : SpelledItem) (rest : List Line) → is_plain_item item ≡ true → IsFineInside names rest → IsFineInside names (lines_from n (item_lines printing item) ++ rest)
+item_fine printing names n (table line ins out on rows) rest plain further before inside =
     let first : Line = record { number = n; words = codes ".names" ∷ (ins ++ out ∷ []) } in
     let a = and_parts (list_all is_plain ins) _ plain in
     let b = and_parts (is_plain out) _ a.1 in
@@ -168,29 +164,29 @@ item_fine names n (table line ins out on rows) rest plain further before inside 
     fine_then before first (rows_at (n + 1) on rows ++ rest) (rw (inside.open_, some, few) refl)
     (rows_fine names (length ins) (n + 1) on rows rest d.0 further (first ∷ before) (kept names before first inside refl refl) None
     (ap (λ w. Some (record { width = w; value = None })) width) refl)
-item_fine names n (latch line d q Rise control init) rest plain further before inside =
-    let first : Line = record { number = n; words = codes ".latch" ∷ d ∷ q ∷ latch_words Rise control init } in
-    fine_then before first rest (rw (inside.open_, init_fine init) refl) (further (first ∷ before) (kept names before first inside refl refl))
-item_fine names n (latch line d q Fall control init) rest plain further before inside =
-    let first : Line = record { number = n; words = codes ".latch" ∷ d ∷ q ∷ latch_words Fall control init } in
-    fine_then before first rest (rw (inside.open_, init_fine init) refl) (further (first ∷ before) (kept names before first inside refl refl))
-item_fine names n (latch line d q Unsaid control init) rest plain further before inside =
-    let first : Line = record { number = n; words = codes ".latch" ∷ d ∷ q ∷ latch_words Unsaid control init } in
-    fine_then before first rest (rw (inside.open_, init_fine init) refl) (further (first ∷ before) (kept names before first inside refl refl))
-item_fine names n (place line model binds) rest plain further before inside =
+item_fine printing names n (latch line d q Rise control init) rest plain further before inside =
+    let first : Line = record { number = n; words = codes ".latch" ∷ d ∷ q ∷ latch_words printing Rise control init } in
+    fine_then before first rest (rw (inside.open_, init_fine printing init) refl) (further (first ∷ before) (kept names before first inside refl refl))
+item_fine printing names n (latch line d q Fall control init) rest plain further before inside =
+    let first : Line = record { number = n; words = codes ".latch" ∷ d ∷ q ∷ latch_words printing Fall control init } in
+    fine_then before first rest (rw (inside.open_, init_fine printing init) refl) (further (first ∷ before) (kept names before first inside refl refl))
+item_fine printing names n (latch line d q Unsaid control init) rest plain further before inside =
+    let first : Line = record { number = n; words = codes ".latch" ∷ d ∷ q ∷ latch_words printing Unsaid control init } in
+    fine_then before first rest (rw (inside.open_, init_fine printing init) refl) (further (first ∷ before) (kept names before first inside refl refl))
+item_fine printing names n (place line model binds) rest plain further before inside =
     let first : Line = record { number = n; words = codes ".subckt" ∷ model ∷ map bind_word binds } in
     let parts = and_parts (list_all is_plain_bind binds) (are_distinct (map (λ (b : Binding). b.formal) binds)) (and_parts (is_plain model) _ plain).1 in
     fine_then before first rest (rw (inside.open_, not_none model (map bind_word binds), place_fine model binds parts.0 parts.1) refl) (further (first ∷ before) (kept names before first inside refl refl))
 
-items_fine : (names : List Word) (n : ℕ) (items : List SpelledItem) (rest : List Line) → list_all is_plain_item items ≡ true → IsFineInside names rest
-    → IsFineInside names (lines_from n (flat_map item_lines items) ++ rest)
-items_fine names n [] rest plain further = further
-items_fine names n (item ∷ items) rest plain further =
+items_fine : (printing : Printing) (names : List Word) (n : ℕ) (items : List SpelledItem) (rest : List Line) → list_all is_plain_item items ≡ true → IsFineInside names rest
+    → IsFineInside names (lines_from n (flat_map (item_lines printing) items) ++ rest)
+items_fine printing names n [] rest plain further = further
+items_fine printing names n (item ∷ items) rest plain further =
     let parts = and_parts (is_plain_item item) (list_all is_plain_item items) plain in
-    let first = lines_from n (item_lines item) in
-    let others = lines_from (n + length (item_lines item)) (flat_map item_lines items) in
-    subst (IsFineInside names) (sym (ap (λ (ls : List Line). ls ++ rest) (item_first n item items) ∙ append_assoc first others rest))
-    (item_fine names n item (others ++ rest) parts.0 (items_fine names (n + length (item_lines item)) items rest parts.1 further))
+    let first = lines_from n (item_lines printing item) in
+    let others = lines_from (n + length (item_lines printing item)) (flat_map (item_lines printing) items) in
+    subst (IsFineInside names) (sym (ap (λ (ls : List Line). ls ++ rest) (item_first printing n item items) ∙ append_assoc first others rest))
+    (item_fine printing names n item (others ++ rest) parts.0 (items_fine printing names (n + length (item_lines printing item)) items rest parts.1 further))
 
 -- ---- ports
 
@@ -205,21 +201,40 @@ clocks_fine names n (port ∷ ports) rest plain further before inside none =
     let line : Line = record { number = n; words = codes ".clock" ∷ port ∷ ports } in
     fine_then before line rest (rw (inside.open_, none, ports_once (port ∷ ports) plain) refl) (further (line ∷ before) (kept names before line inside refl refl))
 
-outputs_fine : (names : List Word) (n : ℕ) (ports : List Word) (rest : List Line) → are_plain_ports ports ≡ true
+-- what stands for a list without ports
+no_outputs_fine : (bare : Bool) (names : List Word) (n : ℕ) (rest : List Line)
     → ((before : List Line) → Inside names before → ports_before clocked before ≡ [] → first_fault before rest ≡ None)
     → (before : List Line) → Inside names before → ports_before output before ≡ [] → ports_before clocked before ≡ []
-    → first_fault before (lines_from n (port_lines (codes ".outputs") ports) ++ rest) ≡ None
-outputs_fine names n [] rest plain further before inside none clocks = further before inside clocks
-outputs_fine names n (port ∷ ports) rest plain further before inside none clocks =
+    → first_fault before (lines_from n (bare_lines bare (codes ".outputs")) ++ rest) ≡ None
+no_outputs_fine false names n rest further before inside none clocks = further before inside clocks
+no_outputs_fine true names n rest further before inside none clocks =
+    let line : Line = record { number = n; words = codes ".outputs" ∷ [] } in
+    fine_then before line rest (rw inside.open_ refl) (further (line ∷ before) (kept names before line inside refl refl) clocks)
+
+no_inputs_fine : (bare : Bool) (names : List Word) (n : ℕ) (rest : List Line)
+    → ((before : List Line) → Inside names before → ports_before output before ≡ [] → ports_before clocked before ≡ [] → first_fault before rest ≡ None)
+    → (before : List Line) → Inside names before → ports_before input before ≡ [] → ports_before output before ≡ [] → ports_before clocked before ≡ []
+    → first_fault before (lines_from n (bare_lines bare (codes ".inputs")) ++ rest) ≡ None
+no_inputs_fine false names n rest further before inside none outputs clocks = further before inside outputs clocks
+no_inputs_fine true names n rest further before inside none outputs clocks =
+    let line : Line = record { number = n; words = codes ".inputs" ∷ [] } in
+    fine_then before line rest (rw inside.open_ refl) (further (line ∷ before) (kept names before line inside refl refl) outputs clocks)
+
+outputs_fine : (printing : Printing) (names : List Word) (n : ℕ) (ports : List Word) (rest : List Line) → are_plain_ports ports ≡ true
+    → ((before : List Line) → Inside names before → ports_before clocked before ≡ [] → first_fault before rest ≡ None)
+    → (before : List Line) → Inside names before → ports_before output before ≡ [] → ports_before clocked before ≡ []
+    → first_fault before (lines_from n (open_port_lines printing (codes ".outputs") ports) ++ rest) ≡ None
+outputs_fine printing names n [] rest plain further before inside none clocks = no_outputs_fine printing.bare names n rest further before inside none clocks
+outputs_fine printing names n (port ∷ ports) rest plain further before inside none clocks =
     let line : Line = record { number = n; words = codes ".outputs" ∷ port ∷ ports } in
     fine_then before line rest (rw (inside.open_, none, ports_once (port ∷ ports) plain) refl) (further (line ∷ before) (kept names before line inside refl refl) clocks)
 
-inputs_fine : (names : List Word) (n : ℕ) (ports : List Word) (rest : List Line) → are_plain_ports ports ≡ true
+inputs_fine : (printing : Printing) (names : List Word) (n : ℕ) (ports : List Word) (rest : List Line) → are_plain_ports ports ≡ true
     → ((before : List Line) → Inside names before → ports_before output before ≡ [] → ports_before clocked before ≡ [] → first_fault before rest ≡ None)
     → (before : List Line) → Inside names before → ports_before input before ≡ [] → ports_before output before ≡ [] → ports_before clocked before ≡ []
-    → first_fault before (lines_from n (port_lines (codes ".inputs") ports) ++ rest) ≡ None
-inputs_fine names n [] rest plain further before inside none outputs clocks = further before inside outputs clocks
-inputs_fine names n (port ∷ ports) rest plain further before inside none outputs clocks =
+    → first_fault before (lines_from n (open_port_lines printing (codes ".inputs") ports) ++ rest) ≡ None
+inputs_fine printing names n [] rest plain further before inside none outputs clocks = no_inputs_fine printing.bare names n rest further before inside none outputs clocks
+inputs_fine printing names n (port ∷ ports) rest plain further before inside none outputs clocks =
     let line : Line = record { number = n; words = codes ".inputs" ∷ port ∷ ports } in
     fine_then before line rest (rw (inside.open_, none, ports_once (port ∷ ports) plain) refl) (further (line ∷ before) (kept names before line inside refl refl) outputs clocks)
 
@@ -230,23 +245,23 @@ apart_lines : (n : ℕ) (lines others : List (List Word)) (rest : List Line) →
 apart_lines n lines others rest =
     ap (λ (ls : List Line). ls ++ rest) (numbered-append n lines others) ∙ append_assoc (lines_from n lines) (lines_from (n + length lines) others) rest
 
-body_fine : (names : List Word) (n : ℕ) (model : SpelledModel) (rest : List Line) → is_plain_model model ≡ true → IsFineInside names rest
+body_fine : (printing : Printing) (names : List Word) (n : ℕ) (model : SpelledModel) (rest : List Line) → is_plain_model model ≡ true → IsFineInside names rest
     → (before : List Line) → Inside names before → ports_before input before ≡ [] → ports_before output before ≡ [] → ports_before clocked before ≡ []
-    → first_fault before (lines_from n (lines_between model) ++ rest) ≡ None
-body_fine names n model rest plain further before inside i o c =
+    → first_fault before (lines_from n (lines_between printing model) ++ rest) ≡ None
+body_fine printing names n model rest plain further before inside i o c =
     let is = plain_parts model plain in
-    let ins = port_lines (codes ".inputs") model.inputs in
-    let outs = port_lines (codes ".outputs") model.outputs in
+    let ins = open_port_lines printing (codes ".inputs") model.inputs in
+    let outs = open_port_lines printing (codes ".outputs") model.outputs in
     let clks = port_lines (codes ".clock") model.clocks in
-    let items = flat_map item_lines model.items in
+    let items = flat_map (item_lines printing) model.items in
     let m = n + length ins in
     let k = m + length outs in
-    let fine : IsFineInside names (lines_from (k + length clks) items ++ rest) = items_fine names (k + length clks) model.items rest is.items further in
+    let fine : IsFineInside names (lines_from (k + length clks) items ++ rest) = items_fine printing names (k + length clks) model.items rest is.items further in
     let NoFault : List Line → List Line → Type 0 = λ b ls. first_fault b ls ≡ None in
     subst (NoFault before) (sym (apart_lines n ins (outs ++ (clks ++ items)) rest))
-    (inputs_fine names n model.inputs (lines_from m (outs ++ (clks ++ items)) ++ rest) is.inputs
+    (inputs_fine printing names n model.inputs (lines_from m (outs ++ (clks ++ items)) ++ rest) is.inputs
     (λ b inside_b o_b c_b. subst (NoFault b) (sym (apart_lines m outs (clks ++ items) rest))
-    (outputs_fine names m model.outputs (lines_from k (clks ++ items) ++ rest) is.outputs
+    (outputs_fine printing names m model.outputs (lines_from k (clks ++ items) ++ rest) is.outputs
     (λ b' inside_b' c_b'. subst (NoFault b') (sym (apart_lines k clks items rest))
     (clocks_fine names k model.clocks (lines_from (k + length clks) items ++ rest) is.clocks fine b' inside_b' c_b'))
     b inside_b o_b c_b))
@@ -259,25 +274,25 @@ end_fine : (names : List Word) (number : ℕ) (rest : List Line) → ((before : 
 end_fine names number rest further before inside =
     fine_then before (end_line number) rest (rw inside.open_ refl) (further (end_line number ∷ before) inside.names_)
 
-pub design_fine : (names : List Word) (n : ℕ) (design : List SpelledModel) → list_all is_plain_model design ≡ true → repeats names (map (λ model. model.name) design) ≡ false
-    → (before : List Line) → names_of_models before ≡ names → first_fault before (lines_from n (design_lines design)) ≡ None
-design_fine names n [] plain new before are = refl
-design_fine names n (model ∷ design) plain new before are =
+pub design_fine : (printing : Printing) (names : List Word) (n : ℕ) (design : List SpelledModel) → list_all is_plain_model design ≡ true → repeats names (map (λ model. model.name) design) ≡ false
+    → (before : List Line) → names_of_models before ≡ names → first_fault before (lines_from n (design_lines printing design)) ≡ None
+design_fine printing names n [] plain new before are = refl
+design_fine printing names n (model ∷ design) plain new before are =
     let parts = and_parts (is_plain_model model) (list_all is_plain_model design) plain in
     let fresh = or_parts (has_name names model.name) (repeats (names ++ model.name ∷ []) (map (λ (m : SpelledModel). m.name) design)) new in
     let first = model_line n model in
-    let body = lines_from (n + 1) (lines_between model) in
-    let last = end_line (n + 1 + length (lines_between model)) in
-    let next = n + length (model_lines model) in
-    let rest = lines_from next (design_lines design) in
-    let whole : lines_from n (design_lines (model ∷ design)) ≡ first ∷ (body ++ last ∷ rest) =
-    numbered-append n (model_lines model) (design_lines design)
-    ∙ ap (λ (ls : List Line). ls ++ rest) (model_cut n model)
+    let body = lines_from (n + 1) (lines_between printing model) in
+    let last = end_line (n + 1 + length (lines_between printing model)) in
+    let next = n + length (model_lines printing model) in
+    let rest = lines_from next (design_lines printing design) in
+    let whole : lines_from n (design_lines printing (model ∷ design)) ≡ first ∷ (body ++ last ∷ rest) =
+    numbered-append n (model_lines printing model) (design_lines printing design)
+    ∙ ap (λ (ls : List Line). ls ++ rest) (model_cut printing n model)
     ∙ ap (λ (ls : List Line). first ∷ ls) (append_assoc body (last ∷ []) rest) in
     let unseen : has_name (names_of_models before) model.name ≡ false = ap (λ (ns : List Word). has_name ns model.name) are ∙ fresh.0 in
     let begun : Inside (names ++ model.name ∷ []) (first ∷ before) = record { open_ = refl; names_ = ap (λ (ns : List Word). ns ++ model.name ∷ []) are } in
     ap (first_fault before) whole
     ∙ fine_then before first (body ++ last ∷ rest) (rw unseen refl)
-    (body_fine (names ++ model.name ∷ []) (n + 1) model (last ∷ rest) parts.0
-    (end_fine (names ++ model.name ∷ []) (n + 1 + length (lines_between model)) rest (design_fine (names ++ model.name ∷ []) next design parts.1 fresh.1))
+    (body_fine printing (names ++ model.name ∷ []) (n + 1) model (last ∷ rest) parts.0
+    (end_fine (names ++ model.name ∷ []) (n + 1 + length (lines_between printing model)) rest (design_fine printing (names ++ model.name ∷ []) next design parts.1 fresh.1))
     (first ∷ before) begun refl refl refl)

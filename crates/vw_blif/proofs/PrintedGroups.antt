@@ -24,7 +24,7 @@ use Rattle.vw_blif.specs.Rows.{mark_of_byte, value_word, row_marks, are_on_set}
 use Rattle.vw_blif.specs.Latches.{control_of, init_of}
 use Rattle.vw_blif.specs.Bindings.{formal_of, actual_part, bind_of}
 use Rattle.vw_blif.specs.Designs.{table_of, item_of}
-use Rattle.vw_blif.specs.Printed.{mark_byte, row_words, init_word, control_word, latch_words, bind_word}
+use Rattle.vw_blif.specs.Printed.{FreeNumber, dont_care, unknown, Printing, mark_byte, row_words, free_word, init_word, control_word, latch_words, bind_word}
 use Rattle.vw_blif.specs.PlainDesigns.{is_plain_table, is_plain_control, can_stand_beside, is_plain_bind}
 
 pub numbered-append : (n : ℕ) (lines others : List (List Word)) → lines_from n (lines ++ others) ≡ lines_from n lines ++ lines_from (n + length lines) others
@@ -117,10 +117,15 @@ table_back n line ins out on rows at plain =
 
 -- ---- latches
 
-init_back : (init : Init) → init_of (Some (init_word init)) ≡ init
-init_back Zero = refl
-init_back One = refl
-init_back Free = refl
+-- initial values are read back, whichever way a free latch is written
+free_back : (free : FreeNumber) → init_of (Some (free_word free)) ≡ Free
+free_back dont_care = refl
+free_back unknown = refl
+
+init_back : (printing : Printing) (init : Init) → init_of (Some (init_word printing init)) ≡ init
+init_back printing Zero = refl
+init_back printing One = refl
+init_back printing Free = free_back printing.free
 
 control_back : (control : Option Word) → is_plain_control control ≡ true → control_of (Some (control_word control)) ≡ control
 control_back None plain = refl
@@ -128,15 +133,15 @@ control_back (Some control) plain =
     let other = not-true _ (and_parts (is_plain control) (not (bytes_eq control (codes "NIL"))) plain).1 in
     ap (λ (b : Bool). cond b None (Some control)) other
 
-pub latch_back : (n line : ℕ) (d q : Word) (edge : Edge) (control : Option Word) (init : Init) → line ≡ n → can_stand_beside edge control ≡ true
-    → item_of (record { head = record { number = n; words = codes ".latch" ∷ d ∷ q ∷ latch_words edge control init }; tail = [] }) ≡ Some (latch line d q edge control init)
-latch_back n line d q Rise control init at plain =
-    ap₂ (λ (c : Option Word) (i : Init). Some (latch n d q Rise c i)) (control_back control plain) (init_back init) ∙ ap (λ m. Some (latch m d q Rise control init)) (sym at)
-latch_back n line d q Fall control init at plain =
-    ap₂ (λ (c : Option Word) (i : Init). Some (latch n d q Fall c i)) (control_back control plain) (init_back init) ∙ ap (λ m. Some (latch m d q Fall control init)) (sym at)
-latch_back n line d q Unsaid None init at plain =
-    ap₂ (λ (m : ℕ) (i : Init). Some (latch m d q Unsaid None i)) (sym at) (init_back init)
-latch_back n line d q Unsaid (Some control) init at plain = absurd (true≢false (sym plain))
+pub latch_back : (printing : Printing) (n line : ℕ) (d q : Word) (edge : Edge) (control : Option Word) (init : Init) → line ≡ n → can_stand_beside edge control ≡ true
+    → item_of (record { head = record { number = n; words = codes ".latch" ∷ d ∷ q ∷ latch_words printing edge control init }; tail = [] }) ≡ Some (latch line d q edge control init)
+latch_back printing n line d q Rise control init at plain =
+    ap₂ (λ (c : Option Word) (i : Init). Some (latch n d q Rise c i)) (control_back control plain) (init_back printing init) ∙ ap (λ m. Some (latch m d q Rise control init)) (sym at)
+latch_back printing n line d q Fall control init at plain =
+    ap₂ (λ (c : Option Word) (i : Init). Some (latch n d q Fall c i)) (control_back control plain) (init_back printing init) ∙ ap (λ m. Some (latch m d q Fall control init)) (sym at)
+latch_back printing n line d q Unsaid None init at plain =
+    ap₂ (λ (m : ℕ) (i : Init). Some (latch m d q Unsaid None i)) (sym at) (init_back printing init)
+latch_back printing n line d q Unsaid (Some control) init at plain = absurd (true≢false (sym plain))
 
 -- ---- bindings
 

@@ -12,7 +12,7 @@ use Rattle.vw_blif.specs.Kinds.{kind, is_model, is_end, input, output, clocked}
 use Rattle.vw_blif.specs.Spelled.{Binding, SpelledItem, table, latch, place, SpelledModel}
 use Rattle.vw_blif.specs.CutLists.{Part, CutList, with_element, cut_before, until}
 use Rattle.vw_blif.specs.Designs.{item_of, ports_of, model_by, model_of, blocks, spelled_models}
-use Rattle.vw_blif.specs.Printed.{latch_words, bind_word, item_lines, port_lines, head_lines, model_lines, design_lines}
+use Rattle.vw_blif.specs.Printed.{Printing, latch_words, bind_word, item_lines, port_lines, bare_lines, open_port_lines, head_lines, model_lines, design_lines}
 use Rattle.vw_blif.specs.PlainDesigns.{is_plain_bind, is_plain_item, can_stand_beside, is_plain_model, line_of, have_line_numbers, have_numbers}
 use Rattle.vw_blif.proofs.CutLines.{cut_front}
 use Rattle.vw_blif.proofs.PrintedWords.{plain_parts}
@@ -61,9 +61,9 @@ group_first line rows rest inputs outputs clocks items begins stays none stay ad
 -- ---- items
 
 -- the lines of an item, and then those of the others
-pub item_first : (n : ℕ) (item : SpelledItem) (items : List SpelledItem)
-    → lines_from n (flat_map item_lines (item ∷ items)) ≡ lines_from n (item_lines item) ++ lines_from (n + length (item_lines item)) (flat_map item_lines items)
-item_first n item items = numbered-append n (item_lines item) (flat_map item_lines items)
+pub item_first : (printing : Printing) (n : ℕ) (item : SpelledItem) (items : List SpelledItem)
+    → lines_from n (flat_map (item_lines printing) (item ∷ items)) ≡ lines_from n (item_lines printing item) ++ lines_from (n + length (item_lines printing item)) (flat_map (item_lines printing) items)
+item_first printing n item items = numbered-append n (item_lines printing item) (flat_map (item_lines printing) items)
 
 with_item : (lines : List Line) (items : List SpelledItem) (found : Option SpelledItem) (item : SpelledItem) → found ≡ Some item → Adds lines [] [] [] (cons_option found items) → Adds lines [] [] [] (item ∷ items)
 with_item lines items found item is adds = record {
@@ -75,50 +75,63 @@ with_item lines items found item is adds = record {
   stay = adds.stay;
 }
 
-one_item : (n : ℕ) (item : SpelledItem) (rest : List Line) (items : List SpelledItem) → is_plain_item item ≡ true → line_of item ≡ n → Adds rest [] [] [] items
-    → Adds (lines_from n (item_lines item) ++ rest) [] [] [] (item ∷ items)
-one_item n (table line ins out on rows) rest items plain at adds =
+one_item : (printing : Printing) (n : ℕ) (item : SpelledItem) (rest : List Line) (items : List SpelledItem) → is_plain_item item ≡ true → line_of item ≡ n → Adds rest [] [] [] items
+    → Adds (lines_from n (item_lines printing item) ++ rest) [] [] [] (item ∷ items)
+one_item printing n (table line ins out on rows) rest items plain at adds =
     let first : Line = record { number = n; words = codes ".names" ∷ (ins ++ out ∷ []) } in
     with_item (first ∷ (rows_at (n + 1) on rows ++ rest)) items (item_of (record { head = first; tail = rows_at (n + 1) on rows })) (table line ins out on rows)
     (ap (λ (i : SpelledItem). Some i) (table_back n line ins out on rows at plain))
     (group_first first (rows_at (n + 1) on rows) rest [] [] [] items refl refl (rows_begin_none (n + 1) on rows) (rows_stay (n + 1) on rows) adds)
-one_item n (latch line d q edge control init) rest items plain at adds =
-    let first : Line = record { number = n; words = codes ".latch" ∷ d ∷ q ∷ latch_words edge control init } in
+one_item printing n (latch line d q edge control init) rest items plain at adds =
+    let first : Line = record { number = n; words = codes ".latch" ∷ d ∷ q ∷ latch_words printing edge control init } in
     let beside = (and_parts (is_plain q) (can_stand_beside edge control) (and_parts (is_plain d) _ plain).1).1 in
     with_item (first ∷ rest) items (item_of (record { head = first; tail = [] })) (latch line d q edge control init)
-    (latch_back n line d q edge control init at beside)
+    (latch_back printing n line d q edge control init at beside)
     (group_first first [] rest [] [] [] items refl refl refl refl adds)
-one_item n (place line model binds) rest items plain at adds =
+one_item printing n (place line model binds) rest items plain at adds =
     let first : Line = record { number = n; words = codes ".subckt" ∷ model ∷ map bind_word binds } in
     let all = (and_parts (list_all is_plain_bind binds) (are_distinct (map (λ (b : Binding). b.formal) binds)) (and_parts (is_plain model) _ plain).1).0 in
     with_item (first ∷ rest) items (item_of (record { head = first; tail = [] })) (place line model binds)
     (ap₂ (λ (m : ℕ) (bs : List Binding). Some (place m model bs)) (sym at) (binds_back binds all))
     (group_first first [] rest [] [] [] items refl refl refl refl adds)
 
-all_items : (n : ℕ) (items : List SpelledItem) → list_all is_plain_item items ≡ true → have_line_numbers n items ≡ true → Adds (lines_from n (flat_map item_lines items)) [] [] [] items
-all_items n [] plain at = no_line
-all_items n (item ∷ items) plain at =
+all_items : (printing : Printing) (n : ℕ) (items : List SpelledItem) → list_all is_plain_item items ≡ true → have_line_numbers printing n items ≡ true → Adds (lines_from n (flat_map (item_lines printing) items)) [] [] [] items
+all_items printing n [] plain at = no_line
+all_items printing n (item ∷ items) plain at =
     let parts = and_parts (is_plain_item item) (list_all is_plain_item items) plain in
-    let numbers = and_parts (eqb (line_of item) n) (have_line_numbers (n + length (item_lines item)) items) at in
-    let rest = all_items (n + length (item_lines item)) items parts.1 numbers.1 in
+    let numbers = and_parts (eqb (line_of item) n) (have_line_numbers printing (n + length (item_lines printing item)) items) at in
+    let rest = all_items printing (n + length (item_lines printing item)) items parts.1 numbers.1 in
     let P : List Line → Type 0 = λ ls. Adds ls [] [] [] (item ∷ items) in
-    subst P (sym (item_first n item items)) (one_item n item (lines_from (n + length (item_lines item)) (flat_map item_lines items)) items parts.0 (eqb-true (line_of item) n numbers.0) rest)
+    subst P (sym (item_first printing n item items)) (one_item printing n item (lines_from (n + length (item_lines printing item)) (flat_map (item_lines printing) items)) items parts.0 (eqb-true (line_of item) n numbers.0) rest)
 
 -- ---- ports
 
+-- what stands for a list without ports adds none
+no_inputs : (bare : Bool) (n : ℕ) (outputs clocks : List Word) (items : List SpelledItem) (rest : List Line) → Adds rest [] outputs clocks items
+    → Adds (lines_from n (bare_lines bare (codes ".inputs")) ++ rest) [] outputs clocks items
+no_inputs false n outputs clocks items rest adds = adds
+no_inputs true n outputs clocks items rest adds =
+    group_first (record { number = n; words = codes ".inputs" ∷ [] }) [] rest [] outputs clocks items refl refl refl refl adds
+
+no_outputs : (bare : Bool) (n : ℕ) (clocks : List Word) (items : List SpelledItem) (rest : List Line) → Adds rest [] [] clocks items
+    → Adds (lines_from n (bare_lines bare (codes ".outputs")) ++ rest) [] [] clocks items
+no_outputs false n clocks items rest adds = adds
+no_outputs true n clocks items rest adds =
+    group_first (record { number = n; words = codes ".outputs" ∷ [] }) [] rest [] [] clocks items refl refl refl refl adds
+
 -- the lines of a list of ports before others
-inputs_first : (n : ℕ) (ports outputs clocks : List Word) (items : List SpelledItem) (rest : List Line) → Adds rest [] outputs clocks items
-    → Adds (lines_from n (port_lines (codes ".inputs") ports) ++ rest) ports outputs clocks items
-inputs_first n [] outputs clocks items rest adds = adds
-inputs_first n (port ∷ ports) outputs clocks items rest adds =
+inputs_first : (printing : Printing) (n : ℕ) (ports outputs clocks : List Word) (items : List SpelledItem) (rest : List Line) → Adds rest [] outputs clocks items
+    → Adds (lines_from n (open_port_lines printing (codes ".inputs") ports) ++ rest) ports outputs clocks items
+inputs_first printing n [] outputs clocks items rest adds = no_inputs printing.bare n outputs clocks items rest adds
+inputs_first printing n (port ∷ ports) outputs clocks items rest adds =
     let line : Line = record { number = n; words = codes ".inputs" ∷ port ∷ ports } in
     let P : List Word → Type 0 = λ ws. Adds (line ∷ rest) ws outputs clocks items in
     subst P (append-nil (port ∷ ports)) (group_first line [] rest [] outputs clocks items refl refl refl refl adds)
 
-outputs_first : (n : ℕ) (ports clocks : List Word) (items : List SpelledItem) (rest : List Line) → Adds rest [] [] clocks items
-    → Adds (lines_from n (port_lines (codes ".outputs") ports) ++ rest) [] ports clocks items
-outputs_first n [] clocks items rest adds = adds
-outputs_first n (port ∷ ports) clocks items rest adds =
+outputs_first : (printing : Printing) (n : ℕ) (ports clocks : List Word) (items : List SpelledItem) (rest : List Line) → Adds rest [] [] clocks items
+    → Adds (lines_from n (open_port_lines printing (codes ".outputs") ports) ++ rest) [] ports clocks items
+outputs_first printing n [] clocks items rest adds = no_outputs printing.bare n clocks items rest adds
+outputs_first printing n (port ∷ ports) clocks items rest adds =
     let line : Line = record { number = n; words = codes ".outputs" ∷ port ∷ ports } in
     let P : List Word → Type 0 = λ ws. Adds (line ∷ rest) [] ws clocks items in
     subst P (append-nil (port ∷ ports)) (group_first line [] rest [] [] clocks items refl refl refl refl adds)
@@ -134,30 +147,30 @@ clocks_first n (port ∷ ports) items rest adds =
 -- ---- models
 
 -- the lines of a model between its first and its `.end`
-abbrev pub lines_between : SpelledModel → List (List Word)
-lines_between model =
-    port_lines (codes ".inputs") model.inputs ++ (port_lines (codes ".outputs") model.outputs
-    ++ (port_lines (codes ".clock") model.clocks ++ flat_map item_lines model.items))
+abbrev pub lines_between : Printing → SpelledModel → List (List Word)
+lines_between printing model =
+    open_port_lines printing (codes ".inputs") model.inputs ++ (open_port_lines printing (codes ".outputs") model.outputs
+    ++ (port_lines (codes ".clock") model.clocks ++ flat_map (item_lines printing) model.items))
 
-body_adds : (n : ℕ) (model : SpelledModel) → is_plain_model model ≡ true → have_line_numbers (n + length (head_lines model)) model.items ≡ true
-    → Adds (lines_from (n + 1) (lines_between model)) model.inputs model.outputs model.clocks model.items
-body_adds n model plain at =
-    let a = port_lines (codes ".inputs") model.inputs in
-    let b = port_lines (codes ".outputs") model.outputs in
+body_adds : (printing : Printing) (n : ℕ) (model : SpelledModel) → is_plain_model model ≡ true → have_line_numbers printing (n + length (head_lines printing model)) model.items ≡ true
+    → Adds (lines_from (n + 1) (lines_between printing model)) model.inputs model.outputs model.clocks model.items
+body_adds printing n model plain at =
+    let a = open_port_lines printing (codes ".inputs") model.inputs in
+    let b = open_port_lines printing (codes ".outputs") model.outputs in
     let c = port_lines (codes ".clock") model.clocks in
-    let i = flat_map item_lines model.items in
+    let i = flat_map (item_lines printing) model.items in
     let m = n + 1 + length a + length b + length c in
     let long = length-append a (b ++ c) in
     let longer = length-append b c in
-    let same : n + length (head_lines model) ≡ m = omega (long, longer, arith) in
-    let numbers : have_line_numbers m model.items ≡ true = ap (λ k. have_line_numbers k model.items) (sym same) ∙ at in
+    let same : n + length (head_lines printing model) ≡ m = omega (long, longer, arith) in
+    let numbers : have_line_numbers printing m model.items ≡ true = ap (λ k. have_line_numbers printing k model.items) (sym same) ∙ at in
     let A : List Line → Type 0 = λ ls. Adds ls [] [] model.clocks model.items in
     let B : List Line → Type 0 = λ ls. Adds ls [] model.outputs model.clocks model.items in
     let C : List Line → Type 0 = λ ls. Adds ls model.inputs model.outputs model.clocks model.items in
-    let items = all_items m model.items (plain_parts model plain).items numbers in
+    let items = all_items printing m model.items (plain_parts model plain).items numbers in
     let clocks = subst A (sym (numbered-append (n + 1 + length a + length b) c i)) (clocks_first (n + 1 + length a + length b) model.clocks model.items (lines_from m i) items) in
-    let outputs = subst B (sym (numbered-append (n + 1 + length a) b (c ++ i))) (outputs_first (n + 1 + length a) model.outputs model.clocks model.items (lines_from (n + 1 + length a + length b) (c ++ i)) clocks) in
-    subst C (sym (numbered-append (n + 1) a (b ++ (c ++ i)))) (inputs_first (n + 1) model.inputs model.outputs model.clocks model.items (lines_from (n + 1 + length a) (b ++ (c ++ i))) outputs)
+    let outputs = subst B (sym (numbered-append (n + 1 + length a) b (c ++ i))) (outputs_first printing (n + 1 + length a) model.outputs model.clocks model.items (lines_from (n + 1 + length a + length b) (c ++ i)) clocks) in
+    subst C (sym (numbered-append (n + 1) a (b ++ (c ++ i)))) (inputs_first printing (n + 1) model.inputs model.outputs model.clocks model.items (lines_from (n + 1 + length a) (b ++ (c ++ i))) outputs)
 
 abbrev pub model_line : ℕ → SpelledModel → Line
 model_line n model = record { number = n; words = codes ".model" ∷ model.name ∷ [] }
@@ -169,12 +182,12 @@ end_last : (a b c d e : List (List Word)) → (a ++ (b ++ c)) ++ (d ++ e) ≡ (a
 end_last a b c d e = simp append_assoc
 
 -- the first line of a model, its body, and its `.end`
-pub model_cut : (n : ℕ) (model : SpelledModel)
-    → lines_from n (model_lines model) ≡ model_line n model ∷ (lines_from (n + 1) (lines_between model) ++ end_line (n + 1 + length (lines_between model)) ∷ [])
-model_cut n model =
+pub model_cut : (printing : Printing) (n : ℕ) (model : SpelledModel)
+    → lines_from n (model_lines printing model) ≡ model_line n model ∷ (lines_from (n + 1) (lines_between printing model) ++ end_line (n + 1 + length (lines_between printing model)) ∷ [])
+model_cut printing n model =
     ap (λ (ls : List (List Word)). model_line n model ∷ lines_from (n + 1) ls)
-    (end_last (port_lines (codes ".inputs") model.inputs) (port_lines (codes ".outputs") model.outputs) (port_lines (codes ".clock") model.clocks) (flat_map item_lines model.items) ((codes ".end" ∷ []) ∷ []))
-    ∙ ap (λ (ls : List Line). model_line n model ∷ ls) (numbered-append (n + 1) (lines_between model) ((codes ".end" ∷ []) ∷ []))
+    (end_last (open_port_lines printing (codes ".inputs") model.inputs) (open_port_lines printing (codes ".outputs") model.outputs) (port_lines (codes ".clock") model.clocks) (flat_map (item_lines printing) model.items) ((codes ".end" ∷ []) ∷ []))
+    ∙ ap (λ (ls : List Line). model_line n model ∷ ls) (numbered-append (n + 1) (lines_between printing model) ((codes ".end" ∷ []) ∷ []))
 
 -- lines none of which leaves the model, in parts
 neither : (lines : List Line) → list_any ends_model lines ≡ false → (list_any (λ line. is_model (kind line)) lines ≡ false) × (list_any (λ line. is_end (kind line)) lines ≡ false)
@@ -211,31 +224,31 @@ record AreModels (lines : List Line) (design : List SpelledModel) : Type 0 where
   before : (blocks lines).before ≡ []
   models : map model_of (blocks lines).parts ≡ design
 
-model_first : (n : ℕ) (model : SpelledModel) (rest : List Line) (design : List SpelledModel) → is_plain_model model ≡ true → have_line_numbers (n + length (head_lines model)) model.items ≡ true
-    → AreModels rest design → AreModels (lines_from n (model_lines model) ++ rest) (model ∷ design)
-model_first n model rest design plain at are =
+model_first : (printing : Printing) (n : ℕ) (model : SpelledModel) (rest : List Line) (design : List SpelledModel) → is_plain_model model ≡ true → have_line_numbers printing (n + length (head_lines printing model)) model.items ≡ true
+    → AreModels rest design → AreModels (lines_from n (model_lines printing model) ++ rest) (model ∷ design)
+model_first printing n model rest design plain at are =
     let first = model_line n model in
-    let body = lines_from (n + 1) (lines_between model) in
-    let last = end_line (n + 1 + length (lines_between model)) in
-    let adds = body_adds n model plain at in
+    let body = lines_from (n + 1) (lines_between printing model) in
+    let last = end_line (n + 1 + length (lines_between printing model)) in
+    let adds = body_adds printing n model plain at in
     let none : list_any (λ line. is_model (kind line)) (body ++ last ∷ []) ≡ false =
     list_any-append (λ line. is_model (kind line)) body (last ∷ []) ∙ ap (λ (b : Bool). b || false) (neither body adds.stay).0 in
-    let cut = ap (λ (ls : List Line). blocks (ls ++ rest)) (model_cut n model) ∙ part_cut (λ line. is_model (kind line)) first (body ++ last ∷ []) rest refl none are.before in
+    let cut = ap (λ (ls : List Line). blocks (ls ++ rest)) (model_cut printing n model) ∙ part_cut (λ line. is_model (kind line)) first (body ++ last ∷ []) rest refl none are.before in
     record {
       before = ap (λ (c : CutList Line). c.before) cut;
       models = ap (λ (c : CutList Line). map model_of c.parts) cut ∙ ap₂ (λ (m : SpelledModel) (ms : List SpelledModel). m ∷ ms) (model_back n model body last refl adds) are.models;
     }
 
-all_models : (n : ℕ) (design : List SpelledModel) → list_all is_plain_model design ≡ true → have_numbers n design ≡ true → AreModels (lines_from n (design_lines design)) design
-all_models n [] plain at = record { before = refl; models = refl }
-all_models n (model ∷ design) plain at =
+all_models : (printing : Printing) (n : ℕ) (design : List SpelledModel) → list_all is_plain_model design ≡ true → have_numbers printing n design ≡ true → AreModels (lines_from n (design_lines printing design)) design
+all_models printing n [] plain at = record { before = refl; models = refl }
+all_models printing n (model ∷ design) plain at =
     let parts = and_parts (is_plain_model model) (list_all is_plain_model design) plain in
-    let numbers = and_parts (have_line_numbers (n + length (head_lines model)) model.items) (have_numbers (n + length (model_lines model)) design) at in
-    let rest = all_models (n + length (model_lines model)) design parts.1 numbers.1 in
+    let numbers = and_parts (have_line_numbers printing (n + length (head_lines printing model)) model.items) (have_numbers printing (n + length (model_lines printing model)) design) at in
+    let rest = all_models printing (n + length (model_lines printing model)) design parts.1 numbers.1 in
     let P : List Line → Type 0 = λ ls. AreModels ls (model ∷ design) in
-    subst P (sym (numbered-append n (model_lines model) (design_lines design)))
-    (model_first n model (lines_from (n + length (model_lines model)) (design_lines design)) design parts.0 numbers.0 rest)
+    subst P (sym (numbered-append n (model_lines printing model) (design_lines printing design)))
+    (model_first printing n model (lines_from (n + length (model_lines printing model)) (design_lines printing design)) design parts.0 numbers.0 rest)
 
 -- a design is what its printed lines spell
-pub spelled_back : (n : ℕ) (design : List SpelledModel) → list_all is_plain_model design ≡ true → have_numbers n design ≡ true → spelled_models (lines_from n (design_lines design)) ≡ design
-spelled_back n design plain at = (all_models n design plain at).models
+pub spelled_back : (printing : Printing) (n : ℕ) (design : List SpelledModel) → list_all is_plain_model design ≡ true → have_numbers printing n design ≡ true → spelled_models (lines_from n (design_lines printing design)) ≡ design
+spelled_back printing n design plain at = (all_models printing n design plain at).models

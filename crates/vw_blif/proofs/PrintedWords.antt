@@ -17,7 +17,7 @@ use Rattle.vw_text.specs.PlainLines.{is_special, is_plain, IsPlainLine}
 use Rattle.vw_design.specs.Paths.{Word}
 use Rattle.vw_blif.specs.Spelled.{Binding, SpelledItem, table, latch, place, SpelledModel}
 use Rattle.vw_blif.specs.Rows.{value_word}
-use Rattle.vw_blif.specs.Printed.{mark_byte, row_words, init_word, control_word, latch_words, bind_word, item_lines, port_lines, head_lines, model_lines, design_lines}
+use Rattle.vw_blif.specs.Printed.{FreeNumber, dont_care, unknown, Printing, mark_byte, row_words, free_word, init_word, control_word, latch_words, bind_word, item_lines, port_lines, bare_lines, open_port_lines, head_lines, model_lines, design_lines}
 use Rattle.vw_blif.specs.PlainDesigns.{is_plain_control, can_stand_beside, is_plain_bind, is_plain_item, are_plain_ports, is_plain_model}
 
 -- words, all of them plain
@@ -82,27 +82,32 @@ rows_plain on (row ∷ rows) = and_from (is_plain_line (row_words on row)) (list
 
 -- ---- latches
 
-init_plain : (init : Init) → is_plain (init_word init) ≡ true
-init_plain Zero = refl
-init_plain One = refl
-init_plain Free = refl
+-- the words of initial values are plain
+free_plain : (free : FreeNumber) → is_plain (free_word free) ≡ true
+free_plain dont_care = refl
+free_plain unknown = refl
+
+init_plain : (printing : Printing) (init : Init) → is_plain (init_word printing init) ≡ true
+init_plain printing Zero = refl
+init_plain printing One = refl
+init_plain printing Free = free_plain printing.free
 
 control_plain : (control : Option Word) → is_plain_control control ≡ true → is_plain (control_word control) ≡ true
 control_plain None plain = refl
 control_plain (Some control) plain = (and_parts (is_plain control) (not (bytes_eq control (codes "NIL"))) plain).0
 
 -- a type, a control and an initial value
-typed_plain : (type_ : Word) (control : Option Word) (init : Init) → is_plain type_ ≡ true → is_plain_control control ≡ true
-    → list_all is_plain (type_ ∷ control_word control ∷ init_word init ∷ []) ≡ true
-typed_plain type_ control init one plain =
-    and_from (is_plain type_) (is_plain (control_word control) && (is_plain (init_word init) && true)) one
-    (and_from (is_plain (control_word control)) (is_plain (init_word init) && true) (control_plain control plain)
-    (and_from (is_plain (init_word init)) true (init_plain init) refl))
+typed_plain : (printing : Printing) (type_ : Word) (control : Option Word) (init : Init) → is_plain type_ ≡ true → is_plain_control control ≡ true
+    → list_all is_plain (type_ ∷ control_word control ∷ init_word printing init ∷ []) ≡ true
+typed_plain printing type_ control init one plain =
+    and_from (is_plain type_) (is_plain (control_word control) && (is_plain (init_word printing init) && true)) one
+    (and_from (is_plain (control_word control)) (is_plain (init_word printing init) && true) (control_plain control plain)
+    (and_from (is_plain (init_word printing init)) true (init_plain printing init) refl))
 
-latch_plain : (edge : Edge) (control : Option Word) (init : Init) → can_stand_beside edge control ≡ true → list_all is_plain (latch_words edge control init) ≡ true
-latch_plain Rise control init plain = typed_plain (codes "re") control init refl plain
-latch_plain Fall control init plain = typed_plain (codes "fe") control init refl plain
-latch_plain Unsaid control init plain = and_from (is_plain (init_word init)) true (init_plain init) refl
+latch_plain : (printing : Printing) (edge : Edge) (control : Option Word) (init : Init) → can_stand_beside edge control ≡ true → list_all is_plain (latch_words printing edge control init) ≡ true
+latch_plain printing Rise control init plain = typed_plain printing (codes "re") control init refl plain
+latch_plain printing Fall control init plain = typed_plain printing (codes "fe") control init refl plain
+latch_plain printing Unsaid control init plain = and_from (is_plain (init_word printing init)) true (init_plain printing init) refl
 
 -- ---- bindings
 
@@ -128,20 +133,20 @@ binds_plain (bind ∷ binds) plain =
 one_line : (words : List Word) → is_plain_line words ≡ true → list_all is_plain_line (words ∷ []) ≡ true
 one_line words plain = and_from (is_plain_line words) true plain refl
 
-item_plain : (item : SpelledItem) → is_plain_item item ≡ true → list_all is_plain_line (item_lines item) ≡ true
-item_plain (table line ins out on rows) plain =
+item_plain : (printing : Printing) (item : SpelledItem) → is_plain_item item ≡ true → list_all is_plain_line (item_lines printing item) ≡ true
+item_plain printing (table line ins out on rows) plain =
     let parts = and_parts (list_all is_plain ins) _ plain in
     let out_plain = (and_parts (is_plain out) _ parts.1).0 in
     and_from (is_plain_line (codes ".names" ∷ (ins ++ out ∷ []))) (list_all is_plain_line (map (row_words on) rows))
     (first_plain (codes ".names") (ins ++ out ∷ []) refl (words_before ins out parts.0 out_plain)) (rows_plain on rows)
-item_plain (latch line d q edge control init) plain =
+item_plain printing (latch line d q edge control init) plain =
     let parts = and_parts (is_plain d) (is_plain q && can_stand_beside edge control) plain in
     let others = and_parts (is_plain q) (can_stand_beside edge control) parts.1 in
-    one_line (codes ".latch" ∷ d ∷ q ∷ latch_words edge control init)
-    (first_plain (codes ".latch") (d ∷ q ∷ latch_words edge control init) refl
-    (and_from (is_plain d) (list_all is_plain (q ∷ latch_words edge control init)) parts.0
-    (and_from (is_plain q) (list_all is_plain (latch_words edge control init)) others.0 (latch_plain edge control init others.1))))
-item_plain (place line model binds) plain =
+    one_line (codes ".latch" ∷ d ∷ q ∷ latch_words printing edge control init)
+    (first_plain (codes ".latch") (d ∷ q ∷ latch_words printing edge control init) refl
+    (and_from (is_plain d) (list_all is_plain (q ∷ latch_words printing edge control init)) parts.0
+    (and_from (is_plain q) (list_all is_plain (latch_words printing edge control init)) others.0 (latch_plain printing edge control init others.1))))
+item_plain printing (place line model binds) plain =
     let parts = and_parts (is_plain model) (list_all is_plain_bind binds && are_distinct (map (λ (b : Binding). b.formal) binds)) plain in
     let all = (and_parts (list_all is_plain_bind binds) (are_distinct (map (λ (b : Binding). b.formal) binds)) parts.1).0 in
     one_line (codes ".subckt" ∷ model ∷ map bind_word binds)
@@ -152,6 +157,16 @@ ports_plain : (keyword : Word) (ports : List Word) → is_plain keyword ≡ true
 ports_plain keyword [] one plain = refl
 ports_plain keyword (port ∷ ports) one plain =
     one_line (keyword ∷ port ∷ ports) (first_plain keyword (port ∷ ports) one (and_parts (list_all is_plain (port ∷ ports)) (are_distinct (port ∷ ports)) plain).0)
+
+-- a keyword that stands alone is plain, and so is nothing
+bare_plain : (bare : Bool) (keyword : Word) → is_plain keyword ≡ true → list_all is_plain_line (bare_lines bare keyword) ≡ true
+bare_plain false keyword one = refl
+bare_plain true keyword one = one_line (keyword ∷ []) (first_plain keyword [] one refl)
+
+-- the same where the keyword may stand alone
+open_ports_plain : (printing : Printing) (keyword : Word) (ports : List Word) → is_plain keyword ≡ true → are_plain_ports ports ≡ true → list_all is_plain_line (open_port_lines printing keyword ports) ≡ true
+open_ports_plain printing keyword [] one plain = bare_plain printing.bare keyword one
+open_ports_plain printing keyword (port ∷ ports) one plain = ports_plain keyword (port ∷ ports) one plain
 
 -- what a plain model has
 pub record HasPlainParts (model : SpelledModel) : Type 0 where
@@ -169,18 +184,18 @@ plain_parts model plain =
     let d = and_parts (are_plain_ports model.clocks) (list_all is_plain_item model.items) c.1 in
     record { name = a.0; inputs = b.0; outputs = c.0; clocks = d.0; items = d.1 }
 
-model_plain : (model : SpelledModel) → is_plain_model model ≡ true → list_all is_plain_line (model_lines model) ≡ true
-model_plain model plain =
+model_plain : (printing : Printing) (model : SpelledModel) → is_plain_model model ≡ true → list_all is_plain_line (model_lines printing model) ≡ true
+model_plain printing model plain =
     let is = plain_parts model plain in
     let name = one_line (codes ".model" ∷ model.name ∷ []) (first_plain (codes ".model") (model.name ∷ []) refl (and_from (is_plain model.name) true is.name refl)) in
-    let inputs = ports_plain (codes ".inputs") model.inputs refl is.inputs in
-    let outputs = ports_plain (codes ".outputs") model.outputs refl is.outputs in
+    let inputs = open_ports_plain printing (codes ".inputs") model.inputs refl is.inputs in
+    let outputs = open_ports_plain printing (codes ".outputs") model.outputs refl is.outputs in
     let clocks = ports_plain (codes ".clock") model.clocks refl is.clocks in
-    let ports = lines_before (port_lines (codes ".inputs") model.inputs) (port_lines (codes ".outputs") model.outputs ++ port_lines (codes ".clock") model.clocks) inputs
-    (lines_before (port_lines (codes ".outputs") model.outputs) (port_lines (codes ".clock") model.clocks) outputs clocks) in
-    lines_before (head_lines model) (flat_map item_lines model.items ++ (codes ".end" ∷ []) ∷ [])
-    (lines_before ((codes ".model" ∷ model.name ∷ []) ∷ []) (port_lines (codes ".inputs") model.inputs ++ (port_lines (codes ".outputs") model.outputs ++ port_lines (codes ".clock") model.clocks)) name ports)
-    (lines_before (flat_map item_lines model.items) ((codes ".end" ∷ []) ∷ []) (each_plain item_lines is_plain_item item_plain model.items is.items) refl)
+    let ports = lines_before (open_port_lines printing (codes ".inputs") model.inputs) (open_port_lines printing (codes ".outputs") model.outputs ++ port_lines (codes ".clock") model.clocks) inputs
+    (lines_before (open_port_lines printing (codes ".outputs") model.outputs) (port_lines (codes ".clock") model.clocks) outputs clocks) in
+    lines_before (head_lines printing model) (flat_map (item_lines printing) model.items ++ (codes ".end" ∷ []) ∷ [])
+    (lines_before ((codes ".model" ∷ model.name ∷ []) ∷ []) (open_port_lines printing (codes ".inputs") model.inputs ++ (open_port_lines printing (codes ".outputs") model.outputs ++ port_lines (codes ".clock") model.clocks)) name ports)
+    (lines_before (flat_map (item_lines printing) model.items) ((codes ".end" ∷ []) ∷ []) (each_plain (item_lines printing) is_plain_item (item_plain printing) model.items is.items) refl)
 
-pub lines_plain : (design : List SpelledModel) → list_all is_plain_model design ≡ true → AllByRecursion IsPlainLine (design_lines design)
-lines_plain design plain = from_tests (design_lines design) (each_plain model_lines is_plain_model model_plain design plain)
+pub lines_plain : (printing : Printing) (design : List SpelledModel) → list_all is_plain_model design ≡ true → AllByRecursion IsPlainLine (design_lines printing design)
+lines_plain printing design plain = from_tests (design_lines printing design) (each_plain (model_lines printing) is_plain_model (model_plain printing) design plain)

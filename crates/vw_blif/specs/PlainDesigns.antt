@@ -14,6 +14,7 @@ use Rattle.vw_design.specs.Paths.{Word}
 use Rattle.vw_blif.specs.Spelled.{Binding, SpelledItem, table, latch, place, SpelledModel}
 use Rattle.vw_blif.specs.Printed.{item_lines, head_lines, model_lines, printed_design}
 use Rattle.vw_text.specs.declared.limits.TheConstants.{MOST_DESIGN_BYTES}
+use Rattle.vw_blif.specs.Printed.{Printing, plainly, item_lines, head_lines, model_lines, printed_by}
 
 -- a table: plain nets, at most 128 inputs, a mark for each of them in each row, and a row at least in an off-set
 abbrev pub is_plain_table : List Word → Word → Bool → List (List Mark) → Bool
@@ -59,19 +60,26 @@ line_of (latch line d q edge control init) = line
 line_of (place line model binds) = line
 
 -- whether items have the numbers of their lines, the first of which has this number
-abbrev pub have_line_numbers : ℕ → List SpelledItem → Bool
-have_line_numbers number [] = true
-have_line_numbers number (item ∷ items) = line_of item == number && have_line_numbers (number + length (item_lines item)) items
+abbrev pub have_line_numbers : Printing → ℕ → List SpelledItem → Bool
+have_line_numbers printing number [] = true
+have_line_numbers printing number (item ∷ items) =
+    line_of item == number && have_line_numbers printing (number + length (item_lines printing item)) items
 
 -- whether those of all models do
-abbrev pub have_numbers : ℕ → List SpelledModel → Bool
-have_numbers number [] = true
-have_numbers number (model ∷ models) =
-    have_line_numbers (number + length (head_lines model)) model.items && have_numbers (number + length (model_lines model)) models
+abbrev pub have_numbers : Printing → ℕ → List SpelledModel → Bool
+have_numbers printing number [] = true
+have_numbers printing number (model ∷ models) =
+    have_line_numbers printing (number + length (head_lines printing model)) model.items
+    && have_numbers printing (number + length (model_lines printing model)) models
 
-pub record IsPlainDesign (design : List SpelledModel) : Type 0 where
+-- a design that can be printed in this way
+pub record IsPlainFor (printing : Printing) (design : List SpelledModel) : Type 0 where
   pub some : IsTrue (not (is_empty design))
   pub models : IsTrue (list_all is_plain_model design)
   pub names : IsTrue (are_distinct (map (λ model. model.name) design))
-  pub numbers : IsTrue (have_numbers 1 design)
-  pub short : length (printed_design design) ≤ MOST_DESIGN_BYTES
+  pub numbers : IsTrue (have_numbers printing 1 design)
+  pub short : length (printed_by printing design) ≤ MOST_DESIGN_BYTES
+
+-- a design that can be printed in the plain way
+abbrev pub IsPlainDesign : List SpelledModel → Type 0
+IsPlainDesign design = IsPlainFor plainly design

@@ -8,8 +8,8 @@ ghost use Rattle.vw_blif.specs.Cuts.{IsCut};
 ghost use Rattle.vw_blif.specs.Read.{first_fault, design_of};
 ghost use Rattle.vw_blif.specs.FirstFault.{IsFirst};
 ghost use Rattle.vw_blif.specs.Spelled.{SpelledModel, spelled_model};
-ghost use Rattle.vw_blif.specs.Printed.{printed_design};
-ghost use Rattle.vw_blif.specs.PlainDesigns.{IsPlainDesign};
+ghost use Rattle.vw_blif.specs.Printed.{Printing, printed_by, printed_design};
+ghost use Rattle.vw_blif.specs.PlainDesigns.{IsPlainDesign, IsPlainFor};
 
 use vw_text::plain_lines_read;
 
@@ -30,10 +30,13 @@ pub fn the_first_fault_counts()
         → IsFirst lines fault → first_fault [] lines ≡ Some fault }
 {}
 
-/// A design that is printed in the plain way is read back.
+/// A design that is printed in the plain way is read back. So it is where a list without ports has its line, too, and
+/// where a free latch is written `2` in place of `3`.
 pub fn printed_designs_read()
-    ensures { (design : List SpelledModel) → IsPlainDesign design
+    ensures plainly { (design : List SpelledModel) → IsPlainDesign design
         → design_of (printed_design design) ≡ Ok design }
+    ensures otherwise { (printing : Printing) (design : List SpelledModel) → IsPlainFor printing design
+        → design_of (printed_by printing design) ≡ Ok design }
 {
     plain_lines_read();
 }

@@ -195,7 +195,7 @@ claimed_once design accepted path model stands name =
     omega (arith, claims_times design model name, counted, ap one_if none)
 
 -- a list cut at an element
-cut_at : {A : Type 0} (xs : List A) (k : ℕ) (x : A) → slice_get xs k ≡ Some x → xs ≡ take k xs ++ x ∷ drop (suc k) xs
+pub cut_at : {A : Type 0} (xs : List A) (k : ℕ) (x : A) → slice_get xs k ≡ Some x → xs ≡ take k xs ++ x ∷ drop (suc k) xs
 cut_at [] k x at = absurd (none-some x at)
 cut_at {A} (y ∷ ys) zero x at = ap (λ (z : A). z ∷ ys) (same_Some y x at)
 cut_at {A} (y ∷ ys) (suc k) x at = ap (λ (zs : List A). y ∷ zs) (cut_at ys k x at)

@@ -35,3 +35,13 @@ pub mod FlatOnce
 pub mod WordSets
 pub mod FewPlaces
 pub mod WatchedNets
+pub mod DistinctNames
+pub mod NumberedNames
+pub mod OneDriver
+pub mod ListedClaims
+pub mod ClaimedDrivers
+pub mod LatchPlaces
+pub mod NetValues
+pub mod RankedGates
+pub mod HistoryByClocks
+pub mod ModelsBelow

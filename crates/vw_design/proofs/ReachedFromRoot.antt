@@ -29,7 +29,7 @@ has_model : (model : Model) (models : List Model) → Has model models → Has m
 has_model model [] has = absurd has
 has_model model (first ∷ models) has = ⊎_elim (λ same. inl (ap (λ (m : Model). m.name) same)) (λ later. inr (has_model model models later)) has
 
-named_model : (model : Model) (models : List Model) → are_distinct (map (λ m. m.name) models) ≡ true → Has model models → model_named models model.name ≡ Some model
+pub named_model : (model : Model) (models : List Model) → are_distinct (map (λ m. m.name) models) ≡ true → Has model models → model_named models model.name ≡ Some model
 named_model model [] distinct has = absurd has
 named_model model (first ∷ models) distinct has =
     let parts = and_parts (not (has_name (map (λ (m : Model). m.name) models) first.name)) (are_distinct (map (λ (m : Model). m.name) models)) distinct in

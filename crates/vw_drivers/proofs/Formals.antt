@@ -1,8 +1,7 @@
 -- The formals of an instance: the ways from them, and their actuals.
-use Rattle.std.proofs.Common.{◌≡◌, ◌<◌, not, ℕ, Bool, true, false, cond, List, [], ◌∷◌, ◌++◌, map, Option, Some, None, option_map, option_and_then, slice_get, find, ⊎_elim, refl, sym, ◌∙◌, ap, ap₂, subst, true≢false}
+use Rattle.std.proofs.Common.{◌≡◌, ◌<◌, not, ℕ, true, List, [], ◌∷◌, ◌++◌, map, Option, Some, None, option_map, option_and_then, slice_get, ⊎_elim, refl, sym, ◌∙◌, ap, ap₂, subst}
 use Rattle.std.specs.Option.{unwrap_or}
-use Rattle.std.specs.Str.{bytes_eq}
-use Rattle.std.proofs.lemmas.Bool.{and_parts, not-true, or_cases, not-false}
+use Rattle.std.proofs.lemmas.Bool.{or_cases, not-false}
 use Rattle.std.proofs.lemmas.Option.{none-some, slice_get_within, get_or_from_slice_get}
 use Rattle.vw_design.specs.declared.item.Bind.{Bind}
 use Rattle.vw_design.specs.declared.item.Item.{Item}
@@ -12,12 +11,11 @@ use Rattle.vw_design.specs.declared.design.Design.{Design}
 use Rattle.vw_design.specs.Accepted.{HasNoModelFault}
 use Rattle.vw_design.specs.Distinct.{has_name, are_distinct}
 use Rattle.vw_design.specs.Shape.{has_its_shape, IsWellMade}
-use Rattle.vw_design.specs.Drivers.{actual_among}
 use Rattle.vw_design.specs.ModelFaults.{NameAt, at_model, unbound_input_in}
 use Rattle.vw_design.specs.Paths.{Word, Path, Placing, placing_at, model_placed, model_named, model_at, is_port}
 use Rattle.vw_design.specs.Preorder.{instances}
-use Rattle.vw_design.proofs.ListElements.{Has, Has-at, Has-left, Has-right, Has-map, from-map, all-Has, none-find}
-use Rattle.vw_design.proofs.Names.{same_name, equal_names, has_name-Has, Has-has_name}
+use Rattle.vw_design.proofs.ListElements.{Has, Has-at, Has-left, Has-right, from-map, all-Has, none-find}
+use Rattle.vw_design.proofs.Names.{Has-has_name}
 use Rattle.vw_design.proofs.ListedInstances.{placing_of_placed}
 use Rattle.vw_design.proofs.ShallowDesigns.{faultless_shallow, nothing_placed}
 use Rattle.vw_drivers.specs.Firsts.{First}
@@ -108,21 +106,3 @@ module _ (design : Design) (faultless : HasNoModelFault design) (tables : Tables
       no_name : (line : ℕ) (found : Option Word) → option_map (name_at_line line) found ≡ None → found ≡ None
       no_name line None is = refl
       no_name line (Some formal) is = absurd (none-some (name_at_line line formal) (sym is))
-
--- where formals differ, the actual of a formal is that of its binding
-pub actual_is : (binds : List Bind) (bind : Bind) (name : Word) → are_distinct (map (λ b. b.formal) binds) ≡ true → Has bind binds → bind.formal ≡ name → actual_among binds name ≡ Some bind.actual
-actual_is [] bind name distinct has is = absurd has
-actual_is (first ∷ binds) bind name distinct has is =
-    let formals = map (λ (b : Bind). b.formal) binds in
-    let parts = and_parts (not (has_name formals first.formal)) (are_distinct formals) distinct in
-    by (bytes_eq first.formal name) refl (not-true (has_name formals first.formal) parts.0) (λ later. actual_is binds bind name parts.1 later is) has
-  where
-    by : (b : Bool) → bytes_eq first.formal name ≡ b → has_name (map (λ (b : Bind). b.formal) binds) first.formal ≡ false
-        → (Has bind binds → actual_among binds name ≡ Some bind.actual) → Has bind (first ∷ binds)
-        → option_map (λ (b : Bind). b.actual) (cond b (Some first) (find (λ (b : Bind). bytes_eq b.formal name) binds)) ≡ Some bind.actual
-    by true same fresh rest has =
-        ⊎_elim (λ here. ap (λ (b : Bind). Some b.actual) here)
-        (λ later. absurd (true≢false (sym (has_name-Has (map (λ (b : Bind). b.formal) binds) first.formal
-        (subst (λ (w : Word). Has w (map (λ (b : Bind). b.formal) binds)) (is ∙ sym (same_name first.formal name same)) (Has-map (λ (b : Bind). b.formal) bind binds later))) ∙ fresh))) has
-    by false other fresh rest has =
-        ⊎_elim (λ here. absurd (true≢false (sym (equal_names first.formal name (ap (λ (b : Bind). b.formal) here ∙ is)) ∙ other))) rest has

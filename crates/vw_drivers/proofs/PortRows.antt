@@ -30,7 +30,8 @@ use Rattle.vw_drivers.specs.Steps.FoundDrivers.{DriverRows, led, with_ways, port
 use Rattle.vw_drivers.proofs.WrittenRows.{found, row_before, row_last}
 use Rattle.vw_drivers.proofs.InstanceTables.{instance_of}
 use Rattle.vw_drivers.proofs.LedClaims.{PortIs, turned, named_first, led_is}
-use Rattle.vw_drivers.proofs.Formals.{IsPlacing, placing_of, bound_port, actual_is}
+use Rattle.vw_design.proofs.ClaimedDrivers.{actual_is}
+use Rattle.vw_drivers.proofs.Formals.{IsPlacing, placing_of, bound_port}
 use Rattle.vw_drivers.proofs.ClaimLookups.{one_name}
 
 -- a way to a port, by its number

@@ -8,7 +8,7 @@ use Rattle.vw_blif.specs.Kinds.{further}
 use Rattle.vw_blif.specs.Steps.Names.{opened, names_so_far}
 use Rattle.vw_blif.specs.Steps.Blocks.{IsNew}
 use Rattle.vw_design.specs.WordSets.{has_word}
-use Rattle.vw_blif.proofs.Binds.{are_distinct-push}
+use Rattle.vw_design.proofs.DistinctNames.{distinct_push}
 use Rattle.vw_blif.proofs.ReaderLines.{wrong_count, one_word, names_begun, seen_before, knows_more, model_again, model_begun}
 use Rattle.vw_blif.proofs.reader.Reader.begin_model.Goals.{in_default-via-then-further-lt1, in_default-via-else-further-lt1+else-this-lt2}
 use Rattle.vw_blif.proofs.reader.Reader.begin_model.Goals as goal
@@ -50,7 +50,7 @@ invariant_of-result c =
     λ other. c.in_ok-keep.ensures.words other ∙ ap₂ (λ (s : WordSet) (w : Word). bytes_eq w other || has_word s.words other) c.deref_mut.ensures.value c.as_slice.ensures in
     record {
       knows = λ word. knows_more names name old new mid.knows adds word ∙ ap (λ (ns : List Word). has_name ns word) (sym more);
-      distinct = ap are_distinct more ∙ are_distinct-push names name mid.distinct unseen;
+      distinct = ap are_distinct more ∙ distinct_push names name mid.distinct unseen;
       well_made = mid.well_made;
     }
 
