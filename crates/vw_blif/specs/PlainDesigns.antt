@@ -12,7 +12,6 @@ use Rattle.vw_text.specs.WordLines.{is_empty}
 use Rattle.vw_text.specs.PlainLines.{is_plain}
 use Rattle.vw_design.specs.Paths.{Word}
 use Rattle.vw_blif.specs.Spelled.{Binding, SpelledItem, table, latch, place, SpelledModel}
-use Rattle.vw_blif.specs.Printed.{item_lines, head_lines, model_lines, printed_design}
 use Rattle.vw_text.specs.declared.limits.TheConstants.{MOST_DESIGN_BYTES}
 use Rattle.vw_blif.specs.Printed.{Printing, plainly, item_lines, head_lines, model_lines, printed_by}
 
