@@ -9,9 +9,7 @@ use bumpalo::Bump;
 use std::alloc::Global;
 use vw_design::Design;
 use vw_net::Sequence;
-use vw_text::LineReader;
-
-/// The most bytes that a design text has.
+use vw_text::{LineReader, MOST_DESIGN_BYTES};
 
 /// Reads the design that a text spells, or says what is wrong with the text: the fault of the first line at fault.
 pub fn read(alloc: Global, text: &[u8]) -> Result<Design, TextFault>
@@ -30,7 +28,7 @@ pub fn read(alloc: Global, text: &[u8]) -> Result<Design, TextFault>
     while let Some(line) = lines.next_line(alloc)? {
         reader = reader.read_line(alloc, &arena, &line)?;
     }
-    let models = reader.finish()?;
+    let models = reader.finish(alloc)?;
     if models.is_empty() {
         return Err(TextFault::NoModel(0));
     }

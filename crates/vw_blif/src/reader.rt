@@ -49,7 +49,7 @@ impl<'a> Reader<'a> {
     }
 
     /// The same design, with its open model among the models.
-    fn end(self) -> Result<Self, AllocError>
+    fn end(self, alloc: Global) -> Result<Self, AllocError>
         ensures { IfOk result (EndsModel self.entry) }
     {
         let Reader {
@@ -58,7 +58,7 @@ impl<'a> Reader<'a> {
             block,
         } = self;
         if let Some(mut block) = block {
-            block.close()?;
+            block.close(alloc)?;
             models.push(Box::into_inner(block).into_model())?;
         }
         Ok(Reader {
@@ -81,7 +81,7 @@ impl<'a> Reader<'a> {
             models,
             mut names,
             block: _,
-        } = self.end()?;
+        } = self.end(alloc)?;
         if !keep(&mut names, arena, name.as_slice())? {
             return Err(TextFault::DuplicateModel(line.number()));
         }
@@ -119,7 +119,7 @@ impl<'a> Reader<'a> {
                 names,
                 block: Some(block),
             };
-            return Ok(open.end()?);
+            return Ok(open.end(alloc)?);
         }
         take(alloc, arena, &mut block, line_is, line)?;
         Ok(Reader {
@@ -141,14 +141,14 @@ impl<'a> Reader<'a> {
     }
 
     /// The models, where no further line follows.
-    pub fn finish(self) -> Result<Vec<Model>, AllocError>
+    pub fn finish(self, alloc: Global) -> Result<Vec<Model>, AllocError>
         ensures { IfOk result (λ models. IsRead self.entry models.items) }
     {
         let Reader {
             models,
             names: _,
             block: _,
-        } = self.end()?;
+        } = self.end(alloc)?;
         Ok(models)
     }
 }

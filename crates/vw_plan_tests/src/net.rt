@@ -61,6 +61,22 @@ const LAST_OF_SIX: &[&[u8]] = &[b"-----1"];
 
 const SEVEN: &[&[u8]] = &[b"1-----0", b"-01----"];
 
+/// Rows of 127 and of 128 marks that look at their last input, and at their first and last one.
+const LAST_OF_127: &[&[u8]] = &[
+    b"------------------------------------------------------------------------------------------------------------------------------1",
+];
+
+const ENDS_OF_128: &[&[u8]] = &[
+    b"0------------------------------------------------------------------------------------------------------------------------------1",
+];
+
+/// Bits of which the last of 127 is 1, and the last of 128.
+const BIT_127: &[u8] =
+    b"0000000000000000000000000000000000000000000000000000000000000000000000000000000000000000000000000000000000000000000000000000001";
+
+const BIT_128: &[u8] =
+    b"00000000000000000000000000000000000000000000000000000000000000000000000000000000000000000000000000000000000000000000000000000001";
+
 /// How many inputs a table has, its rows, some bits, and whether a row matches them.
 type TableCase<'a> = (u32, &'a [&'a [u8]], &'a [u8], bool);
 
@@ -84,10 +100,19 @@ const MATCHES: &[TableCase] = &[
     (7, SEVEN, b"1000001", false),
     (7, SEVEN, b"0010001", true),
     (7, SEVEN, b"0110000", false),
+    (127, ONE, b"1", true),
+    (127, ONE, b"01", false),
+    (127, &[], b"1", false),
+    (127, ANY, b"", true),
+    (127, LAST_OF_127, BIT_127, true),
+    (127, LAST_OF_127, b"1", false),
     (128, ONE, b"1", true),
     (128, ONE, b"01", false),
     (128, &[], b"1", false),
     (128, ANY, b"", true),
+    (128, ENDS_OF_128, BIT_128, true),
+    (128, ENDS_OF_128, BIT_127, false),
+    (128, ENDS_OF_128, b"", false),
 ];
 
 /// Asserts for each line that the table has its value, both where its rows give 1 and where they give 0.
@@ -103,6 +128,43 @@ fn have_values(rt: &impl Abort, alloc: Global, lines: &[TableCase]) -> Result<()
 #[test]
 fn tables_have_their_values(rt: HostRuntime) -> Result<(), Fail> {
     have_values(&rt, rt.alloc(), MATCHES)
+}
+
+/// The marks that a table of so many inputs, at most 128, gives back for these rows, as a text with a blank behind each row.
+fn given_back(alloc: Global, width: u32, rows: &[&[u8]]) -> Result<Vec<u8>, Fail> {
+    if width > 128 {
+        return Err("too wide".into());
+    }
+    let mut table = Vec::new(alloc);
+    for marks in rows {
+        table.push(row(alloc, width, marks)?)?;
+    }
+    let cover = Cover::make(alloc, width, true, Sequence::of(table))?;
+    let mut text = Vec::new(alloc);
+    for number in 0..cover.count() {
+        for input in 0..cover.inputs() {
+            text.push(match cover.mark(number, input) {
+                Mark::Zero => b'0',
+                Mark::One => b'1',
+                Mark::Any => b'-',
+            })?;
+        }
+        text.push(b' ')?;
+    }
+    Ok(text)
+}
+
+#[test]
+fn rows_are_given_back(rt: HostRuntime) -> Result<(), Fail> {
+    let alloc = rt.alloc();
+    assert!(&rt; given_back(alloc, 0, EMPTY)? == b" ".as_slice());
+    assert!(&rt; given_back(alloc, 1, ZERO)? == b"0 ".as_slice());
+    assert!(&rt; given_back(alloc, 7, SEVEN)? == b"1-----0 -01---- ".as_slice());
+    let wide = given_back(alloc, 127, LAST_OF_127)?;
+    assert!(&rt; wide.len() == 128 && wide.strip_suffix(b"-1 ").is_some());
+    let widest = given_back(alloc, 128, ENDS_OF_128)?;
+    assert!(&rt; widest.len() == 129 && widest.strip_suffix(b"-1 ").is_some() && widest.strip_prefix(b"0-").is_some());
+    Ok(())
 }
 
 /// Whether a latch that reads net 0 and a gate that reads one net make a netlist, with an output that stands so many times.
