@@ -1,11 +1,11 @@
 -- The order of hops by the pins by which they leave.
-use Rattle.std.proofs.Common.{◌≡◌, ℕ, Bool, true, false, cond, nat_lt, eqb, refl, true≢false, eqb-true}
+use Rattle.std.proofs.Common.{◌≡◌, false}
 use Rattle.std.specs.Cmp.{IsStrictWeakOrder, IsTotalOrder}
-use Rattle.std.specs.Ordering.{is_lt, nat_cmp, ordering_reverse, ordering_then}
-use Rattle.std.specs.declared.cmp.Ordering.{Ordering}
-use Rattle.std.specs.declared.cmp.Ordering.TheVariants.{Less, Equal, Greater}
+use Rattle.std.specs.Ordering.{nat_cmp}
+use Rattle.std.specs.declared.cmp.Ordering.TheVariants.{Equal}
 use Rattle.std.proofs.lemmas.Cmp.{nat_cmp_total, on_total, then_total}
 use Rattle.std.proofs.lemmas.List.Sorted.{ranks_by}
+use Rattle.vw_net.proofs.NumberOrders.{nat_cmp-equal, neither_before, then_equal}
 use Rattle.vw_emit.specs.declared.numbered_hop.NumberedHop.{NumberedHop}
 use Rattle.vw_emit.specs.Outlets.{hop_cmp, leaves_before}
 
@@ -25,29 +25,9 @@ is_order = ranks_by hop_cmp_total (λ (hop : NumberedHop). hop)
 
 -- ---- hops of which none is before the other are the same
 
-then_equal : (first second : Ordering) → ordering_then first second ≡ Equal → (first ≡ Equal) × (second ≡ Equal)
-then_equal Less second is = cc
-then_equal Equal second is = (refl, is)
-then_equal Greater second is = cc
-
-by_tests : (less same : Bool) → cond less Less (cond same Equal Greater) ≡ Equal → same ≡ true
-by_tests true same is = cc
-by_tests false true is = refl
-by_tests false false is = cc
-
-nat_cmp-equal : (a b : ℕ) → nat_cmp a b ≡ Equal → a ≡ b
-nat_cmp-equal a b is = eqb-true a b (by_tests (nat_lt a b) (eqb a b) is)
-
-equal_from : (one other : Ordering) → one ≡ ordering_reverse other → is_lt one ≡ false → is_lt other ≡ false → one ≡ Equal
-equal_from Less other turned one_not other_not = absurd (true≢false one_not)
-equal_from Equal other turned one_not other_not = refl
-equal_from Greater Less turned one_not other_not = absurd (true≢false other_not)
-equal_from Greater Equal turned one_not other_not = cc
-equal_from Greater Greater turned one_not other_not = cc
-
 pub same_hop : (one other : NumberedHop) → leaves_before one other ≡ false → leaves_before other one ≡ false → one ≡ other
 same_hop one other one_not other_not =
-    let equal : hop_cmp one other ≡ Equal = equal_from (hop_cmp one other) (hop_cmp other one) (hop_cmp_total.antisymm one other) one_not other_not in
+    let equal : hop_cmp one other ≡ Equal = neither_before hop_cmp hop_cmp_total one other one_not other_not in
     let links = then_equal (nat_cmp one.link other.link) _ equal in
     let pins = then_equal (nat_cmp one.pin other.pin) _ links.1 in
     let times = then_equal (nat_cmp one.at other.at) _ pins.1 in

@@ -5,6 +5,11 @@ pub mod SumsOverLists
 pub mod Counts
 pub mod FittingCells
 pub mod GatheredLists
+pub mod ListedLists
+pub mod SortedLists
+pub mod NumberOrders
+pub mod GatheredOrder
+pub mod CountsOverLists
 pub mod Histories
 pub mod Orders
 pub mod ReadyNets

@@ -1,8 +1,6 @@
-pub mod SortedLists
 pub mod EntryOrder
 pub mod LeadsInTime
 pub mod DealtPrograms
-pub mod NeededWires
 pub mod ListParts
 pub mod Givers
 pub mod DueReads
