@@ -88,10 +88,7 @@ module _ {X : Type 0} where
 
 -- ---- by three numbers, one after the other
 
-module _ {X : Type 0} (before : X → X → Bool) (order : IsStrictWeakOrder before) (first second third : X → ℕ)
-    (by_first : (x y : X) → first x < first y → before x y ≡ true)
-    (by_second : (x y : X) → first x ≡ first y → second x < second y → before x y ≡ true)
-    (by_third : (x y : X) → first x ≡ first y → second x ≡ second y → third x < third y → before x y ≡ true) where
+module _ {X : Type 0} (first second third : X → ℕ) where
   -- the elements with three numbers
   abbrev pub with_keys : List X → ℕ → ℕ → ℕ → List X
   with_keys xs i j k = filter (has_key third k) (filter (has_key second j) (filter (has_key first i) xs))
@@ -100,9 +97,13 @@ module _ {X : Type 0} (before : X → X → Bool) (order : IsStrictWeakOrder bef
   abbrev pub gathered_by_keys : ℕ → ℕ → ℕ → List X → List X
   gathered_by_keys firsts seconds thirds xs = gather (λ i. gather (λ j. gather (with_keys xs i j) thirds) seconds) firsts
 
+module _ {X : Type 0} (before : X → X → Bool) (order : IsStrictWeakOrder before) (first second third : X → ℕ)
+    (by_first : (x y : X) → first x < first y → before x y ≡ true)
+    (by_second : (x y : X) → first x ≡ first y → second x < second y → before x y ≡ true)
+    (by_third : (x y : X) → first x ≡ first y → second x ≡ second y → third x < third y → before x y ≡ true) where
   -- a list whose elements with the same three numbers are in order already is gathered by these when it is put in order
   pub sorted_is_gathered : (firsts seconds thirds : ℕ) (xs : List X) → AllByRecursion (λ x. first x < firsts) xs → AllByRecursion (λ x. second x < seconds) xs → AllByRecursion (λ x. third x < thirds) xs
-      → ((i j k : ℕ) → Rises before (with_keys xs i j k)) → sorted before xs ≡ gathered_by_keys firsts seconds thirds xs
+      → ((i j k : ℕ) → Rises before (with_keys first second third xs i j k)) → sorted before xs ≡ gathered_by_keys first second third firsts seconds thirds xs
   sorted_is_gathered firsts seconds thirds xs few_firsts few_seconds few_thirds ties = whole where
     all : List X
     all = sorted before xs
@@ -120,21 +121,21 @@ module _ {X : Type 0} (before : X → X → Bool) (order : IsStrictWeakOrder bef
     second_rises i j = rises_filter before order (has_key second j) (of_first i) (first_rises i)
 
     -- one slot
-    slot : (i j k : ℕ) → filter (has_key third k) (of_second i j) ≡ with_keys xs i j k
+    slot : (i j k : ℕ) → filter (has_key third k) (of_second i j) ≡ with_keys first second third xs i j k
     slot i j k =
         let one = filter_sorted before order (has_key first i) xs in
         let two = filter_sorted before order (has_key second j) (filter (has_key first i) xs) in
         let three = filter_sorted before order (has_key third k) (filter (has_key second j) (filter (has_key first i) xs)) in
         ap (λ (list : List X). filter (has_key third k) (filter (has_key second j) list)) one ∙ ap (filter (has_key third k)) two ∙ three
-        ∙ sorted_in_order before order (with_keys xs i j k) (ties i j k)
+        ∙ sorted_in_order before order (with_keys first second third xs i j k) (ties i j k)
 
     -- those of two numbers, and of one
-    seconds_are : (i j : ℕ) → of_second i j ≡ gather (with_keys xs i j) thirds
+    seconds_are : (i j : ℕ) → of_second i j ≡ gather (with_keys first second third xs i j) thirds
     seconds_are i j =
         let same = both i j in
         let small = all_filter before (λ x. third x < thirds) (has_key second j) (of_first i) (all_filter before (λ x. third x < thirds) (has_key first i) (sorted before xs) (all_sorted before (λ x. third x < thirds) xs few_thirds)) in
         let rises = rises_by third before (λ x. (first x ≡ i) × (second x ≡ j)) (λ x y one other less. by_third x y (one.0 ∙ sym other.0) (one.1 ∙ sym other.1) less) (of_second i j) same (second_rises i j) in
-        rises_gathered third thirds (of_second i j) small rises ∙ gather_agree (λ k. filter (has_key third k) (of_second i j)) (with_keys xs i j) thirds (λ k below. slot i j k) where
+        rises_gathered third thirds (of_second i j) small rises ∙ gather_agree (λ k. filter (has_key third k) (of_second i j)) (with_keys first second third xs i j) thirds (λ k below. slot i j k) where
           join : (P Q : X → Type 0) (ys : List X) → AllByRecursion P ys → AllByRecursion Q ys → AllByRecursion (λ x. P x × Q x) ys
           join P Q [] one other = tt
           join P Q (y ∷ ys) one other = ((one.0, other.0), join P Q ys one.1 other.1)
@@ -142,17 +143,37 @@ module _ {X : Type 0} (before : X → X → Bool) (order : IsStrictWeakOrder bef
           both : (m n : ℕ) → AllByRecursion (λ x. (first x ≡ m) × (second x ≡ n)) (of_second m n)
           both m n = join (λ x. first x ≡ m) (λ x. second x ≡ n) (of_second m n) (all_filter before (λ x. first x ≡ m) (has_key second n) (of_first m) (keys_of first m (sorted before xs))) (keys_of second n (of_first m))
 
-    firsts_are : (i : ℕ) → of_first i ≡ gather (λ j. gather (with_keys xs i j) thirds) seconds
+    firsts_are : (i : ℕ) → of_first i ≡ gather (λ j. gather (with_keys first second third xs i j) thirds) seconds
     firsts_are i =
         let small = all_filter before (λ x. second x < seconds) (has_key first i) (sorted before xs) (all_sorted before (λ x. second x < seconds) xs few_seconds) in
         let rises = rises_by second before (λ x. first x ≡ i) (λ x y one other less. by_second x y (one ∙ sym other) less) (of_first i) (keys_of first i (sorted before xs)) (first_rises i) in
-        rises_gathered second seconds (of_first i) small rises ∙ gather_agree (of_second i) (λ j. gather (with_keys xs i j) thirds) seconds (λ j below. seconds_are i j)
+        rises_gathered second seconds (of_first i) small rises ∙ gather_agree (of_second i) (λ j. gather (with_keys first second third xs i j) thirds) seconds (λ j below. seconds_are i j)
 
-    whole : sorted before xs ≡ gathered_by_keys firsts seconds thirds xs
+    whole : sorted before xs ≡ gathered_by_keys first second third firsts seconds thirds xs
     whole =
         let small = all_sorted before (λ x. first x < firsts) xs few_firsts in
         let rises = rises_by first before (λ x. Unit {0}) (λ x y one other less. by_first x y less) (sorted before xs) (units (sorted before xs)) (sorted_rises before order xs) in
-        rises_gathered first firsts (sorted before xs) small rises ∙ gather_agree of_first (λ i. gather (λ j. gather (with_keys xs i j) thirds) seconds) firsts (λ i below. firsts_are i) where
+        rises_gathered first firsts (sorted before xs) small rises ∙ gather_agree of_first (λ i. gather (λ j. gather (with_keys first second third xs i j) thirds) seconds) firsts (λ i below. firsts_are i) where
           units : (ys : List X) → AllByRecursion (λ x. Unit {0}) ys
           units [] = tt
           units (y ∷ ys) = (tt, units ys)
+
+  -- where an order goes by these numbers alone, elements with the same three stay as they stood
+  pub sorted_is_gathered_stably : ((x y : X) → first x ≡ first y → second x ≡ second y → third x ≡ third y → before x y ≡ false) → (firsts seconds thirds : ℕ) (xs : List X)
+      → AllByRecursion (λ x. first x < firsts) xs → AllByRecursion (λ x. second x < seconds) xs → AllByRecursion (λ x. third x < thirds) xs → sorted before xs ≡ gathered_by_keys first second third firsts seconds thirds xs
+  sorted_is_gathered_stably tied firsts seconds thirds xs few_firsts few_seconds few_thirds = sorted_is_gathered firsts seconds thirds xs few_firsts few_seconds few_thirds ties where
+    own_rise : (i j k : ℕ) (ys : List X) → AllByRecursion (λ x. first x ≡ i) ys → AllByRecursion (λ x. second x ≡ j) ys → AllByRecursion (λ x. third x ≡ k) ys → Rises before ys
+    own_rise i j k [] ones twos threes = tt
+    own_rise i j k (x ∷ ys) ones twos threes = (none ys ones.1 twos.1 threes.1, own_rise i j k ys ones.1 twos.1 threes.1) where
+      none : (zs : List X) → AllByRecursion (λ z. first z ≡ i) zs → AllByRecursion (λ z. second z ≡ j) zs → AllByRecursion (λ z. third z ≡ k) zs → AllByRecursion (λ z. before z x ≡ false) zs
+      none [] its two three = tt
+      none (z ∷ zs) its two three = (tied z x (its.0 ∙ sym ones.0) (two.0 ∙ sym twos.0) (three.0 ∙ sym threes.0), none zs its.1 two.1 three.1)
+
+    ties : (i j k : ℕ) → Rises before (with_keys first second third xs i j k)
+    ties i j k =
+        let own = filter (has_key first i) xs in
+        let both = filter (has_key second j) own in
+        own_rise i j k (with_keys first second third xs i j k)
+        (all_filter before (λ x. first x ≡ i) (has_key third k) both (all_filter before (λ x. first x ≡ i) (has_key second j) own (keys_of first i xs)))
+        (all_filter before (λ x. second x ≡ j) (has_key third k) both (keys_of second j own))
+        (keys_of third k both)

@@ -5,6 +5,7 @@ pub mod SumsOverLists
 pub mod Counts
 pub mod FittingCells
 pub mod GatheredLists
+pub mod ListParts
 pub mod ListedLists
 pub mod SortedLists
 pub mod NumberOrders
@@ -16,3 +17,4 @@ pub mod ReadyNets
 pub mod Levels
 pub mod TruthTables
 pub mod SameCovers
+pub mod WrittenBits

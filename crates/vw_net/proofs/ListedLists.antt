@@ -1,7 +1,7 @@
 -- Lists that are gathered from numbers and from numbered elements: what they are, and which elements they have.
-use Rattle.std.proofs.Common.{◌≡◌, ◌<◌, ◌≤◌, ◌+◌, ◌⊎◌, inl, inr, ℕ, zero, suc, Bool, true, false, cond, List, [], ◌∷◌, ◌++◌, length, map, get_or, slice_get, Some, ap, ap₂, refl, sym, subst, ◌∙◌, ⊎_elim, append-nil, append_assoc, true≢false, arith}
+use Rattle.std.proofs.Common.{◌≡◌, ◌<◌, ◌≤◌, ◌+◌, ◌||◌, ◌⊎◌, inl, inr, ℕ, zero, suc, Bool, true, false, cond, List, [], ◌∷◌, ◌++◌, length, map, get_or, slice_get, Some, None, ap, ap₂, refl, sym, subst, ◌∙◌, ⊎_elim, append-nil, append_assoc, true≢false, arith}
 use Rattle.std.specs.Prelude.{sum_by}
-use Rattle.std.specs.List.{AllPairs, flat_map, list_any, range_with_len}
+use Rattle.std.specs.List.{AllPairs, find, flat_map, list_any, range_with_len}
 use Rattle.std.proofs.lemmas.Bool.{cases_eq, cases_lt, or_cases, or_left, or_right}
 use Rattle.std.proofs.lemmas.Grind.{flat_map-append}
 use Rattle.std.proofs.lemmas.List.{map-append}
@@ -247,6 +247,23 @@ module _ {X : Type 0} where
     any_at p one [] place at is = absurd (none-some one at)
     any_at p one (y ∷ ys) zero at is = or_left (p y) (list_any p ys) (ap p (same_Some y one at) ∙ is)
     any_at p one (y ∷ ys) (suc place) at is = or_right (p y) (list_any p ys) (any_at p one ys place at is)
+
+module _ {X : Type 0} where
+  -- the first one that passes
+  pub find_stands : (test : X → Bool) (x : X) (xs : List X) → find test xs ≡ Some x → StandsIn x xs × (test x ≡ true)
+  find_stands test x [] is = absurd (none-some x is)
+  find_stands test x (y ∷ ys) is = by (test y) refl is (find_stands test x ys) where
+    by : (passes : Bool) → test y ≡ passes → cond passes (Some y) (find test ys) ≡ Some x → (find test ys ≡ Some x → StandsIn x ys × (test x ≡ true)) → StandsIn x (y ∷ ys) × (test x ≡ true)
+    by true passes found rest = let same : y ≡ x = same_Some y x found in ((0, found), ap test (sym same) ∙ passes)
+    by false passes found rest = let behind = rest found in ((suc behind.0.0, behind.0.1), behind.1)
+
+  -- or none does
+  pub find_none : (test : X → Bool) (xs : List X) → find test xs ≡ None → list_any test xs ≡ false
+  find_none test [] is = refl
+  find_none test (y ∷ ys) is = by (test y) is (find_none test ys) where
+    by : (passes : Bool) → cond passes (Some y) (find test ys) ≡ None → (find test ys ≡ None → list_any test ys ≡ false) → (passes || list_any test ys) ≡ false
+    by true found rest = absurd (none-some y (sym found))
+    by false found rest = rest found
 
 -- ---- places in lists of lists
 

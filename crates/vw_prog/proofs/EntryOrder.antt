@@ -1,11 +1,11 @@
 -- The order of the entries of a timetable.
-use Rattle.std.proofs.Common.{◌≡◌, ◌<◌, ℕ, true, false, nat_lt, eqb, refl, eq-eqb, lt-ltb, arith}
+use Rattle.std.proofs.Common.{◌≡◌, ◌<◌, true, false, ◌∙◌}
 use Rattle.std.specs.Cmp.{IsStrictWeakOrder, IsTotalOrder}
-use Rattle.std.specs.Ordering.{nat_cmp}
+use Rattle.std.specs.Ordering.{nat_cmp, ordering_then}
 use Rattle.std.specs.declared.cmp.Ordering.TheVariants.{Equal}
 use Rattle.std.proofs.lemmas.Cmp.{nat_cmp_total, on_total, then_total}
 use Rattle.std.proofs.lemmas.List.Sorted.{ranks_by}
-use Rattle.vw_net.proofs.NumberOrders.{nat_cmp-equal, neither_before, then_equal}
+use Rattle.vw_net.proofs.NumberOrders.{less_first, nat_cmp-equal, neither_before, same_first, then_equal}
 use Rattle.vw_prog.specs.declared.entry.Entry.{Entry}
 use Rattle.vw_prog.specs.Timetable.{comes_before, entry_cmp}
 
@@ -38,15 +38,11 @@ same_entry one other one_not other_not =
 -- ---- what comes before what
 
 pub by_moment : (one other : Entry) → one.moment < other.moment → comes_before one other ≡ true
-by_moment one other less = let is : nat_lt one.moment other.moment ≡ true = lt-ltb one.moment other.moment less in rw is refl
+by_moment one other less = less_first one.moment other.moment (ordering_then (nat_cmp one.link other.link) (ordering_then (nat_cmp one.place other.place) (ordering_then (nat_cmp one.node other.node) (nat_cmp one.net other.net)))) less
 
 pub by_place : (one other : Entry) → one.moment ≡ other.moment → one.link ≡ other.link → one.place < other.place → comes_before one other ≡ true
 by_place one other moment link less =
-    let no_moment : nat_lt one.moment other.moment ≡ false = not_less one.moment other.moment moment in
-    let same_moment : eqb one.moment other.moment ≡ true = eq-eqb one.moment other.moment moment in
-    let no_link : nat_lt one.link other.link ≡ false = not_less one.link other.link link in
-    let same_link : eqb one.link other.link ≡ true = eq-eqb one.link other.link link in
-    let is : nat_lt one.place other.place ≡ true = lt-ltb one.place other.place less in
-    rw (no_moment, same_moment, no_link, same_link, is) refl where
-      not_less : (a b : ℕ) → a ≡ b → nat_lt a b ≡ false
-      not_less a b same = grind (arith, same)
+    let behind = ordering_then (nat_cmp one.node other.node) (nat_cmp one.net other.net) in
+    let places = ordering_then (nat_cmp one.place other.place) behind in
+    same_first one.moment other.moment (ordering_then (nat_cmp one.link other.link) places) moment
+    ∙ same_first one.link other.link places link ∙ less_first one.place other.place behind less

@@ -21,7 +21,7 @@ use Rattle.vw_net.proofs.CountsOverLists.{count_cons}
 use Rattle.vw_prog.specs.declared.entry.Entry.{Entry}
 use Rattle.vw_prog.specs.Due.{gives, is_source}
 use Rattle.vw_prog.specs.Timetable.{entries, gate_entries, gate_entry, hop_entries, sent_entry, taken_entry, wire_entries}
-use Rattle.vw_prog.proofs.ListParts.{any_flat_map}
+use Rattle.vw_net.proofs.ListParts.{any_flat_map}
 
 -- ---- entries that are there
 

@@ -1,7 +1,6 @@
 pub mod EntryOrder
 pub mod LeadsInTime
 pub mod DealtPrograms
-pub mod ListParts
 pub mod Givers
 pub mod DueReads
 pub mod LinkPasses
@@ -12,3 +11,4 @@ pub mod OwnedLatches
 pub mod JoinedOps
 pub mod CodesStand
 pub mod MadeCodes
+pub mod HopPlaces

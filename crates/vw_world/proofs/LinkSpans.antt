@@ -16,7 +16,7 @@ use Rattle.vw_plan.proofs.OneHopAPin.{one_user}
 use Rattle.vw_prog.specs.declared.entry.Entry.{Entry}
 use Rattle.vw_prog.specs.Timetable.{comes_before, entries, gate_entries, gate_entry, hop_entries, is_sending, is_sent, link_place, sent_entry, taken_entry, timetable, wire_entries}
 use Rattle.vw_prog.proofs.LinkPasses.{place_carries, turn_of}
-use Rattle.vw_prog.proofs.ListParts.{all_append, all_flat_map}
+use Rattle.vw_net.proofs.ListParts.{all_append, all_flat_map}
 use Rattle.vw_net.proofs.SortedLists.{all_sorted}
 use Rattle.vw_world.proofs.Spans.{count_numbers}
 

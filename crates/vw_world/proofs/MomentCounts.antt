@@ -7,7 +7,7 @@ use Rattle.vw_net.proofs.CountsOverLists.{count_cons}
 use Rattle.vw_prog.specs.declared.entry.Entry.{Entry}
 use Rattle.vw_prog.specs.Timetable.{comes_before}
 use Rattle.vw_prog.proofs.EntryOrder.{by_moment}
-use Rattle.vw_prog.proofs.ListParts.{all_at}
+use Rattle.vw_net.proofs.ListParts.{all_at}
 use Rattle.vw_net.proofs.SortedLists.{Rises}
 
 -- ---- before a place of a list in order

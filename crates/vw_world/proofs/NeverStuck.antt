@@ -22,7 +22,7 @@ use Rattle.vw_prog.specs.Timetable.{comes_before, entries, entries_at, is_at, is
 use Rattle.vw_prog.proofs.EntryOrder.{is_order}
 use Rattle.vw_prog.proofs.EntryParts.{entry_has}
 use Rattle.vw_prog.proofs.LinkPasses.{sends_are, takes_are}
-use Rattle.vw_prog.proofs.ListParts.{all_at}
+use Rattle.vw_net.proofs.ListParts.{all_at}
 use Rattle.vw_net.proofs.SortedLists.{Rises, part_rises}
 use Rattle.vw_node.specs.Positions.{sent_by, taken_by}
 use Rattle.vw_node.specs.States.{NodeState, next_action}
