@@ -1,4 +1,4 @@
 pub mod HopOrder
-pub mod WrittenPieces
+pub mod LineShapes
 pub mod ChosenLines
 pub mod ModelLines
