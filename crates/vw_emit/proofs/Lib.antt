@@ -1,4 +1,5 @@
 pub mod HopOrder
+pub mod HopsByPins
 pub mod LineShapes
 pub mod ChosenLines
 pub mod ModelLines
