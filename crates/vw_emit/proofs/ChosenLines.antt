@@ -8,7 +8,7 @@ use Rattle.vw_emit.specs.Lines.{blif_names}
 use Rattle.vw_emit.specs.Names.{chosen_name, stage_name}
 use Rattle.vw_emit.specs.Nodes.{chosen_lines, sent_name}
 use Rattle.vw_emit.specs.Steps.{choice_end, first_end, next_end}
-use Rattle.vw_emit.proofs.WrittenPieces.{first_shape, next_shape}
+use Rattle.vw_emit.proofs.LineShapes.{first_shape, next_shape}
 
 pub chosen_pieces : (planned : PlannedBoard) (outlet : Outlet) → codes ".names" ++ ((32 ∷ stage_name outlet.hop.at) ++ ((32 ∷ sent_name planned outlet.hop) ++ choice_end outlet)) ≡ lines_text (chosen_lines planned outlet)
 chosen_pieces planned outlet = by (outlet.number == 0) where

@@ -1,11 +1,12 @@
 -- The order of hops by the pins by which they leave.
-use Rattle.std.proofs.Common.{◌≡◌, ℕ, Bool, true, false, cond, nat_lt, eqb, refl, true≢false, eqb-true}
+use Rattle.std.proofs.Common.{◌≡◌, ◌<◌, ◌∙◌, ◌⊎◌, true, false, ⊎_elim}
 use Rattle.std.specs.Cmp.{IsStrictWeakOrder, IsTotalOrder}
-use Rattle.std.specs.Ordering.{is_lt, nat_cmp, ordering_reverse, ordering_then}
+use Rattle.std.specs.Ordering.{nat_cmp, ordering_then}
 use Rattle.std.specs.declared.cmp.Ordering.{Ordering}
-use Rattle.std.specs.declared.cmp.Ordering.TheVariants.{Less, Equal, Greater}
+use Rattle.std.specs.declared.cmp.Ordering.TheVariants.{Equal}
 use Rattle.std.proofs.lemmas.Cmp.{nat_cmp_total, on_total, then_total}
 use Rattle.std.proofs.lemmas.List.Sorted.{ranks_by}
+use Rattle.vw_net.proofs.NumberOrders.{less_first, nat_cmp-equal, neither_before, same_first, then_equal}
 use Rattle.vw_emit.specs.declared.numbered_hop.NumberedHop.{NumberedHop}
 use Rattle.vw_emit.specs.Outlets.{hop_cmp, leaves_before}
 
@@ -25,29 +26,9 @@ is_order = ranks_by hop_cmp_total (λ (hop : NumberedHop). hop)
 
 -- ---- hops of which none is before the other are the same
 
-then_equal : (first second : Ordering) → ordering_then first second ≡ Equal → (first ≡ Equal) × (second ≡ Equal)
-then_equal Less second is = cc
-then_equal Equal second is = (refl, is)
-then_equal Greater second is = cc
-
-by_tests : (less same : Bool) → cond less Less (cond same Equal Greater) ≡ Equal → same ≡ true
-by_tests true same is = cc
-by_tests false true is = refl
-by_tests false false is = cc
-
-nat_cmp-equal : (a b : ℕ) → nat_cmp a b ≡ Equal → a ≡ b
-nat_cmp-equal a b is = eqb-true a b (by_tests (nat_lt a b) (eqb a b) is)
-
-equal_from : (one other : Ordering) → one ≡ ordering_reverse other → is_lt one ≡ false → is_lt other ≡ false → one ≡ Equal
-equal_from Less other turned one_not other_not = absurd (true≢false one_not)
-equal_from Equal other turned one_not other_not = refl
-equal_from Greater Less turned one_not other_not = absurd (true≢false other_not)
-equal_from Greater Equal turned one_not other_not = cc
-equal_from Greater Greater turned one_not other_not = cc
-
 pub same_hop : (one other : NumberedHop) → leaves_before one other ≡ false → leaves_before other one ≡ false → one ≡ other
 same_hop one other one_not other_not =
-    let equal : hop_cmp one other ≡ Equal = equal_from (hop_cmp one other) (hop_cmp other one) (hop_cmp_total.antisymm one other) one_not other_not in
+    let equal : hop_cmp one other ≡ Equal = neither_before hop_cmp hop_cmp_total one other one_not other_not in
     let links = then_equal (nat_cmp one.link other.link) _ equal in
     let pins = then_equal (nat_cmp one.pin other.pin) _ links.1 in
     let times = then_equal (nat_cmp one.at other.at) _ pins.1 in
@@ -66,3 +47,38 @@ same_hop one other one_not other_not =
     let to : one.to ≡ other.to = nat_cmp-equal one.to other.to ends.0 in
     let arrival : one.arrival ≡ other.arrival = nat_cmp-equal one.arrival other.arrival ends.1 in
     λ i. record { link = link i; pin = pin i; at = at i; wire = wire i; hop = hop i; net = net i; from = from i; to = to i; arrival = arrival i }
+
+-- ---- which hop comes first
+
+-- what is compared where the links are the same, then the pins, then the microcycles, then the wires
+abbrev by_hop : NumberedHop → NumberedHop → Ordering
+by_hop one other =
+    ordering_then (nat_cmp one.hop other.hop)
+    (ordering_then (nat_cmp one.net other.net)
+    (ordering_then (nat_cmp one.from other.from)
+    (ordering_then (nat_cmp one.to other.to) (nat_cmp one.arrival other.arrival))))
+
+abbrev by_wire : NumberedHop → NumberedHop → Ordering
+by_wire one other = ordering_then (nat_cmp one.wire other.wire) (by_hop one other)
+
+abbrev by_microcycle : NumberedHop → NumberedHop → Ordering
+by_microcycle one other = ordering_then (nat_cmp one.at other.at) (by_wire one other)
+
+abbrev by_pin : NumberedHop → NumberedHop → Ordering
+by_pin one other = ordering_then (nat_cmp one.pin other.pin) (by_microcycle one other)
+
+pub lower_link : (one other : NumberedHop) → one.link < other.link → leaves_before one other ≡ true
+lower_link one other less = less_first one.link other.link (by_pin one other) less
+
+pub lower_pin : (one other : NumberedHop) → one.link ≡ other.link → one.pin < other.pin → leaves_before one other ≡ true
+lower_pin one other link less = same_first one.link other.link (by_pin one other) link ∙ less_first one.pin other.pin (by_microcycle one other) less
+
+pub earlier_hop : (one other : NumberedHop) → one.link ≡ other.link → one.pin ≡ other.pin → one.at < other.at → leaves_before one other ≡ true
+earlier_hop one other link pin less =
+    same_first one.link other.link (by_pin one other) link ∙ same_first one.pin other.pin (by_microcycle one other) pin ∙ less_first one.at other.at (by_wire one other) less
+
+pub earlier_wire : (one other : NumberedHop) → one.link ≡ other.link → one.pin ≡ other.pin → one.at ≡ other.at → (one.wire < other.wire) ⊎ ((one.wire ≡ other.wire) × (one.hop < other.hop)) → leaves_before one other ≡ true
+earlier_wire one other link pin at first =
+    let behind = ordering_then (nat_cmp one.net other.net) (ordering_then (nat_cmp one.from other.from) (ordering_then (nat_cmp one.to other.to) (nat_cmp one.arrival other.arrival))) in
+    same_first one.link other.link (by_pin one other) link ∙ same_first one.pin other.pin (by_microcycle one other) pin ∙ same_first one.at other.at (by_wire one other) at
+    ∙ ⊎_elim (λ less. less_first one.wire other.wire (by_hop one other) less) (λ both. same_first one.wire other.wire (by_hop one other) both.0 ∙ less_first one.hop other.hop behind both.1) first

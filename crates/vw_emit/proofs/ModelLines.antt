@@ -12,7 +12,9 @@ use Rattle.vw_emit.specs.Lines.{spaced_line, blif_model}
 use Rattle.vw_emit.specs.Names.{column_name, node_name, output_name, shown_name}
 use Rattle.vw_emit.specs.Nodes.{NodePort, core_items, node_inputs, node_items, output_lines_at, node_outputs, pin_items, same_port}
 use Rattle.vw_emit.specs.Steps.{with_newline, numbered_ports, port_text, ports_text}
-use Rattle.vw_emit.proofs.WrittenPieces.{grown_lines, model_shape, placed_shape, spaced_map}
+use Rattle.vw_text.proofs.LineTexts.{spaced_map}
+use Rattle.vw_text.proofs.WrittenPieces.{grown_lines}
+use Rattle.vw_emit.proofs.LineShapes.{model_shape, placed_shape}
 
 abbrev spaced : List (List ℕ) → List ℕ
 spaced words = flat_map (λ other. 32 ∷ other) words

@@ -8,7 +8,7 @@ use Rattle.vw_plan.specs.declared.wire.Hop.{Hop}
 use Rattle.vw_plan.specs.declared.wire.Wire.{Wire}
 use Rattle.vw_plan.specs.Lead.{arrival}
 use Rattle.vw_plan.specs.PlannedBoard.{PlannedBoard}
-use Rattle.vw_prog.specs.Sorting.{sorted}
+use Rattle.vw_net.specs.Sorting.{sorted}
 use Rattle.vw_prog.specs.Timetable.{link_place}
 use Rattle.vw_emit.specs.declared.numbered_hop.NumberedHop.{NumberedHop}
 use Rattle.vw_emit.specs.declared.outlet.Outlet.{Outlet}

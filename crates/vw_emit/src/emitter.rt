@@ -2,7 +2,7 @@
 ghost use Rattle.std.specs.Prelude.{◌≡◌, None};
 ghost use Rattle.vw_leads.specs.Pairs.{HasPairs};
 ghost use Rattle.vw_leads.specs.Wires.{wire_pairs};
-ghost use Rattle.vw_prog.specs.Sorting.{sorted};
+ghost use Rattle.vw_net.specs.Sorting.{sorted};
 ghost use Rattle.vw_emit.specs.Outlets.{hops_of_wires, leaves_before, outlets_behind};
 
 use crate::numbered_hop::NumberedHop;

@@ -1,6 +1,6 @@
 //! The hops of a plan by the pins by which they leave.
 ghost use Rattle.std.specs.Prelude.{◌≡◌, None, IfOk};
-ghost use Rattle.vw_prog.specs.Sorting.{sorted};
+ghost use Rattle.vw_net.specs.Sorting.{sorted};
 ghost use Rattle.vw_emit.specs.Outlets.{have_one_pin, is_of_pin, leaves_before, outlets_behind};
 
 use crate::numbered_hop::NumberedHop;

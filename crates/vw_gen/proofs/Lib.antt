@@ -1,4 +1,3 @@
-pub mod WrittenRanges
 pub mod StatesAfter
 pub mod WrittenCells
 pub mod WrittenTexts

@@ -2,13 +2,7 @@
 use Rattle.std.proofs.Common.{◌≡◌, ◌++◌, ◌∷◌, [], ◌∙◌, ℕ, List, ap, sym, append_assoc}
 use Rattle.std.specs.Prelude.{codes}
 use Rattle.vw_text.specs.Physical.{lines_text}
-use Rattle.vw_gen.proofs.WrittenRanges.{lines_text-append}
-
--- a word, and what stands behind it, make a line
-pub line_written : (old word rest begun text more : List ℕ) → begun ≡ old ++ word → text ≡ begun ++ rest → more ≡ text ++ 10 ∷ [] → more ≡ old ++ ((word ++ rest) ++ 10 ∷ [])
-line_written old word rest begun text more first then last =
-    let joined : ((old ++ word) ++ rest) ++ 10 ∷ [] ≡ old ++ ((word ++ rest) ++ 10 ∷ []) = simp append_assoc in
-    last ∙ ap (λ (front : List ℕ). front ++ 10 ∷ []) (then ∙ ap (λ (front : List ℕ). front ++ rest) first) ∙ joined
+use Rattle.vw_text.proofs.LineTexts.{lines_text-append}
 
 -- the pieces of a design
 pub design_written : (outputs : List ℕ) (cells : List (List ℕ)) (begun with_outputs with_cells all : List ℕ)

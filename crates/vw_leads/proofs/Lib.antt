@@ -6,3 +6,4 @@ pub mod LinkPlaces
 pub mod LastHops
 pub mod WiresBrought
 pub mod HomeLeads
+pub mod HopNumbers

@@ -1,5 +1,5 @@
 -- A job's script for a link has a word in each clock for each hop that goes over the link.
-use Rattle.std.proofs.Common.{◌≡◌, ◌<◌, ◌≤◌, ◌+◌, ◌*◌, ◌%◌, ◌&&◌, ◌++◌, ◌∷◌, ℕ, zero, suc, Bool, true, false, List, [], length, map, drop, get_or, mul_comm, eqb, slice_get, Some, ap, refl, sym, subst, ◌∙◌, eqb-true, eq-eqb, true≢false, Option, None, arith}
+use Rattle.std.proofs.Common.{◌≡◌, ◌<◌, ◌≤◌, ◌+◌, ◌*◌, ◌%◌, ◌&&◌, ◌∷◌, ℕ, zero, suc, Bool, true, false, List, [], length, map, drop, get_or, mul_comm, eqb, slice_get, Some, ap, refl, sym, subst, ◌∙◌, eqb-true, eq-eqb, true≢false, Option, None, arith}
 use Rattle.std.specs.List.{count_by, filter, sum_by}
 use Rattle.std.proofs.lemmas.Bool.{and_from, and_parts}
 use Rattle.std.specs.Prelude.{unwrap_or}
@@ -15,29 +15,16 @@ use Rattle.vw_plan.specs.PlannedBoard.{PlannedBoard}
 use Rattle.vw_plan.specs.Sound.{IsRouted, IsSound, has_pin}
 use Rattle.vw_plan.specs.Links.{HaveSameEnds}
 use Rattle.vw_plan.proofs.LinkDelays.{one_number}
-use Rattle.vw_plan.proofs.NeededPairs.{count_cons}
+use Rattle.vw_net.proofs.CountsOverLists.{count_append, count_cons, count_sorted}
 use Rattle.vw_leads.specs.Links.{joins, link_number}
 use Rattle.vw_leads.proofs.FirstPlaces.{LeadsTo}
 use Rattle.vw_leads.proofs.LinkPlaces.{link_leads}
 use Rattle.vw_prog.specs.declared.entry.Entry.{Entry}
 use Rattle.vw_prog.specs.declared.job.Job.{Job}
 use Rattle.vw_prog.specs.Scripts.{planned_of, script, script_before, word_at}
-use Rattle.vw_prog.specs.Sorting.{sorted}
 use Rattle.vw_prog.specs.Timetable.{comes_before, entries, gate_entries, gate_entry, hop_entries, is_sending, is_sent, link_place, passes, sent_entry, taken_entry, timetable, wire_entries}
 use Rattle.vw_prog.proofs.LinkPasses.{found_link, place_carries, turn_of}
-use Rattle.vw_prog.proofs.SortedLists.{sum_sorted}
 use Rattle.vw_link.specs.Counts.{hops_over, over}
-
-count_append : {X : Type 0} (test : X → Bool) (xs ys : List X) → count_by test (xs ++ ys) ≡ count_by test xs + count_by test ys
-count_append test [] ys = omega arith
-count_append test (x ∷ xs) ys = omega (arith, count_cons test x (xs ++ ys), count_cons test x xs, count_append test xs ys)
-
-count_sum : {X : Type 0} (test : X → Bool) (xs : List X) → count_by test xs ≡ sum_by (λ x. one_if (test x)) xs
-count_sum test [] = refl
-count_sum test (x ∷ xs) = omega (arith, count_cons test x xs, sum_by-cons (λ y. one_if (test y)) x xs, count_sum test xs)
-
-count_sorted : (test : Entry → Bool) (xs : List Entry) → count_by test (sorted comes_before xs) ≡ count_by test xs
-count_sorted test xs = count_sum test (sorted comes_before xs) ∙ sum_sorted comes_before (λ x. one_if (test x)) xs ∙ sym (count_sum test xs)
 
 same_from : (one other : Bool) → (one ≡ true → other ≡ true) → (other ≡ true → one ≡ true) → one_if one ≡ one_if other
 same_from true true leads back = refl
@@ -139,7 +126,7 @@ module _ (planned : PlannedBoard) (sound : IsSound planned) (number : ℕ) (link
       omega (
         arith,
         length-filter (is_sent number) (timetable planned),
-        count_sorted (is_sent number) (entries planned),
+        count_sorted comes_before (is_sent number) (entries planned),
         count_append (is_sent number) (gate_entries planned 0 planned.ordered.order) (wire_entries links planned.plan.wires),
         gates_none 0 planned.ordered.order,
         in_wires planned.plan.wires its_pin,

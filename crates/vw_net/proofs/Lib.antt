@@ -5,6 +5,12 @@ pub mod SumsOverLists
 pub mod Counts
 pub mod FittingCells
 pub mod GatheredLists
+pub mod ListParts
+pub mod ListedLists
+pub mod SortedLists
+pub mod NumberOrders
+pub mod GatheredOrder
+pub mod CountsOverLists
 pub mod Histories
 pub mod Orders
 pub mod ReadyNets
@@ -16,3 +22,4 @@ pub mod Places
 pub mod TruthTables
 pub mod RowMasks
 pub mod SameCovers
+pub mod WrittenBits

@@ -1,5 +1,7 @@
 pub mod Lists
 pub mod FirstFound
+pub mod Sorting
+pub mod Gathered
 pub mod Mark
 pub mod Table
 pub mod Cover

@@ -2,3 +2,4 @@
 pub mod Bits
 pub mod MatchedPlaces
 pub mod Masks
+pub mod WrittenBits

@@ -33,7 +33,9 @@ use Rattle.vw_node.specs.Fits.{IsFit, IsShare, bit_by, bit_in, slot_bit, state_o
 use Rattle.vw_node.specs.Lists.{tabulate}
 use Rattle.vw_node.specs.Moves.{MakesSome}
 use Rattle.vw_node.specs.Positions.{Agrees}
-use Rattle.vw_node.specs.Slots.{row_at, with_bits, with_row}
+use Rattle.vw_net.proofs.WrittenBits.{length-with_bits}
+use Rattle.vw_net.specs.Steps.WrittenBits.{with_bits}
+use Rattle.vw_node.specs.Slots.{row_at, with_row}
 use Rattle.vw_node.specs.Starts.{net_count}
 use Rattle.vw_node.specs.States.{NodeState, input_bit, kept_bit, latch_bit, latch_number, slot, start_bit, stepped, stepped_bit}
 use Rattle.vw_node.proofs.EntryKinds.{next_entry}
@@ -41,7 +43,7 @@ use Rattle.vw_node.proofs.Held.{latch_is, latch_within}
 use Rattle.vw_node.proofs.MovesOn.{makes_one}
 use Rattle.vw_node.proofs.NodeSteps.{next_of, stepped_agrees}
 use Rattle.vw_node.proofs.OpActions.{op_begins}
-use Rattle.vw_node.proofs.SlotBits.{bits_are, length-with_bits, slots_long, slots_within}
+use Rattle.vw_node.proofs.SlotBits.{bits_are, slots_long, slots_within}
 use Rattle.vw_node.proofs.SourceBits.{latch_or, length-with_row, row_is, source_bit}
 use Rattle.vw_node.proofs.StepAnswers.{many_are, moved_to, op_within, unfinished}
 use Rattle.vw_node.proofs.Values.{get_or-tabulate, length-tabulate}

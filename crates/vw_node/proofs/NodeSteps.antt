@@ -22,7 +22,7 @@ use Rattle.vw_prog.specs.Due.{reads}
 use Rattle.vw_prog.specs.Ends.{IsExpected, IsNextWord, SeenEnds, counted, refused}
 use Rattle.vw_prog.specs.Scripts.{planned_of, script, value_at, word_at}
 use Rattle.vw_prog.specs.Timetable.{entries_at, is_at, is_evaluating, is_sending, is_sent, is_taken, is_taking, timetable}
-use Rattle.vw_prog.proofs.ListParts.{all_at}
+use Rattle.vw_net.proofs.ListParts.{all_at}
 use Rattle.vw_prog.proofs.EntryParts.{HasParts, entry_has}
 use Rattle.vw_node.specs.Positions.{Agrees}
 use Rattle.vw_node.specs.States.{NodeState, evaluated, gate_bit, moved, next_action, slot, stepped, written}

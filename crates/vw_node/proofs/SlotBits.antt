@@ -8,7 +8,7 @@ use Rattle.std.proofs.lemmas.Option.{slice_get_within}
 use Rattle.vw_prog.specs.Codes.{slot_of}
 use Rattle.vw_node.specs.Fits.{bit_by, bit_in, slot_bit}
 use Rattle.vw_node.specs.Lists.{tabulate}
-use Rattle.vw_node.specs.Slots.{with_bits}
+use Rattle.vw_net.specs.Steps.WrittenBits.{with_bits}
 use Rattle.vw_node.proofs.Values.{get_or-tabulate, length-tabulate}
 
 -- ---- slots
@@ -117,11 +117,6 @@ many_written nets value (first ∷ some) (slot ∷ slots) bits are long net =
       by true false test is = refl
       by false true test is = is ∙ ap value (sym (eqb-true net first test))
       by false false test is = is
-
-pub length-with_bits : (slots : List ℕ) (others bits : List Bool) → length (with_bits slots others bits) ≡ length bits
-length-with_bits [] others bits = refl
-length-with_bits (slot ∷ slots) [] bits = refl
-length-with_bits (slot ∷ slots) (other ∷ others) bits = length-with_bits slots others (set bits slot other) ∙ length-set bits slot other
 
 -- whether a net is one of some
 pub one_at : (some : List ℕ) (net place : ℕ) → slice_get some place ≡ Some net → is_one some net ≡ true

@@ -20,7 +20,8 @@ use Rattle.vw_prog.specs.Codes.{IsCode, slot_of}
 use Rattle.vw_prog.specs.Due.{own_latches}
 use Rattle.vw_prog.specs.Scripts.{planned_of}
 use Rattle.vw_node.specs.Fits.{IsShare, bit_by, slot_bit}
-use Rattle.vw_node.specs.Slots.{row_at, with_bits, with_row}
+use Rattle.vw_net.specs.Steps.WrittenBits.{with_bits}
+use Rattle.vw_node.specs.Slots.{row_at, with_row}
 use Rattle.vw_node.specs.States.{input_bit}
 use Rattle.vw_node.proofs.Held.{latch_is, latch_within}
 use Rattle.vw_node.proofs.SlotBits.{is_one, many_written, none_at, slot_apart, slot_within}

@@ -8,7 +8,7 @@ use Rattle.std.proofs.lemmas.Option.{get_or_from_slice_get, slice_get_within}
 use Rattle.vw_net.specs.Steps.Bits.{one_if}
 use Rattle.vw_plan.specs.declared.link.Link.{Link}
 use Rattle.vw_plan.specs.PlannedBoard.{PlannedBoard}
-use Rattle.vw_plan.proofs.NeededPairs.{count_cons}
+use Rattle.vw_net.proofs.CountsOverLists.{count_cons}
 use Rattle.vw_prog.specs.declared.entry.Entry.{Entry}
 use Rattle.vw_prog.specs.declared.job.Job.{Job}
 use Rattle.vw_prog.specs.declared.word.Word.{Word}

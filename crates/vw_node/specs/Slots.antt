@@ -43,9 +43,3 @@ row_at share clock = option_and_then (λ rows. slice_get rows.now clock) share.r
 abbrev pub with_row : Option (List Bool) → List Bool → List Bool
 with_row None bits = bits
 with_row (Some row) bits = let count = min (length row) (length bits) in take count row ++ drop count bits
-
--- bits with others in some slots
-abbrev pub with_bits : List ℕ → List Bool → List Bool → List Bool
-with_bits [] others bits = bits
-with_bits (slot ∷ slots) [] bits = bits
-with_bits (slot ∷ slots) (other ∷ others) bits = with_bits slots others (slice_set bits slot other)

@@ -2,7 +2,8 @@
 ghost use Rattle.std.specs.Prelude.{◌≡◌, ◌<◌, false, length, map, replicate, IfOk};
 ghost use Rattle.std.specs.List.{All};
 ghost use Rattle.vw_node.specs.Fits.{bit_in};
-ghost use Rattle.vw_node.specs.Slots.{row_at, with_bits, with_row};
+ghost use Rattle.vw_net.specs.Steps.WrittenBits.{with_bits};
+ghost use Rattle.vw_node.specs.Slots.{row_at, with_row};
 
 use crate::bits::{put_bits, put_inputs};
 use std::alloc::{AllocError, Global};

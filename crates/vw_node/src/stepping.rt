@@ -5,7 +5,8 @@ ghost use Rattle.std.specs.Vec.{vec_capacity};
 ghost use Rattle.vw_node.specs.Fits.{IsFit, bit_in, state_of};
 ghost use Rattle.vw_node.specs.Moves.{MakesSome, Steps};
 ghost use Rattle.vw_node.specs.Positions.{Agrees};
-ghost use Rattle.vw_node.specs.Slots.{IsWithin, row_at, with_bits, with_gates, with_row};
+ghost use Rattle.vw_net.specs.Steps.WrittenBits.{with_bits};
+ghost use Rattle.vw_node.specs.Slots.{IsWithin, row_at, with_gates, with_row};
 
 use crate::bits::{put_bits, put_inputs, put_row, take_bits};
 use crate::gates::{run_gates, wide_bit};

@@ -15,7 +15,7 @@ use Rattle.vw_plan.specs.Needs.{is_pair}
 use Rattle.vw_plan.specs.Routes.{FollowsRoute, need_of_route, steps_of}
 use Rattle.vw_plan.specs.Sound.{leads_to, rises, share_pin}
 use Rattle.vw_plan.specs.Walks.{IsWalk}
-use Rattle.vw_plan.proofs.NeededPairs.{count_cons}
+use Rattle.vw_net.proofs.CountsOverLists.{count_cons}
 use Rattle.vw_pipe.specs.Steps.FinishedSchedules.{IsAlong, uses}
 use Rattle.vw_pipe.specs.Steps.Leads.{wires_of}
 

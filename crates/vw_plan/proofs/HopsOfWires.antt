@@ -12,7 +12,7 @@ use Rattle.vw_plan.specs.Sound.{IsRising, IsRouted, IsSentWhenUsable, IsSound, l
 use Rattle.vw_plan.specs.Wiring.{BeginsWire, EndsWire, GoesOn}
 
 -- what holds of all holds of the one at a place
-at_place : {X : Type 0} (P : X → Type 0) (xs : List X) (place : ℕ) (x : X) → All P xs → slice_get xs place ≡ Some x → P x
+pub at_place : {X : Type 0} (P : X → Type 0) (xs : List X) (place : ℕ) (x : X) → All P xs → slice_get xs place ≡ Some x → P x
 at_place P xs place x all is = subst P (get_or_from_slice_get xs place x x is) (all place x (slice_get_within xs place x is))
 
 leads_first : (from to : ℕ) (hops : List Hop) (hop : Hop) → leads_to from hops to ≡ true → slice_get hops 0 ≡ Some hop → hop.from ≡ from
@@ -54,7 +54,7 @@ after_last-at links (first ∷ second ∷ hops) zero hop is last = absurd (omega
 after_last-at links (first ∷ second ∷ hops) (suc place) hop is last = after_last-at links (second ∷ hops) place hop is (omega (arith, last))
 
 module _ (planned : PlannedBoard) (sound : IsSound planned) (number : ℕ) (wire : Wire) (there : slice_get planned.plan.wires number ≡ Some wire) where
-  routed : IsRouted planned wire
+  pub routed : IsRouted planned wire
   routed = at_place (IsRouted planned) planned.plan.wires number wire sound.routes there
 
   pub begins : (hop : Hop) → slice_get wire.hops 0 ≡ Some hop → BeginsWire planned wire hop

@@ -14,4 +14,7 @@ pub mod LinkDelays
 pub mod Walking
 pub mod Shortest
 pub mod TestedPairs
-mod Toggle
+pub mod HopLinks
+pub mod WireEnds
+pub mod NeededWires
+pub mod Toggle

@@ -11,7 +11,7 @@ use Rattle.vw_plan.specs.Lead.{arrival, carries, lag}
 use Rattle.vw_plan.specs.Links.{HaveSameEnds}
 
 -- links that carry one hop have the same ends
-same_ends : (hop : Hop) (link other : Link) → carries hop link ≡ true → carries hop other ≡ true → HaveSameEnds link other
+pub same_ends : (hop : Hop) (link other : Link) → carries hop link ≡ true → carries hop other ≡ true → HaveSameEnds link other
 same_ends hop link other first second =
     let p = and_parts (link.from == hop.from) (link.to == hop.to) first in
     let q = and_parts (other.from == hop.from) (other.to == hop.to) second in
@@ -37,8 +37,11 @@ its_delay (first ∷ links) (suc number) link hop once timely is carried =
     let whole : lag (first ∷ links) hop + 1 ≡ link.delay = rw apart rest in whole in
     ⊎_elim if_here if_later (cases_Bool (carries hop first))
 
+pub its_lag : (board : Board) (number : ℕ) (link : Link) (hop : Hop) → slice_get board.links number ≡ Some link → carries hop link ≡ true → lag board.links hop + 1 ≡ link.delay
+its_lag board number link hop is carried = its_delay board.links number link hop board.linked.separate.once board.linked.separate.timely is carried
+
 pub arrives : (board : Board) (number : ℕ) (link : Link) (hop : Hop) → slice_get board.links number ≡ Some link → carries hop link ≡ true → arrival board.links hop + 1 ≡ hop.at + link.delay
-arrives board number link hop is carried = omega (arith, its_delay board.links number link hop board.linked.separate.once board.linked.separate.timely is carried)
+arrives board number link hop is carried = omega (arith, its_lag board number link hop is carried)
 
 pub one_number : (board : Board) (one other : ℕ) (link second : Link) → slice_get board.links one ≡ Some link → slice_get board.links other ≡ Some second → HaveSameEnds link second → one ≡ other
 one_number board one other link second is its ends = ⊎_elim (λ same. same) (λ apart. ⊎_elim if_less if_more apart) (cases_order one other) where

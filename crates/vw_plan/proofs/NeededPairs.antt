@@ -8,7 +8,7 @@ use Rattle.std.specs.declared.cmp.Ordering.{Ordering}
 use Rattle.std.specs.declared.cmp.Ordering.TheVariants.{Less, Equal, Greater}
 use Rattle.std.proofs.lemmas.Bool.{cases_Bool, cases_eq, cases_lt, and_left, and_right, or_from, or_left}
 use Rattle.std.proofs.lemmas.List.Elements.{All-head, All-tail}
-use Rattle.std.proofs.lemmas.List.Sums.{sum_by-append, sum_by-cons}
+use Rattle.std.proofs.lemmas.List.Sums.{sum_by-append}
 use Rattle.std.proofs.lemmas.Map.Keys.{Less-from_sorted}
 use Rattle.vw_net.specs.declared.cell.Cell.{Cell}
 use Rattle.vw_net.specs.declared.flat.Flat.{Flat}
@@ -18,6 +18,7 @@ use Rattle.vw_plan.specs.declared.need.Need.{Need}
 use Rattle.vw_net.specs.Lists.{greatest}
 use Rattle.vw_net.specs.Steps.Bits.{one_if}
 use Rattle.vw_plan.specs.Needs.{comes_before, is_pair, needed_nodes, needed_pairs}
+use Rattle.vw_net.proofs.CountsOverLists.{count_cons}
 use Rattle.vw_plan.specs.Nets.{is_needed, node_of}
 
 -- the pair of a net and a node
@@ -25,10 +26,6 @@ abbrev pub need_of : ℕ → ℕ → Need
 need_of net node = record { net = net; to = node }
 
 -- ---- how often a pair stands
-
--- one more in front, which passes the test or doesn't
-pub count_cons : {X : Type 0} (test : X → Bool) (x : X) (xs : List X) → count_by test (x ∷ xs) ≡ one_if (test x) + count_by test xs
-count_cons test x xs = sum_by-cons (λ other. one_if (test other)) x xs
 
 count_yes : {X : Type 0} (test : X → Bool) (x : X) (xs : List X) (number : ℕ) → test x ≡ true → count_by test xs ≡ number → count_by test (x ∷ xs) ≡ number + 1
 count_yes test x xs number passes rest =

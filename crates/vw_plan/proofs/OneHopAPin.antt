@@ -1,12 +1,14 @@
 -- Hops of which no two share a pin.
-use Rattle.std.proofs.Common.{◌≡◌, ◌<◌, ◌≤◌, ◌∷◌, ◌&&◌, ◌==◌, ◌∙◌, ℕ, suc, true, false, not, List, [], length, get_or, eqb, ap, sym, ⊎_elim, true≢false, eqb-true, eq-eqb, arith}
+use Rattle.std.proofs.Common.{◌≡◌, ◌<◌, ◌≤◌, ◌∷◌, ◌&&◌, ◌==◌, ◌∙◌, ◌⊎◌, inl, inr, ℕ, suc, true, false, not, List, [], length, get_or, slice_get, Some, eqb, ap, refl, sym, ⊎_elim, true≢false, eqb-true, eq-eqb, arith}
 use Rattle.std.specs.List.{AllPairs, count_by}
-use Rattle.std.proofs.lemmas.Bool.{and_from, and_parts, cases_Bool}
+use Rattle.std.proofs.lemmas.Bool.{and_from, and_parts, cases_Bool, cases_order}
+use Rattle.vw_net.proofs.ListedLists.{flat_pairs}
 use Rattle.vw_net.specs.Steps.Bits.{one_if}
 use Rattle.vw_plan.specs.declared.wire.Hop.{Hop}
+use Rattle.vw_plan.specs.declared.wire.Wire.{Wire}
 use Rattle.vw_plan.specs.PlannedBoard.{PlannedBoard}
 use Rattle.vw_plan.specs.Sound.{IsSound, hops_of, share_pin}
-use Rattle.vw_plan.proofs.NeededPairs.{count_cons}
+use Rattle.vw_net.proofs.CountsOverLists.{count_cons}
 
 -- hops that share the pin of one share a pin
 share_both : (hop one other : Hop) → share_pin hop one ≡ true → share_pin hop other ≡ true → share_pin one other ≡ true
@@ -45,3 +47,26 @@ few_counted hop (first ∷ hops) once =
 
 pub one_user : (planned : PlannedBoard) (hop : Hop) → IsSound planned → count_by (share_pin hop) (hops_of planned.plan) ≤ 1
 one_user planned hop sound = few_counted hop (hops_of planned.plan) sound.one_hop_a_pin
+
+-- ---- by places
+
+share_turned : (hop other : Hop) → share_pin hop other ≡ true → share_pin other hop ≡ true
+share_turned hop other shares = share_both hop other hop shares (own hop) where
+  own : (one : Hop) → share_pin one one ≡ true
+  own one =
+      and_from (one.from == one.from && one.to == one.to) (one.pin == one.pin && one.at == one.at)
+      (and_from (one.from == one.from) (one.to == one.to) (eq-eqb one.from one.from refl) (eq-eqb one.to one.to refl))
+      (and_from (one.pin == one.pin) (one.at == one.at) (eq-eqb one.pin one.pin refl) (eq-eqb one.at one.at refl))
+
+-- so a hop that shares the pin and the microcycle of another one is that one: the same hop of the same wire
+pub only_user : (planned : PlannedBoard) → IsSound planned → (number place other further : ℕ) (wire second : Wire) (hop one : Hop)
+    → slice_get planned.plan.wires number ≡ Some wire → slice_get wire.hops place ≡ Some hop → slice_get planned.plan.wires other ≡ Some second → slice_get second.hops further ≡ Some one
+    → share_pin hop one ≡ true → (number ≡ other) × (place ≡ further)
+only_user planned sound number place other further wire second hop one at is there its shares =
+    let wires = planned.plan.wires in
+    let P = λ (x y : Hop). not (share_pin x y) ≡ true in
+    let hops_in = λ (w : Wire). w.hops in
+    let before = λ (less : (number < other) ⊎ ((number ≡ other) × (place < further))). true≢false (sym (flat_pairs hops_in P wires sound.one_hop_a_pin number place other further wire second hop one at is there its less) ∙ ap not shares) in
+    let after = λ (more : (other < number) ⊎ ((other ≡ number) × (further < place))). true≢false (sym (flat_pairs hops_in P wires sound.one_hop_a_pin other further number place second wire one hop there its at is more) ∙ ap not (share_turned hop one shares)) in
+    let if_same = λ (same : number ≡ other). ⊎_elim (λ equal. (same, equal)) (λ apart. ⊎_elim (λ less. absurd (before (inr (same, less)))) (λ more. absurd (after (inr (sym same, more)))) apart) (cases_order place further) in
+    ⊎_elim if_same (λ apart. ⊎_elim (λ less. absurd (before (inl less))) (λ more. absurd (after (inl more))) apart) (cases_order number other)

@@ -1,5 +1,5 @@
 -- What a cell reads is on its chip, or needed there.
-use Rattle.std.proofs.Common.{◌≡◌, ◌∷◌, ◌&&◌, ◌⊎◌, inl, inr, ℕ, zero, suc, true, false, not, List, [], length, eqb, slice_get, slice_index, Some, ap, sym, ◌∙◌, ⊎_elim, true≢false, eqb-true, eq-eqb, arith}
+use Rattle.std.proofs.Common.{◌≡◌, ◌∷◌, ◌&&◌, ◌||◌, ◌⊎◌, inl, inr, ℕ, zero, suc, true, false, not, List, [], length, eqb, slice_get, slice_index, Some, ap, sym, ◌∙◌, ⊎_elim, true≢false, eqb-true, eq-eqb, arith}
 use Rattle.std.specs.List.{list_any, zip}
 use Rattle.std.proofs.lemmas.Bool.{and_from, cases_Bool, or_left, or_right}
 use Rattle.vw_net.specs.declared.cell.Cell.{Cell}
@@ -26,3 +26,12 @@ pub read_or_needed : (flat : Flat) (chip_of : List ℕ) (number net : ℕ) (cell
 read_or_needed flat chip_of number net cell each is reads =
     let its : is_among (read_nets_at (slice_get flat.cells number)) net ≡ true = ap (λ found. is_among (read_nets_at found) net) is ∙ reads in
     ⊎_elim (λ own. inl (eqb-true (node_of flat chip_of net) (slice_index chip_of number) own)) (λ apart. inr (read_needed flat chip_of number net each its apart)) (cases_Bool (eqb (node_of flat chip_of net) (slice_index chip_of number)))
+
+-- a net that an output has is the host's own, or needed there
+pub output_or_needed : (flat : Flat) (chip_of : List ℕ) (net : ℕ) → is_among flat.outputs net ≡ true → (node_of flat chip_of net ≡ 0) ⊎ (is_needed flat chip_of net 0 ≡ true)
+output_or_needed flat chip_of net shown =
+    let if_own = λ (own : eqb (node_of flat chip_of net) 0 ≡ true). let whole : (node_of flat chip_of net ≡ 0) ⊎ (is_needed flat chip_of net 0 ≡ true) = inl (eqb-true (node_of flat chip_of net) 0 own) in whole in
+    let if_apart = λ (apart : eqb (node_of flat chip_of net) 0 ≡ false).
+    let needed = and_from (not (eqb (node_of flat chip_of net) 0)) (is_read_at flat chip_of net 0 || is_among flat.outputs net) (ap not apart) (or_right (is_read_at flat chip_of net 0) (is_among flat.outputs net) shown) in
+    let whole : (node_of flat chip_of net ≡ 0) ⊎ (is_needed flat chip_of net 0 ≡ true) = inr needed in whole in
+    ⊎_elim if_own if_apart (cases_Bool (eqb (node_of flat chip_of net) 0))

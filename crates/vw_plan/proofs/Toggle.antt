@@ -31,10 +31,10 @@ use Rattle.vw_plan.specs.Sound.{IsPlaced, IsRouted, IsRising, IsSound, IsSentWhe
 use Rattle.vw_plan.proofs.TestedPairs.{AllPairs-from_all_pairs}
 
 -- a fact of one element, and of two
-one : {A : Type 0} (P : A → Type 0) (x : A) → P x → All P (x ∷ [])
+pub one : {A : Type 0} (P : A → Type 0) (x : A) → P x → All P (x ∷ [])
 one P x here = All-cons P x [] here (All-nil P)
 
-two : {A : Type 0} (P : A → Type 0) (x y : A) → P x → P y → All P (x ∷ y ∷ [])
+pub two : {A : Type 0} (P : A → Type 0) (x y : A) → P x → P y → All P (x ∷ y ∷ [])
 two P x y here next = All-cons P x (y ∷ []) here (one P y next)
 
 four : {A : Type 0} (P : A → Type 0) (w x y z : A) → P w → P x → P y → P z → All P (w ∷ x ∷ y ∷ z ∷ [])
@@ -49,7 +49,7 @@ and-false true = refl
 and-false false = refl
 
 -- the exclusive or of two inputs
-abbrev xor : Cover
+abbrev pub xor : Cover
 xor = record {
   inputs = 2;
   on = true;
@@ -59,7 +59,7 @@ xor = record {
 }
 
 -- net 0 is the input `en`; net 1 is the exclusive or of `en` and net 2; net 2 is the latch of net 1, and the output
-abbrev toggle : Flat
+abbrev pub toggle : Flat
 toggle = record {
   inputs = 1;
   cells = Gate (0 ∷ 2 ∷ []) xor ∷ Latch 1 zero_init ∷ [];
@@ -71,41 +71,41 @@ toggle = record {
   outputs_fit = one (λ net. net < 3) 2 (omega arith);
 }
 
-each_gate : (number : ℕ) → is_gate (slice_get toggle.cells number) ≡ is_among (0 ∷ []) number
+pub each_gate : (number : ℕ) → is_gate (slice_get toggle.cells number) ≡ is_among (0 ∷ []) number
 each_gate zero = refl
 each_gate (suc zero) = refl
 each_gate (suc (suc number)) = rw (unequal 0 (suc (suc number)) (omega arith)) refl
 
 -- the gate reads the input and the latch
-after : (place : ℕ) → place < 1 → list_all (is_ready 1 toggle.cells (take place (0 ∷ []))) (read_nets_at (slice_get toggle.cells (slice_index (0 ∷ []) place))) ≡ true
+pub after : (place : ℕ) → place < 1 → list_all (is_ready 1 toggle.cells (take place (0 ∷ []))) (read_nets_at (slice_get toggle.cells (slice_index (0 ∷ []) place))) ≡ true
 after zero within = refl
 after (suc place) within = absurd (omega arith)
 
-abbrev ordered : Ordered
+abbrev pub ordered : Ordered
 ordered = record { flat = toggle; order = 0 ∷ []; is_order = record { each = each_gate; once = λ i j before within. absurd (omega arith); after = after } }
 
 -- ---- the board
 
-abbrev links : List Link
+abbrev pub links : List Link
 links =
     record { from = 0; to = 1; width = 1; delay = 1 } ∷ record { from = 0; to = 2; width = 1; delay = 1 } ∷ record { from = 1; to = 0; width = 1; delay = 1 }
     ∷ record { from = 1; to = 2; width = 1; delay = 1 } ∷ record { from = 2; to = 0; width = 1; delay = 1 } ∷ record { from = 2; to = 1; width = 1; delay = 1 } ∷ []
 
 -- what a test says of each link is a fact of each
-has_ends : (link : Link) → (nat_le link.from 2 && nat_le link.to 2) ≡ true → (link.from ≤ 2) × (link.to ≤ 2)
+pub has_ends : (link : Link) → (nat_le link.from 2 && nat_le link.to 2) ≡ true → (link.from ≤ 2) × (link.to ≤ 2)
 has_ends link is = let parts = and_parts (nat_le link.from 2) (nat_le link.to 2) is in (leb-true link.from 2 parts.0, leb-true link.to 2 parts.1)
 
-is_apart : (link : Link) → not (link.from == link.to) ≡ true → link.from ≢ link.to
+pub is_apart : (link : Link) → not (link.from == link.to) ≡ true → link.from ≢ link.to
 is_apart link is same = both_ways (link.from == link.to) (not-true (link.from == link.to) is) (eq-eqb link.from link.to same)
 
-is_wide : (link : Link) → (nat_le 1 link.width && nat_le link.width 64) ≡ true → (1 ≤ link.width) × (link.width ≤ 64)
+pub is_wide : (link : Link) → (nat_le 1 link.width && nat_le link.width 64) ≡ true → (1 ≤ link.width) × (link.width ≤ 64)
 is_wide link is = let parts = and_parts (nat_le 1 link.width) (nat_le link.width 64) is in (leb-true 1 link.width parts.0, leb-true link.width 64 parts.1)
 
-is_timely : (link : Link) → (nat_le 1 link.delay && nat_le link.delay 16) ≡ true → (1 ≤ link.delay) × (link.delay ≤ 16)
+pub is_timely : (link : Link) → (nat_le 1 link.delay && nat_le link.delay 16) ≡ true → (1 ≤ link.delay) × (link.delay ≤ 16)
 is_timely link is = let parts = and_parts (nat_le 1 link.delay) (nat_le link.delay 16) is in (leb-true 1 link.delay parts.0, leb-true link.delay 16 parts.1)
 
 -- one link is enough, or none from a node to itself
-walk_between : (from to : ℕ) → from ≤ 2 → to ≤ 2 → IsJoined links from to
+pub walk_between : (from to : ℕ) → from ≤ 2 → to ≤ 2 → IsJoined links from to
 walk_between zero zero from_node to_node = ∣ ([], refl) ∣₁
 walk_between zero (suc zero) from_node to_node = ∣ (1 ∷ [], (refl, refl)) ∣₁
 walk_between zero (suc (suc zero)) from_node to_node = ∣ (2 ∷ [], (refl, refl)) ∣₁
@@ -118,13 +118,13 @@ walk_between (suc (suc zero)) (suc (suc zero)) from_node to_node = ∣ ([], refl
 walk_between (suc (suc (suc from))) to from_node to_node = absurd (omega arith)
 walk_between from (suc (suc (suc to))) from_node to_node = absurd (omega arith)
 
-abbrev same_ends : Link → Link → Bool
+abbrev pub same_ends : Link → Link → Bool
 same_ends link other = link.from == other.from && link.to == other.to
 
-once : (link other : Link) → not (same_ends link other) ≡ true → ¬ (HaveSameEnds link other)
+pub once : (link other : Link) → not (same_ends link other) ≡ true → ¬ (HaveSameEnds link other)
 once link other differ same = both_ways (same_ends link other) (not-true (same_ends link other) differ) (and_from (eqb link.from other.from) (eqb link.to other.to) (eq-eqb link.from other.from same.0) (eq-eqb link.to other.to same.1))
 
-abbrev board_with : (settle : ℕ) → settle ≤ 15 → Board
+abbrev pub board_with : (settle : ℕ) → settle ≤ 15 → Board
 board_with settle quick = record {
   chips = 2;
   cells = 1;
@@ -149,13 +149,13 @@ board_with settle quick = record {
 
 -- ---- the plan
 
-abbrev one_hop : ℕ → ℕ → ℕ → Hop
+abbrev pub one_hop : ℕ → ℕ → ℕ → Hop
 one_hop from to at = record { from = from; to = to; pin = 0; at = at }
 
-abbrev hop : ℕ → ℕ → ℕ → List Hop
+abbrev pub hop : ℕ → ℕ → ℕ → List Hop
 hop from to at = one_hop from to at ∷ []
 
-abbrev wires : List Wire
+abbrev pub wires : List Wire
 wires =
     record { net = 0; to = 1; hops = hop 0 1 0 } ∷ record { net = 1; to = 2; hops = hop 1 2 1 }
     ∷ record { net = 2; to = 0; hops = hop 2 0 0 } ∷ record { net = 2; to = 1; hops = hop 2 1 0 } ∷ []
@@ -163,10 +163,10 @@ wires =
 is_early : (wire : Wire) → list_all (λ sent. nat_le sent.at 9) wire.hops ≡ true → All (λ sent. sent.at ≤ 2 ^ 62) wire.hops
 is_early wire is = All-weaker (λ sent. nat_le sent.at 9 ≡ true) (λ sent. sent.at ≤ 2 ^ 62) (λ sent is. let low : sent.at ≤ 9 = leb-true sent.at 9 is in omega arith) wire.hops (AllPass-from_list_all (λ sent. nat_le sent.at 9) wire.hops is)
 
-early : All (λ wire. All (λ sent. sent.at ≤ 2 ^ 62) wire.hops) wires
+pub early : All (λ wire. All (λ sent. sent.at ≤ 2 ^ 62) wire.hops) wires
 early = All-weaker (λ wire. list_all (λ sent. nat_le sent.at 9) wire.hops ≡ true) (λ wire. All (λ sent. sent.at ≤ 2 ^ 62) wire.hops) is_early wires (AllPass-from_list_all (λ wire. list_all (λ sent. nat_le sent.at 9) wire.hops) wires refl)
 
-abbrev plan : Plan
+abbrev pub plan : Plan
 plan = record {
   chip_of = 1 ∷ 2 ∷ [];
   wires = wires;
@@ -178,7 +178,7 @@ plan = record {
   short = omega arith;
 }
 
-abbrev planned_with : (settle : ℕ) → settle ≤ 15 → PlannedBoard
+abbrev pub planned_with : (settle : ℕ) → settle ≤ 15 → PlannedBoard
 planned_with settle quick = record { ordered = ordered; board = board_with settle quick; plan = plan }
 
 -- ---- it is sound
@@ -221,11 +221,11 @@ one_wire net (suc (suc (suc node))) = far_node net (suc (suc (suc node))) (omega
 
 -- ---- its needed pairs, and the depths of its nets
 
-needed_there : needed_pairs toggle (1 ∷ 2 ∷ []) ≡ record { net = 0; to = 1 } ∷ record { net = 1; to = 2 } ∷ record { net = 2; to = 0 } ∷ record { net = 2; to = 1 } ∷ []
+pub needed_there : needed_pairs toggle (1 ∷ 2 ∷ []) ≡ record { net = 0; to = 1 } ∷ record { net = 1; to = 2 } ∷ record { net = 2; to = 0 } ∷ record { net = 2; to = 1 } ∷ []
 unfolding needed_pairs
 needed_there = refl
 
-depths_there : map (depth toggle (1 ∷ 2 ∷ [])) (0 ∷ 1 ∷ 2 ∷ []) ≡ 0 ∷ 1 ∷ 0 ∷ []
+pub depths_there : map (depth toggle (1 ∷ 2 ∷ [])) (0 ∷ 1 ∷ 2 ∷ []) ≡ 0 ∷ 1 ∷ 0 ∷ []
 unfolding depth
 depths_there = refl
 
@@ -256,10 +256,10 @@ module _ (settle : ℕ) (quick : settle ≤ 15) where
   alone : AllPairs (λ sent other. IsTrue (not (share_pin sent other))) (hops_of plan)
   alone = AllPairs-from_all_pairs (λ sent other. not (share_pin sent other)) (hops_of plan) refl
 
-abbrev quick : 0 ≤ 15
+abbrev pub quick : 0 ≤ 15
 quick = lit≤ tt
 
-abbrev slow : 1 ≤ 15
+abbrev pub slow : 1 ≤ 15
 slow = lit≤ tt
 
 -- a wire of one hop is sent when its net is usable
@@ -273,7 +273,7 @@ unfolding lead
 all_sent = four (IsSentWhenUsable (planned_with 0 quick)) _ _ _ _ (sent 0 1 0 0 0 refl (omega arith)) (sent 1 2 1 1 1 refl (omega arith)) (sent 2 0 2 0 0 refl (omega arith)) (sent 2 1 2 0 0 refl (omega arith))
 
 -- net 1 is usable at the latch's chip in microcycle 2
-usable_there : usable (planned_with 0 quick) 2 1 ≡ 2
+pub usable_there : usable (planned_with 0 quick) 2 1 ≡ 2
 unfolding lead
 usable_there = refl
 
@@ -285,7 +285,7 @@ in_time (suc zero) d init latch =
     subst (λ (net : ℕ). usable (planned_with 0 quick) 2 net ≤ 2) same (omega (arith, usable_there))
 in_time (suc (suc number)) d init latch = cc
 
-toggle_sound : IsSound (planned_with 0 quick)
+pub toggle_sound : IsSound (planned_with 0 quick)
 toggle_sound = record {
   one_chip_each = placed 0 quick;
   one_wire_for_each_need = one_wire;
@@ -298,11 +298,11 @@ toggle_sound = record {
 }
 
 -- where a gate takes a microcycle to settle, net 1 is usable at its chip in microcycle 2, and is sent in 1
-usable_later : usable (planned_with 1 slow) 1 1 ≡ 2
+pub usable_later : usable (planned_with 1 slow) 1 1 ≡ 2
 unfolding lead
 usable_later = refl
 
-toggle_unsound : ¬ (IsSound (planned_with 1 slow))
+pub toggle_unsound : ¬ (IsSound (planned_with 1 slow))
 toggle_unsound sound =
     let early : usable (planned_with 1 slow) 1 1 ≤ 1 = sound.sent_when_usable 1 (record { net = 0; to = 0; hops = [] }) (omega arith) (record { from = 1; to = 2; pin = 0; at = 1 }) refl in
     omega (arith, usable_later)

@@ -1,4 +1,3 @@
-pub mod WrittenLists
 pub mod NumberLines
 pub mod LineEnds
 pub mod Lines

@@ -1,12 +1,18 @@
 -- Lines with their ends, as a text has them.
-use Rattle.std.proofs.Common.{◌≡◌, ◌==◌, ℕ, true, List, [], ◌∷◌, ◌++◌, ap₂, refl, sym, subst, ◌∙◌, append_assoc}
+use Rattle.std.proofs.Common.{◌≡◌, ◌==◌, ℕ, List, [], ◌∷◌, ◌++◌, get_or, ap₂, refl, sym, ◌∙◌, append_assoc}
 use Rattle.std.specs.List.{list_any, AllByRecursion}
-use Rattle.std.proofs.lemmas.Bool.{or_parts, both_ways}
+use Rattle.std.proofs.lemmas.Bool.{both_ways, false_from_ne_true}
+use Rattle.std.proofs.lemmas.List.Folds.{list_any_at}
 use Rattle.vw_plantext.specs.Steps.Cuts.{IsOneLine}
+use Rattle.vw_text.proofs.CutAtByte.{cut_once as byte_cut_once}
+use Rattle.vw_text.proofs.FoundBytes.{HasNo}
 use Rattle.vw_text.specs.Physical.{lines_text}
 
 abbrev pub AreLines : List (List ℕ) → Type 0
 AreLines lines = AllByRecursion IsOneLine lines
+
+without_end : (line : List ℕ) → IsOneLine line → HasNo (λ b. b == 10) line
+without_end line one_line place default within = false_from_ne_true (get_or line place default == 10) (λ is. both_ways (list_any (λ b. b == 10) line) one_line (list_any_at (λ b. b == 10) line place default within is))
 
 -- two lines, each with its end and something behind it
 pub record SameCut (one other behind other_behind : List ℕ) : Type 0 where
@@ -14,18 +20,9 @@ pub record SameCut (one other behind other_behind : List ℕ) : Type 0 where
   pub rest : behind ≡ other_behind
 
 pub cut_once : (one other behind other_behind : List ℕ) → IsOneLine one → IsOneLine other → one ++ 10 ∷ behind ≡ other ++ 10 ∷ other_behind → SameCut one other behind other_behind
-cut_once [] [] behind other_behind line other_line same = record { line = refl; rest = cc }
-cut_once [] (b ∷ ys) behind other_behind line other_line same =
-    let here : 10 ≡ b = cc in
-    absurd (both_ways (b == 10) (or_parts (b == 10) (list_any (λ c. c == 10) ys) other_line).0 (subst (λ (n : ℕ). (n == 10) ≡ true) here refl))
-cut_once (a ∷ xs) [] behind other_behind line other_line same =
-    let here : 10 ≡ a = cc in
-    absurd (both_ways (a == 10) (or_parts (a == 10) (list_any (λ c. c == 10) xs) line).0 (subst (λ (n : ℕ). (n == 10) ≡ true) here refl))
-cut_once (a ∷ xs) (b ∷ ys) behind other_behind line other_line same =
-    let first : a ≡ b = cc in
-    let more : xs ++ 10 ∷ behind ≡ ys ++ 10 ∷ other_behind = cc in
-    let rest : SameCut xs ys behind other_behind = cut_once xs ys behind other_behind (or_parts (a == 10) (list_any (λ c. c == 10) xs) line).1 (or_parts (b == 10) (list_any (λ c. c == 10) ys) other_line).1 more in
-    record { line = ap₂ (λ (x : ℕ) (rest_ : List ℕ). x ∷ rest_) first rest.line; rest = rest.rest }
+cut_once one other behind other_behind line other_line same =
+    let cut = byte_cut_once 10 one other behind other_behind (without_end one line) (without_end other other_line) same in
+    record { line = cut.0; rest = cut.1 }
 
 -- a text of lines that begins with lines is that of these and some more
 pub record IsMore (lines whole : List (List ℕ)) (rest : List ℕ) : Type 0 where

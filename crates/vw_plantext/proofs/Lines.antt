@@ -1,5 +1,5 @@
 -- No line of a plan's text has the end of a line within it.
-use Rattle.std.proofs.Common.{◌≡◌, ◌<◌, ◌≤◌, ◌^◌, ◌==◌, ℕ, List, [], ◌∷◌, ◌++◌, length, map, refl, sym, subst, ◌∙◌, get_or, ne_eqb, ◌+◌, All, arith}
+use Rattle.std.proofs.Common.{◌≡◌, ◌<◌, ◌≤◌, ◌^◌, ◌==◌, ℕ, List, [], ◌∷◌, ◌++◌, length, map, refl, sym, subst, ◌∙◌, ◌+◌, All, arith}
 use Rattle.std.specs.Prelude.{codes}
 use Rattle.std.specs.Fmt.{decimal}
 use Rattle.std.specs.List.{list_any, flat_map}
@@ -13,7 +13,8 @@ use Rattle.vw_plan.specs.declared.wire.Wire.{Wire}
 use Rattle.vw_plan.specs.HopCounts.{hop_count}
 use Rattle.vw_plantext.specs.Content.{Content, IsHopInRange, IsWireInRange, IsInRange}
 use Rattle.vw_plantext.specs.Grammar.{numbers_text, number_line, hop_line, wire_line, wire_lines, body_lines, plan_lines}
-use Rattle.vw_text.proofs.Decimals.{decimal_above}
+use Rattle.vw_net.proofs.ListParts.{all_append}
+use Rattle.vw_text.proofs.DecimalDigits.{decimal_without}
 use Rattle.vw_plantext.proofs.NumberLines.{AreSmall}
 use Rattle.vw_plantext.specs.Steps.Cuts.{IsOneLine}
 use Rattle.vw_plantext.proofs.LineEnds.{AreLines}
@@ -22,15 +23,15 @@ use Rattle.vw_plantext.proofs.LineEnds.{AreLines}
 abbrev pub Fits64Bits : ℕ → Type 0
 Fits64Bits number = number < 2 ^ 64
 
-no_end : (number : ℕ) → number < 2 ^ 64 → IsOneLine (decimal number)
-no_end number small = list_any_none (λ b. b == 10) (decimal number) (λ place default within. let above : 48 ≤ get_or (decimal number) place default = decimal_above number small place default within in ne_eqb (get_or (decimal number) place default) 10 (λ same. omega arith))
+no_end : (number : ℕ) → IsOneLine (decimal number)
+no_end number = list_any_none (λ b. b == 10) (decimal number) (decimal_without 10 (omega arith) number)
 
 append_one_line : (one other : List ℕ) → IsOneLine one → IsOneLine other → IsOneLine (one ++ other)
 append_one_line one other line other_line = list_any-append (λ b. b == 10) one other ∙ or_from (list_any (λ b. b == 10) one) (list_any (λ b. b == 10) other) line other_line
 
 numbers_one_line : (numbers : List ℕ) → AreSmall numbers → IsOneLine (numbers_text numbers)
 numbers_one_line [] small = refl
-numbers_one_line (number ∷ numbers) small = append_one_line (decimal number) (numbers_text numbers) (no_end number (All-head (λ n. n < 2 ^ 64) number numbers small)) (numbers_one_line numbers (All-tail (λ n. n < 2 ^ 64) number numbers small))
+numbers_one_line (number ∷ numbers) small = append_one_line (decimal number) (numbers_text numbers) (no_end number) (numbers_one_line numbers (All-tail (λ n. n < 2 ^ 64) number numbers small))
 
 pub one_line : (word numbers : List ℕ) → IsOneLine word → AreSmall numbers → IsOneLine (number_line word numbers)
 one_line word numbers line small = append_one_line word (numbers_text numbers) line (numbers_one_line numbers small)
@@ -52,10 +53,6 @@ small_chips chips fit = All-weaker (λ chip. chip < 2 ^ 32) (λ chip. chip < 2 ^
 pub hop_count-cons : (wire : Wire) (wires : List Wire) → hop_count (wire ∷ wires) ≡ length wire.hops + hop_count wires
 hop_count-cons wire wires = sum_by-cons (λ (one : Wire). length one.hops) wire wires
 
-are_append : (lines others : List (List ℕ)) → AreLines lines → AreLines others → AreLines (lines ++ others)
-are_append [] others are other_are = other_are
-are_append (line ∷ lines) others are other_are = (are.0, are_append lines others are.1 other_are)
-
 hop_lines : (hops : List Hop) → All IsHopInRange hops → AreLines (map hop_line hops)
 hop_lines [] fit = tt
 hop_lines (hop ∷ hops) fit = (one_line (codes "hop") (hop.from ∷ hop.to ∷ hop.pin ∷ hop.at ∷ []) refl (small_hop hop (All-head IsHopInRange hop hops fit)), hop_lines hops (All-tail IsHopInRange hop hops fit))
@@ -67,7 +64,7 @@ wires_lines (wire ∷ wires) fit few =
     let count = hop_count-cons wire wires in
     let line : IsOneLine (wire_line wire) = one_line (codes "wire") (wire.net ∷ wire.to ∷ length wire.hops ∷ []) refl (small_wire wire here (omega arith)) in
     let rest : AreLines (body_lines wires) = wires_lines wires (All-tail IsWireInRange wire wires fit) (omega arith) in
-    let all : AreLines (map hop_line wire.hops ++ body_lines wires) = are_append (map hop_line wire.hops) (body_lines wires) (hop_lines wire.hops here.hops) rest in
+    let all : AreLines (map hop_line wire.hops ++ body_lines wires) = all_append IsOneLine (map hop_line wire.hops) (body_lines wires) (hop_lines wire.hops here.hops) rest in
     subst AreLines (sym (append_assoc (wire_line wire ∷ map hop_line wire.hops) (flat_map wire_lines wires) (codes "end" ∷ []))) (line, all)
 
 pub plan_lines_are : (content : Content) → IsInRange content → AreLines (plan_lines content)

@@ -1,5 +1,5 @@
 -- Lines of a word and numbers, and what is read of them.
-use Rattle.std.proofs.Common.{◌≡◌, ◌<◌, ◌≤◌, ◌^◌, ◌==◌, ℕ, Bool, true, false, List, [], ◌∷◌, ◌++◌, map, get_or, Option, Some, None, if◌then◌else◌, ap, ap₂, refl, sym, subst, ◌∙◌, ne_eqb, eqb-true, true≢false, append-nil, All, arith}
+use Rattle.std.proofs.Common.{◌≡◌, ◌<◌, ◌^◌, ◌==◌, ℕ, Bool, true, false, List, [], ◌∷◌, ◌++◌, map, Option, Some, None, if◌then◌else◌, ap, ap₂, refl, sym, subst, ◌∙◌, eqb-true, true≢false, append-nil, All, arith}
 use Rattle.std.specs.Prelude.{unwrap_or}
 use Rattle.std.specs.Fmt.{decimal}
 use Rattle.std.specs.List.{join_with_byte}
@@ -10,7 +10,8 @@ use Rattle.std.proofs.lemmas.List.Splits.{slice_split_at, slice_split_none, join
 use Rattle.vw_text.specs.Number.{spelled_number}
 use Rattle.vw_plantext.specs.Grammar.{numbers_text, number_line}
 use Rattle.vw_plantext.specs.Steps.Words.{words_between_spaces, with_next_number, numbers_of, numbers_behind, line_numbers}
-use Rattle.vw_text.proofs.Decimals.{number_of-decimal, IsDecimal, decimal-number_of, decimal_above}
+use Rattle.vw_text.proofs.DecimalDigits.{decimal_without}
+use Rattle.vw_text.proofs.Decimals.{number_of-decimal, IsDecimal, decimal-number_of}
 
 -- a word has no space
 abbrev pub HasNoSpace : List ℕ → Type 0
@@ -20,16 +21,12 @@ HasNoSpace word = All (λ b. (b == 32) ≡ false) word
 abbrev pub AreSmall : List ℕ → Type 0
 AreSmall numbers = All (λ number. number < 2 ^ 64) numbers
 
-no_space : (number : ℕ) → number < 2 ^ 64 → HasNoSpace (decimal number)
-no_space number small place default within = let above : 48 ≤ get_or (decimal number) place default = decimal_above number small place default within in ne_eqb (get_or (decimal number) place default) 32 (λ same. omega arith)
-
 -- a word and numbers are cut into the word and their digits
 words_of-number_line : (word : List ℕ) (numbers : List ℕ) → HasNoSpace word → AreSmall numbers → words_between_spaces (word ++ numbers_text numbers) ≡ word ∷ map decimal numbers
 words_of-number_line word [] plain small = ap words_between_spaces (append-nil word) ∙ slice_split_none (λ b. b == 32) word plain
 words_of-number_line word (number ∷ numbers) plain small =
-    let here : number < 2 ^ 64 = All-head (λ n. n < 2 ^ 64) number numbers small in
     let rest : AreSmall numbers = All-tail (λ n. n < 2 ^ 64) number numbers small in
-    slice_split_at (λ b. b == 32) word 32 (decimal number ++ numbers_text numbers) plain refl ∙ ap (λ (words : List (List ℕ)). word ∷ words) (words_of-number_line (decimal number) numbers (no_space number here) rest)
+    slice_split_at (λ b. b == 32) word 32 (decimal number ++ numbers_text numbers) plain refl ∙ ap (λ (words : List (List ℕ)). word ∷ words) (words_of-number_line (decimal number) numbers (decimal_without 32 (omega arith) number) rest)
 
 -- the digits are read back
 numbers_of-decimals : (numbers : List ℕ) → AreSmall numbers → numbers_of (map decimal numbers) ≡ Some numbers

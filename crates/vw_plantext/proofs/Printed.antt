@@ -2,17 +2,14 @@
 use Rattle.std.proofs.Common.{◌≡◌, ℕ, List, [], ◌∷◌, ◌++◌, map, ap, ap₂, refl, sym, ◌∙◌}
 use Rattle.std.specs.Prelude.{codes}
 use Rattle.std.specs.List.{flat_map}
-use Rattle.std.proofs.lemmas.Grind.{flat_map-append}
 use Rattle.std.proofs.lemmas.List.{append_assoc}
 use Rattle.vw_text.specs.Physical.{lines_text}
+use Rattle.vw_text.proofs.LineTexts.{lines_text-append}
 use Rattle.vw_plan.specs.declared.wire.Hop.{Hop}
 use Rattle.vw_plan.specs.declared.wire.Wire.{Wire}
 use Rattle.vw_plantext.specs.Content.{Content}
 use Rattle.vw_plantext.specs.Grammar.{head_line, chips_line, hop_line, wire_line, wire_lines, spelling}
 use Rattle.vw_plantext.specs.Steps.Pieces.{with_newline, hops_text, wire_text, wires_text}
-
-lines_text-append : (lines more : List (List ℕ)) → lines_text (lines ++ more) ≡ lines_text lines ++ lines_text more
-lines_text-append lines more = flat_map-append (λ line. line ++ 10 ∷ []) lines more
 
 hops_text-lines : (hops : List Hop) → hops_text hops ≡ lines_text (map hop_line hops)
 hops_text-lines [] = refl

@@ -2,10 +2,10 @@
 use Rattle.std.proofs.Common.{◌≡◌, ◌≢◌, ◌<◌, ◌≤◌, ◌+◌, ◌-◌, ◌^◌, ℕ, zero, suc, List, [], ◌∷◌, ◌++◌, length, map, slice_index, Option, Some, None, ap, ap₂, refl, sym, subst, ◌∙◌, length-append, All, arith}
 use Rattle.std.specs.Prelude.{codes, replicate}
 use Rattle.std.specs.List.{flat_map}
-use Rattle.std.proofs.lemmas.Grind.{flat_map-append}
 use Rattle.std.proofs.lemmas.List.{append_assoc, append-nil, length-replicate}
 use Rattle.std.proofs.lemmas.List.Elements.{All-append, All-cons, All-nil, All-replicate}
 use Rattle.vw_text.specs.Physical.{lines_text}
+use Rattle.vw_text.proofs.LineTexts.{lines_text-append}
 use Rattle.vw_plan.specs.declared.wire.Hop.{Hop}
 use Rattle.vw_plan.specs.declared.wire.Wire.{Wire}
 use Rattle.vw_plan.specs.HopCounts.{hop_count}
@@ -210,7 +210,7 @@ first_can_not line none can =
 pub whole_more : (text : List ℕ) (lines : List (List ℕ)) (rest line after : List ℕ) → text ≡ lines_text lines ++ rest → rest ≡ line ++ 10 ∷ after → text ≡ lines_text (lines ++ line ∷ []) ++ after
 whole_more text lines rest line after whole cut =
     let one : lines_text (line ∷ []) ++ after ≡ line ++ 10 ∷ after = ap (λ (front : List ℕ). front ++ after) (append-nil (line ++ 10 ∷ [])) ∙ append_assoc line (10 ∷ []) after in
-    let all : lines_text (lines ++ line ∷ []) ++ after ≡ lines_text lines ++ (line ++ 10 ∷ after) = ap (λ (front : List ℕ). front ++ after) (flat_map-append (λ (one_line : List ℕ). one_line ++ 10 ∷ []) lines (line ∷ [])) ∙ append_assoc (lines_text lines) (lines_text (line ∷ [])) after ∙ ap (λ (behind : List ℕ). lines_text lines ++ behind) one in
+    let all : lines_text (lines ++ line ∷ []) ++ after ≡ lines_text lines ++ (line ++ 10 ∷ after) = ap (λ (front : List ℕ). front ++ after) (lines_text-append lines (line ∷ [])) ∙ append_assoc (lines_text lines) (lines_text (line ∷ [])) after ∙ ap (λ (behind : List ℕ). lines_text lines ++ behind) one in
     whole ∙ ap (λ (behind : List ℕ). lines_text lines ++ behind) cut ∙ sym all
 
 pub fault_no_line : (text : List ℕ) → IsOneLine text → IsFirstBadLine text 1

@@ -28,9 +28,9 @@ use Rattle.vw_prog.specs.Due.{FindsEnds, FindsReads, gives, is_due, is_source, o
 use Rattle.vw_prog.specs.Timetable.{comes_before, entries, entries_at, gate_entries, gate_entry, hop_entries, is_at, is_sending, sent_entry, taken_entry, timetable, wire_entries}
 use Rattle.vw_prog.proofs.EntryOrder.{by_moment, by_place, is_order}
 use Rattle.vw_prog.proofs.Givers.{Giver, evaluating_gives, gate_is_entry, needed_gives, own_given, taken_is_entry, taking_gives}
-use Rattle.vw_prog.proofs.ListParts.{all_append, all_at, all_flat_map, any_part, any_weaker}
-use Rattle.vw_prog.proofs.NeededWires.{wires_fine}
-use Rattle.vw_prog.proofs.SortedLists.{Rises, all_filter, all_sorted, any_sorted, part_rises, stands_before}
+use Rattle.vw_net.proofs.ListParts.{all_append, all_at, all_flat_map, any_part, any_weaker}
+use Rattle.vw_plan.proofs.NeededWires.{wires_fine}
+use Rattle.vw_net.proofs.SortedLists.{Rises, all_filter, all_sorted, any_sorted, part_rises, stands_before}
 
 other : (number rest own : ℕ) → rest ≡ own → own ≢ number → eqb rest number ≡ false
 other number rest own is apart = ne_eqb rest number (λ same. apart (sym is ∙ same))

@@ -1,11 +1,11 @@
 -- The order of the entries of a timetable.
-use Rattle.std.proofs.Common.{◌≡◌, ◌<◌, ℕ, Bool, true, false, cond, nat_lt, eqb, refl, true≢false, eqb-true, eq-eqb, lt-ltb, arith}
+use Rattle.std.proofs.Common.{◌≡◌, ◌<◌, true, false, ◌∙◌}
 use Rattle.std.specs.Cmp.{IsStrictWeakOrder, IsTotalOrder}
-use Rattle.std.specs.Ordering.{is_lt, nat_cmp, ordering_reverse, ordering_then}
-use Rattle.std.specs.declared.cmp.Ordering.{Ordering}
-use Rattle.std.specs.declared.cmp.Ordering.TheVariants.{Less, Equal, Greater}
+use Rattle.std.specs.Ordering.{nat_cmp, ordering_then}
+use Rattle.std.specs.declared.cmp.Ordering.TheVariants.{Equal}
 use Rattle.std.proofs.lemmas.Cmp.{nat_cmp_total, on_total, then_total}
 use Rattle.std.proofs.lemmas.List.Sorted.{ranks_by}
+use Rattle.vw_net.proofs.NumberOrders.{less_first, nat_cmp-equal, neither_before, same_first, then_equal}
 use Rattle.vw_prog.specs.declared.entry.Entry.{Entry}
 use Rattle.vw_prog.specs.Timetable.{comes_before, entry_cmp}
 
@@ -21,29 +21,9 @@ is_order = ranks_by entry_cmp_total (λ (entry : Entry). entry)
 
 -- ---- entries of which none is before the other are the same
 
-then_equal : (first second : Ordering) → ordering_then first second ≡ Equal → (first ≡ Equal) × (second ≡ Equal)
-then_equal Less second is = cc
-then_equal Equal second is = (refl, is)
-then_equal Greater second is = cc
-
-by_tests : (less same : Bool) → cond less Less (cond same Equal Greater) ≡ Equal → same ≡ true
-by_tests true same is = cc
-by_tests false true is = refl
-by_tests false false is = cc
-
-nat_cmp-equal : (a b : ℕ) → nat_cmp a b ≡ Equal → a ≡ b
-nat_cmp-equal a b is = eqb-true a b (by_tests (nat_lt a b) (eqb a b) is)
-
-equal_from : (one other : Ordering) → one ≡ ordering_reverse other → is_lt one ≡ false → is_lt other ≡ false → one ≡ Equal
-equal_from Less other turned one_not other_not = absurd (true≢false one_not)
-equal_from Equal other turned one_not other_not = refl
-equal_from Greater Less turned one_not other_not = absurd (true≢false other_not)
-equal_from Greater Equal turned one_not other_not = cc
-equal_from Greater Greater turned one_not other_not = cc
-
 pub same_entry : (one other : Entry) → comes_before one other ≡ false → comes_before other one ≡ false → one ≡ other
 same_entry one other one_not other_not =
-    let equal : entry_cmp one other ≡ Equal = equal_from (entry_cmp one other) (entry_cmp other one) (entry_cmp_total.antisymm one other) one_not other_not in
+    let equal : entry_cmp one other ≡ Equal = neither_before entry_cmp entry_cmp_total one other one_not other_not in
     let moments = then_equal (nat_cmp one.moment other.moment) _ equal in
     let links = then_equal (nat_cmp one.link other.link) _ moments.1 in
     let places = then_equal (nat_cmp one.place other.place) _ links.1 in
@@ -58,15 +38,11 @@ same_entry one other one_not other_not =
 -- ---- what comes before what
 
 pub by_moment : (one other : Entry) → one.moment < other.moment → comes_before one other ≡ true
-by_moment one other less = let is : nat_lt one.moment other.moment ≡ true = lt-ltb one.moment other.moment less in rw is refl
+by_moment one other less = less_first one.moment other.moment (ordering_then (nat_cmp one.link other.link) (ordering_then (nat_cmp one.place other.place) (ordering_then (nat_cmp one.node other.node) (nat_cmp one.net other.net)))) less
 
 pub by_place : (one other : Entry) → one.moment ≡ other.moment → one.link ≡ other.link → one.place < other.place → comes_before one other ≡ true
 by_place one other moment link less =
-    let no_moment : nat_lt one.moment other.moment ≡ false = not_less one.moment other.moment moment in
-    let same_moment : eqb one.moment other.moment ≡ true = eq-eqb one.moment other.moment moment in
-    let no_link : nat_lt one.link other.link ≡ false = not_less one.link other.link link in
-    let same_link : eqb one.link other.link ≡ true = eq-eqb one.link other.link link in
-    let is : nat_lt one.place other.place ≡ true = lt-ltb one.place other.place less in
-    rw (no_moment, same_moment, no_link, same_link, is) refl where
-      not_less : (a b : ℕ) → a ≡ b → nat_lt a b ≡ false
-      not_less a b same = grind (arith, same)
+    let behind = ordering_then (nat_cmp one.node other.node) (nat_cmp one.net other.net) in
+    let places = ordering_then (nat_cmp one.place other.place) behind in
+    same_first one.moment other.moment (ordering_then (nat_cmp one.link other.link) places) moment
+    ∙ same_first one.link other.link places link ∙ less_first one.place other.place behind less

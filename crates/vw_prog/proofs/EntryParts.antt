@@ -18,9 +18,9 @@ use Rattle.vw_leads.proofs.LinkPlaces.{link_leads}
 use Rattle.vw_prog.specs.declared.entry.Entry.{Entry}
 use Rattle.vw_prog.specs.Timetable.{comes_before, entries, entries_at, gate_entries, gate_entry, hop_entries, is_at, is_evaluating, is_sending, is_taking, link_place, sent_entry, taken_entry, timetable, wire_entries}
 use Rattle.vw_prog.proofs.LinkPasses.{found_link, place_carries, turn_of}
-use Rattle.vw_prog.proofs.ListParts.{all_append, all_at, all_flat_map}
-use Rattle.vw_prog.proofs.NeededWires.{wires_fine}
-use Rattle.vw_prog.proofs.SortedLists.{all_filter, all_sorted}
+use Rattle.vw_net.proofs.ListParts.{all_append, all_at, all_flat_map}
+use Rattle.vw_plan.proofs.NeededWires.{wires_fine}
+use Rattle.vw_net.proofs.SortedLists.{all_filter, all_sorted}
 
 -- the link at the place of a hop is there
 place_there : (links : List Link) (hop : Hop) → has_pin links hop ≡ true → (link : Link) × (slice_get links (link_place links hop) ≡ Some link)

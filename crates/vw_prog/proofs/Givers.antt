@@ -17,11 +17,11 @@ use Rattle.vw_plan.specs.PlannedBoard.{PlannedBoard, home}
 use Rattle.vw_plan.specs.Sound.{IsRouted, IsSound}
 use Rattle.vw_plan.proofs.HopsOfWires.{ends}
 use Rattle.vw_plan.proofs.LeadLevels.{lead-by_driver}
-use Rattle.vw_plan.proofs.NeededPairs.{count_cons}
+use Rattle.vw_net.proofs.CountsOverLists.{count_cons}
 use Rattle.vw_prog.specs.declared.entry.Entry.{Entry}
 use Rattle.vw_prog.specs.Due.{gives, is_source}
 use Rattle.vw_prog.specs.Timetable.{entries, gate_entries, gate_entry, hop_entries, sent_entry, taken_entry, wire_entries}
-use Rattle.vw_prog.proofs.ListParts.{any_flat_map}
+use Rattle.vw_net.proofs.ListParts.{any_flat_map}
 
 -- ---- entries that are there
 

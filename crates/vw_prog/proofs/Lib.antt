@@ -1,9 +1,6 @@
-pub mod SortedLists
 pub mod EntryOrder
 pub mod LeadsInTime
 pub mod DealtPrograms
-pub mod NeededWires
-pub mod ListParts
 pub mod Givers
 pub mod DueReads
 pub mod LinkPasses
@@ -14,3 +11,4 @@ pub mod OwnedLatches
 pub mod JoinedOps
 pub mod CodesStand
 pub mod MadeCodes
+pub mod HopPlaces

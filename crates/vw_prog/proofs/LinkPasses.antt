@@ -22,11 +22,11 @@ use Rattle.vw_leads.specs.Links.{joins, link_number}
 use Rattle.vw_leads.proofs.FirstPlaces.{LeadsTo}
 use Rattle.vw_leads.proofs.LinkPlaces.{link_leads}
 use Rattle.vw_prog.specs.declared.entry.Entry.{Entry}
-use Rattle.vw_prog.specs.Sorting.{sorted}
+use Rattle.vw_net.specs.Sorting.{sorted}
 use Rattle.vw_prog.specs.Timetable.{comes_before, entries, entries_at, gate_entries, gate_entry, hop_entries, is_at, is_sending, is_sent, is_taken, is_taking, link_place, passes, sent_entry, taken_entry, taken_from, timetable, wire_entries}
 use Rattle.vw_prog.proofs.EntryOrder.{is_order}
-use Rattle.vw_prog.proofs.ListParts.{all_append, all_flat_map}
-use Rattle.vw_prog.proofs.SortedLists.{all_sorted, filter_sorted, sorted_map}
+use Rattle.vw_net.proofs.ListParts.{all_append, all_flat_map}
+use Rattle.vw_net.proofs.SortedLists.{all_sorted, filter_sorted, sorted_map}
 
 filter_filter : {X : Type 0} (test part : X → Bool) (xs : List X) → AllByRecursion (λ x. test x ≡ true → part x ≡ true) xs → filter test (filter part xs) ≡ filter test xs
 filter_filter test part [] all = refl

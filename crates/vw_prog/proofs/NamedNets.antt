@@ -7,7 +7,7 @@ use Rattle.std.proofs.lemmas.Bool.{and_from, and_parts, cases_eq, cases_lt, ltb-
 use Rattle.std.proofs.lemmas.List.{get_or-set_other, get_or-set_same, length-set, length_push}
 use Rattle.vw_net.specs.Order.{is_among}
 use Rattle.vw_net.specs.Steps.Bits.{one_if}
-use Rattle.vw_plan.proofs.NeededPairs.{count_cons}
+use Rattle.vw_net.proofs.CountsOverLists.{count_cons}
 use Rattle.vw_prog.specs.Codes.{HasSlot, slot_of}
 use Rattle.vw_prog.specs.Coding.{IsTable, cleared, named, named_all, no_slot, slot_in}
 

@@ -1,4 +1,3 @@
-pub mod Sorting
 pub mod Timetable
 pub mod Actions
 pub mod Codes

@@ -11,7 +11,7 @@ use Rattle.vw_plan.specs.Lead.{arrival, lead}
 use Rattle.vw_plan.specs.PlannedBoard.{PlannedBoard, home}
 use Rattle.vw_leads.specs.Links.{link_number}
 use Rattle.vw_prog.specs.declared.entry.Entry.{Entry}
-use Rattle.vw_prog.specs.Sorting.{sorted}
+use Rattle.vw_net.specs.Sorting.{sorted}
 
 -- ---- entries
 

@@ -1,5 +1,5 @@
 -- Rows that are written one a line are read back.
-use Rattle.std.proofs.Common.{◌≡◌, ℕ, suc, ◌+◌, ◌≤◌, Bool, true, false, ◌==◌, ◌||◌, ◌&&◌, not, List, [], ◌∷◌, ◌++◌, map, length, replicate, take, Some, Ok, refl, ◌∙◌, ap, ap₂, arith, if◌then◌else◌}
+use Rattle.std.proofs.Common.{◌≡◌, ℕ, suc, ◌+◌, ◌≤◌, Bool, true, false, ◌==◌, ◌||◌, ◌&&◌, not, List, [], ◌∷◌, ◌++◌, map, length, replicate, take, Some, Ok, refl, ◌∙◌, ap, ap₂, arith}
 use Rattle.std.specs.List.{All, list_all, filter}
 use Rattle.std.proofs.lemmas.Bool.{cond-true, cond-false, le-ltb, ne_eqb, eq-eqb}
 use Rattle.std.proofs.lemmas.List.{append_assoc, take_all, length-append}
@@ -9,23 +9,15 @@ use Rattle.std.proofs.lemmas.List.Sums.{position_or_len_is}
 use Rattle.vw_text.specs.Bare.{is_blank, without_comment}
 use Rattle.vw_text.specs.Physical.{text_lines}
 use Rattle.vw_text.specs.WordLines.{is_empty, words_of}
+use Rattle.vw_text.proofs.BitTexts.{shown, shown_has_no}
 use Rattle.vw_text.proofs.FoundBytes.{HasNo}
 use Rattle.vw_text.proofs.FirstLine.{line_first}
 use Rattle.vw_rows.specs.Stimulus.{line_words, is_bits, bits_of, row_of_bits, rows_added, last_row, within_run, and_then, behind, rows_of_lines, stimulus_rows}
 use Rattle.vw_rows.specs.Trace.{bits_text}
 use Rattle.vw_rows.specs.Written.{rows_written}
 
--- the character of a bit
-abbrev shown : Bool → ℕ
-shown b = if b then 49 else 48
-
--- a test that none of these characters passes
-shown_has_no : (test : ℕ → Bool) → test 48 ≡ false → test 49 ≡ false → (row : List Bool) → HasNo test (map shown row)
-shown_has_no test zero one [] = All-nil (λ b. test b ≡ false)
-shown_has_no test zero one (true ∷ row) = All-cons (λ b. test b ≡ false) 49 (map shown row) one (shown_has_no test zero one row)
-shown_has_no test zero one (false ∷ row) = All-cons (λ b. test b ≡ false) 48 (map shown row) zero (shown_has_no test zero one row)
-
-written_has_no : (test : ℕ → Bool) → test 45 ≡ false → test 48 ≡ false → test 49 ≡ false → (row : List Bool) → HasNo test (bits_text row)
+-- a test that no character of a text of bits passes
+pub written_has_no : (test : ℕ → Bool) → test 45 ≡ false → test 48 ≡ false → test 49 ≡ false → (row : List Bool) → HasNo test (bits_text row)
 written_has_no test dash zero one [] = All-cons (λ b. test b ≡ false) 45 [] dash (All-nil (λ b. test b ≡ false))
 written_has_no test dash zero one (bit ∷ bits) = shown_has_no test zero one (bit ∷ bits)
 

@@ -8,7 +8,8 @@ use Rattle.vw_net.specs.declared.cell.Cell.{Cell}
 use Rattle.vw_net.specs.declared.cell.Cell.TheVariants.{Gate, Latch}
 use Rattle.vw_net.specs.Cells.{latch_count}
 use Rattle.vw_net.specs.Order.{is_latch}
-use Rattle.vw_sim.specs.Steps.Simulator.{latch_nets, with_bits}
+use Rattle.vw_net.specs.Steps.WrittenBits.{with_bits}
+use Rattle.vw_sim.specs.Steps.Simulator.{latch_nets}
 
 -- each latch has one net, which is one of the cells' nets
 pub length-latch_nets : (first : ℕ) (cells : List Cell) → length (latch_nets first cells) ≡ latch_count cells
@@ -20,11 +21,6 @@ pub latch_nets-within : (first nets : ℕ) (cells : List Cell) → first + lengt
 latch_nets-within first nets [] fit = All-nil (λ net. net < nets)
 latch_nets-within first nets (Gate ins cover ∷ cells) fit = latch_nets-within (first + 1) nets cells (omega arith)
 latch_nets-within first nets (Latch d init ∷ cells) fit = All-cons (λ net. net < nets) first (latch_nets (first + 1) cells) (omega arith) (latch_nets-within (first + 1) nets cells (omega arith))
-
-pub length-with_bits : (nets : List ℕ) (bits values : List Bool) → length (with_bits nets bits values) ≡ length values
-length-with_bits [] bits values = refl
-length-with_bits (net ∷ nets) [] values = refl
-length-with_bits (net ∷ nets) (bit ∷ bits) values = length-with_bits nets bits (set values net bit) ∙ length-set values net bit
 
 -- a net that is no latch's has what it had
 bits_other : (first : ℕ) (cells : List Cell) (state values : List Bool) (net : ℕ) → ((number : ℕ) → net ≡ first + number → is_latch (slice_get cells number) ≡ true → ⊥)

@@ -1,4 +1,3 @@
-pub mod PartlyWritten
 pub mod Latches
 pub mod Gates
 pub mod Values

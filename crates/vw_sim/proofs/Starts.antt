@@ -5,8 +5,10 @@ use Rattle.vw_net.specs.declared.flat.Flat.{Flat}
 use Rattle.vw_net.specs.Cells.{latch_count}
 use Rattle.vw_net.specs.Order.{is_ready}
 use Rattle.vw_net.specs.Value.{net_value}
-use Rattle.vw_sim.specs.Steps.Simulator.{latch_nets, with_bits}
-use Rattle.vw_sim.proofs.LatchNets.{bits_latch, bits_rest, length-with_bits}
+use Rattle.vw_net.proofs.WrittenBits.{length-with_bits}
+use Rattle.vw_net.specs.Steps.WrittenBits.{with_bits}
+use Rattle.vw_sim.specs.Steps.Simulator.{latch_nets}
+use Rattle.vw_sim.proofs.LatchNets.{bits_latch, bits_rest}
 use Rattle.vw_sim.proofs.Values.{net_value-before_gates}
 
 pub starts : (flat : Flat) (row state before first values : List Bool) (nets : List ℕ) → length row ≡ flat.inputs → length state ≡ latch_count flat.cells → length first ≡ flat.inputs + length flat.cells → first ≡ row ++ drop (length row) before

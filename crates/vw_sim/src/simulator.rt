@@ -9,7 +9,8 @@ ghost use Rattle.vw_net.specs.History.{next_state};
 ghost use Rattle.vw_net.specs.Value.{net_value};
 ghost use Rattle.vw_net.specs.TruthTable.{place_of};
 ghost use Rattle.vw_sim.specs.Steps.Values.{SettlesGates, bits_at};
-ghost use Rattle.vw_sim.specs.Steps.Simulator.{step_of, gate_steps, gathered_reads, latch_nets, with_bits, AreSimulatorTables};
+ghost use Rattle.vw_sim.specs.Steps.Simulator.{step_of, gate_steps, gathered_reads, latch_nets, AreSimulatorTables};
+ghost use Rattle.vw_net.specs.Steps.WrittenBits.{with_bits};
 
 use crate::clock::{gate_value, put_inputs};
 use std::alloc::{AllocError, Global};

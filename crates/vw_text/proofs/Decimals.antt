@@ -1,12 +1,11 @@
 -- The words that spell numbers are those that `decimal` writes.
-use Rattle.std.proofs.Common.{◌≡◌, ◌<◌, ◌≤◌, ◌^◌, ◌+◌, ◌&&◌, ◌==◌, not, ℕ, Bool, true, false, List, [], ◌∷◌, length, get_or, Option, Some, None, if◌then◌else◌, ap, refl, sym, ◌∙◌, eq-eqb, ⊎_elim, ◌≢◌, true≢false, All, arith, rules}
-use Rattle.std.specs.Prelude.{nat_le, nat_lt, unwrap_or}
+use Rattle.std.proofs.Common.{◌≡◌, ◌<◌, ◌≤◌, ◌^◌, ◌+◌, ◌&&◌, ◌==◌, not, ℕ, Bool, true, false, List, [], ◌∷◌, length, get_or, Option, Some, None, if◌then◌else◌, ap, refl, sym, ◌∙◌, eq-eqb, ⊎_elim, ◌≢◌, true≢false, arith, rules}
+use Rattle.std.specs.Prelude.{nat_lt, unwrap_or}
 use Rattle.std.specs.Fmt.{decimal}
 use Rattle.std.specs.List.{list_all}
-use Rattle.std.proofs.lemmas.Bool.{and_parts, and_from, not-true, both_ways, cases_lt, ltb-true, leb-true}
+use Rattle.std.proofs.lemmas.Bool.{and_parts, and_from, not-true, both_ways, cases_lt, ltb-true}
 use Rattle.std.proofs.lemmas.Fmt.{digits_decimal, digits_value-decimal, decimal-digits_value, decimal_nonempty, first_decimal, length-decimal-le_succ}
 use Rattle.std.proofs.lemmas.Str.Parse.{IsNumeralModel, numerals_by_fold}
-use Rattle.std.proofs.lemmas.List.Sums.{AllPass-from_list_all}
 use Rattle.vw_text.proofs.NumberWords.{number_spelled}
 use Rattle.vw_text.specs.Number.{is_digit, is_number, value_from, spelled_number}
 
@@ -58,10 +57,3 @@ found_decimal word number true passes found =
 
 pub decimal-number_of : (word : List ℕ) (number : ℕ) → spelled_number word ≡ Some number → IsDecimal word number
 decimal-number_of word number found = found_decimal word number (is_number word && nat_lt (value_from 0 word) (2 ^ 64)) refl found
-
--- no byte of it is below `0`, so none is a space or the end of a line
-digits_above : (bytes : List ℕ) → list_all is_digit bytes ≡ true → All (λ b. 48 ≤ b) bytes
-digits_above bytes digits place default within = leb-true 48 (get_or bytes place default) (and_parts (nat_le 48 (get_or bytes place default)) (nat_le (get_or bytes place default) 57) (AllPass-from_list_all is_digit bytes digits place default within)).0
-
-pub decimal_above : (number : ℕ) → number < 2 ^ 64 → All (λ b. 48 ≤ b) (decimal number)
-decimal_above number small = digits_above (decimal number) (digits_decimal decimal_numerals number small)

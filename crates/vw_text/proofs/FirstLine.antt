@@ -1,10 +1,9 @@
 -- The first line of a text.
-use Rattle.std.proofs.Common.{◌≡◌, ℕ, suc, ◌+◌, ◌-◌, ◌<◌, ◌≤◌, Bool, true, false, ◌==◌, List, [], ◌∷◌, ◌++◌, length, take, drop, slice_index, refl, sym, ◌∙◌, ap, arith}
+use Rattle.std.proofs.Common.{◌≡◌, ℕ, suc, ◌+◌, ◌-◌, ◌<◌, ◌≤◌, Bool, true, ◌==◌, List, [], ◌∷◌, ◌++◌, length, take, drop, slice_index, refl, sym, ◌∙◌, ap, arith}
 use Rattle.std.specs.List.{onto_first}
-use Rattle.std.proofs.lemmas.List.{take-append-drop, drop_more, take_rest, drop_all, get_or-take, length-take-le}
-use Rattle.std.proofs.lemmas.List.Elements.{All-from_get_or}
-use Rattle.std.proofs.lemmas.Bool.{false_from_ne_true, eqb-true}
+use Rattle.std.proofs.lemmas.List.{take_rest, drop_all}
 use Rattle.vw_text.specs.Physical.{text_lines}
+use Rattle.vw_text.proofs.CutAtByte.{cut_whole, front_without, none_at}
 use Rattle.vw_text.proofs.FoundBytes.{HasNo}
 
 -- a byte that ends a line
@@ -29,18 +28,11 @@ pub line_cut : (text : List ℕ) (end : ℕ) → end < length text
     → ((k : ℕ) → 0 ≤ k → k < end → (slice_index text k == 10) ≡ true → ⊥) → (slice_index text end == 10) ≡ true
     → text_lines text ≡ take end text ∷ text_lines (take (length text - (end + 1)) (drop (end + 1) text))
 line_cut text end within before ends =
-    let long = length-take-le end text (omega arith) in
-    let none : HasNo ends_line (take end text) =
-    All-from_get_or (λ b. ends_line b ≡ false) (take end text) 0 (λ k inside. rw (get_or-take end text k 0 (omega arith)) (false_from_ne_true _ (before k (omega arith) (omega arith)))) in
-    let rest : drop end text ≡ 10 ∷ drop (end + 1) text =
-    drop_more text end 0 within ∙ ap (λ b. b ∷ drop (end + 1) text) (eqb-true _ _ ends) in
-    ap text_lines (sym (take-append-drop end text) ∙ ap (λ behind. take end text ++ behind) rest)
-    ∙ line_first (take end text) (drop (end + 1) text) none
-    ∙ ap (λ behind. take end text ∷ text_lines behind) (sym (take_rest text (end + 1)))
+    let rest = take (length text - (end + 1)) (drop (end + 1) text) in
+    ap text_lines (cut_whole 10 text end within before ends) ∙ line_first (take end text) rest (front_without 10 text end within before ends)
 
 -- a text in which no byte ends a line
 pub line_whole : (text : List ℕ) → 0 < length text → ((k : ℕ) → 0 ≤ k → k < length text → (slice_index text k == 10) ≡ true → ⊥)
     → text_lines text ≡ text ∷ text_lines (take (length text - length text) (drop (length text) text))
 line_whole text some before =
-    let none : HasNo ends_line text = All-from_get_or (λ b. ends_line b ≡ false) text 0 (λ k inside. false_from_ne_true _ (before k (omega arith) inside)) in
-    line_alone text some none ∙ ap (λ rest. text ∷ text_lines rest) (sym (take_rest text (length text) ∙ drop_all (length text) text (omega arith)))
+    line_alone text some (none_at 10 text before) ∙ ap (λ rest. text ∷ text_lines rest) (sym (take_rest text (length text) ∙ drop_all (length text) text (omega arith)))

@@ -1,10 +1,15 @@
 pub mod FoundBytes
+pub mod CutAtByte
 pub mod LastByte
 pub mod FirstLine
 pub mod JoinedLines
+pub mod LineTexts
+pub mod WrittenPieces
 pub mod NumberWords
 pub mod LineWords
 pub mod LogicalLines
 pub mod PlainLines
 pub mod LineCounts
 pub mod Decimals
+pub mod DecimalDigits
+pub mod BitTexts

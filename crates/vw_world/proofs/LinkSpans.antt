@@ -1,52 +1,28 @@
 -- In some microcycles no more words are sent over a link than it has pins in them.
-use Rattle.std.proofs.Common.{◌≡◌, ◌<◌, ◌≤◌, ◌+◌, ◌-◌, ◌*◌, ◌/◌, ◌%◌, ◌&&◌, ◌++◌, ◌∷◌, ℕ, suc, Bool, true, false, List, [], eqb, nat_lt, slice_get, ap, refl, sym, subst, ◌∙◌, ⊎_elim, true≢false, eqb-true, eq-eqb, lt-ltb, Some, arith}
-use Rattle.std.specs.List.{AllByRecursion, count_by, flat_map, list_any, sum_by}
-use Rattle.std.proofs.lemmas.Bool.{and_from, and_parts, ltb-true, or_cases}
-use Rattle.std.proofs.lemmas.List.Sums.{sum_by-cons}
+use Rattle.std.proofs.Common.{◌≡◌, ◌<◌, ◌≤◌, ◌+◌, ◌-◌, ◌*◌, ◌/◌, ◌%◌, ◌&&◌, ◌∷◌, ℕ, suc, Bool, true, false, List, [], eqb, nat_lt, slice_get, ap, refl, sym, subst, ◌∙◌, true≢false, eqb-true, eq-eqb, lt-ltb, Some, arith}
+use Rattle.std.specs.List.{AllByRecursion, count_by, flat_map}
+use Rattle.std.proofs.lemmas.Bool.{and_from, and_parts, ltb-true}
 use Rattle.std.proofs.lemmas.Option.{get_or_from_slice_get, slice_get_within}
 use Rattle.vw_net.specs.Steps.Bits.{one_if}
 use Rattle.vw_plan.specs.declared.link.Link.{Link}
 use Rattle.vw_plan.specs.declared.wire.Hop.{Hop}
 use Rattle.vw_plan.specs.declared.wire.Wire.{Wire}
 use Rattle.vw_plan.specs.Lead.{carries}
-use Rattle.vw_plan.specs.Links.{HaveSameEnds}
 use Rattle.vw_plan.specs.PlannedBoard.{PlannedBoard}
 use Rattle.vw_plan.specs.Sound.{IsRouted, IsSound, has_pin, share_pin}
-use Rattle.vw_plan.proofs.LinkDelays.{one_number}
-use Rattle.vw_plan.proofs.NeededPairs.{count_cons}
+use Rattle.vw_plan.proofs.HopLinks.{hop_link, one_link}
+use Rattle.vw_net.proofs.CountsOverLists.{count_append, count_cons, count_le, count_le_all, count_sorted}
 use Rattle.vw_plan.proofs.OneHopAPin.{one_user}
 use Rattle.vw_prog.specs.declared.entry.Entry.{Entry}
-use Rattle.vw_prog.specs.Sorting.{sorted}
 use Rattle.vw_prog.specs.Timetable.{comes_before, entries, gate_entries, gate_entry, hop_entries, is_sending, is_sent, link_place, sent_entry, taken_entry, timetable, wire_entries}
 use Rattle.vw_prog.proofs.LinkPasses.{place_carries, turn_of}
-use Rattle.vw_prog.proofs.ListParts.{all_append, all_flat_map}
-use Rattle.vw_prog.proofs.SortedLists.{all_sorted, sum_sorted}
-use Rattle.vw_world.proofs.MomentCounts.{count_le}
+use Rattle.vw_net.proofs.ListParts.{all_append, all_flat_map}
+use Rattle.vw_net.proofs.SortedLists.{all_sorted}
 use Rattle.vw_world.proofs.Spans.{count_numbers}
-
-count_append : {X : Type 0} (test : X → Bool) (xs ys : List X) → count_by test (xs ++ ys) ≡ count_by test xs + count_by test ys
-count_append test [] ys = omega arith
-count_append test (x ∷ xs) ys = omega (arith, count_cons test x (xs ++ ys), count_cons test x xs, count_append test xs ys)
-
-count_sum : {X : Type 0} (test : X → Bool) (xs : List X) → count_by test xs ≡ sum_by (λ x. one_if (test x)) xs
-count_sum test [] = refl
-count_sum test (x ∷ xs) = omega (arith, count_cons test x xs, sum_by-cons (λ y. one_if (test y)) x xs, count_sum test xs)
-
-count_sorted : (test : Entry → Bool) (xs : List Entry) → count_by test (sorted comes_before xs) ≡ count_by test xs
-count_sorted test xs = count_sum test (sorted comes_before xs) ∙ sum_sorted comes_before (λ x. one_if (test x)) xs ∙ sym (count_sum test xs)
-
--- counts of elements of which each has a fact
-count_le_all : {X : Type 0} (P : X → Type 0) (one other : X → Bool) (xs : List X) → AllByRecursion P xs → ((x : X) → P x → one_if (one x) ≤ one_if (other x)) → count_by one xs ≤ count_by other xs
-count_le_all P one other [] all less = omega arith
-count_le_all P one other (x ∷ xs) all less = omega (arith, count_cons one x xs, count_cons other x xs, less x all.0, count_le_all P one other xs all.1 less)
 
 le_from : (one other : Bool) → (one ≡ true → other ≡ true) → one_if one ≤ one_if other
 le_from true other leads = omega (arith, ap one_if (leads refl))
 le_from false other leads = omega arith
-
-any_at : {X : Type 0} (test : X → Bool) (xs : List X) → list_any test xs ≡ true → (place : ℕ) × ((x : X) × ((slice_get xs place ≡ Some x) × (test x ≡ true)))
-any_at test [] any = absurd (true≢false (sym any))
-any_at test (x ∷ xs) any = ⊎_elim (λ here. (0, (x, (refl, here)))) (λ later. let rest = any_at test xs later in (suc rest.0, (rest.1.0, rest.1.1))) (or_cases (test x) (list_any test xs) any)
 
 module _ (planned : PlannedBoard) (sound : IsSound planned) (number : ℕ) (link : Link) (there : slice_get planned.board.links number ≡ Some link) where
   abbrev links : List Link
@@ -58,15 +34,11 @@ module _ (planned : PlannedBoard) (sound : IsSound planned) (number : ℕ) (link
   -- the pin of a hop is one of its link
   pin_within : (hop : Hop) → has_pin links hop ≡ true → carries hop link ≡ true → hop.pin < link.width
   pin_within hop pin carried =
-      let found = any_at (λ (one : Link). carries hop one && nat_lt hop.pin one.width) links pin in
-      let parts = and_parts (carries hop found.1.0) (nat_lt hop.pin found.1.0.width) found.1.1.1 in
-      let its = and_parts (eqb found.1.0.from hop.from) (eqb found.1.0.to hop.to) parts.0 in
-      let own = and_parts (eqb link.from hop.from) (eqb link.to hop.to) carried in
-      let same : HaveSameEnds link found.1.0 = (eqb-true link.from hop.from own.0 ∙ sym (eqb-true found.1.0.from hop.from its.0), eqb-true link.to hop.to own.1 ∙ sym (eqb-true found.1.0.to hop.to its.1)) in
-      let place : number ≡ found.0 = one_number planned.board number found.0 link found.1.0 there found.1.1.0 same in
-      let one : Some link ≡ Some found.1.0 = sym there ∙ ap (slice_get links) place ∙ found.1.1.0 in
-      let equal : link ≡ found.1.0 = cc one in
-      omega (arith, ltb-true hop.pin found.1.0.width parts.1, ap (λ (l : Link). l.width) equal)
+      let own = hop_link planned.board hop pin in
+      let place : number ≡ own.number = one_link planned.board hop own number link there carried in
+      let one : Some link ≡ Some own.link = sym there ∙ ap (slice_get links) place ∙ own.there in
+      let equal : link ≡ own.link = cc one in
+      omega (arith, own.pin, ap (λ (l : Link). l.width) equal)
 
   -- ---- one word a pin and microcycle
 
@@ -133,7 +105,7 @@ module _ (planned : PlannedBoard) (sound : IsSound planned) (number : ℕ) (link
 
     pub slot_once : count_by is_slot (timetable planned) ≤ 1
     unfolding timetable
-    slot_once = omega (arith, count_sorted is_slot (entries planned), count_append is_slot (gate_entries planned 0 planned.ordered.order) (wire_entries links planned.plan.wires), gates_none 0 planned.ordered.order, wires_once planned.plan.wires its_pin, one_user planned the_hop sound)
+    slot_once = omega (arith, count_sorted comes_before is_slot (entries planned), count_append is_slot (gate_entries planned 0 planned.ordered.order) (wire_entries links planned.plan.wires), gates_none 0 planned.ordered.order, wires_once planned.plan.wires its_pin, one_user planned the_hop sound)
 
   -- ---- the pins of a link
 

@@ -1,38 +1,14 @@
 -- How many entries of a list in order come before a moment.
-use Rattle.std.proofs.Common.{◌≡◌, ◌<◌, ◌≤◌, ◌+◌, ◌&&◌, ◌∷◌, ℕ, zero, suc, Bool, true, false, List, [], map, take, cond, nat_lt, slice_get, ap, refl, sym, subst, ◌∙◌, ⊎_elim, true≢false, lt-ltb, le-ltb, Some, arith}
-use Rattle.std.specs.List.{AllByRecursion, count_by, filter}
-use Rattle.std.proofs.lemmas.Bool.{cases_Bool, cases_lt}
+use Rattle.std.proofs.Common.{◌≡◌, ◌<◌, ◌≤◌, ◌+◌, ◌&&◌, ◌∷◌, ℕ, zero, suc, Bool, true, false, List, [], take, nat_lt, slice_get, ap, refl, sym, subst, ◌∙◌, ⊎_elim, true≢false, lt-ltb, le-ltb, Some, arith}
+use Rattle.std.specs.List.{AllByRecursion, count_by}
+use Rattle.std.proofs.lemmas.Bool.{cases_lt}
 use Rattle.vw_net.specs.Steps.Bits.{one_if}
-use Rattle.vw_plan.proofs.NeededPairs.{count_cons}
+use Rattle.vw_net.proofs.CountsOverLists.{count_cons}
 use Rattle.vw_prog.specs.declared.entry.Entry.{Entry}
 use Rattle.vw_prog.specs.Timetable.{comes_before}
 use Rattle.vw_prog.proofs.EntryOrder.{by_moment}
-use Rattle.vw_prog.proofs.ListParts.{all_at}
-use Rattle.vw_prog.proofs.SortedLists.{Rises}
-
--- ---- counts by tests
-
-pub count_le : {X : Type 0} (one other : X → Bool) (xs : List X) → ((x : X) → one_if (one x) ≤ one_if (other x)) → count_by one xs ≤ count_by other xs
-count_le one other [] less = omega arith
-count_le one other (x ∷ xs) less = omega (arith, count_cons one x xs, count_cons other x xs, less x, count_le one other xs less)
-
-pub count_add : {X : Type 0} (one two whole : X → Bool) (xs : List X) → ((x : X) → one_if (whole x) ≡ one_if (one x) + one_if (two x)) → count_by whole xs ≡ count_by one xs + count_by two xs
-count_add one two whole [] sum = omega arith
-count_add one two whole (x ∷ xs) sum = omega (arith, count_cons one x xs, count_cons two x xs, count_cons whole x xs, sum x, count_add one two whole xs sum)
-
-pub count_filter : {X : Type 0} (test part : X → Bool) (xs : List X) → count_by test (filter part xs) ≡ count_by (λ x. part x && test x) xs
-count_filter test part [] = refl
-count_filter test part (x ∷ xs) =
-    let rest = count_filter test part xs in
-    let if_kept = λ (is : part x ≡ true).
-    let whole : count_by test (filter part (x ∷ xs)) ≡ count_by (λ y. part y && test y) (x ∷ xs) = omega (arith, ap (λ (kept : Bool). count_by test (cond kept (x ∷ filter part xs) (filter part xs))) is, count_cons test x (filter part xs), count_cons (λ y. part y && test y) x xs, rest, ap (λ (own : Bool). one_if (own && test x)) is) in whole in
-    let if_not = λ (is : part x ≡ false).
-    let whole : count_by test (filter part (x ∷ xs)) ≡ count_by (λ y. part y && test y) (x ∷ xs) = omega (arith, ap (λ (kept : Bool). count_by test (cond kept (x ∷ filter part xs) (filter part xs))) is, count_cons (λ y. part y && test y) x xs, rest, ap (λ (own : Bool). one_if (own && test x)) is) in whole in
-    ⊎_elim if_kept if_not (cases_Bool (part x))
-
-pub count_map : {X Y : Type 0} (test : Y → Bool) (f : X → Y) (xs : List X) → count_by test (map f xs) ≡ count_by (λ x. test (f x)) xs
-count_map test f [] = refl
-count_map test f (x ∷ xs) = omega (arith, count_cons test (f x) (map f xs), count_cons (λ y. test (f y)) x xs, count_map test f xs)
+use Rattle.vw_net.proofs.ListParts.{all_at}
+use Rattle.vw_net.proofs.SortedLists.{Rises}
 
 -- ---- before a place of a list in order
 

@@ -10,7 +10,7 @@ use Rattle.vw_net.specs.Steps.Bits.{one_if}
 use Rattle.vw_plan.specs.declared.link.Link.{Link}
 use Rattle.vw_plan.specs.PlannedBoard.{PlannedBoard}
 use Rattle.vw_plan.specs.Sound.{IsSound}
-use Rattle.vw_plan.proofs.NeededPairs.{count_cons}
+use Rattle.vw_net.proofs.CountsOverLists.{count_cons, count_filter, count_le, count_map}
 use Rattle.vw_prog.specs.declared.action.Action.{Action}
 use Rattle.vw_prog.specs.declared.action.Action.TheVariants.{Evaluate, Send, Step, Take}
 use Rattle.vw_prog.specs.declared.entry.Entry.{Entry}
@@ -22,8 +22,8 @@ use Rattle.vw_prog.specs.Timetable.{comes_before, entries, entries_at, is_at, is
 use Rattle.vw_prog.proofs.EntryOrder.{is_order}
 use Rattle.vw_prog.proofs.EntryParts.{entry_has}
 use Rattle.vw_prog.proofs.LinkPasses.{sends_are, takes_are}
-use Rattle.vw_prog.proofs.ListParts.{all_at}
-use Rattle.vw_prog.proofs.SortedLists.{Rises, part_rises}
+use Rattle.vw_net.proofs.ListParts.{all_at}
+use Rattle.vw_net.proofs.SortedLists.{Rises, part_rises}
 use Rattle.vw_node.specs.Positions.{sent_by, taken_by}
 use Rattle.vw_node.specs.States.{NodeState, next_action}
 use Rattle.vw_node.proofs.EntryKinds.{last_turn}
@@ -34,7 +34,7 @@ use Rattle.vw_world.specs.Kept.{IsKept, sent_at, taken_at}
 use Rattle.vw_world.specs.Worlds.{WorldState, capacity, link_at, node_at, words_at}
 use Rattle.vw_world.proofs.KeptWorlds.{agrees, ends, its_link}
 use Rattle.vw_world.proofs.LinkSpans.{in_span}
-use Rattle.vw_world.proofs.MomentCounts.{all_before, count_filter, count_le, count_map, none_after}
+use Rattle.vw_world.proofs.MomentCounts.{all_before, none_after}
 
 -- ---- the least of some numbers
 

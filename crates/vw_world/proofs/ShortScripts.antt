@@ -9,7 +9,7 @@ use Rattle.vw_plan.specs.HopCounts.{hop_count}
 use Rattle.vw_plan.specs.PlannedBoard.{PlannedBoard}
 use Rattle.vw_prog.specs.declared.job.Job.{Job}
 use Rattle.vw_prog.specs.Scripts.{planned_of, script, script_before}
-use Rattle.vw_prog.specs.Sorting.{put, sorted}
+use Rattle.vw_net.specs.Sorting.{put, sorted}
 use Rattle.vw_prog.specs.Timetable.{comes_before, entries, gate_entries, hop_entries, is_sent, passes, timetable, wire_entries}
 use Rattle.vw_net.proofs.Orders.{length-order}
 use Rattle.vw_world.proofs.NeverStuck.{more_words}

@@ -3,8 +3,7 @@ use Rattle.std.proofs.Common.{◌≡◌, ◌<◌, ◌≤◌, ◌+◌, ◌*◌, �
 use Rattle.std.specs.List.{count_by}
 use Rattle.std.proofs.lemmas.Bool.{cases_lt, ne_eqb}
 use Rattle.vw_net.specs.Steps.Bits.{one_if}
-use Rattle.vw_plan.proofs.NeededPairs.{count_cons}
-use Rattle.vw_world.proofs.MomentCounts.{count_add}
+use Rattle.vw_net.proofs.CountsOverLists.{count_add, count_cons}
 
 below_more : (n k : ℕ) → one_if (nat_lt n (suc k)) ≡ one_if (nat_lt n k) + one_if (eqb n k)
 below_more n k =

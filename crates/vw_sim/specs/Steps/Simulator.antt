@@ -1,5 +1,5 @@
 -- What a simulator keeps of a netlist with an order.
-use Rattle.std.specs.Prelude.{ℕ, ◌+◌, ◌≡◌, Bool, List, [], ◌∷◌, map, flat_map, slice_get, slice_set, Option, Some, None}
+use Rattle.std.specs.Prelude.{ℕ, ◌+◌, ◌≡◌, List, [], ◌∷◌, map, flat_map, slice_get, Option, Some, None}
 use Rattle.vw_net.specs.declared.cell.Cell.{Cell}
 use Rattle.vw_net.specs.declared.cell.Cell.TheVariants.{Gate, Latch}
 use Rattle.vw_net.specs.declared.ordered.Ordered.{Ordered}
@@ -26,12 +26,6 @@ abbrev pub latch_nets : ℕ → List Cell → List ℕ
 latch_nets first [] = []
 latch_nets first (Gate ins cover ∷ cells) = latch_nets (first + 1) cells
 latch_nets first (Latch d init ∷ cells) = first ∷ latch_nets (first + 1) cells
-
--- values with bits at the places of some nets
-abbrev pub with_bits : List ℕ → List Bool → List Bool → List Bool
-with_bits [] bits values = values
-with_bits (net ∷ nets) [] values = values
-with_bits (net ∷ nets) (bit ∷ bits) values = with_bits nets bits (slice_set values net bit)
 
 -- the gates, the nets that they read, the nets of the latches, and the nets that the latches take, of an ordered netlist
 pub record AreSimulatorTables (ordered : Ordered) (steps : List GateStep) (read drive take : List ℕ) : Type 0 where

@@ -5,7 +5,7 @@ use Rattle.vw_emit.specs.Lines.{start_word, blif_latch}
 use Rattle.vw_emit.specs.Names.{latch_name, latch_next_name}
 use Rattle.vw_emit.specs.Nodes.{latch_items, latch_table}
 use Rattle.vw_emit.specs.Steps.{planned_by}
-use Rattle.vw_emit.proofs.WrittenPieces.{grown_lines}
+use Rattle.vw_text.proofs.WrittenPieces.{grown_lines}
 use Rattle.vw_emit.proofs.cells.push_latch.Goals as goal
 
 pub returns-in_ok-push_latch_line-in-Latch : goal.returns-in_ok-push_latch_line-in-Latch

@@ -2,7 +2,7 @@ use Rattle.std.proofs.Common.{◌+◌, ◌++◌, ◌∷◌, [], ℕ, List}
 use Rattle.std.specs.Prelude.{codes}
 use Rattle.vw_emit.specs.Lines.{blif_latch}
 use Rattle.vw_emit.specs.Names.{stage_name}
-use Rattle.vw_emit.proofs.WrittenPieces.{mapped_more}
+use Rattle.vw_text.proofs.WrittenPieces.{mapped_more}
 use Rattle.vw_emit.proofs.cells.push_sequencer.Goals as goal
 
 pub loop-before-preserved : goal.loop-before-preserved

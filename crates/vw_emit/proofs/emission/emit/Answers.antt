@@ -5,7 +5,7 @@ use Rattle.vw_plan.specs.declared.plan.Plan.{Plan}
 use Rattle.vw_plan.specs.declared.wire.Wire.{Wire}
 use Rattle.vw_leads.specs.Pairs.{HasPairs}
 use Rattle.vw_leads.specs.Wires.{wire_pairs}
-use Rattle.vw_prog.specs.Sorting.{sorted}
+use Rattle.vw_net.specs.Sorting.{sorted}
 use Rattle.vw_emit.specs.declared.numbered_hop.NumberedHop.{NumberedHop}
 use Rattle.vw_emit.specs.Outlets.{hops_of_wires, leaves_before, outlets_behind}
 use Rattle.vw_emit.proofs.emission.emit.Goals as goal

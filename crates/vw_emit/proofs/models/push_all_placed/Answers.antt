@@ -1,7 +1,7 @@
 use Rattle.std.proofs.Common.{◌<◌, ◌+◌, ◌++◌, ◌∷◌, [], ℕ, List, arith}
 use Rattle.vw_emit.specs.Emitted.{placed_line}
 use Rattle.vw_emit.specs.Steps.{planned_by}
-use Rattle.vw_emit.proofs.WrittenPieces.{mapped_more}
+use Rattle.vw_text.proofs.WrittenPieces.{mapped_more}
 use Rattle.vw_emit.proofs.models.push_all_placed.Goals as goal
 
 pub loop-node-preserved : goal.loop-node-preserved

@@ -5,7 +5,7 @@ use Rattle.vw_text.specs.Physical.{lines_text}
 use Rattle.vw_emit.specs.Emitted.{all_nodes, placed_line}
 use Rattle.vw_emit.specs.Steps.{numbered_ports, planned_by, ports_text}
 use Rattle.vw_emit.proofs.ModelLines.{board_pieces}
-use Rattle.vw_emit.proofs.WrittenPieces.{grown}
+use Rattle.vw_text.proofs.WrittenPieces.{grown}
 use Rattle.vw_emit.proofs.models.push_board.Goals as goal
 
 pub returns : goal.returns

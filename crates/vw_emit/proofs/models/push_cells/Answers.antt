@@ -4,7 +4,7 @@ use Rattle.vw_net.specs.declared.flat.Flat.{Flat}
 use Rattle.vw_text.specs.Physical.{lines_text}
 use Rattle.vw_emit.specs.Nodes.{cell_items, gate_items, latch_items, sequencer}
 use Rattle.vw_emit.specs.Steps.{planned_by}
-use Rattle.vw_emit.proofs.WrittenPieces.{grown_lines}
+use Rattle.vw_text.proofs.WrittenPieces.{grown_lines}
 use Rattle.vw_emit.proofs.models.push_cells.Goals as goal
 
 pub returns : goal.returns

@@ -5,7 +5,7 @@ use Rattle.vw_text.specs.Physical.{lines_text}
 use Rattle.vw_emit.specs.Nodes.{node_inputs, node_items, node_outputs}
 use Rattle.vw_emit.specs.Steps.{planned_by, ports_text}
 use Rattle.vw_emit.proofs.ModelLines.{node_pieces}
-use Rattle.vw_emit.proofs.WrittenPieces.{grown}
+use Rattle.vw_text.proofs.WrittenPieces.{grown}
 use Rattle.vw_emit.proofs.models.push_node.Goals as goal
 
 pub returns : goal.returns

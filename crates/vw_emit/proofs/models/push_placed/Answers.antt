@@ -4,7 +4,7 @@ use Rattle.std.specs.Fmt.{decimal}
 use Rattle.vw_emit.specs.Nodes.{node_inputs, node_outputs}
 use Rattle.vw_emit.specs.Steps.{planned_by, ports_text}
 use Rattle.vw_emit.proofs.ModelLines.{placed_pieces}
-use Rattle.vw_emit.proofs.WrittenPieces.{grown}
+use Rattle.vw_text.proofs.WrittenPieces.{grown}
 use Rattle.vw_emit.proofs.models.push_placed.Goals as goal
 
 pub returns : goal.returns

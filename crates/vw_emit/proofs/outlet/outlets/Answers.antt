@@ -1,6 +1,6 @@
 use Rattle.std.proofs.Common.{◌≡◌, ◌∙◌, List, None, IfOk, ap, subst}
-use Rattle.vw_prog.specs.Sorting.{sorted}
-use Rattle.vw_prog.proofs.SortedLists.{sorted_is}
+use Rattle.vw_net.specs.Sorting.{sorted}
+use Rattle.vw_net.proofs.SortedLists.{sorted_is}
 use Rattle.vw_emit.specs.declared.numbered_hop.NumberedHop.{NumberedHop}
 use Rattle.vw_emit.specs.Outlets.{leaves_before, outlets_behind}
 use Rattle.vw_emit.proofs.HopOrder.{is_order, same_hop}

@@ -2,7 +2,7 @@ use Rattle.std.proofs.Common.{◌∷◌, ℕ}
 use Rattle.std.specs.Fmt.{decimal}
 use Rattle.vw_emit.specs.Nodes.{same_port}
 use Rattle.vw_emit.specs.Steps.{port_text}
-use Rattle.vw_emit.proofs.WrittenPieces.{mapped_more}
+use Rattle.vw_text.proofs.WrittenPieces.{mapped_more}
 use Rattle.vw_emit.proofs.ports.push_numbered.Goals as goal
 
 pub loop-number-preserved : goal.loop-number-preserved

@@ -1,4 +1,4 @@
-use Rattle.vw_emit.proofs.WrittenPieces.{any_more}
+use Rattle.vw_emit.proofs.LineShapes.{any_more}
 use Rattle.vw_emit.proofs.rows.push_any.Goals as goal
 
 pub loop-input-preserved : goal.loop-input-preserved

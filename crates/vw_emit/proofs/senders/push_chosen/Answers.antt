@@ -4,7 +4,7 @@ use Rattle.vw_emit.specs.Names.{stage_name}
 use Rattle.vw_emit.specs.Nodes.{sent_name}
 use Rattle.vw_emit.specs.Steps.{choice_end, planned_by}
 use Rattle.vw_emit.proofs.ChosenLines.{chosen_pieces}
-use Rattle.vw_emit.proofs.WrittenPieces.{grown}
+use Rattle.vw_text.proofs.WrittenPieces.{grown}
 use Rattle.vw_emit.proofs.senders.push_chosen.Goals as goal
 
 pub returns : goal.returns

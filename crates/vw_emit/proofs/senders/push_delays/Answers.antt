@@ -1,6 +1,6 @@
 use Rattle.std.proofs.Common.{◌++◌, ◌∷◌, [], ℕ, List}
 use Rattle.vw_emit.specs.Nodes.{delay_line}
-use Rattle.vw_emit.proofs.WrittenPieces.{mapped_more}
+use Rattle.vw_text.proofs.WrittenPieces.{mapped_more}
 use Rattle.vw_emit.proofs.senders.push_delays.Goals as goal
 
 pub loop-later-preserved : goal.loop-later-preserved

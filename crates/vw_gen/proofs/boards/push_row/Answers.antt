@@ -2,7 +2,8 @@ use Rattle.std.proofs.Common.{◌∙◌, ◌++◌, ℕ, List, ap}
 use Rattle.std.specs.List.{range_with_len}
 use Rattle.vw_text.specs.Physical.{lines_text}
 use Rattle.vw_gen.specs.Board.{chip_links}
-use Rattle.vw_gen.proofs.WrittenRanges.{range_more, range_all, lines_text-flat_map}
+use Rattle.vw_text.proofs.LineTexts.{lines_text-flat_map}
+use Rattle.vw_text.proofs.WrittenPieces.{range_more, range_all}
 use Rattle.vw_gen.proofs.boards.push_row.Goals as goal
 
 pub loop-column-preserved : goal.loop-column-preserved

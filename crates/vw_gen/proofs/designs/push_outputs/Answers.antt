@@ -2,8 +2,7 @@ use Rattle.std.proofs.Common.{◌∙◌, ◌-◌, ◌++◌, ◌∷◌, [], ℕ, 
 use Rattle.std.specs.Prelude.{codes}
 use Rattle.std.specs.List.{flat_map, range_with_len}
 use Rattle.vw_gen.specs.Nets.{cell_name}
-use Rattle.vw_gen.proofs.WrittenRanges.{range_more, range_all}
-use Rattle.vw_gen.proofs.WrittenTexts.{line_written}
+use Rattle.vw_text.proofs.WrittenPieces.{range_more, range_all, line_written}
 use Rattle.vw_gen.proofs.designs.push_outputs.Goals as goal
 
 pub loop-cell-preserved : goal.loop-cell-preserved

@@ -3,7 +3,8 @@ use Rattle.std.specs.List.{range_with_len}
 use Rattle.vw_gen.specs.Draws.{state_after, draw}
 use Rattle.vw_gen.specs.Stimulus.{drawn_bits}
 use Rattle.vw_gen.proofs.StatesAfter.{state_after-next}
-use Rattle.vw_gen.proofs.WrittenRanges.{range_more, range_all, bytes-map}
+use Rattle.vw_text.proofs.LineTexts.{bytes-map}
+use Rattle.vw_text.proofs.WrittenPieces.{range_more, range_all}
 use Rattle.vw_gen.proofs.stimuli.push_bits.Goals as goal
 
 pub loop-column-preserved : goal.loop-column-preserved

@@ -2,7 +2,8 @@ use Rattle.std.proofs.Common.{◌∙◌, ◌+◌, ◌*◌, ◌++◌, ◌∷◌, 
 use Rattle.std.specs.List.{flat_map, range_with_len}
 use Rattle.vw_gen.specs.Stimulus.{drawn_bits}
 use Rattle.vw_gen.proofs.StatesAfter.{bits_moved, state_after-row}
-use Rattle.vw_gen.proofs.WrittenRanges.{range_more, range_all, lines_text-map}
+use Rattle.vw_text.proofs.LineTexts.{lines_text-map}
+use Rattle.vw_text.proofs.WrittenPieces.{range_more, range_all}
 use Rattle.vw_gen.proofs.stimuli.stimulus.Goals as goal
 
 pub loop-row-init : goal.loop-row-init

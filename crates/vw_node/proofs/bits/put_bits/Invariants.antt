@@ -1,6 +1,6 @@
 -- the bits that are left are still to be put
 use Rattle.std.proofs.Common.{◌≡◌, drop, length}
-use Rattle.vw_node.specs.Slots.{with_bits}
+use Rattle.vw_net.specs.Steps.WrittenBits.{with_bits}
 use Rattle.vw_node.proofs.bits.put_bits.Given as goal
 
 abbrev pub invariant-loop-i : goal.invariant-loop-i

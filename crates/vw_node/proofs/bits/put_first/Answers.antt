@@ -1,6 +1,6 @@
 use Rattle.std.proofs.Common.{arith}
 use Rattle.std.proofs.lemmas.Grind.{common_steps}
-use Rattle.vw_node.proofs.Places.{set_more}
+use Rattle.vw_net.proofs.WrittenBits.{set_more}
 use Rattle.vw_node.proofs.bits.put_first.Goals as goal
 
 -- one more bit is written

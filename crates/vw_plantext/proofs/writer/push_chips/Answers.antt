@@ -2,7 +2,7 @@ use Rattle.std.proofs.Common.{◌++◌, ◌∙◌, ℕ, ◌∷◌, ap, arith}
 use Rattle.std.specs.Fmt.{decimal}
 use Rattle.std.specs.Prelude.{codes}
 use Rattle.vw_plantext.specs.Grammar.{numbers_text}
-use Rattle.vw_plantext.proofs.WrittenLists.{whole_written, line_written, one_written}
+use Rattle.vw_text.proofs.WrittenPieces.{whole_written, line_written, one_written}
 use Rattle.vw_plantext.proofs.writer.push_chips.Goals as goal
 
 pub loop-chip-preserved : goal.loop-chip-preserved

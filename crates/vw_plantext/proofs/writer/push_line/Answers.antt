@@ -1,7 +1,7 @@
 use Rattle.std.proofs.Common.{ℕ, ◌∷◌, arith}
 use Rattle.std.specs.Fmt.{decimal}
 use Rattle.vw_plantext.specs.Grammar.{numbers_text}
-use Rattle.vw_plantext.proofs.WrittenLists.{whole_written, line_written, one_written}
+use Rattle.vw_text.proofs.WrittenPieces.{whole_written, line_written, one_written}
 use Rattle.vw_plantext.proofs.writer.push_line.Goals as goal
 
 pub loop-number-preserved : goal.loop-number-preserved

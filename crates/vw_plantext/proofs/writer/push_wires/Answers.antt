@@ -1,7 +1,7 @@
 use Rattle.std.proofs.Common.{◌++◌, ◌∙◌, ap}
 use Rattle.vw_plan.specs.declared.wire.Wire.{Wire}
 use Rattle.vw_plantext.specs.Steps.Pieces.{wire_text}
-use Rattle.vw_plantext.proofs.WrittenLists.{one_written}
+use Rattle.vw_text.proofs.WrittenPieces.{one_written}
 use Rattle.vw_plantext.proofs.writer.push_wires.Goals as goal
 
 pub loop-wire-preserved : goal.loop-wire-preserved

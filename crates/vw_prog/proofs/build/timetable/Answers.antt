@@ -8,11 +8,11 @@ use Rattle.vw_plan.specs.PlannedBoard.{PlannedBoard, planned_board}
 use Rattle.vw_plan.specs.Sound.{IsSound}
 use Rattle.vw_leads.specs.Pairs.{HasPairs}
 use Rattle.vw_leads.specs.Wires.{wire_pairs}
-use Rattle.vw_prog.specs.Sorting.{sorted}
+use Rattle.vw_net.specs.Sorting.{sorted}
 use Rattle.vw_prog.specs.Timetable.{comes_before, entries, timetable}
 use Rattle.vw_prog.proofs.EntryOrder.{is_order, same_entry}
-use Rattle.vw_prog.proofs.NeededWires.{wires_fine}
-use Rattle.vw_prog.proofs.SortedLists.{sorted_is}
+use Rattle.vw_plan.proofs.NeededWires.{wires_fine}
+use Rattle.vw_net.proofs.SortedLists.{sorted_is}
 use Rattle.vw_prog.proofs.build.timetable.Goals as goal
 
 abbrev planned_in_checked : Checked → PlannedBoard

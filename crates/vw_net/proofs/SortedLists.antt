@@ -8,7 +8,7 @@ use Rattle.std.proofs.lemmas.List.Elements.{recursion_from_All}
 use Rattle.std.proofs.lemmas.List.Sorted.{sorted_far, sum_by-IsPermutation}
 use Rattle.std.proofs.lemmas.List.Sums.{sum_by-cons}
 use Rattle.vw_net.specs.Steps.Bits.{one_if}
-use Rattle.vw_prog.specs.Sorting.{put, sorted}
+use Rattle.vw_net.specs.Sorting.{put, sorted}
 
 module _ {X : Type 0} (before : X → X → Bool) where
   -- no element of a list comes before the ones that stand before it
@@ -17,7 +17,7 @@ module _ {X : Type 0} (before : X → X → Bool) where
   Rises (x ∷ xs) = AllByRecursion (λ y. before y x ≡ false) xs × Rises xs
 
   -- what holds of all elements, and of one more
-  all_put : (P : X → Type 0) (x : X) (xs : List X) → P x → AllByRecursion P xs → AllByRecursion P (put before x xs)
+  pub all_put : (P : X → Type 0) (x : X) (xs : List X) → P x → AllByRecursion P xs → AllByRecursion P (put before x xs)
   all_put P x [] here all = (here, tt)
   all_put P x (y ∷ ys) here all = elim (before y x) as (λ first. AllByRecursion P (cond first (y ∷ put before x ys) (x ∷ y ∷ ys))) [
     | true ↦ (all.0, all_put P x ys here all.1)
@@ -40,7 +40,7 @@ module _ {X : Type 0} (before : X → X → Bool) where
   all_weaker P Q weaker (x ∷ xs) all = (weaker x all.0, all_weaker P Q weaker xs all.1)
 
   -- a sum over the elements, and over a list with one more
-  sum_put : (f : X → ℕ) (x : X) (xs : List X) → sum_by f (put before x xs) ≡ f x + sum_by f xs
+  pub sum_put : (f : X → ℕ) (x : X) (xs : List X) → sum_by f (put before x xs) ≡ f x + sum_by f xs
   sum_put f x [] = sum_by-cons f x []
   sum_put f x (y ∷ ys) = elim (before y x) as (λ first. sum_by f (cond first (y ∷ put before x ys) (x ∷ y ∷ ys)) ≡ f x + sum_by f (y ∷ ys)) [
     | true ↦ omega (arith, sum_by-cons f y (put before x ys), sum_put f x ys, sum_by-cons f y ys)
@@ -52,7 +52,7 @@ module _ {X : Type 0} (before : X → X → Bool) where
   sum_sorted f (x ∷ xs) = omega (arith, sum_put f x (sorted before xs), sum_sorted f xs, sum_by-cons f x xs)
 
   -- an element is in a list where it is in the list in order
-  any_put : (test : X → Bool) (x : X) (xs : List X) → list_any test (put before x xs) ≡ (test x || list_any test xs)
+  pub any_put : (test : X → Bool) (x : X) (xs : List X) → list_any test (put before x xs) ≡ (test x || list_any test xs)
   any_put test x [] = refl
   any_put test x (y ∷ ys) = elim (before y x) as (λ first. list_any test (cond first (y ∷ put before x ys) (x ∷ y ∷ ys)) ≡ (test x || (test y || list_any test ys))) [
     | true ↦ ap (λ (rest : Bool). test y || rest) (any_put test x ys) ∙ turned (test y) (test x) (list_any test ys)
@@ -68,15 +68,15 @@ module _ {X : Type 0} (before : X → X → Bool) where
   any_sorted test (x ∷ xs) = any_put test x (sorted before xs) ∙ ap (λ (rest : Bool). test x || rest) (any_sorted test xs)
 
   module _ (order : IsStrictWeakOrder before) where
-    irreflexive : (x : X) → before x x ≡ false
+    pub irreflexive : (x : X) → before x x ≡ false
     irreflexive x = ⊎_elim (λ is. order.one_way x x is) (λ no. no) (cases_Bool (before x x))
 
     -- what is not before one isn't before what comes no sooner
-    not_sooner : (x y : X) → before y x ≡ false → (zs : List X) → AllByRecursion (λ z. before z y ≡ false) zs → AllByRecursion (λ z. before z x ≡ false) zs
+    pub not_sooner : (x y : X) → before y x ≡ false → (zs : List X) → AllByRecursion (λ z. before z y ≡ false) zs → AllByRecursion (λ z. before z x ≡ false) zs
     not_sooner x y later [] all = tt
     not_sooner x y later (z ∷ zs) all = (order.chain z y x all.0 later, not_sooner x y later zs all.1)
 
-    put_rises : (x : X) (xs : List X) → Rises xs → Rises (put before x xs)
+    pub put_rises : (x : X) (xs : List X) → Rises xs → Rises (put before x xs)
     put_rises x [] rises = (tt, tt)
     put_rises x (y ∷ ys) rises =
         let if_before = λ (is : before y x ≡ true). let whole : Rises (put before x (y ∷ ys)) = rw is (all_put (λ z. before z y ≡ false) x ys (order.one_way y x is) rises.0, put_rises x ys rises.1) in whole in
@@ -88,7 +88,7 @@ module _ {X : Type 0} (before : X → X → Bool) where
     sorted_rises (x ∷ xs) = put_rises x (sorted before xs) (sorted_rises xs)
 
     -- a list in the order of its neighbours rises
-    rises_from : (xs : List X) → ((i j : ℕ) (default : X) → i ≤ j → j < length xs → before (get_or xs j default) (get_or xs i default) ≡ false) → Rises xs
+    pub rises_from : (xs : List X) → ((i j : ℕ) (default : X) → i ≤ j → j < length xs → before (get_or xs j default) (get_or xs i default) ≡ false) → Rises xs
     rises_from [] far = tt
     rises_from (x ∷ xs) far = (
       recursion_from_All (λ y. before y x ≡ false) xs (λ k default within. far 0 (suc k) default (omega arith) (omega (arith, within))),
@@ -107,7 +107,7 @@ module _ {X : Type 0} (before : X → X → Bool) where
         ⊎_elim if_is (λ no. no) (cases_Bool (before y x))
 
     module _ (same : (x y : X) → before x y ≡ false → before y x ≡ false → x ≡ y) where
-      unique : (xs ys : List X) → Rises xs → Rises ys → ((f : X → ℕ) → sum_by f xs ≡ sum_by f ys) → xs ≡ ys
+      pub unique : (xs ys : List X) → Rises xs → Rises ys → ((f : X → ℕ) → sum_by f xs ≡ sum_by f ys) → xs ≡ ys
       unique [] [] rises others_rise sums = refl
       unique [] (y ∷ ys) rises others_rise sums = absurd (omega (arith, sums (λ z. 1), sum_by-cons (λ (z : X). 1) y ys))
       unique (x ∷ xs) [] rises others_rise sums = absurd (omega (arith, sums (λ z. 1), sum_by-cons (λ (z : X). 1) x xs))
@@ -126,7 +126,7 @@ module _ {X : Type 0} (before : X → X → Bool) where
 
     -- ---- what an order keeps
 
-    put_front : (x : X) (xs : List X) → AllByRecursion (λ y. before y x ≡ false) xs → put before x xs ≡ x ∷ xs
+    pub put_front : (x : X) (xs : List X) → AllByRecursion (λ y. before y x ≡ false) xs → put before x xs ≡ x ∷ xs
     put_front x [] all = refl
     put_front x (y ∷ ys) all = rw all.0 refl
 
@@ -154,7 +154,7 @@ module _ {X : Type 0} (before : X → X → Bool) where
       | false ↦ filter_sorted test xs
     ])
 
-    rises_filter : (test : X → Bool) (xs : List X) → Rises xs → Rises (filter test xs)
+    pub rises_filter : (test : X → Bool) (xs : List X) → Rises xs → Rises (filter test xs)
     rises_filter test [] rises = tt
     rises_filter test (x ∷ xs) rises = elim (test x) as (λ keeps. Rises (cond keeps (x ∷ filter test xs) (filter test xs))) [
       | true ↦ (all_filter (λ y. before y x ≡ false) test xs rises.0, rises_filter test xs rises.1)

@@ -1,0 +1,11 @@
+-- The place of a hop's link is the number of the link over which it goes.
+use Rattle.std.proofs.Common.{◌≡◌, ℕ, Option, ap}
+use Rattle.std.specs.Prelude.{unwrap_or}
+use Rattle.vw_plan.specs.declared.board.Board.{Board}
+use Rattle.vw_plan.specs.declared.wire.Hop.{Hop}
+use Rattle.vw_plan.proofs.HopLinks.{HopLink}
+use Rattle.vw_leads.proofs.HopNumbers.{hop_number}
+use Rattle.vw_prog.specs.Timetable.{link_place}
+
+pub hop_place : (board : Board) (hop : Hop) (own : HopLink board hop) → link_place board.links hop ≡ own.number
+hop_place board hop own = ap (λ (found : Option ℕ). unwrap_or found 0) (hop_number board hop own)
