@@ -36,6 +36,23 @@ gates() {
     }
     printf ".end\n" }'
 }
+# wide COUNT INPUTS ROWS: tables with so many inputs, all of the same nets, and so many rows, one mark in twelve of which
+# looks at its input
+wide() {
+  awk -v count="$1" -v inputs="$2" -v rows="$3" 'BEGIN {
+    x = 7; names = ""
+    for (k = 0; k < inputs; k++) names = names " i" k
+    printf ".model m\n.inputs%s\n.outputs n%d\n", names, count - 1
+    for (n = 0; n < count; n++) {
+      printf ".names%s n%d\n", names, n
+      for (r = 0; r < rows; r++) {
+        row = ""
+        for (k = 0; k < inputs; k++) { x = (75 * x + 74) % 65537; row = row (x % 12 ? "-" : int(x / 12) % 2) }
+        print row " 1"
+      }
+    }
+    printf ".end\n" }'
+}
 # placed_outputs OUTPUTS COUNT: a model with so many outputs that nobody binds, placed so many times
 placed_outputs() {
   awk -v outputs="$1" -v count="$2" 'BEGIN {
@@ -375,6 +392,9 @@ simulated "4,000 tables of four inputs" 4000 10000 gates.blif gates.stim
 gates 65000 > gates.blif
 clocks 500 8 > gates.stim
 simulated "65,000 tables of four inputs" 65000 500 gates.blif gates.stim
+wide 2000 100 50 > wide.blif
+clocks 1000 100 > wide.stim
+simulated "2,000 tables of 100 inputs and 50 rows" 2000 1000 wide.blif wide.stim
 hierarchy 199 99 99 65536 > hierarchy.blif
 clocks 200 1 > hierarchy.stim
 simulated "45,736 tables and 19,800 latches in 20,000 instances" 45736 200 hierarchy.blif hierarchy.stim

@@ -1,5 +1,5 @@
 -- Values of nets at levels: the case in which each net is found as it is.
-use Rattle.std.proofs.Common.{◌≡◌, ◌≤◌, ◌+◌, ◌-◌, ℕ, zero, suc, Bool, true, false, List, length, take, map, slice_get, slice_index_or, nat_lt, if◌then◌else◌, ap, refl, sym, ◌∙◌, Some, arith}
+use Rattle.std.proofs.Common.{◌≡◌, ◌≤◌, ◌+◌, ◌-◌, ℕ, zero, suc, Bool, true, false, List, length, take, map, slice_get, slice_index_or, nat_lt, if◌then◌else◌, ap, refl, sym, ◌∙◌, Some}
 use Rattle.std.proofs.Math.Path.{fun_ext}
 use Rattle.vw_net.specs.declared.cell.Cell.TheVariants.{Gate}
 use Rattle.vw_net.specs.declared.cover.Cover.{Cover}

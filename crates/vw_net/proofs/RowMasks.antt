@@ -1,5 +1,5 @@
 -- The rows that masks are kept for, and when masks match.
-use Rattle.std.proofs.Common.{◌≡◌, ◌≤◌, ◌<◌, ◌+◌, ◌*◌, ◌/◌, ◌%◌, ◌^◌, ◌==◌, ◌&&◌, ◌||◌, not, ℕ, zero, suc, min, Bool, true, false, List, [], ◌∷◌, length, map, get_or, slice_get, bit_and, bit_xor, Some, if◌then◌else◌, ap, ap₂, sym, refl, ◌∙◌, ⊎_elim, All, eq-eqb, ne_eqb, subst, arith}
+use Rattle.std.proofs.Common.{◌≡◌, ◌<◌, ◌+◌, ◌*◌, ◌/◌, ◌%◌, ◌^◌, ◌==◌, ◌&&◌, ◌||◌, not, ℕ, zero, suc, min, Bool, true, false, List, [], ◌∷◌, length, map, get_or, slice_get, bit_and, bit_xor, Some, if◌then◌else◌, ap, ap₂, sym, refl, ◌∙◌, ⊎_elim, All, ne_eqb, subst, arith}
 use Rattle.std.specs.Int.{bit_at}
 use Rattle.std.specs.Int.Bits.{and_zero_r}
 use Rattle.std.specs.List.{list_any}
@@ -44,7 +44,7 @@ marks_kept (mark ∷ marks) =
 row_kept : (inputs : ℕ) (row : Row) → length row.marks ≡ inputs → row_of inputs (masks_of row.marks) ≡ row
 row_kept inputs row even =
     let marks : marks_of inputs (place_of (map is_looked row.marks)) (place_of (map is_wanted row.marks)) ≡ row.marks =
-        subst (λ (n : ℕ). marks_of n (place_of (map is_looked row.marks)) (place_of (map is_wanted row.marks)) ≡ row.marks) even (marks_kept row.marks) in
+    subst (λ (n : ℕ). marks_of n (place_of (map is_looked row.marks)) (place_of (map is_wanted row.marks)) ≡ row.marks) even (marks_kept row.marks) in
     λ i. record { marks = marks i }
 
 pub rows_kept : (inputs : ℕ) (rows : List Row) → All (λ row. length row.marks ≡ inputs) rows → rows_of inputs (map (λ (one : Row). masks_of one.marks) rows) ≡ rows
@@ -117,9 +117,9 @@ marks_matched (suc inputs) looked wanted (value ∷ bits) low size =
     let place = bit value + 2 * place_of bits in
     let both = bit_and (bit_xor place wanted) looked in
     let rest : both / 2 ≡ bit_and (bit_xor (place_of bits) (wanted / 2)) (looked / 2) =
-        and_half (bit_xor place wanted) looked ∙ ap (λ (n : ℕ). bit_and n (looked / 2)) (xor_half place wanted ∙ ap (λ (n : ℕ). bit_xor n (wanted / 2)) (half value (place_of bits))) in
+    and_half (bit_xor place wanted) looked ∙ ap (λ (n : ℕ). bit_and n (looked / 2)) (xor_half place wanted ∙ ap (λ (n : ℕ). bit_xor n (wanted / 2)) (half value (place_of bits))) in
     let here : both % 2 ≡ min ((bit value + wanted % 2) % 2) (looked % 2) =
-        and_lowest (bit_xor place wanted) looked ∙ ap (λ (n : ℕ). min n (looked % 2)) (xor_lowest place wanted ∙ ap (λ (n : ℕ). (n + wanted % 2) % 2) (lowest value (place_of bits))) in
+    and_lowest (bit_xor place wanted) looked ∙ ap (λ (n : ℕ). min n (looked % 2)) (xor_lowest place wanted ∙ ap (λ (n : ℕ). (n + wanted % 2) % 2) (lowest value (place_of bits))) in
     let small : looked / 2 < 2 ^ inputs = omega (arith, low, pow-suc 2 inputs) in
     zero_by_half both
     ∙ ap₂ (λ (x y : Bool). x && y)

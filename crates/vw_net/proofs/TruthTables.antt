@@ -1,15 +1,14 @@
 -- The truth table of a cover, bit by bit.
-use Rattle.std.proofs.Common.{◌≡◌, ◌≤◌, ◌<◌, ◌+◌, ◌-◌, ◌*◌, ◌/◌, ◌%◌, ◌^◌, ◌&&◌, ◌||◌, not, ℕ, zero, suc, min, max, Bool, true, false, List, [], ◌∷◌, ◌++◌, length, map, get_or, nat_le, nat_eq, bit_and, bit_or, if◌then◌else◌, w64, ap, ap₂, sym, refl, ◌∙◌, ⊎_elim, All, le-leb, eqb-true, leb-true, subst, arith}
+use Rattle.std.proofs.Common.{◌≡◌, ◌≤◌, ◌<◌, ◌+◌, ◌-◌, ◌^◌, ◌&&◌, ◌||◌, not, ℕ, zero, suc, min, max, Bool, true, false, List, [], ◌∷◌, ◌++◌, length, map, get_or, nat_le, nat_eq, bit_and, bit_or, if◌then◌else◌, w64, ap, ap₂, sym, refl, ◌∙◌, ⊎_elim, All, le-leb, eqb-true, leb-true, subst, arith}
 use Rattle.std.specs.List.{list_any, range_with_len}
 use Rattle.std.specs.Int.{bit_at}
-use Rattle.std.proofs.Math.Nat.{pow-suc}
 use Rattle.std.proofs.Math.Pow.{pow_mono}
 use Rattle.std.proofs.lemmas.Bool.{and_parts, cases_eq}
 use Rattle.std.proofs.lemmas.List.{append-nil, get_or_append_left, length-append, length-map}
 use Rattle.std.proofs.lemmas.List.FromFn.{get_or-map-range_with_len, length-range_with_len}
 use Rattle.std.proofs.lemmas.List.Elements.{All-head, All-tail}
 use Rattle.std.proofs.lemmas.Nat.{and_le_l, or_lt}
-use Rattle.std.proofs.lemmas.Nat.Bits.{bit_at_lowest, bit_at-suc, bit_at-zero, bit_at_and, bit_at_or, bit_at_not, bit_at_ones, shr_and_one, same_from_bits_below}
+use Rattle.std.proofs.lemmas.Nat.Bits.{bit_at-zero, bit_at_and, bit_at_or, bit_at_not, bit_at_ones, shr_and_one, same_from_bits_below}
 use Rattle.vw_net.specs.declared.cover.Mark.{Mark}
 use Rattle.vw_net.specs.declared.cover.Mark.TheVariants.{Zero, One, Any}
 use Rattle.vw_net.specs.declared.cover.Row.{Row}
@@ -213,10 +212,10 @@ truth_table_is table = by (nat_le table.inputs 6) refl where
       let small : truth_table_of table.inputs table.on table.rows < 2 ^ 64 = rw is (table-lt table.on matched (rows_places-lt 0 table.rows (omega arith))) in
       let listed : place_of values < 2 ^ 64 = subst (λ (n : ℕ). place_of values < 2 ^ n) few_values (place_of-lt values) in
       same_from_bits_below 64 _ _ small listed (λ place low.
-          let value = λ (at : ℕ). cover_value table (values_at table.inputs at) in
-          let there : 0 + place ≡ place = omega arith in
-          table_at table.inputs table.on table.rows (leb-true table.inputs 6 is) table.even place low
-          ∙ sym (bit_at-place_of values place ∙ ap bit (get_or-map-range_with_len value 0 64 place place false low there)))
+      let value = λ (at : ℕ). cover_value table (values_at table.inputs at) in
+      let there : 0 + place ≡ place = omega arith in
+      table_at table.inputs table.on table.rows (leb-true table.inputs 6 is) table.even place low
+      ∙ sym (bit_at-place_of values place ∙ ap bit (get_or-map-range_with_len value 0 64 place place false low there)))
 
 test-bit : (value : Bool) → nat_eq (bit value) 1 ≡ value
 test-bit true = refl

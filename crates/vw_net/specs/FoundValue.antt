@@ -10,8 +10,8 @@ abbrev pub found_level : (ℕ → Bool → Bool) → ℕ → Flat → List Bool 
 found_level find zero flat row state net = false
 found_level find (suc level) flat row state net =
     find net (
-      if nat_lt net flat.inputs then slice_index_or row net false
-      else driven_value (found_level find level flat row state) state (latch_count (take (net - flat.inputs) flat.cells)) (slice_get flat.cells (net - flat.inputs)))
+    if nat_lt net flat.inputs then slice_index_or row net false
+    else driven_value (found_level find level flat row state) state (latch_count (take (net - flat.inputs) flat.cells)) (slice_get flat.cells (net - flat.inputs)))
 
 -- what is found of a net
 unfoldable pub found_value : (ℕ → Bool → Bool) → Flat → List Bool → List Bool → ℕ → Bool

@@ -75,9 +75,7 @@ fn is_small(inputs: u32, cells: usize, outputs: usize) -> bool
     ensures fails { OnFalse result (¬ ((inputs ≤ MOST_INPUTS) × (cells ≤ MOST_CELLS)
         × (outputs ≤ MOST_OUTPUTS))) }
 {
-    inputs <= MOST_INPUTS
-        && cells <= MOST_CELLS as usize
-        && outputs <= MOST_OUTPUTS as usize
+    inputs <= MOST_INPUTS && cells <= MOST_CELLS as usize && outputs <= MOST_OUTPUTS as usize
 }
 
 /// Whether each of these cells is well formed among so many nets.

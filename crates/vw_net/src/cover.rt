@@ -79,11 +79,11 @@ impl Model for Cover {
     ghost Value = { Table };
 
     ghost view = { λ cover. record {
-        inputs = cover.inputs;
-        on = cover.on;
-        rows = rows_of cover.inputs cover.masks.items;
-        narrow = cover.narrow;
-        even = cover.even;
+      inputs = cover.inputs;
+      on = cover.on;
+      rows = rows_of cover.inputs cover.masks.items;
+      narrow = cover.narrow;
+      even = cover.even;
     } };
 }
 

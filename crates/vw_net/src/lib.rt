@@ -19,9 +19,7 @@ pub use laws::{
     found_gates_settle, found_levels_settle, gates_settle, histories_join, levels_settle,
     plain_values_are_found, truth_tables_agree, truth_tables_repeat,
 };
-pub use limits::{
-    MOST_CELLS, MOST_DESIGN_OUTPUTS, MOST_INPUTS, MOST_OUTPUTS, MOST_TABLE_INPUTS,
-};
+pub use limits::{MOST_CELLS, MOST_DESIGN_OUTPUTS, MOST_INPUTS, MOST_OUTPUTS, MOST_TABLE_INPUTS};
 pub use ordered::Ordered;
 pub use sequence::{Bits, Rows, Sequence};
 pub use truth_table::{TRUTH_TABLE_INPUTS, bit_of};

@@ -1,4 +1,4 @@
-use Rattle.std.proofs.Common.{◌≡◌, ◌<◌, ◌^◌, ℕ, List, length, map, ap, sym, subst, ◌∙◌, All}
+use Rattle.std.proofs.Common.{◌≡◌, ◌<◌, ◌^◌, List, length, map, ap, sym, subst, ◌∙◌, All}
 use Rattle.vw_net.specs.declared.cover.Row.{Row}
 use Rattle.vw_net.specs.declared.masks.Masks.{Masks}
 use Rattle.vw_net.specs.Steps.Masks.{masks_of, rows_of}

@@ -1,4 +1,4 @@
-use Rattle.std.proofs.Common.{refl, sym, true≢false, arith}
+use Rattle.std.proofs.Common.{refl, sym, true≢false}
 use Rattle.vw_net.specs.Parts.{AreParts}
 use Rattle.vw_net.proofs.flat.Flat.checked.Goals.{Else-not-are_nets, then-not-are_well_formed-via-then-not-are_well_formed, then-not-are_well_formed-via-else-not-are_well_formed+then-not-are_nets}
 use Rattle.vw_net.proofs.flat.Flat.checked.Goals as goal
