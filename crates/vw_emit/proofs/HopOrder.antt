@@ -58,25 +58,32 @@ by_hop one other =
     (ordering_then (nat_cmp one.from other.from)
     (ordering_then (nat_cmp one.to other.to) (nat_cmp one.arrival other.arrival))))
 
+-- the wires, and then the hops
 abbrev by_wire : NumberedHop → NumberedHop → Ordering
 by_wire one other = ordering_then (nat_cmp one.wire other.wire) (by_hop one other)
 
+-- the microcycles first
 abbrev by_microcycle : NumberedHop → NumberedHop → Ordering
 by_microcycle one other = ordering_then (nat_cmp one.at other.at) (by_wire one other)
 
+-- the pins first
 abbrev by_pin : NumberedHop → NumberedHop → Ordering
 by_pin one other = ordering_then (nat_cmp one.pin other.pin) (by_microcycle one other)
 
+-- a lower link comes first
 pub lower_link : (one other : NumberedHop) → one.link < other.link → leaves_before one other ≡ true
 lower_link one other less = less_first one.link other.link (by_pin one other) less
 
+-- then a lower pin
 pub lower_pin : (one other : NumberedHop) → one.link ≡ other.link → one.pin < other.pin → leaves_before one other ≡ true
 lower_pin one other link less = same_first one.link other.link (by_pin one other) link ∙ less_first one.pin other.pin (by_microcycle one other) less
 
+-- then an earlier microcycle
 pub earlier_hop : (one other : NumberedHop) → one.link ≡ other.link → one.pin ≡ other.pin → one.at < other.at → leaves_before one other ≡ true
 earlier_hop one other link pin less =
     same_first one.link other.link (by_pin one other) link ∙ same_first one.pin other.pin (by_microcycle one other) pin ∙ less_first one.at other.at (by_wire one other) less
 
+-- and then an earlier wire, or an earlier hop of one wire
 pub earlier_wire : (one other : NumberedHop) → one.link ≡ other.link → one.pin ≡ other.pin → one.at ≡ other.at → (one.wire < other.wire) ⊎ ((one.wire ≡ other.wire) × (one.hop < other.hop)) → leaves_before one other ≡ true
 earlier_wire one other link pin at first =
     let behind = ordering_then (nat_cmp one.net other.net) (ordering_then (nat_cmp one.from other.from) (ordering_then (nat_cmp one.to other.to) (nat_cmp one.arrival other.arrival))) in

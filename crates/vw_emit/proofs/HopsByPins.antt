@@ -20,11 +20,13 @@ use Rattle.vw_emit.proofs.HopOrder.{earlier_hop, earlier_wire, is_order, lower_l
 
 -- ---- what holds of each numbered hop
 
+-- those of one wire
 pub hops_all : (P : NumberedHop → Type 0) (links : List Link) (net wire number : ℕ) (hops : List Hop) → ((k place : ℕ) (hop : Hop) → slice_get hops place ≡ Some hop → P (numbered_hop links net wire k hop))
     → AllByRecursion P (hops_of_wire links net wire number hops)
 hops_all P links net wire number [] each = tt
 hops_all P links net wire number (hop ∷ hops) each = (each number 0 hop refl, hops_all P links net wire (suc number) hops (λ k place other is. each k (suc place) other is))
 
+-- those of all wires
 pub wires_all : (P : NumberedHop → Type 0) (links : List Link) (number : ℕ) (wires : List Wire)
     → ((w k at place : ℕ) (wire : Wire) (hop : Hop) → slice_get wires at ≡ Some wire → slice_get wire.hops place ≡ Some hop → P (numbered_hop links wire.net w k hop)) → AllByRecursion P (hops_of_wires links number wires)
 wires_all P links number [] each = tt
@@ -35,17 +37,21 @@ wires_all P links number (wire ∷ wires) each =
 
 -- ---- they stand by wire, and then in the order in which they are made
 
+-- a hop comes before another one: its wire does, or it does in one wire
 abbrev ComesFirst : NumberedHop → NumberedHop → Type 0
 ComesFirst one other = (one.wire < other.wire) ⊎ ((one.wire ≡ other.wire) × (one.hop < other.hop))
 
+-- each hop comes before those behind it
 abbrev AreInTurn : List NumberedHop → Type 0
 AreInTurn [] = Unit {0}
 AreInTurn (hop ∷ hops) = AllByRecursion (ComesFirst hop) hops × AreInTurn hops
 
+-- a hop comes before further hops of its wire
 later_hops : (one : NumberedHop) (links : List Link) (net wire number : ℕ) (hops : List Hop) → one.wire ≡ wire → one.hop < number → AllByRecursion (ComesFirst one) (hops_of_wire links net wire number hops)
 later_hops one links net wire number [] same less = tt
 later_hops one links net wire number (hop ∷ hops) same less = (inr (same, less), later_hops one links net wire (suc number) hops same (omega (arith, less)))
 
+-- and before those of further wires
 later_wires : (one : NumberedHop) (links : List Link) (number : ℕ) (wires : List Wire) → one.wire < number → AllByRecursion (ComesFirst one) (hops_of_wires links number wires)
 later_wires one links number [] less = tt
 later_wires one links number (wire ∷ wires) less =
@@ -53,15 +59,18 @@ later_wires one links number (wire ∷ wires) less =
     (hops_all (ComesFirst one) links wire.net number 0 wire.hops (λ k place hop is. inl less))
     (later_wires one links (suc number) wires (omega (arith, less)))
 
+-- the hops of a wire are in turn
 hop_turns : (links : List Link) (net wire number : ℕ) (hops : List Hop) → AreInTurn (hops_of_wire links net wire number hops)
 hop_turns links net wire number [] = tt
 hop_turns links net wire number (hop ∷ hops) =
     (later_hops (numbered_hop links net wire number hop) links net wire (suc number) hops refl (omega arith), hop_turns links net wire (suc number) hops)
 
+-- hops in turn, behind hops that come before all of them
 turns_append : (xs ys : List NumberedHop) → AreInTurn xs → AreInTurn ys → AllByRecursion (λ x. AllByRecursion (ComesFirst x) ys) xs → AreInTurn (xs ++ ys)
 turns_append [] ys turns others cross = others
 turns_append (x ∷ xs) ys turns others cross = (all_append (ComesFirst x) xs ys turns.0 cross.0, turns_append xs ys turns.1 others cross.1)
 
+-- so the hops of all wires are in turn
 wire_turns : (links : List Link) (number : ℕ) (wires : List Wire) → AreInTurn (hops_of_wires links number wires)
 wire_turns links number [] = tt
 wire_turns links number (wire ∷ wires) =
@@ -69,6 +78,7 @@ wire_turns links number (wire ∷ wires) =
     turns_append (hops_of_wire links wire.net number 0 wire.hops) rest (hop_turns links wire.net number 0 wire.hops) (wire_turns links (suc number) wires)
     (hops_all (λ x. AllByRecursion (ComesFirst x) rest) links wire.net number 0 wire.hops (λ k place hop is. later_wires (numbered_hop links wire.net number k hop) links (suc number) wires (omega arith)))
 
+-- and so are those that pass a test
 turns_filter : (test : NumberedHop → Bool) (xs : List NumberedHop) → AreInTurn xs → AreInTurn (filter test xs)
 turns_filter test [] turns = tt
 turns_filter test (x ∷ xs) turns = elim (test x) as (λ keeps. AreInTurn (cond keeps (x ∷ filter test xs) (filter test xs))) [
@@ -86,13 +96,15 @@ own_rise link pin at (x ∷ xs) turns links pins times = (none xs turns.0 links.
 
 -- ---- the hops in order
 
--- the numbers of a hop: its link, its pin and its microcycle
+-- the link of a hop
 abbrev pub link_of : NumberedHop → ℕ
 link_of hop = hop.link
 
+-- the pin
 abbrev pub pin_of : NumberedHop → ℕ
 pin_of hop = hop.pin
 
+-- the microcycle
 abbrev pub time_of : NumberedHop → ℕ
 time_of hop = hop.at
 
@@ -104,6 +116,7 @@ module _ (planned : PlannedBoard) (sound : IsSound planned) where
       let over = (hop_facts planned sound at place wire hop there is).over in
       omega (arith, hop_place planned.board hop over, slice_get_within planned.board.links over.number over.link over.there))
 
+  -- no link has more than 64 pins
   pub pins_few : AllByRecursion (λ hop. hop.pin < 64) (numbered_hops planned)
   pins_few =
       wires_all (λ hop. hop.pin < 64) planned.board.links 0 planned.plan.wires (λ w k at place wire hop there is.
@@ -111,6 +124,7 @@ module _ (planned : PlannedBoard) (sound : IsSound planned) where
       let wide = at_place (λ (link : Link). (1 ≤ link.width) × (link.width ≤ 64)) planned.board.links over.number over.link planned.board.linked.separate.wide over.there in
       omega (arith, over.pin, wide.1))
 
+  -- each hop is sent within the period
   pub times_few : AllByRecursion (λ hop. hop.at < planned.plan.period) (numbered_hops planned)
   times_few = wires_all (λ hop. hop.at < planned.plan.period) planned.board.links 0 planned.plan.wires (λ w k at place wire hop there is. (hop_facts planned sound at place wire hop there is).sent)
 

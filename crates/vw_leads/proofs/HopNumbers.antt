@@ -9,6 +9,7 @@ use Rattle.vw_leads.specs.Links.{joins, link_number}
 use Rattle.vw_leads.proofs.FirstPlaces.{LeadsTo}
 use Rattle.vw_leads.proofs.LinkPlaces.{link_leads}
 
+-- it is the first link from the node that the hop leaves to the node that it reaches
 pub hop_number : (board : Board) (hop : Hop) (own : HopLink board hop) → link_number board.links hop.from hop.to ≡ Some own.number
 hop_number board hop own = by (link_number board.links hop.from hop.to) (link_leads board.links hop.from hop.to) where
   by : (found : Option ℕ) → LeadsTo (joins hop.from hop.to) board.links found → found ≡ Some own.number

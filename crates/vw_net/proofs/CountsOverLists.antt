@@ -12,6 +12,7 @@ use Rattle.vw_net.proofs.SortedLists.{sum_sorted}
 pub count_cons : {X : Type 0} (test : X → Bool) (x : X) (xs : List X) → count_by test (x ∷ xs) ≡ one_if (test x) + count_by test xs
 count_cons test x xs = sum_by-cons (λ other. one_if (test other)) x xs
 
+-- of two lists behind each other
 pub count_append : {X : Type 0} (test : X → Bool) (xs ys : List X) → count_by test (xs ++ ys) ≡ count_by test xs + count_by test ys
 count_append test [] ys = omega arith
 count_append test (x ∷ xs) ys = omega (arith, count_cons test x (xs ++ ys), count_cons test x xs, count_append test xs ys)
@@ -25,10 +26,12 @@ count_sum test (x ∷ xs) = omega (arith, count_cons test x xs, sum_by-cons (λ 
 pub count_sorted : {X : Type 0} (before : X → X → Bool) (test : X → Bool) (xs : List X) → count_by test (sorted before xs) ≡ count_by test xs
 count_sorted before test xs = count_sum test (sorted before xs) ∙ sum_sorted before (λ x. one_if (test x)) xs ∙ sym (count_sum test xs)
 
+-- of the values of a list
 pub count_map : {X Y : Type 0} (test : Y → Bool) (f : X → Y) (xs : List X) → count_by test (map f xs) ≡ count_by (λ x. test (f x)) xs
 count_map test f [] = refl
 count_map test f (x ∷ xs) = omega (arith, count_cons test (f x) (map f xs), count_cons (λ y. test (f y)) x xs, count_map test f xs)
 
+-- of those that pass another test
 pub count_filter : {X : Type 0} (test part : X → Bool) (xs : List X) → count_by test (filter part xs) ≡ count_by (λ x. part x && test x) xs
 count_filter test part [] = refl
 count_filter test part (x ∷ xs) =
@@ -41,6 +44,7 @@ count_filter test part (x ∷ xs) =
 
 -- ---- tests that are compared
 
+-- a test that passes no more
 pub count_le : {X : Type 0} (one other : X → Bool) (xs : List X) → ((x : X) → one_if (one x) ≤ one_if (other x)) → count_by one xs ≤ count_by other xs
 count_le one other [] less = omega arith
 count_le one other (x ∷ xs) less = omega (arith, count_cons one x xs, count_cons other x xs, less x, count_le one other xs less)
@@ -57,11 +61,13 @@ count_add one two whole (x ∷ xs) sum = omega (arith, count_cons one x xs, coun
 
 -- ---- whether some element passes
 
+-- an element that passes is counted
 pub counted_at : {X : Type 0} (test : X → Bool) (xs : List X) (place : ℕ) (default : X) → place < length xs → test (get_or xs place default) ≡ true → 1 ≤ count_by test xs
 counted_at test [] place default within is = absurd (omega (arith, within))
 counted_at test (x ∷ xs) zero default within is = omega (arith, count_cons test x xs, ap one_if is)
 counted_at test (x ∷ xs) (suc place) default within is = omega (arith, count_cons test x xs, counted_at test xs place default (omega (arith, within)) is)
 
+-- and where some is counted, some passes
 pub some_counted : {X : Type 0} (test : X → Bool) (xs : List X) → 1 ≤ count_by test xs → list_any test xs ≡ true
 some_counted test [] some = absurd (omega arith)
 some_counted test (x ∷ xs) some =

@@ -37,6 +37,7 @@ module _ {X : Type 0} where
     abbrev pub has_key : ℕ → X → Bool
     has_key number x = key x == number
 
+    -- those that are kept have it
     pub keys_of : (number : ℕ) (xs : List X) → AllByRecursion (λ x. key x ≡ number) (filter (has_key number) xs)
     keys_of number [] = tt
     keys_of number (x ∷ xs) = step (has_key number x) refl (keys_of number xs) where

@@ -61,10 +61,12 @@ module _ {X : Type 0} where
   sum_gather f each count = sum_by-append f (gather each count) (each count)
 
 module _ {X Y : Type 0} where
+  -- mapped, each number gives what is mapped
   pub map_gather : (f : X → Y) (each : ℕ → List X) (count : ℕ) → map f (gather each count) ≡ gather (λ number. map f (each number)) count
   map_gather f each zero = refl
   map_gather f each (suc count) = map-append f (gather each count) (each count) ∙ ap (λ (front : List Y). front ++ map f (each count)) (map_gather f each count)
 
+  -- the same of what each element gives
   pub flat_map_gather : (f : X → List Y) (each : ℕ → List X) (count : ℕ) → flat_map f (gather each count) ≡ gather (λ number. flat_map f (each number)) count
   flat_map_gather f each zero = refl
   flat_map_gather f each (suc count) = flat_map-append f (gather each count) (each count) ∙ ap (λ (front : List Y). front ++ flat_map f (each count)) (flat_map_gather f each count)
@@ -104,10 +106,12 @@ module _ {A B X : Type 0} where
   listed_map each f number (x ∷ xs) = ap (λ (rest : List X). each number (f x) ++ rest) (listed_map each f (suc number) xs)
 
 module _ {A X Y : Type 0} where
+  -- mapped, each element gives what is mapped
   pub map_listed : (f : X → Y) (each : ℕ → A → List X) (number : ℕ) (xs : List A) → map f (listed each number xs) ≡ listed (λ k x. map f (each k x)) number xs
   map_listed f each number [] = refl
   map_listed f each number (x ∷ xs) = map-append f (each number x) (listed each (suc number) xs) ∙ ap (λ (rest : List Y). map f (each number x) ++ rest) (map_listed f each (suc number) xs)
 
+  -- the same of what each of these gives
   pub flat_map_listed : (f : X → List Y) (each : ℕ → A → List X) (number : ℕ) (xs : List A) → flat_map f (listed each number xs) ≡ listed (λ k x. flat_map f (each k x)) number xs
   flat_map_listed f each number [] = refl
   flat_map_listed f each number (x ∷ xs) = flat_map-append f (each number x) (listed each (suc number) xs) ∙ ap (λ (rest : List Y). flat_map f (each number x) ++ rest) (flat_map_listed f each (suc number) xs)
@@ -125,6 +129,7 @@ module _ {X : Type 0} where
   left_at x (y ∷ xs) ys zero at = at
   left_at x (y ∷ xs) ys (suc place) at = left_at x xs ys place at
 
+  -- behind another list, that much later
   pub right_at : (x : X) (xs ys : List X) (place : ℕ) → slice_get ys place ≡ Some x → slice_get (xs ++ ys) (length xs + place) ≡ Some x
   right_at x [] ys place at = let none : 0 + place ≡ place = omega arith in ap (slice_get ys) none ∙ at
   right_at x (y ∷ xs) ys place at =
@@ -137,9 +142,11 @@ module _ {X : Type 0} where
   stands_below (x ∷ xs) zero within = (x, refl)
   stands_below (x ∷ xs) (suc place) within = stands_below xs place (omega arith)
 
+  -- so it stands in the longer list, too
   pub stands_left : (x : X) (xs ys : List X) → StandsIn x xs → StandsIn x (xs ++ ys)
   stands_left x xs ys stands = (stands.0, left_at x xs ys stands.0 stands.1)
 
+  -- and behind another list
   pub stands_right : (x : X) (xs ys : List X) → StandsIn x ys → StandsIn x (xs ++ ys)
   stands_right x [] ys stands = stands
   stands_right x (y ∷ xs) ys stands = let rest = stands_right x xs ys stands in (suc rest.0, rest.1)
@@ -153,6 +160,7 @@ module _ {X : Type 0} where
   append_at x (y ∷ xs) ys zero at = inl (0, at)
   append_at x (y ∷ xs) ys (suc place) at = later x y xs ys (append_at x xs ys place at)
 
+  -- what stands in two lists behind each other stands in one of them
   pub from_append : (x : X) (xs ys : List X) → StandsIn x (xs ++ ys) → StandsIn x xs ⊎ StandsIn x ys
   from_append x xs ys stands = append_at x xs ys stands.0 stands.1
 
@@ -161,6 +169,7 @@ module _ {X : Type 0} where
   has_when true x xs is stands = stands
   has_when false x xs is stands = absurd (true≢false (sym is))
 
+  -- and then the test gives true
   pub from_when : (test : Bool) (x : X) (xs : List X) → StandsIn x (cond test xs []) → (test ≡ true) × StandsIn x xs
   from_when true x xs stands = (refl, stands)
   from_when false x xs stands = absurd (none-some x stands.1)
@@ -181,6 +190,7 @@ module _ {X : Type 0} where
     pub below : number < count
     pub stands : StandsIn x (each number)
 
+  -- there is such a number
   pub from_gather : (x : X) (each : ℕ → List X) (count : ℕ) → StandsIn x (gather each count) → GivenBy x each count
   from_gather x each zero stands = absurd (none-some x stands.1)
   from_gather x each (suc count) stands =
@@ -210,6 +220,7 @@ module _ {A X : Type 0} where
     pub at : slice_get xs place ≡ Some item
     pub stands : StandsIn y (each (number + place) item)
 
+  -- there is such an element
   pub from_listed : (y : X) (each : ℕ → A → List X) (number : ℕ) (xs : List A) → StandsIn y (listed each number xs) → ListedBy y each number xs
   from_listed y each number [] stands = absurd (none-some y stands.1)
   from_listed y each number (first ∷ xs) stands =
@@ -228,6 +239,7 @@ module _ {A X : Type 0} where
       let whole = has_listed y (λ k one. each one) 0 xs at.0 x at.1 stands in
       (whole.0, ap (λ (all : List X). slice_get all whole.0) (sym (listed_plain each 0 xs)) ∙ whole.1)
 
+  -- and an element that gives it
   pub from_flat_map : (y : X) (each : A → List X) (xs : List A) → StandsIn y (flat_map each xs) → (x : A) × StandsIn x xs × StandsIn y (each x)
   from_flat_map y each xs stands =
       let by = from_listed y (λ k one. each one) 0 xs (stands.0, ap (λ (all : List X). slice_get all stands.0) (listed_plain each 0 xs) ∙ stands.1) in
@@ -236,11 +248,13 @@ module _ {A X : Type 0} where
 -- ---- which elements pass a test
 
 module _ {X : Type 0} where
+  -- there is one
   pub from_any : (test : X → Bool) (xs : List X) → list_any test xs ≡ true → (x : X) × StandsIn x xs × (test x ≡ true)
   from_any test [] any = absurd (true≢false (sym any))
   from_any test (x ∷ xs) any =
       ⊎_elim (λ here. (x, (0, refl), here)) (λ later. let rest = from_any test xs later in (rest.0, (suc rest.1.0, rest.1.1), rest.2)) (or_cases (test x) (list_any test xs) any)
 
+  -- one that stands there is enough
   pub any_stands : (test : X → Bool) (x : X) (xs : List X) → StandsIn x xs → test x ≡ true → list_any test xs ≡ true
   any_stands test x xs stands passes = any_at test x xs stands.0 stands.1 passes where
     any_at : (p : X → Bool) (one : X) (ys : List X) (place : ℕ) → slice_get ys place ≡ Some one → p one ≡ true → list_any p ys ≡ true

@@ -11,6 +11,7 @@ then_equal Less second is = cc
 then_equal Equal second is = (refl, is)
 then_equal Greater second is = cc
 
+-- the same of the two tests of a comparison
 by_tests : (less same : Bool) → cond less Less (cond same Equal Greater) ≡ Equal → same ≡ true
 by_tests true same is = cc
 by_tests false true is = refl

@@ -54,6 +54,7 @@ pub record HopFacts (planned : PlannedBoard) (hop : Hop) : Type 0 where
   pub within : arrival planned.board.links hop < planned.plan.period
   pub sent : hop.at < planned.plan.period
 
+-- each hop of a wire has these
 pub hop_facts : (planned : PlannedBoard) → IsSound planned → (number place : ℕ) (wire : Wire) (hop : Hop) → slice_get planned.plan.wires number ≡ Some wire → slice_get wire.hops place ≡ Some hop → HopFacts planned hop
 hop_facts planned sound number place wire hop there is =
     let routed = at_place (IsRouted planned) planned.plan.wires number wire sound.routes there in

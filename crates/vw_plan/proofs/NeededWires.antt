@@ -15,9 +15,11 @@ use Rattle.vw_plan.specs.Sound.{IsSound}
 use Rattle.vw_plan.proofs.NeededNets.{needed_net}
 use Rattle.vw_plan.proofs.ReadNets.{output_or_needed, read_or_needed}
 
+-- a wire brings its net to its node
 pub own_pair : (wire : Wire) → brings wire.net wire.to wire ≡ true
 own_pair wire = and_from (eqb wire.net wire.net) (eqb wire.to wire.to) (eq-eqb wire.net wire.net refl) (eq-eqb wire.to wire.to refl)
 
+-- where that net is needed
 pub wire_needed : (planned : PlannedBoard) → IsSound planned → (place : ℕ) (default : Wire) → place < length planned.plan.wires → let wire = get_or planned.plan.wires place default in is_needed planned.ordered.flat planned.plan.chip_of wire.net wire.to ≡ true
 wire_needed planned sound place default within =
     let wire = get_or planned.plan.wires place default in
@@ -28,6 +30,7 @@ wire_needed planned sound place default within =
     let whole : needed ≡ true = absurd (omega (arith, some, none)) in whole in
     ⊎_elim (λ is. is) if_not (cases_Bool needed)
 
+-- so the net is one of the netlist
 pub wires_fine : (planned : PlannedBoard) → IsSound planned → All (λ wire. wire.net < planned.ordered.flat.inputs + length planned.ordered.flat.cells) planned.plan.wires
 wires_fine planned sound place default within =
     let wire = get_or planned.plan.wires place default in
@@ -43,6 +46,7 @@ pub record WireFor (planned : PlannedBoard) (net node : ℕ) : Type 0 where
   pub brought : wire.net ≡ net
   pub to : wire.to ≡ node
 
+-- there is such a wire for each needed pair
 pub needed_wire : (planned : PlannedBoard) → IsSound planned → (net node : ℕ) → is_needed planned.ordered.flat planned.plan.chip_of net node ≡ true → WireFor planned net node
 needed_wire planned sound net node needed =
     let one : count_by (brings net node) planned.plan.wires ≡ 1 = sound.one_wire_for_each_need net node ∙ ap (λ (is : Bool). cond is 1 0) needed in

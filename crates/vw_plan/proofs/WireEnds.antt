@@ -30,11 +30,13 @@ pub record HopBefore (planned : PlannedBoard) (wire : Wire) (place : ℕ) (next 
   pub goes_on : GoesOn planned hop next
 
 module _ (planned : PlannedBoard) (sound : IsSound planned) (number : ℕ) (wire : Wire) (there : slice_get planned.plan.wires number ≡ Some wire) where
+  -- there is a first one
   pub first_hop : FirstHop planned wire
   first_hop =
       let found = stands_below wire.hops 0 (routed planned sound number wire there).some in
       record { hop = found.0; at = found.1; begins = begins planned sound number wire there found.0 found.1 }
 
+  -- there is a last one
   pub last_hop : LastHop planned wire
   last_hop =
       let some : 0 < length wire.hops = (routed planned sound number wire there).some in
@@ -42,6 +44,7 @@ module _ (planned : PlannedBoard) (sound : IsSound planned) (number : ℕ) (wire
       let last : length wire.hops - 1 + 1 ≡ length wire.hops = omega (arith, some) in
       record { place = length wire.hops - 1; hop = found.0; at = found.1; last = last; ends = ends planned sound number wire there (length wire.hops - 1) found.0 found.1 last }
 
+  -- there is one before each that isn't the first
   pub hop_before : (place : ℕ) (next : Hop) → slice_get wire.hops (place + 1) ≡ Some next → HopBefore planned wire place next
   hop_before place next after =
       let inside = slice_get_within wire.hops (place + 1) next after in

@@ -37,10 +37,11 @@ module _ (test : ℕ → Bool) (front : List ℕ) (byte : ℕ) (rest : List ℕ)
       (λ k below. ap test (get_or_append_left front (byte ∷ rest) byte k below) ∙ none k byte below)
       (λ _. ap test (get_or_at front byte rest byte (length front) refl) ∙ is)
 
-  -- what stands before it, and what stands behind it
+  -- what stands before it
   pub cut_before : before_first test (front ++ byte ∷ rest) ≡ front
   cut_before = ap (λ (place : ℕ). take place (front ++ byte ∷ rest)) cut_place ∙ take_at front (byte ∷ rest) (length front) refl
 
+  -- and what stands behind it
   pub cut_behind : after_first test (front ++ byte ∷ rest) ≡ rest
   cut_behind = ap (λ (place : ℕ). drop (place + 1) (front ++ byte ∷ rest)) cut_place ∙ drop-append-add front (byte ∷ rest) 1
 

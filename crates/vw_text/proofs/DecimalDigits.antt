@@ -14,6 +14,7 @@ glyph_is_digit d small =
     let is : nat_lt d 10 ≡ true = lt-ltb d 10 small in
     rw is (and_from (nat_le 48 (48 + d)) (nat_le (48 + d) 57) (le-leb 48 (48 + d) (omega arith)) (le-leb (48 + d) 57 (omega arith)))
 
+-- digits written before digits
 onto_digits : (count number : ℕ) (behind : List ℕ) → list_all is_digit behind ≡ true → list_all is_digit (digits_onto count 10 false number behind) ≡ true
 onto_digits zero number behind digits_behind = digits_behind
 onto_digits (suc count) number behind digits_behind =
@@ -21,6 +22,7 @@ onto_digits (suc count) number behind digits_behind =
     let more : list_all is_digit (glyph ∷ behind) ≡ true = and_from (is_digit glyph) (list_all is_digit behind) (glyph_is_digit (number % 10) (omega arith)) digits_behind in
     cond_both (number / 10 == 0) (glyph ∷ behind) (digits_onto count 10 false (number / 10) (glyph ∷ behind)) (λ (bytes : List ℕ). list_all is_digit bytes ≡ true) (λ last. more) (λ further. onto_digits count (number / 10) (glyph ∷ behind) more)
 
+-- so all of a number are
 pub decimal_digits : (number : ℕ) → list_all is_digit (decimal number) ≡ true
 unfolding digits
 decimal_digits number = onto_digits 64 number [] refl

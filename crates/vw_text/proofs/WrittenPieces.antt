@@ -100,6 +100,7 @@ lines_joined first [] = refl
 lines_joined first (second ∷ others) =
     ap (λ (rest : List ℕ). lines_text first ++ rest) (lines_joined second others) ∙ sym (lines_text-append first (joined second others))
 
+-- the same of pieces that are lines
 pub grown_lines : (old : List ℕ) (first : List (List ℕ)) (others : List (List (List ℕ))) (text : List ℕ) → HasGrown old (lines_text first) (map lines_text others) text → text ≡ old ++ lines_text (joined first others)
 grown_lines old first others text has =
     grown old (lines_text first) (map lines_text others) text has ∙ ap (λ (written : List ℕ). old ++ written) (lines_joined first others)
