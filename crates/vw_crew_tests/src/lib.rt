@@ -1,9 +1,7 @@
 //! Tests of links and crews: what the ends of a link answer, and what a fabric has carried.
 #![tactic(auto)]
 
-mod boards;
 mod ends;
-mod jobs;
 #[cfg(test)]
 mod links;
 mod scripts;

@@ -4,15 +4,14 @@ ghost use Rattle.std.specs.Option.{is_some};
 ghost use Rattle.vw_prog.specs.Scripts.{script};
 ghost use Rattle.vw_link.specs.Chains.{carried_of};
 
-use crate::boards::TOGGLE;
 use crate::ends::{Exchange, idle, round};
-use crate::jobs::job_of;
 use crate::scripts::script_of;
 use std::alloc::{AllocError, Global};
 use std::sync::Wait;
 use std::test::Fail;
 use vw_link::Links;
 use vw_prog::{Job, Word};
+use vw_samples::{PLANNED_TOGGLE, job_of};
 
 /// All words that a link has carried, of no more than a thousand.
 fn all_carried<R>(alloc: Global, links: &Links<R>, link: u32) -> Result<Vec<Word>, AllocError> {
@@ -107,11 +106,15 @@ fn all_words(outcome: Outcome) -> Result<Vec<Word>, AllocError> {
     Ok(words)
 }
 
+/// A row in which the toggle's input is 0.
+const ZERO_ROW: &[bool] = &[false];
+
 /// The job of the test: 65 clocks of the toggle.
 fn toggle_job(alloc: Global) -> Result<Job, Fail>
     ensures { IfOk result (λ job. 3 < length job.checked.board.links) }
 {
-    let job = job_of(alloc, &TOGGLE, 65)?;
+    let rows = vec![in alloc; ZERO_ROW; 65]?;
+    let job = job_of(alloc, &PLANNED_TOGGLE, &rows)?;
     if job.checked().board().links().len() < 4 {
         return Err("no link 3".into());
     }

@@ -1,10 +1,11 @@
 //! Emitted boards.
-use crate::boards::{LONG_PLAN, SHARED, SLOW, TOGGLE, Texts, emitted};
+use crate::boards::{LONG_PLAN, SLOW, emitted};
 use crate::traces::last_outputs;
 use std::alloc::Global;
 use std::process::Abort;
 use std::test::Fail;
 use vw_example::simulate;
+use vw_samples::{PLANNED_AND, PLANNED_TOGGLE, Texts};
 
 /// The emitted board of two wires that share a pin, written by hand.
 const SHARED_TEXT: &[u8] = b".model board\n\
@@ -159,20 +160,19 @@ fn outputs_are(
 
 #[test]
 fn a_shared_pin_has_a_choice_for_each_hop(rt: HostRuntime) -> Result<(), Fail> {
-    text_is(&rt, rt.alloc(), &SHARED, SHARED_TEXT)
+    text_is(&rt, rt.alloc(), &PLANNED_AND, SHARED_TEXT)
 }
 
 #[test]
 fn a_latch_takes_its_value_in_the_last_microcycle(rt: HostRuntime) -> Result<(), Fail> {
-    text_is(&rt, rt.alloc(), &TOGGLE, TOGGLE_TEXT)
+    text_is(&rt, rt.alloc(), &PLANNED_TOGGLE, TOGGLE_TEXT)
 }
 
 #[test]
 fn too_many_cells_are_counted(rt: HostRuntime) -> Result<(), Fail> {
     let long = Texts {
-        design: TOGGLE.design,
-        board: TOGGLE.board,
         plan: LONG_PLAN,
+        ..PLANNED_TOGGLE
     };
     text_is(&rt, rt.alloc(), &long, b"120023 cells")
 }
@@ -182,7 +182,7 @@ fn a_shared_pin_behaves_as_two_wires(rt: HostRuntime) -> Result<(), Fail> {
     outputs_are(
         &rt,
         rt.alloc(),
-        &SHARED,
+        &PLANNED_AND,
         b"11\nhold 3\n01\nhold 3\n",
         4,
         b"1\n0\n",
@@ -194,7 +194,7 @@ fn the_toggle_behaves_as_itself(rt: HostRuntime) -> Result<(), Fail> {
     outputs_are(
         &rt,
         rt.alloc(),
-        &TOGGLE,
+        &PLANNED_TOGGLE,
         b"1\nhold 5\n0\nhold 2\n",
         3,
         b"00\n11\n00\n",

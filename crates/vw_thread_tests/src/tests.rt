@@ -1,5 +1,3 @@
-ghost use Rattle.std.specs.Prelude.{◌<◌};
-
 use std::alloc::{AllocError, Global};
 use std::marker::Sync;
 use std::process::Abort;
@@ -7,34 +5,19 @@ use std::sync::Wait;
 use std::test::Fail;
 use std::thread::Threads;
 use vw_link::Links;
-use vw_outside::{BurstGate, Held, MemShelf, MemSink, Name, OpenGate};
+use vw_outside::{BurstGate, MemSink, OpenGate};
+use vw_sample_calls::{
+    Call, End, Fault, MOST, Ran, are_found, has_ended, is_status, names_of, out_of, shelf_of,
+};
+use vw_samples::{
+    FIVE_GATES, FLIP_TEXTS, FLIP_TRACE, FOUR_CELLS, FOUR_GATES, TOGGLE, TOGGLE_PLAN, TOGGLE_TEXTS,
+    TOGGLE_TRACE, TRIANGLE,
+};
 use vw_top::virtual_wires;
 
 mod fronts;
 mod gates;
 mod traces;
-
-/// A latch that takes the exclusive or of itself and the input.
-const TOGGLE: &str =
-    ".model toggle\n.inputs en\n.outputs q\n.names en q d\n10 1\n01 1\n.latch d q 0\n.end\n";
-
-/// Two chips and the host, each joined to each other by one pin.
-const TRIANGLE: &str =
-    "board 1\nchips 2\ncells 1\nsettle 0\npins 4\nlink 0 1 1\nlink 0 2 1\nlink 1 0 1\nlink 1 2 1\nlink 2 0 1\nlink 2 1 1\n";
-
-/// The toggle's gate on chip 1, and its latch on chip 2.
-const TOGGLE_PLAN: &str =
-    "plan 1 2 4 2\nchips 1 2\nwire 0 1 1\nhop 0 1 0 0\nwire 1 2 1\nhop 1 2 0 1\nwire 2 0 1\nhop 2 0 0 0\nwire 2 1 1\nhop 2 1 0 0\nend\n";
-
-/// The toggle on the triangle, with its plan and three clocks.
-const TOGGLE_TEXTS: Texts = [
-    ("d", TOGGLE),
-    ("b", TRIANGLE),
-    ("p", TOGGLE_PLAN),
-    ("s", "1\n1\n0\n"),
-];
-
-const TOGGLE_TRACE: &str = "trace 1 1 1\n0 0 0\n1 1 1\n2 0 0\nend 3 0\n";
 
 /// What each link of the triangle carries in these clocks, a line for each word: its clock, its net, its pin and its bit.
 const TOGGLE_WORDS: [&str; 6] = [
@@ -63,52 +46,6 @@ const GIVEN_PLAN: [&[&str]; 4] = [
     &["run", "d", "b", "s", "plan=p", "workers=64"],
 ];
 
-/// The names of a design, a board, a plan and a stimulus, each with its text.
-type Texts = [(&'static str, &'static str); 4];
-
-/// A call over some texts, each of whose reads and writes takes at most so many bytes. The read and the write with these
-/// numbers fail, counted from 1.
-#[derive(Clone, Copy)]
-struct Call<'a> {
-    words: &'a [&'a str],
-    texts: &'a Texts,
-    most: u32,
-    read: u64,
-    write: u64,
-}
-
-/// How a call ended, and what it wrote.
-#[derive(Drop)]
-struct Ended {
-    status: u8,
-    out: MemSink,
-    err: MemSink,
-}
-
-/// A name as the program is given it.
-fn name(alloc: Global, spelled: &str) -> Result<Name, AllocError> {
-    Ok(Name::of(spelled.as_bytes().to_vec(alloc)?))
-}
-
-/// The names of some words.
-fn names(alloc: Global, words: &[&str]) -> Result<Vec<Name>, AllocError> {
-    let mut all = Vec::new(alloc);
-    for word in words {
-        all.push(name(alloc, word)?)?;
-    }
-    Ok(all)
-}
-
-/// A shelf with a call's texts.
-fn shelf(alloc: Global, call: &Call) -> Result<MemShelf, AllocError> {
-    let mut held = Vec::new(alloc);
-    for (spelled, text) in call.texts {
-        let text = text.as_bytes().to_vec(alloc)?;
-        held.push(Held::make(name(alloc, spelled)?, text))?;
-    }
-    Ok(MemShelf::new(held, call.most.max(1), vec![in alloc; call.read]?))
-}
-
 /// Carries out a call past this gate.
 fn carry_out<R: Threads + Wait + Sync, G: BurstGate>(
     rt: &R,
@@ -116,18 +53,18 @@ fn carry_out<R: Threads + Wait + Sync, G: BurstGate>(
     call: &Call,
     gate: &G,
     links: &mut Links<R>,
-) -> Result<Ended, AllocError>
+) -> Result<Ran, AllocError>
 where
     R: Copy + Send,
 {
-    let mut shelf = shelf(alloc, call)?;
-    let mut out = MemSink::new(alloc, call.most.max(1), vec![in alloc; call.write]?);
+    let mut shelf = shelf_of(alloc, call)?;
+    let mut out = out_of(alloc, call)?;
     let mut err = MemSink::new(alloc, 100, Vec::new(alloc));
-    let words = names(alloc, call.words)?;
+    let words = names_of(alloc, call.words)?;
     let status = virtual_wires(
         rt, alloc, &words, &mut shelf, links, gate, &mut out, &mut err,
     );
-    Ok(Ended { status, out, err })
+    Ok(Ran { status, out, err })
 }
 
 /// The words that a link has carried, a line for each.
@@ -144,33 +81,14 @@ fn carried<R>(alloc: Global, links: &Links<R>, link: u32) -> Result<String, Allo
     Ok(text)
 }
 
-/// Asserts that these bytes were found, on what some text tells from other cases.
-fn are_found(rt: &impl Abort, found: &[u8], wanted: &[u8], on: &str) {
-    assert_eq!(rt; found, wanted, "{on}");
-}
-
-/// Asserts how a call ended.
-fn has_ended(rt: &impl Abort, ended: &Ended, wanted: (u8, &str, &str), on: &str) {
-    let (status, out, err) = wanted;
-    are_found(rt, ended.err.bytes(), err.as_bytes(), on);
-    are_found(rt, ended.out.bytes(), out.as_bytes(), on);
-    are_found(rt, &[ended.status], &[status], on);
-}
-
-/// Asserts that links have carried just these words.
-fn have_carried<R: Abort>(
-    rt: &R,
-    alloc: Global,
-    links: &Links<R>,
-    words: &[&str],
-    on: &str,
-) -> Result<(), AllocError> {
+/// Fails unless links have carried just these words.
+fn have_carried<R>(alloc: Global, links: &Links<R>, words: &[&str], on: &str) -> Result<(), Fail> {
     for link in 0..64u32 {
         let Some(wanted) = words.get(link as usize) else {
             break;
         };
         let found = carried(alloc, links, link)?;
-        are_found(rt, found.as_bytes(), wanted.as_bytes(), on);
+        are_found(found.as_bytes(), wanted.as_bytes(), on)?;
     }
     Ok(())
 }

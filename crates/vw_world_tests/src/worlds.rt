@@ -1,11 +1,10 @@
 //! Worlds after lists of events.
-use crate::boards::{FLIP, SLOW_FLIP, TOGGLE, Texts};
-use crate::jobs::job_of;
 use std::alloc::{AllocError, Global};
 use std::process::Abort;
 use std::test::Fail;
 use vw_net::{Bits, Rows};
 use vw_prog::{Job, Programs};
+use vw_samples::{PLANNED_FAR_FLIP, PLANNED_FLIP, PLANNED_TOGGLE, Texts, job_of};
 use vw_world::World;
 
 /// The clock and the count of actions of each node, and then the number of words on each link, of no more than eight of each.
@@ -80,7 +79,7 @@ const PLAYS: &[(&[u32], &[u64])] = &[
 
 #[test]
 fn each_list_of_events_leads_to_its_world(rt: HostRuntime) -> Result<(), Fail> {
-    let job = job_of(rt.alloc(), &TOGGLE, TOGGLE_ROWS)?;
+    let job = job_of(rt.alloc(), &PLANNED_TOGGLE, TOGGLE_ROWS)?;
     for (events, numbers) in PLAYS {
         is_after(&rt, rt.alloc(), &job, events, numbers, TOGGLED)?;
     }
@@ -119,8 +118,8 @@ fn is_flipped(
 #[test]
 fn nodes_that_wait_for_a_word_stay_where_they_are(rt: HostRuntime) -> Result<(), Fail> {
     const NONE: &[u64] = &[0, 0, 0, 0, 0, 0, 0, 0, 0, 0];
-    is_flipped(&rt, rt.alloc(), &FLIP, 0, 1, NONE)?;
-    is_flipped(&rt, rt.alloc(), &SLOW_FLIP, 0, 1, NONE)
+    is_flipped(&rt, rt.alloc(), &PLANNED_FLIP, 0, 1, NONE)?;
+    is_flipped(&rt, rt.alloc(), &PLANNED_FAR_FLIP, 0, 1, NONE)
 }
 
 /// Chip 2 is as far ahead as its link has room for, one word where a bit takes one microcycle, and three where it takes three. It has
@@ -129,6 +128,6 @@ fn nodes_that_wait_for_a_word_stay_where_they_are(rt: HostRuntime) -> Result<(),
 fn a_link_holds_a_word_for_each_microcycle_that_a_bit_takes(rt: HostRuntime) -> Result<(), Fail> {
     const ONE: &[u64] = &[0, 0, 0, 0, 1, 1, 0, 0, 0, 1];
     const THREE: &[u64] = &[0, 0, 0, 0, 3, 1, 0, 0, 0, 3];
-    is_flipped(&rt, rt.alloc(), &FLIP, 2, 2, ONE)?;
-    is_flipped(&rt, rt.alloc(), &SLOW_FLIP, 2, 2, THREE)
+    is_flipped(&rt, rt.alloc(), &PLANNED_FLIP, 2, 2, ONE)?;
+    is_flipped(&rt, rt.alloc(), &PLANNED_FAR_FLIP, 2, 2, THREE)
 }

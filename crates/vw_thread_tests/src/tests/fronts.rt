@@ -5,7 +5,7 @@ use super::*;
 fn are_fronts<R: Abort>(
     rt: &R,
     alloc: Global,
-    ended: &Ended,
+    ended: &Ran,
     links: &Links<R>,
 ) -> Result<(), AllocError> {
     assert!(rt; TOGGLE_TRACE.as_bytes().starts_with(ended.out.bytes()));
@@ -17,19 +17,17 @@ fn are_fronts<R: Abort>(
     Ok(())
 }
 
-/// The status of a run of the toggle with three workers, of which the read and the write with these numbers fail.
+/// The status of a run of the toggle with three workers and this fault.
 fn status_of<R: Threads + Wait + Abort + Copy + Send + Sync>(
     rt: &R,
     alloc: Global,
-    read: u64,
-    write: u64,
+    fault: Fault,
 ) -> Result<u8, AllocError> {
     let call = Call {
         words: &["run", "d", "b", "s", "plan=p", "workers=3"],
-        texts: &TOGGLE_TEXTS,
+        texts: TOGGLE_TEXTS,
         most: 10,
-        read,
-        write,
+        fault,
     };
     let mut links = Links::new(*rt, true);
     let ended = carry_out(rt, alloc, &call, &OpenGate::new(), &mut links)?;
@@ -44,12 +42,16 @@ fn each_stops<R: Threads + Wait + Abort + Copy + Send + Sync>(
     are_reads: bool,
     count: u64,
     status: u8,
-) -> Result<(), AllocError> {
+) -> Result<(), Fail> {
     for number in 1..100u64 {
-        let (read, write) = if are_reads { (number, 0) } else { (0, number) };
-        let found = status_of(rt, alloc, read, write)?;
+        let fault = if are_reads {
+            Fault::Read(number)
+        } else {
+            Fault::Write(number)
+        };
+        let found = status_of(rt, alloc, fault)?;
         let wanted = if number <= count { status } else { 0 };
-        are_found(rt, &[found], &[wanted], "fault");
+        is_status(found, wanted, "a fault")?;
     }
     Ok(())
 }
@@ -59,22 +61,20 @@ fn each_stops<R: Threads + Wait + Abort + Copy + Send + Sync>(
 /// one reads its rows again.
 #[test]
 fn each_read_may_fail(rt: HostRuntime) -> Result<(), Fail> {
-    each_stops(&rt, rt.alloc(), true, 38, 7)?;
-    Ok(())
+    each_stops(&rt, rt.alloc(), true, 38, 7)
 }
 
 /// The first line has two writes of at most ten bytes, the lines of the three clocks have two, and the last line has one.
 #[test]
 fn each_write_may_fail(rt: HostRuntime) -> Result<(), Fail> {
-    each_stops(&rt, rt.alloc(), false, 5, 8)?;
-    Ok(())
+    each_stops(&rt, rt.alloc(), false, 5, 8)
 }
 
 /// With memory enough, a run with three workers ends with 0. Where an allocation fails, it ends with 9, or with 7 or 8 where it
 /// was one of the shelf or of out, and leaves fronts; whoever runs this test makes them fail.
 #[test]
 fn memory_may_be_wanting(rt: HostRuntime) -> Result<(), Fail> {
-    let status = status_of(&rt, rt.alloc(), 0, 0)?;
+    let status = status_of(&rt, rt.alloc(), Fault::None)?;
     assert!(rt; status == 0 || status > 6);
     Ok(())
 }

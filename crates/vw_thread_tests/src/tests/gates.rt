@@ -33,10 +33,9 @@ impl BurstGate for HoldsFirst {
 fn groups_work_at_the_same_time(rt: HostRuntime) -> Result<(), Fail> {
     let call = Call {
         words: &["run", "d", "b", "s", "plan=p", "workers=2"],
-        texts: &TOGGLE_TEXTS,
-        most: 4096,
-        read: 0,
-        write: 0,
+        texts: TOGGLE_TEXTS,
+        most: MOST,
+        fault: Fault::None,
     };
     let gate = HoldsFirst {
         come: AtomicU64::new(0),
@@ -44,7 +43,8 @@ fn groups_work_at_the_same_time(rt: HostRuntime) -> Result<(), Fail> {
     };
     let mut links = Links::new(rt, true);
     let ended = carry_out(&rt, rt.alloc(), &call, &gate, &mut links)?;
-    has_ended(&rt, &ended, (0, TOGGLE_TRACE, ""), "gate");
+    let wanted = End::done(TOGGLE_TRACE);
+    has_ended(&ended, "a gate", wanted)?;
     assert!(rt; !gate.given_up.load(Ordering::SeqCst));
     assert_eq!(rt; gate.come.load(Ordering::SeqCst), 3);
     Ok(())

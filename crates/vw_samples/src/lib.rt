@@ -1,0 +1,16 @@
+//! Samples for the crates of tests: texts of designs, boards, plans and stimuli, planned designs, and jobs.
+#![tactic(auto)]
+
+mod boards;
+mod jobs;
+mod pieces;
+mod texts;
+
+pub use boards::{PLANNED_AND, PLANNED_FAR_FLIP, PLANNED_FLIP, PLANNED_TOGGLE, Texts, planned};
+pub use jobs::job_of;
+pub use pieces::{Piece, is_spelled, push_form, repeated, spelled};
+pub use texts::{
+    AND, AND_PLAN, CHAIN, CUT_PLAN, FAR_CHAIN, FAR_PLAN, FIVE_GATES, FLIP, FLIP_PLAN, FLIP_TEXTS,
+    FLIP_TRACE, FOUR_CELLS, FOUR_GATES, ONE_CHIP, SLOW_TRIANGLE, SMALL_CHAIN, TOGGLE, TOGGLE_PLAN,
+    TOGGLE_ROWS, TOGGLE_RUN, TOGGLE_TEXTS, TOGGLE_TRACE, TRIANGLE, TWO_INVERTERS,
+};

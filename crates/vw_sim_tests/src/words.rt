@@ -1,0 +1,157 @@
+//! Words against a table of forms, and the values of settings among them.
+use std::alloc::Global;
+use std::process::Abort;
+use std::test::Fail;
+use vw_sample_calls::{are_found, names_of};
+use vw_words::{Form, Place, Setting, Value, first_wrong, form_of, number_or_zero};
+
+const NAME: Place = Place::Any(Value::Name);
+
+const WORKERS: Setting = Setting {
+    name: b"workers",
+    value: Value::Number { least: 1, most: 64 },
+    times: 1,
+};
+
+const UNKNOWN: Setting = Setting {
+    name: b"unknown",
+    value: Value::Bit,
+    times: 1,
+};
+
+const PLAN: Setting = Setting {
+    name: b"plan",
+    value: Value::Name,
+    times: 1,
+};
+
+const PROBE: Setting = Setting {
+    name: b"probe",
+    value: Value::Name,
+    times: 3,
+};
+
+/// A form with names and settings, one with a number and a setting, and one with a keyword alone.
+const FORMS: &[Form] = &[
+    Form {
+        places: &[Place::Keyword(b"run"), NAME, NAME],
+        settings: &[PLAN, WORKERS, UNKNOWN, PROBE],
+    },
+    Form {
+        places: &[
+            Place::Keyword(b"demo"),
+            Place::Any(Value::Number {
+                least: 1,
+                most: 20_000,
+            }),
+        ],
+        settings: &[WORKERS],
+    },
+    Form {
+        places: &[Place::Keyword(b"demo")],
+        settings: &[],
+    },
+];
+
+/// Asserts, for each of these lists of words, the number of the form that they have, or that they have none, and the
+/// place of the first wrong word.
+fn forms_are_found(
+    rt: &impl Abort,
+    alloc: Global,
+    table: &[(&[&str], Option<usize>, u64)],
+) -> Result<(), Fail> {
+    for (words, form, wrong) in table {
+        let names = names_of(alloc, words)?;
+        assert_eq!(rt; form_of(FORMS, &names), *form, "{words:?}");
+        assert_eq!(rt; first_wrong(FORMS, &names), *wrong, "{words:?}");
+    }
+    Ok(())
+}
+
+#[test]
+fn words_have_the_first_form_that_fits(rt: HostRuntime) -> Result<(), Fail> {
+    const TABLE: &[(&[&str], Option<usize>, u64)] = &[
+        (&["run", "d", "s"], Some(0), 4),
+        (&["run", "unknown=0", "s"], Some(0), 4),
+        (&["run", "d", "s", "plan=p"], Some(0), 5),
+        (
+            &["run", "d", "s", "workers=64", "plan=p", "unknown=1"],
+            Some(0),
+            7,
+        ),
+        (
+            &[
+                "run",
+                "d",
+                "s",
+                "probe=a",
+                "unknown=0",
+                "probe=b",
+                "probe=a",
+            ],
+            Some(0),
+            8,
+        ),
+        (&["run", "d", "s", "plan=plan=p"], Some(0), 5),
+        (&["demo", "20000", "workers=1"], Some(1), 4),
+        (&["demo"], Some(2), 2),
+    ];
+    forms_are_found(&rt, rt.alloc(), TABLE)
+}
+
+#[test]
+fn the_first_wrong_word_has_its_place(rt: HostRuntime) -> Result<(), Fail> {
+    const TABLE: &[(&[&str], Option<usize>, u64)] = &[
+        (&[], None, 1),
+        (&["fly", "d", "s"], None, 1),
+        (&["run"], None, 2),
+        (&["run", "d"], None, 3),
+        (&["run", "d", ""], None, 3),
+        (&["run", "d", "s", "x"], None, 4),
+        (&["run", "d", "s", "plan="], None, 4),
+        (&["run", "d", "s", "plan"], None, 4),
+        (&["run", "d", "s", "workers=0"], None, 4),
+        (&["run", "d", "s", "workers=65"], None, 4),
+        (&["run", "d", "s", "workers=01"], None, 4),
+        (&["run", "d", "s", "workers=18446744073709551616"], None, 4),
+        (&["run", "d", "s", "unknown=0", "unknown=0"], None, 5),
+        (
+            &["run", "d", "s", "probe=a", "probe=b", "probe=c", "probe=d"],
+            None,
+            7,
+        ),
+        (&["demo", "20001"], None, 2),
+        (&["demo", "1", "x"], None, 3),
+    ];
+    forms_are_found(&rt, rt.alloc(), TABLE)
+}
+
+#[test]
+fn settings_have_their_values(rt: HostRuntime) -> Result<(), Fail> {
+    let alloc = rt.alloc();
+    let words = names_of(
+        alloc,
+        &["probe=b/c", "workers=8", "plan=a=b", "unknown=1", "probe=a"],
+    )?;
+    let names = PROBE.names(&words).collect::<Vec<&[u8]>>(alloc)?;
+    assert_eq!(&rt; names.len(), 2);
+    are_found(names[0], b"b/c", "the first probe")?;
+    are_found(names[1], b"a", "the second probe")?;
+    are_found(PLAN.name(&words).unwrap_or(b""), b"a=b", "the plan")?;
+    assert_eq!(&rt; WORKERS.number(&words, 4), 8);
+    assert!(&rt; UNKNOWN.bit(&words, false));
+    Ok(())
+}
+
+#[test]
+fn settings_that_are_not_given_have_their_defaults(rt: HostRuntime) -> Result<(), Fail> {
+    let words = names_of(rt.alloc(), &["7"])?;
+    assert_eq!(&rt; WORKERS.number(&words, 4), 4);
+    assert!(&rt; UNKNOWN.bit(&words, true));
+    assert!(&rt; PLAN.name(&words).is_none());
+    assert!(&rt; PROBE.names(&words).next().is_none());
+    if let [word] = words.as_slice() {
+        assert_eq!(&rt; number_or_zero(word), 7);
+    }
+    Ok(())
+}
