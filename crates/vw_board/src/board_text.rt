@@ -9,6 +9,7 @@ ghost use Rattle.vw_plan.specs.Links.{AreSeparate};
 use crate::apart::first_apart;
 use crate::fault::BoardFault;
 use crate::head::{BoardHead, read_head};
+use crate::limits::MOST_BOARD_BYTES;
 use crate::link_lines::read_links;
 use crate::pins::first_over;
 use crate::walks::least_links;
@@ -16,7 +17,6 @@ use std::alloc::Global;
 use vw_net::Sequence;
 use vw_plan::{Board, Link};
 use vw_text::{Line, lines};
-use crate::limits::MOST_BOARD_BYTES;
 
 /// The board of these numbers and links, where the chips have enough pins and walks lead everywhere.
 fn make_board(alloc: Global, head: BoardHead, links: Vec<Link>) -> Result<Board, BoardFault>

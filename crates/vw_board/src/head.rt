@@ -7,10 +7,10 @@ ghost use Rattle.vw_board.specs.Steps.Faults.{is_line_fault};
 ghost use Rattle.vw_board.specs.Steps.Heads.{IsBoardHead};
 
 use crate::fault::BoardFault;
-use vw_text::{Line, number};
 use crate::limits::MOST_PINS;
 use vw_net::MOST_CELLS;
 use vw_plan::{MOST_CHIPS, MOST_SETTLE};
+use vw_text::{Line, number};
 
 /// The numbers of the first five lines.
 #[derive(Clone, Copy)]

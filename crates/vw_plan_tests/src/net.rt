@@ -163,7 +163,11 @@ fn rows_are_given_back(rt: HostRuntime) -> Result<(), Fail> {
     let wide = given_back(alloc, 127, LAST_OF_127)?;
     assert!(&rt; wide.len() == 128 && wide.strip_suffix(b"-1 ").is_some());
     let widest = given_back(alloc, 128, ENDS_OF_128)?;
-    assert!(&rt; widest.len() == 129 && widest.strip_suffix(b"-1 ").is_some() && widest.strip_prefix(b"0-").is_some());
+    assert!(&rt;
+        widest.len() == 129
+            && widest.strip_suffix(b"-1 ").is_some()
+            && widest.strip_prefix(b"0-").is_some()
+    );
     Ok(())
 }
 

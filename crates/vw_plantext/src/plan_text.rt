@@ -8,12 +8,12 @@ ghost use Rattle.vw_plantext.specs.Steps.Finished.{content_read, EndsPlan, EndsB
 
 use crate::body::Body;
 use crate::fault::PlanTextFault;
+use crate::limits::MOST_PLAN_BYTES;
 use crate::line::next_line;
 use crate::start::begin;
 use std::alloc::Global;
 use vw_net::Sequence;
 use vw_plan::Plan;
-use crate::limits::MOST_PLAN_BYTES;
 
 /// The plan whose wires were all read.
 fn finish(body: Body) -> Plan

@@ -5,8 +5,8 @@ ghost use Rattle.vw_outside.specs.Reads.{Fills, CountsFault};
 ghost use Rattle.vw_rows.specs.declared.limits.TheConstants.{MOST_STIMULUS_BYTES};
 
 use crate::fault::StimFault;
-use vw_outside::{Name, Shelf};
 use crate::limits::MOST_STIMULUS_BYTES;
+use vw_outside::{Name, Shelf};
 
 /// How many bytes one read asks for at the most.
 pub const PIECE: usize = 32_768;

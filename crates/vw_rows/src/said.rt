@@ -3,8 +3,8 @@ ghost use Rattle.std.specs.Prelude.{◌≡◌, ◌==◌, ◌||◌, ◌-◌, Some
 ghost use Rattle.vw_text.specs.Number.{is_digit};
 ghost use Rattle.vw_rows.specs.Steps.Saying.{GoesOn, EndsWord, TakesByte};
 
-use vw_text::is_blank;
 use crate::limits::MOST_CLOCKS;
+use vw_text::is_blank;
 
 /// What the words of a line say so far, as long as some line begins with them.
 #[derive(Clone, Copy)]

@@ -5,8 +5,8 @@ ghost use Rattle.vw_rows.specs.Steps.Scans.{count_of, AddsLine, EndsLine};
 ghost use Rattle.vw_rows.specs.declared.limits.TheConstants.{MOST_CLOCKS};
 
 use crate::fault::StimFault;
-use crate::line_so_far::LineSoFar;
 use crate::limits::MOST_CLOCKS;
+use crate::line_so_far::LineSoFar;
 use crate::said::{Said, ends_word};
 use std::alloc::Global;
 
