@@ -39,19 +39,35 @@ fn held_rows(alloc: Global, further: u64) -> Result<Vec<u8>, Fail> {
     Ok(text)
 }
 
+/// The emitted board of a generated design, and the period of its plan.
+fn emitted_demo(alloc: Global, design: &[u8], board: &[u8]) -> Result<(Vec<u8>, u64), Fail> {
+    let checked = compiled(alloc, design, board)?;
+    let period = checked.plan().period();
+    let text = emit(alloc, &checked).ok().ok_or("no text")?;
+    Ok((text, period))
+}
+
+/// The output bits and latch values of a design over the rows.
+fn of_itself(alloc: Global, design: Vec<u8>) -> Result<Vec<u8>, Fail> {
+    let simulated = simulate(alloc, design, held_rows(alloc, 0)?)?;
+    outputs_and_latches(alloc, &simulated.out)
+}
+
+/// The outputs of an emitted board with this period, at the last microcycle of each clock.
+fn of_board(alloc: Global, text: Vec<u8>, period: u64) -> Result<Vec<u8>, Fail> {
+    let simulated = simulate(alloc, text, held_rows(alloc, period)?)?;
+    let group = usize::try_from(period).unwrap_or(0).saturating_add(1);
+    last_outputs(alloc, &simulated.out, group)
+}
+
 #[test]
 fn a_demo_behaves_as_itself(rt: HostRuntime) -> Result<(), Fail> {
     let alloc = rt.alloc();
     let design = vw_gen::design(alloc, 100)?;
     let board = vw_gen::board(alloc, 100)?;
-    let checked = compiled(alloc, &design, &board)?;
-    let period = checked.plan().period();
-    let text = emit(alloc, &checked).ok().ok_or("no text")?;
-    let itself = simulate(alloc, design, held_rows(alloc, 0)?)?;
-    let emitted = simulate(alloc, text, held_rows(alloc, period)?)?;
-    let wanted = outputs_and_latches(alloc, &itself.out)?;
-    let group = usize::try_from(period).unwrap_or(0).saturating_add(1);
-    let found = last_outputs(alloc, &emitted.out, group)?;
+    let (text, period) = emitted_demo(alloc, &design, &board)?;
+    let wanted = of_itself(alloc, design)?;
+    let found = of_board(alloc, text, period)?;
     assert_eq!(&rt; found.as_slice(), wanted.as_slice());
     Ok(())
 }
