@@ -1,4 +1,4 @@
-ghost use Rattle.vw_design.specs.ModelNumbers.{AreTargets, AreModelsReached};
+ghost use Rattle.vw_design.specs.ModelNumbers.{AreModelsReached};
 
 use crate::plain::{add_behind, add_number, assert_same};
 use std::alloc::{AllocError, Global};
@@ -7,9 +7,9 @@ use std::test::Fail;
 use vw_blif::read;
 use vw_design::Design;
 use vw_models::{
-    FormalAt, OutputOf, both_ways, models_reached, targets_of, unbound_input, unknown_formal,
+    FormalAt, OutputOf, Targets, both_ways, models_reached, targets_of, unbound_input,
+    unknown_formal,
 };
-use vw_net::Sequence;
 
 /// A formal with its line.
 fn formal_text(alloc: Global, kind: &[u8], found: &FormalAt) -> Result<Vec<u8>, AllocError> {
@@ -28,22 +28,16 @@ fn output_text(alloc: Global, kind: &[u8], found: &OutputOf) -> Result<Vec<u8>, 
 }
 
 /// The first fault of the bindings of a design, with the tables of its models.
-fn fault_at(
-    alloc: Global,
-    design: &Design,
-    targets: &[Sequence<Option<u32>>],
-    flags: &[bool],
-) -> Result<Vec<u8>, AllocError>
-    requires targets { AreTargets design.now targets.now }
-    requires flags { AreModelsReached design.now flags.now }
+fn fault_at(alloc: Global, targets: &Targets, flags: &[bool]) -> Result<Vec<u8>, AllocError>
+    requires { AreModelsReached targets.now.design.now flags.now }
 {
-    if let Some(found) = unknown_formal(alloc, design, targets, flags)? {
+    if let Some(found) = unknown_formal(alloc, targets, flags)? {
         return formal_text(alloc, b"unknown ", &found);
     }
-    if let Some(found) = unbound_input(alloc, design, targets, flags)? {
+    if let Some(found) = unbound_input(alloc, targets, flags)? {
         return formal_text(alloc, b"unbound ", &found);
     }
-    match both_ways(alloc, design, targets, flags)? {
+    match both_ways(alloc, targets, flags)? {
         Some(found) => output_text(alloc, b"both ways ", &found),
         None => b"no fault".to_vec(alloc),
     }
@@ -52,9 +46,13 @@ fn fault_at(
 /// The first fault of the bindings of a design: an unknown formal, else an input that is unbound, else an output that
 /// is an input too.
 fn first_fault(alloc: Global, design: &Design) -> Result<Vec<u8>, AllocError> {
-    let targets = targets_of(alloc, design)?;
-    let flags = models_reached(alloc, design, targets.as_slice())?;
-    fault_at(alloc, design, targets.as_slice(), flags.as_slice())
+    let numbers = targets_of(alloc, design)?;
+    let targets = Targets {
+        design,
+        numbers: &numbers,
+    };
+    let flags = models_reached(alloc, &targets)?;
+    fault_at(alloc, &targets, flags.as_slice())
 }
 
 /// The first fault of the bindings of a text, or the message of the text's own fault.

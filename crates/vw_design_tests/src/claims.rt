@@ -5,7 +5,7 @@ use std::test::Fail;
 use vw_blif::read;
 use vw_design::Design;
 use vw_drivers::{Claim, ModelClaims, Outputs, claims_of, output_sets};
-use vw_models::targets_of;
+use vw_models::{Targets, targets_of};
 use vw_outside::Name;
 
 /// The names `a` and `b`.
@@ -30,8 +30,12 @@ pub fn claims_at(alloc: Global, design: &Design, model: u32) -> Result<ModelClai
         return Err("no model".into());
     }
     let outputs = output_sets(alloc, design)?;
-    let targets = targets_of(alloc, design)?;
-    Ok(claims_of(alloc, design, outputs.as_slice(), targets.as_slice(), model)?)
+    let numbers = targets_of(alloc, design)?;
+    let targets = Targets {
+        design,
+        numbers: &numbers,
+    };
+    Ok(claims_of(alloc, &targets, outputs.as_slice(), model)?)
 }
 
 /// Adds what claims a net.

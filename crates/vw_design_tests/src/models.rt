@@ -4,7 +4,7 @@ use std::process::Abort;
 use std::test::Fail;
 use vw_blif::read;
 use vw_design::Design;
-use vw_models::{ModelOrder, models_reached, order_of, targets_of, unknown_model};
+use vw_models::{ModelOrder, Targets, models_reached, order_of, targets_of, unknown_model};
 use vw_outside::Name;
 
 /// The line of an unknown model.
@@ -30,12 +30,16 @@ fn circle(alloc: Global, names: &[Name]) -> Result<Vec<u8>, AllocError> {
 
 /// What is found of a design: the line of an unknown model, or an order or a circle of the models that are reached.
 fn look_at(alloc: Global, design: &Design) -> Result<Vec<u8>, AllocError> {
-    let targets = targets_of(alloc, design)?;
-    let flags = models_reached(alloc, design, targets.as_slice())?;
-    if let Some(line) = unknown_model(design, targets.as_slice(), flags.as_slice()) {
+    let numbers = targets_of(alloc, design)?;
+    let targets = Targets {
+        design,
+        numbers: &numbers,
+    };
+    let flags = models_reached(alloc, &targets)?;
+    if let Some(line) = unknown_model(&targets, flags.as_slice()) {
         return unknown(alloc, line);
     }
-    match order_of(alloc, design, targets.as_slice())? {
+    match order_of(alloc, &targets)? {
         ModelOrder::Order(numbers) => order(alloc, numbers.as_slice()),
         ModelOrder::Circle(names) => circle(alloc, names.as_slice()),
     }

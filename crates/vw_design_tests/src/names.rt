@@ -5,7 +5,7 @@ use std::test::Fail;
 use vw_blif::read;
 use vw_design::Design;
 use vw_drivers::{ModelClaims, ModelNames, PlacedNames, Way, names_of};
-use vw_models::targets_of;
+use vw_models::{Targets, targets_of};
 
 /// A gate, a placed model and a latch whose control nothing drives; the placed model is a gate.
 const TEXT: &[u8] =
@@ -27,8 +27,12 @@ fn names_in(alloc: Global, design: &Design) -> Result<Vec<ModelNames>, Fail> {
     if claims.len() != design.models().len() {
         return Err("not two models".into());
     }
-    let targets = targets_of(alloc, design)?;
-    Ok(names_of(alloc, design, targets.as_slice(), claims.as_slice())?)
+    let numbers = targets_of(alloc, design)?;
+    let targets = Targets {
+        design,
+        numbers: &numbers,
+    };
+    Ok(names_of(alloc, &targets, claims.as_slice())?)
 }
 
 /// The names of both models of a text.

@@ -5,23 +5,22 @@ use std::test::Fail;
 use vw_blif::read;
 use vw_design::Design;
 use vw_instances::{Before, Measured, Sizes, sizes_of};
-use vw_models::{ModelOrder, models_reached, order_of, targets_of, unknown_model};
+use vw_models::{ModelOrder, Targets, models_reached, order_of, targets_of, unknown_model};
 use vw_net::Sequence;
 
 /// What counting a design gives, if its models are known and place each other in no circle.
 fn measured(alloc: Global, design: &Design) -> Result<Option<Measured>, AllocError> {
-    let targets = targets_of(alloc, design)?;
-    let flags = models_reached(alloc, design, targets.as_slice())?;
-    if unknown_model(design, targets.as_slice(), flags.as_slice()).is_some() {
+    let numbers = targets_of(alloc, design)?;
+    let targets = Targets {
+        design,
+        numbers: &numbers,
+    };
+    let flags = models_reached(alloc, &targets)?;
+    if unknown_model(&targets, flags.as_slice()).is_some() {
         return Ok(None);
     }
-    match order_of(alloc, design, targets.as_slice())? {
-        ModelOrder::Order(order) => Ok(Some(sizes_of(
-            alloc,
-            design,
-            targets.as_slice(),
-            order.as_slice(),
-        )?)),
+    match order_of(alloc, &targets)? {
+        ModelOrder::Order(order) => Ok(Some(sizes_of(alloc, &targets, order.as_slice())?)),
         ModelOrder::Circle(_names) => Ok(None),
     }
 }

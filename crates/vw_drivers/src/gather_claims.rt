@@ -1,6 +1,6 @@
 //! Gathers the claims of a model.
 ghost use Rattle.std.specs.Prelude.{◌≡◌, ◌≤◌, ◌<◌, ◌-◌, ◌^◌, length, slice_get, option_and_then, IfOk, IfSome, OnOk, []};
-ghost use Rattle.vw_design.specs.ModelNumbers.{AreModelNumbers, AreTargets};
+ghost use Rattle.vw_design.specs.ModelNumbers.{AreModelNumbers};
 ghost use Rattle.vw_design.specs.Paths.{placings};
 ghost use Rattle.vw_design.specs.Claims.{and_behind};
 ghost use Rattle.vw_drivers.specs.Outputs.{AreOutputs};
@@ -14,7 +14,7 @@ use crate::model_claims::ModelClaims;
 use crate::model_outputs::Outputs;
 use std::alloc::{AllocError, Global};
 use vw_design::{Bind, Design, Item, Model};
-use vw_net::Sequence;
+use vw_models::Targets;
 use vw_outside::Name;
 
 /// How many `.subckt` items stand behind an item, given how many stood before it.
@@ -156,19 +156,18 @@ impl ModelClaims {
 /// outputs of each model, and the numbers of the models that each model places. It is linear in the text of the model.
 pub fn claims_of(
     alloc: Global,
-    design: &Design,
+    targets: &Targets,
     outputs: &[Outputs],
-    targets: &[Sequence<Option<u32>>],
     model: u32,
 ) -> Result<ModelClaims, AllocError>
-    requires outputs { AreOutputs design.now outputs.now }
-    requires targets { AreTargets design.now targets.now }
-    requires within { model < length design.now.models }
-    ensures { IfOk result (AreClaims design.now (slice_get design.now.models model)) }
+    requires outputs { AreOutputs targets.now.design.now outputs.now }
+    requires within { model < length targets.now.design.now.models }
+    ensures { IfOk result (AreClaims targets.now.design.now
+        (slice_get targets.now.design.now.models model)) }
 {
-    let placed = targets[model as usize].as_slice();
-    let model = &design.models()[model as usize];
+    let placed = targets.numbers[model as usize].as_slice();
+    let model = &targets.design.models()[model as usize];
     let mut claims = ModelClaims::of_ports(alloc, model)?;
-    claims.add_items(alloc, design, outputs, placed, model.items())?;
+    claims.add_items(alloc, targets.design, outputs, placed, model.items())?;
     Ok(claims)
 }

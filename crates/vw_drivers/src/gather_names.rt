@@ -1,7 +1,6 @@
 //! The names of models by numbers.
 ghost use Rattle.std.specs.Prelude.{◌≡◌, length, map, IfOk};
 ghost use Rattle.vw_drivers.specs.Firsts.{number_named};
-ghost use Rattle.vw_design.specs.ModelNumbers.{AreTargets};
 ghost use Rattle.vw_drivers.specs.Names.{AreNames, reads_of};
 ghost use Rattle.vw_drivers.specs.Steps.GatheredNames.{placed_from};
 
@@ -10,7 +9,8 @@ use crate::model_names::ModelNames;
 use crate::placed::items_placed;
 use crate::reads::items_reads;
 use std::alloc::{AllocError, Global};
-use vw_design::{Design, Item};
+use vw_design::Item;
+use vw_models::Targets;
 use vw_net::Sequence;
 
 /// The claims on the names of the items of a model with these claims, which place the models with these numbers.
@@ -35,18 +35,16 @@ fn gathered_names(
 /// linear in the text of the design.
 pub fn names_of(
     alloc: Global,
-    design: &Design,
-    targets: &[Sequence<Option<u32>>],
+    targets: &Targets,
     claims: &[ModelClaims],
 ) -> Result<Vec<ModelNames>, AllocError>
-    requires targets { AreTargets design.now targets.now }
-    requires claims { length claims.now ≡ length design.now.models }
-    ensures { IfOk result (λ names. AreNames design.now claims.now names.items) }
+    requires claims { length claims.now ≡ length targets.now.design.now.models }
+    ensures { IfOk result (λ names. AreNames targets.now.design.now claims.now names.items) }
 {
-    let models = design.models();
+    let models = targets.design.models();
     let mut names = Vec::with_capacity(alloc, models.len())?;
     for number in 0..models.len() {
-        let placed = targets[number].as_slice();
+        let placed = targets.numbers[number].as_slice();
         names.push(gathered_names(
             alloc,
             &claims[number],

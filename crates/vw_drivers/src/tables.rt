@@ -2,7 +2,6 @@
 ghost use Rattle.std.specs.Prelude.{◌≡◌, ◌∷◌, Some, slice_get, IfOk};
 ghost use Rattle.vw_design.specs.declared.design.Design.{Design};
 ghost use Rattle.vw_design.specs.Accepted.{HasNoModelFault};
-ghost use Rattle.vw_design.specs.ModelNumbers.{AreTargets};
 ghost use Rattle.vw_design.specs.Paths.{Path};
 ghost use Rattle.vw_design.specs.PathValue.{place_of_path};
 ghost use Rattle.vw_design.specs.Preorder.{instances};
@@ -16,8 +15,8 @@ use crate::led::child_at;
 use crate::model_claims::ModelClaims;
 use crate::model_names::ModelNames;
 use std::alloc::{AllocError, Global};
-use vw_design::Design;
 use vw_instances::{Before, ListedInstance};
+use vw_models::Targets;
 use vw_net::Sequence;
 
 /// The tables of a design by which its drivers are found: its instances in preorder; and for each model, by its number,
@@ -31,23 +30,20 @@ pub struct Tables {
 }
 
 impl Tables {
-    /// The tables of a design, given the numbers of the models that each model places, the instances, and how much stands
-    /// before each item.
+    /// The tables of a design, given the instances, and how much stands before each item.
     pub fn of(
         alloc: Global,
-        design: &Design,
-        targets: &[Sequence<Option<u32>>],
+        targets: &Targets,
         instances: Sequence<ListedInstance>,
         before: Sequence<Sequence<Before>>,
     ) -> Result<Self, AllocError>
-        requires targets { AreTargets design.now targets.now }
-        requires instances { ArePlaced design.now instances }
-        requires before { AreBefore design.now before }
-        ensures tables { IfOk result (AreTables design.now) }
+        requires instances { ArePlaced targets.now.design.now instances }
+        requires before { AreBefore targets.now.design.now before }
+        ensures tables { IfOk result (AreTables targets.now.design.now) }
         ensures instances { IfOk result (λ tables. tables.instances ≡ instances) }
     {
-        let claims = all_claims(alloc, design, targets)?;
-        let names = names_of(alloc, design, targets, claims.as_slice())?;
+        let claims = all_claims(alloc, targets)?;
+        let names = names_of(alloc, targets, claims.as_slice())?;
         Ok(Tables {
             instances,
             before,

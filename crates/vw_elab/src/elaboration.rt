@@ -13,6 +13,7 @@ use crate::nets::check_nets;
 use crate::parts::NumberedParts;
 use std::alloc::Global;
 use vw_design::Design;
+use vw_models::Targets;
 use vw_nets::Columns;
 
 /// The instances, claims and drivers of a design, if its models have no fault.
@@ -22,7 +23,11 @@ fn parts_of(alloc: Global, design: &Design) -> Result<NumberedParts, DesignFault
     ensures refused { IfErr result (IsRefusal design.now) }
 {
     let Models { targets, sizes } = models_of(alloc, design)?;
-    let parts = NumberedParts::of(alloc, design, &targets, sizes)?;
+    let known = Targets {
+        design,
+        numbers: &targets,
+    };
+    let parts = NumberedParts::of(alloc, &known, sizes)?;
     Ok(parts)
 }
 

@@ -1,7 +1,7 @@
 //! Faults of models, and the models by numbers.
 ghost use Rattle.std.specs.Prelude.{◌≡◌, None};
 ghost use Rattle.vw_design.specs.ModelFaults.{unknown_model};
-ghost use Rattle.vw_design.specs.ModelNumbers.{AreTargets, AreModelsReached, IsModelOrder};
+ghost use Rattle.vw_design.specs.ModelNumbers.{AreModelsReached, IsModelOrder};
 ghost use Rattle.vw_design.specs.Accepted.{HasNoModelFault};
 ghost use Rattle.vw_instances.specs.Sizes.{AreSizes};
 ghost use Rattle.vw_elab.specs.Steps.FaultSearch.{IsMadeOrRefused, HasKnownModels, HasBindings, AreModelTables};
@@ -11,7 +11,7 @@ use std::alloc::Global;
 use vw_design::Design;
 use vw_instances::{Measured, Sizes, sizes_of};
 use vw_models::{
-    ModelOrder, both_ways, models_reached, order_of, ordered_is_no_circle, targets_of,
+    ModelOrder, Targets, both_ways, models_reached, order_of, ordered_is_no_circle, targets_of,
     unbound_input, unknown_formal, unknown_model,
 };
 use vw_net::Sequence;
@@ -28,19 +28,18 @@ pub struct Models {
 /// An order of the models that are reached.
 fn order_of_models(
     alloc: Global,
-    design: &Design,
-    targets: &[Sequence<Option<u32>>],
+    targets: &Targets,
     flags: &[bool],
 ) -> Result<Sequence<u32>, DesignFault>
-    requires targets { AreTargets design.now targets.now }
-    requires flags { AreModelsReached design.now flags.now }
-    ensures order { IsMadeOrRefused design.now
-        (λ order. IsModelOrder design.now order × HasKnownModels design.now) result }
+    requires flags { AreModelsReached targets.now.design.now flags.now }
+    ensures order { IsMadeOrRefused targets.now.design.now
+        (λ order. IsModelOrder targets.now.design.now order
+        × HasKnownModels targets.now.design.now) result }
 {
-    if let Some(line) = unknown_model(design, targets, flags) {
+    if let Some(line) = unknown_model(targets, flags) {
         return Err(DesignFault::UnknownModel(line));
     }
-    match order_of(alloc, design, targets)? {
+    match order_of(alloc, targets)? {
         ModelOrder::Circle(names) => Err(DesignFault::RecursiveModel(names)),
         ModelOrder::Order(order) => {
             ordered_is_no_circle();
@@ -50,59 +49,45 @@ fn order_of_models(
 }
 
 /// Looks for faults of bindings.
-fn check_bindings(
-    alloc: Global,
-    design: &Design,
-    targets: &[Sequence<Option<u32>>],
-    flags: &[bool],
-) -> Result<(), DesignFault>
-    requires targets { AreTargets design.now targets.now }
-    requires flags { AreModelsReached design.now flags.now }
-    requires models { HasKnownModels design.now }
-    ensures { IsMadeOrRefused design.now (λ _. HasBindings design.now) result }
+fn check_bindings(alloc: Global, targets: &Targets, flags: &[bool]) -> Result<(), DesignFault>
+    requires flags { AreModelsReached targets.now.design.now flags.now }
+    requires models { HasKnownModels targets.now.design.now }
+    ensures { IsMadeOrRefused targets.now.design.now
+        (λ _. HasBindings targets.now.design.now) result }
 {
-    if let Some(at) = unknown_formal(alloc, design, targets, flags)? {
+    if let Some(at) = unknown_formal(alloc, targets, flags)? {
         return Err(DesignFault::UnknownFormal(at.line, at.formal));
     }
-    if let Some(at) = unbound_input(alloc, design, targets, flags)? {
+    if let Some(at) = unbound_input(alloc, targets, flags)? {
         return Err(DesignFault::UnboundInput(at.line, at.formal));
     }
-    if let Some(of) = both_ways(alloc, design, targets, flags)? {
+    if let Some(of) = both_ways(alloc, targets, flags)? {
         return Err(DesignFault::BothWays(of.model, of.output));
     }
     Ok(())
 }
 
 /// An order of the models that are reached, where their names and bindings have no fault.
-fn checked_order(
-    alloc: Global,
-    design: &Design,
-    targets: &[Sequence<Option<u32>>],
-) -> Result<Sequence<u32>, DesignFault>
-    requires { AreTargets design.now targets.now }
-    ensures { IsMadeOrRefused design.now
-        (λ order. IsModelOrder design.now order × HasBindings design.now) result }
+fn checked_order(alloc: Global, targets: &Targets) -> Result<Sequence<u32>, DesignFault>
+    ensures { IsMadeOrRefused targets.now.design.now
+        (λ order. IsModelOrder targets.now.design.now order
+        × HasBindings targets.now.design.now) result }
 {
-    let flags = models_reached(alloc, design, targets)?;
-    let order = order_of_models(alloc, design, targets, &flags)?;
-    check_bindings(alloc, design, targets, &flags)?;
+    let flags = models_reached(alloc, targets)?;
+    let order = order_of_models(alloc, targets, &flags)?;
+    check_bindings(alloc, targets, &flags)?;
     Ok(order)
 }
 
 /// The sizes of a design, each within its limit.
-fn check_sizes(
-    alloc: Global,
-    design: &Design,
-    targets: &[Sequence<Option<u32>>],
-    order: &[u32],
-) -> Result<Sizes, DesignFault>
-    requires targets { AreTargets design.now targets.now }
-    requires order { IsModelOrder design.now order.now }
-    requires bindings { HasBindings design.now }
-    ensures { IsMadeOrRefused design.now
-        (λ sizes. AreSizes design.now sizes × HasNoModelFault design.now) result }
+fn check_sizes(alloc: Global, targets: &Targets, order: &[u32]) -> Result<Sizes, DesignFault>
+    requires order { IsModelOrder targets.now.design.now order.now }
+    requires bindings { HasBindings targets.now.design.now }
+    ensures { IsMadeOrRefused targets.now.design.now
+        (λ sizes. AreSizes targets.now.design.now sizes
+        × HasNoModelFault targets.now.design.now) result }
 {
-    match sizes_of(alloc, design, targets, order)? {
+    match sizes_of(alloc, targets, order)? {
         Measured::Fits(sizes) => Ok(sizes),
         Measured::TooBig(quantity) => Err(DesignFault::TooBig(quantity, quantity.limit())),
     }
@@ -113,7 +98,11 @@ pub fn models_of(alloc: Global, design: &Design) -> Result<Models, DesignFault>
     ensures { IsMadeOrRefused design.now (AreModelTables design.now) result }
 {
     let targets = targets_of(alloc, design)?;
-    let order = checked_order(alloc, design, &targets)?;
-    let sizes = check_sizes(alloc, design, &targets, order.as_slice())?;
+    let known = Targets {
+        design,
+        numbers: &targets,
+    };
+    let order = checked_order(alloc, &known)?;
+    let sizes = check_sizes(alloc, &known, order.as_slice())?;
     Ok(Models { targets, sizes })
 }

@@ -1,7 +1,6 @@
 //! The tables of a design by numbers.
 ghost use Rattle.std.specs.Prelude.{◌≡◌, IfOk};
 ghost use Rattle.vw_design.specs.Accepted.{HasNoModelFault};
-ghost use Rattle.vw_design.specs.ModelNumbers.{AreTargets};
 ghost use Rattle.vw_nets.specs.Nets.{AreNets};
 ghost use Rattle.vw_instances.specs.Sizes.{AreSizes};
 ghost use Rattle.vw_elab.specs.Steps.DesignParts.{AreDesignParts};
@@ -10,6 +9,7 @@ use std::alloc::{AllocError, Global};
 use vw_design::Design;
 use vw_drivers::{Drivers, Tables};
 use vw_instances::{CellSite, Sizes, list_instances};
+use vw_models::Targets;
 use vw_net::Sequence;
 use vw_nets::Nets;
 
@@ -23,20 +23,14 @@ pub struct NumberedParts {
 
 impl NumberedParts {
     /// Those of a design within the limits.
-    pub fn of(
-        alloc: Global,
-        design: &Design,
-        targets: &[Sequence<Option<u32>>],
-        sizes: Sizes,
-    ) -> Result<Self, AllocError>
-        requires targets { AreTargets design.now targets.now }
-        requires sizes { AreSizes design.now sizes }
-        requires faultless { HasNoModelFault design.now }
-        ensures { IfOk result (AreDesignParts design.now) }
+    pub fn of(alloc: Global, targets: &Targets, sizes: Sizes) -> Result<Self, AllocError>
+        requires sizes { AreSizes targets.now.design.now sizes }
+        requires faultless { HasNoModelFault targets.now.design.now }
+        ensures { IfOk result (AreDesignParts targets.now.design.now) }
     {
-        let walked = list_instances(alloc, design, targets, sizes.instances, sizes.cells)?;
-        let tables = Tables::of(alloc, design, targets, walked.instances, sizes.before)?;
-        let drivers = Drivers::of(alloc, design, &tables)?;
+        let walked = list_instances(alloc, targets, sizes.instances, sizes.cells)?;
+        let tables = Tables::of(alloc, targets, walked.instances, sizes.before)?;
+        let drivers = Drivers::of(alloc, targets.design, &tables)?;
         Ok(NumberedParts {
             tables,
             cells: walked.cells,

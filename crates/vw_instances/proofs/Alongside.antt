@@ -62,8 +62,8 @@ module _ (design : Design) (counts : List ℕ) (each : length counts ≡ length 
             (cases_lt place (length targets))
 
 pub along_at : (design : Design) (targets : Targets) (i : ℕ) (model : Model) → AreTargets design targets → slice_get design.models i ≡ Some model
-    → (found list : List (Option ℕ)) → found ≡ get_or targets i found → list ≡ found → (items : List Item) → items ≡ model.items → AreAlong design items list
-along_at design targets i model are at found list is_found is_list items are_items =
+    → (default list : List (Option ℕ)) → list ≡ get_or targets i default → (items : List Item) → items ≡ model.items → AreAlong design items list
+along_at design targets i model are at default list is_list items are_items =
     let row = AllZip-at (λ model numbers. AllZip (λ placing number. IsNumberOfModel design placing.model number) (placings model.items) numbers) design.models targets i model are at in
-    let same : list ≡ row.0 = is_list ∙ is_found ∙ get_or_from_slice_get targets i row.0 found row.1 in
+    let same : list ≡ row.0 = is_list ∙ get_or_from_slice_get targets i row.0 default row.1 in
     subst (λ (l : List Item). AreAlong design l list) (sym are_items) (subst (λ (l : List (Option ℕ)). AreAlong design model.items l) (sym same) row.2)

@@ -1,7 +1,7 @@
 //! Counts of models, from those of the models that they place.
 ghost use Rattle.std.specs.Prelude.{◌≡◌, ◌+◌, ◌≤◌, min, length, IfOk};
 ghost use Rattle.vw_design.specs.Counts.{placed_one};
-ghost use Rattle.vw_design.specs.ModelNumbers.{AreTargets, IsModelOrder, AreModelNumbers};
+ghost use Rattle.vw_design.specs.ModelNumbers.{IsModelOrder, AreModelNumbers};
 ghost use Rattle.vw_design.specs.Paths.{placings};
 ghost use Rattle.vw_instances.specs.Steps.Counting.{
   most,
@@ -16,7 +16,7 @@ ghost use Rattle.vw_instances.specs.Steps.Counting.{
 use crate::measure::{Measure, places};
 use std::alloc::{AllocError, Global};
 use vw_design::{Design, Item};
-use vw_net::Sequence;
+use vw_models::Targets;
 
 /// The number of the model that an item places: the one at this place among those that the item's model places. A gate or
 /// latch places none.
@@ -69,24 +69,22 @@ fn amount_of(
 /// others. It takes one step for each item of a model.
 pub fn counts_of(
     alloc: Global,
-    design: &Design,
     measure: Measure,
-    targets: &[Sequence<Option<u32>>],
+    targets: &Targets,
     order: &[u32],
 ) -> Result<Vec<u32>, AllocError>
-    requires targets { AreTargets design.now targets.now }
-    requires order { IsModelOrder design.now order.now }
-    ensures { IfOk result (λ counts. AreCounts design.now measure counts.items) }
+    requires order { IsModelOrder targets.now.design.now order.now }
+    ensures { IfOk result (λ counts. AreCounts targets.now.design.now measure counts.items) }
 {
-    let mut counts = vec![in alloc; 0; targets.len()]?;
+    let mut counts = vec![in alloc; 0; targets.numbers.len()]?;
     for number in order {
         let at = *number as usize;
-        let items = design.models()[at].items();
+        let items = targets.design.models()[at].items();
         counts[at] = amount_of(
-            design,
+            targets.design,
             measure,
             items,
-            targets[at].as_slice(),
+            targets.numbers[at].as_slice(),
             counts.as_slice(),
         );
     }

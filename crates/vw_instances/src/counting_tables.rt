@@ -1,13 +1,12 @@
 //! The counts of all models.
 ghost use Rattle.std.specs.Prelude.{IfOk};
-ghost use Rattle.vw_design.specs.ModelNumbers.{AreTargets, IsModelOrder};
+ghost use Rattle.vw_design.specs.ModelNumbers.{IsModelOrder};
 ghost use Rattle.vw_instances.specs.Steps.Counting.{AreCountingTables};
 
 use crate::amounts::counts_of;
 use crate::measure::Measure;
 use std::alloc::{AllocError, Global};
-use vw_design::Design;
-use vw_net::Sequence;
+use vw_models::Targets;
 
 /// For each model by its number, how much it has, with all that it places.
 #[derive(Drop)]
@@ -25,18 +24,16 @@ pub struct CountingTables {
 /// The tables of a design.
 pub fn tables_of(
     alloc: Global,
-    design: &Design,
-    targets: &[Sequence<Option<u32>>],
+    targets: &Targets,
     order: &[u32],
 ) -> Result<CountingTables, AllocError>
-    requires targets { AreTargets design.now targets.now }
-    requires order { IsModelOrder design.now order.now }
-    ensures { IfOk result (AreCountingTables design.now) }
+    requires order { IsModelOrder targets.now.design.now order.now }
+    ensures { IfOk result (AreCountingTables targets.now.design.now) }
 {
     Ok(CountingTables {
-        instances: counts_of(alloc, design, Measure::Instances, targets, order)?,
-        bindings: counts_of(alloc, design, Measure::Bindings, targets, order)?,
-        cells: counts_of(alloc, design, Measure::Cells, targets, order)?,
-        levels: counts_of(alloc, design, Measure::Levels, targets, order)?,
+        instances: counts_of(alloc, Measure::Instances, targets, order)?,
+        bindings: counts_of(alloc, Measure::Bindings, targets, order)?,
+        cells: counts_of(alloc, Measure::Cells, targets, order)?,
+        levels: counts_of(alloc, Measure::Levels, targets, order)?,
     })
 }

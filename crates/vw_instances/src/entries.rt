@@ -1,7 +1,7 @@
 //! What stands before the items of models.
 ghost use Rattle.std.specs.Prelude.{◌≡◌, length, IfOk};
 ghost use Rattle.std.specs.List.{AllZip};
-ghost use Rattle.vw_design.specs.ModelNumbers.{AreTargets, AreModelNumbers};
+ghost use Rattle.vw_design.specs.ModelNumbers.{AreModelNumbers};
 ghost use Rattle.vw_design.specs.Paths.{placings};
 ghost use Rattle.vw_instances.specs.Steps.Counting.{AreEntries};
 
@@ -11,6 +11,7 @@ use crate::measure::{Measure, places};
 use crate::sizes::Before;
 use std::alloc::{AllocError, Global};
 use vw_design::{Design, Item};
+use vw_models::Targets;
 use vw_net::Sequence;
 
 /// What stands before each of a model's items.
@@ -45,24 +46,22 @@ fn entries_of(
 /// What stands before each item of each model.
 pub fn all_entries(
     alloc: Global,
-    design: &Design,
-    targets: &[Sequence<Option<u32>>],
+    targets: &Targets,
     tables: &CountingTables,
 ) -> Result<Vec<Sequence<Before>>, AllocError>
-    requires cells { length tables.now.cells.items ≡ length design.now.models }
-    requires instances { length tables.now.instances.items ≡ length design.now.models }
-    requires targets { AreTargets design.now targets.now }
+    requires cells { length tables.now.cells.items ≡ length targets.now.design.now.models }
+    requires instances { length tables.now.instances.items ≡ length targets.now.design.now.models }
     ensures { IfOk result (λ entries.
-        AllZip (λ model list. AreEntries design.now tables.now model.items list)
-        design.now.models entries.items) }
+        AllZip (λ model list. AreEntries targets.now.design.now tables.now model.items list)
+        targets.now.design.now.models entries.items) }
 {
-    let mut entries = Vec::with_capacity(alloc, targets.len())?;
-    for (number, model) in design.models().iter().enumerate() {
+    let mut entries = Vec::with_capacity(alloc, targets.numbers.len())?;
+    for (number, model) in targets.design.models().iter().enumerate() {
         entries.push(entries_of(
             alloc,
-            design,
+            targets.design,
             model.items(),
-            targets[number].as_slice(),
+            targets.numbers[number].as_slice(),
             tables,
         )?)?;
     }

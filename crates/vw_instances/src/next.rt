@@ -3,7 +3,8 @@ ghost use Rattle.std.specs.Prelude.{◌≡◌};
 ghost use Rattle.vw_instances.specs.Steps.Nexts.{target_at, next_of};
 
 use crate::frame::Frame;
-use vw_design::{Design, Item};
+use vw_design::Item;
+use vw_models::Targets;
 use vw_net::Sequence;
 
 /// What comes next in an instance.
@@ -26,16 +27,17 @@ pub fn target_at(targets: &[Sequence<Option<u32>>], model: u32, before: u32) -> 
 }
 
 /// What comes next in the instance of a frame.
-pub fn coming(design: &Design, targets: &[Sequence<Option<u32>>], frame: Frame) -> Next
-    ensures { result ≡ next_of design.now targets.now frame.model frame.item frame.before }
+pub fn coming(targets: &Targets, frame: Frame) -> Next
+    ensures { result ≡ next_of targets.now.design.now targets.now.numbers.now
+        frame.model frame.item frame.before }
 {
-    let Some(model) = design.models().get(frame.model as usize) else {
+    let Some(model) = targets.design.models().get(frame.model as usize) else {
         return Next::End;
     };
     match model.items().get(frame.item as usize) {
         None => Next::End,
         Some(Item::Names { .. } | Item::Latch { .. }) => Next::Cell,
-        Some(Item::Sub { .. }) => match target_at(targets, frame.model, frame.before) {
+        Some(Item::Sub { .. }) => match target_at(targets.numbers, frame.model, frame.before) {
             None => Next::End,
             Some(model) => Next::Place(model),
         },

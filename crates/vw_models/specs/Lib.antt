@@ -1,3 +1,4 @@
 pub mod PlacedFaults
 pub mod ModelOrders
+pub mod TargetsOnce
 pub mod Steps

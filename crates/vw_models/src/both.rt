@@ -2,7 +2,7 @@
 ghost use Rattle.std.specs.Prelude.{◌≡◌, option_map, IfOk};
 ghost use Rattle.std.specs.List.{AllZip};
 ghost use Rattle.vw_design.specs.ModelFaults.{both_ways};
-ghost use Rattle.vw_design.specs.ModelNumbers.{AreTargets, AreModelsReached};
+ghost use Rattle.vw_design.specs.ModelNumbers.{AreModelsReached};
 ghost use Rattle.vw_models.specs.Steps.PlacedModels.{IsNumberedPlacing, placed_models};
 ghost use Rattle.vw_models.specs.Steps.Formals.{IsBothWays};
 ghost use Rattle.vw_models.specs.PlacedFaults.{named_output};
@@ -10,25 +10,24 @@ ghost use Rattle.vw_models.specs.PlacedFaults.{named_output};
 use crate::formals::ports_of_model;
 use crate::numbered_placing::{NumberedPlacing, placed_models};
 use crate::output_of::OutputOf;
+use crate::placed::Targets;
 use std::alloc::{AllocError, Global};
 use vw_design::{Design, Model};
-use vw_net::Sequence;
 use vw_outside::Name;
 
 /// The first output of a placed model that is an input or clock of it, too. Each model is looked at once.
 pub fn both_ways(
     alloc: Global,
-    design: &Design,
-    targets: &[Sequence<Option<u32>>],
+    targets: &Targets,
     flags: &[bool],
 ) -> Result<Option<OutputOf>, AllocError>
-    requires targets { AreTargets design.now targets.now }
-    requires flags { AreModelsReached design.now flags.now }
-    ensures { IfOk result (λ found. option_map named_output found ≡ both_ways design.now) }
+    requires flags { AreModelsReached targets.now.design.now flags.now }
+    ensures { IfOk result
+        (λ found. option_map named_output found ≡ both_ways targets.now.design.now) }
 {
-    let placed = placed_models(alloc, design, targets, flags)?;
-    let outputs = all_both(alloc, design)?;
-    first_both(alloc, design, placed.as_slice(), outputs.as_slice())
+    let placed = placed_models(alloc, targets, flags)?;
+    let outputs = all_both(alloc, targets.design)?;
+    first_both(alloc, targets.design, placed.as_slice(), outputs.as_slice())
 }
 
 /// The first at the models that are placed.

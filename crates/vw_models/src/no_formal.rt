@@ -2,7 +2,7 @@
 ghost use Rattle.std.specs.Prelude.{◌≡◌, not, find, option_map, IfOk};
 ghost use Rattle.std.specs.List.{AllZip};
 ghost use Rattle.vw_design.specs.ModelFaults.{unknown_formal};
-ghost use Rattle.vw_design.specs.ModelNumbers.{AreTargets, AreModelsReached};
+ghost use Rattle.vw_design.specs.ModelNumbers.{AreModelsReached};
 ghost use Rattle.vw_design.specs.WordSets.{has_word};
 ghost use Rattle.vw_models.specs.Steps.PlacedModels.{IsNumberedPlacing, placed_models};
 ghost use Rattle.vw_models.specs.Steps.Formals.{AreFormals};
@@ -12,26 +12,25 @@ ghost use Rattle.vw_models.specs.PlacedFaults.{name_at};
 use crate::formal_at::FormalAt;
 use crate::formals::all_formals;
 use crate::numbered_placing::{NumberedPlacing, placed_models};
+use crate::placed::Targets;
 use std::alloc::{AllocError, Global};
 use vw_design::{Bind, Design, WordSet};
-use vw_net::Sequence;
 use vw_outside::Name;
 
 /// The first bound formal that is no input, clock or output of the placed model, and the line of the item. A set of the
 /// formals is made once a model.
 pub fn unknown_formal(
     alloc: Global,
-    design: &Design,
-    targets: &[Sequence<Option<u32>>],
+    targets: &Targets,
     flags: &[bool],
 ) -> Result<Option<FormalAt>, AllocError>
-    requires targets { AreTargets design.now targets.now }
-    requires flags { AreModelsReached design.now flags.now }
-    ensures { IfOk result (λ found. option_map name_at found ≡ unknown_formal design.now) }
+    requires flags { AreModelsReached targets.now.design.now flags.now }
+    ensures { IfOk result
+        (λ found. option_map name_at found ≡ unknown_formal targets.now.design.now) }
 {
-    let placed = placed_models(alloc, design, targets, flags)?;
-    let formals = all_formals(alloc, design)?;
-    first_unknown(alloc, design, placed.as_slice(), formals.as_slice())
+    let placed = placed_models(alloc, targets, flags)?;
+    let formals = all_formals(alloc, targets.design)?;
+    first_unknown(alloc, targets.design, placed.as_slice(), formals.as_slice())
 }
 
 /// The first of the models that are placed.

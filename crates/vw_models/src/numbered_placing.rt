@@ -2,12 +2,12 @@
 ghost use Rattle.std.specs.Prelude.{◌≡◌, [], List, filter_map, IfOk, OnOk};
 ghost use Rattle.std.specs.List.{AllZip};
 ghost use Rattle.vw_design.specs.Paths.{placings};
-ghost use Rattle.vw_design.specs.ModelNumbers.{AreTargets, AreModelsReached, AreModelNumbers};
+ghost use Rattle.vw_design.specs.ModelNumbers.{AreModelsReached, AreModelNumbers};
 ghost use Rattle.vw_models.specs.Steps.PlacedModels.{IsNumberedPlacing, AreAdded, placed_by, placed_models};
 
+use crate::placed::Targets;
 use std::alloc::{AllocError, Global};
 use vw_design::{Bind, Design, Item};
-use vw_net::Sequence;
 
 /// A model that an item places.
 #[derive(Drop)]
@@ -24,22 +24,21 @@ pub struct NumberedPlacing<'a> {
 /// passed over.
 pub fn placed_models<'a>(
     alloc: Global,
-    design: &'a Design,
-    targets: &[Sequence<Option<u32>>],
+    targets: &Targets<'a>,
     flags: &[bool],
 ) -> Result<Vec<NumberedPlacing<'a>>, AllocError>
-    requires targets { AreTargets design.now targets.now }
-    requires flags { AreModelsReached design.now flags.now }
+    requires flags { AreModelsReached targets.now.design.now flags.now }
     ensures { IfOk result (λ placed.
-        AllZip (IsNumberedPlacing design.now) (placed_models design.now) placed.items) }
+        AllZip (IsNumberedPlacing targets.now.design.now)
+        (placed_models targets.now.design.now) placed.items) }
 {
     let mut placed = Vec::new(alloc);
-    for (number, model) in design.models().iter().enumerate() {
+    for (number, model) in targets.design.models().iter().enumerate() {
         if flags[number] {
             add_placed(
-                design,
+                targets.design,
                 model.items(),
-                targets[number].as_slice(),
+                targets.numbers[number].as_slice(),
                 &mut placed,
             )?;
         }

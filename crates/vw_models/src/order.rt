@@ -1,13 +1,12 @@
 //! An order of the models that are reached, or a circle of them.
 ghost use Rattle.std.specs.Prelude.{◌≡◌, None, IfOk};
 ghost use Rattle.vw_design.specs.ModelFaults.{unknown_model};
-ghost use Rattle.vw_design.specs.ModelNumbers.{AreTargets};
 ghost use Rattle.vw_models.specs.ModelOrders.{IsModelAnswer};
 
 use crate::circle::circle_names;
 use crate::model_graph::ModelGraph;
+use crate::placed::Targets;
 use std::alloc::{AllocError, Global};
-use vw_design::Design;
 use vw_net::Sequence;
 use vw_order::{Found, search};
 use vw_outside::Name;
@@ -23,17 +22,20 @@ pub enum ModelOrder {
 }
 
 /// An order of the models that are reached, or a circle of them.
-pub fn order_of(
-    alloc: Global,
-    design: &Design,
-    targets: &[Sequence<Option<u32>>],
-) -> Result<ModelOrder, AllocError>
-    requires targets { AreTargets design.now targets.now }
-    requires known { unknown_model design.now ≡ None }
-    ensures { IfOk result (IsModelAnswer design.now) }
+pub fn order_of(alloc: Global, targets: &Targets) -> Result<ModelOrder, AllocError>
+    requires known { unknown_model targets.now.design.now ≡ None }
+    ensures { IfOk result (IsModelAnswer targets.now.design.now) }
 {
-    match search(alloc, &ModelGraph { design, targets })? {
+    let graph = ModelGraph {
+        design: targets.design,
+        targets: targets.numbers,
+    };
+    match search(alloc, &graph)? {
         Found::Order(order) => Ok(ModelOrder::Order(Sequence::of(order))),
-        Found::Circle(circle) => Ok(ModelOrder::Circle(circle_names(alloc, design, &circle)?)),
+        Found::Circle(circle) => Ok(ModelOrder::Circle(circle_names(
+            alloc,
+            targets.design,
+            &circle,
+        )?)),
     }
 }

@@ -2,32 +2,31 @@
 ghost use Rattle.std.specs.Prelude.{◌≡◌, option_map, IfOk};
 ghost use Rattle.std.specs.List.{AllZip};
 ghost use Rattle.vw_design.specs.ModelFaults.{unbound_input, unbound_input_in};
-ghost use Rattle.vw_design.specs.ModelNumbers.{AreTargets, AreModelsReached};
+ghost use Rattle.vw_design.specs.ModelNumbers.{AreModelsReached};
 ghost use Rattle.vw_models.specs.Steps.PlacedModels.{IsNumberedPlacing, placed_models};
 ghost use Rattle.vw_design.specs.Paths.{lent};
 ghost use Rattle.vw_models.specs.PlacedFaults.{name_at};
 
 use crate::formal_at::FormalAt;
 use crate::numbered_placing::{NumberedPlacing, placed_models};
+use crate::placed::Targets;
 use std::alloc::{AllocError, Global};
 use vw_design::{Bind, Design, Model, WordSet};
-use vw_net::Sequence;
 use vw_outside::Name;
 
 /// The first input or clock of a placed model that isn't bound, and the line of the item. Inputs come before clocks. At
 /// each item it looks at no more than 2n + 1 ports, where n is the number of bindings.
 pub fn unbound_input(
     alloc: Global,
-    design: &Design,
-    targets: &[Sequence<Option<u32>>],
+    targets: &Targets,
     flags: &[bool],
 ) -> Result<Option<FormalAt>, AllocError>
-    requires targets { AreTargets design.now targets.now }
-    requires flags { AreModelsReached design.now flags.now }
-    ensures { IfOk result (λ found. option_map name_at found ≡ unbound_input design.now) }
+    requires flags { AreModelsReached targets.now.design.now flags.now }
+    ensures { IfOk result
+        (λ found. option_map name_at found ≡ unbound_input targets.now.design.now) }
 {
-    let placed = placed_models(alloc, design, targets, flags)?;
-    first_unbound(alloc, design, placed.as_slice())
+    let placed = placed_models(alloc, targets, flags)?;
+    first_unbound(alloc, targets.design, placed.as_slice())
 }
 
 /// The first at the models that are placed.

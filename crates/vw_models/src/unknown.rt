@@ -3,26 +3,25 @@ ghost use Rattle.std.specs.Prelude.{◌≡◌, List, Some, None, is_none, if◌t
 ghost use Rattle.vw_net.specs.FirstFound.{first_found};
 ghost use Rattle.vw_design.specs.Paths.{placings, model_named};
 ghost use Rattle.vw_design.specs.ModelFaults.{by_placing, unknown_model};
-ghost use Rattle.vw_design.specs.ModelNumbers.{AreTargets, AreModelsReached, AreModelNumbers};
+ghost use Rattle.vw_design.specs.ModelNumbers.{AreModelsReached, AreModelNumbers};
 ghost use Rattle.vw_models.specs.Steps.Unknown.{unknown_of};
 
+use crate::placed::Targets;
 use vw_design::{Design, Item};
-use vw_net::Sequence;
 
 /// The line of the first item that names no model of the file, among those of the models that are reached, in the order
 /// of the file. It takes no memory.
-pub fn unknown_model(
-    design: &Design,
-    targets: &[Sequence<Option<u32>>],
-    flags: &[bool],
-) -> Option<u64>
-    requires targets { AreTargets design.now targets.now }
-    requires flags { AreModelsReached design.now flags.now }
-    ensures { result ≡ unknown_model design.now }
+pub fn unknown_model(targets: &Targets, flags: &[bool]) -> Option<u64>
+    requires flags { AreModelsReached targets.now.design.now flags.now }
+    ensures { result ≡ unknown_model targets.now.design.now }
 {
-    for (number, model) in design.models().iter().enumerate() {
+    for (number, model) in targets.design.models().iter().enumerate() {
         if flags[number] {
-            let line = unknown_item(design, model.items(), targets[number].as_slice());
+            let line = unknown_item(
+                targets.design,
+                model.items(),
+                targets.numbers[number].as_slice(),
+            );
             if line.is_some() {
                 return line;
             }

@@ -8,38 +8,46 @@ use crate::load::Load;
 use std::alloc::{AllocError, Global};
 use vw_plan::Board;
 
-/// The chip of each cell so far, and what each chip holds.
+/// The chip of each cell so far, and what each chip holds, on a board, for cells with these nets.
 #[derive(Drop)]
-pub struct Deal {
+pub struct Deal<'a> {
+    pub board: &'a Board,
+    pub cell_nets: &'a CellNets,
     pub chip_of: Vec<u32>,
     /// By the numbers of the nodes. The host, which is node 0, holds no cells.
     pub loads: Vec<Load>,
+    ghost is: { IsDeal board.now cell_nets.now chip_of.items loads.items },
 }
 
-impl Deal {
+impl<'a> Deal<'a> {
     /// No cells on the chips of a board, for a netlist of so many nets.
-    fn empty(alloc: Global, board: &Board, cell_nets: &CellNets) -> Result<Self, AllocError>
+    fn empty(alloc: Global, board: &'a Board, cell_nets: &'a CellNets) -> Result<Self, AllocError>
         ensures none { IfOk result (λ deal. deal.chip_of.items ≡ []) }
-        ensures deal { IfOk result (IsDeal board.now cell_nets.now) }
+        ensures board { IfOk result (λ deal. deal.board.now ≡ board.now) }
+        ensures nets { IfOk result (λ deal. deal.cell_nets.now ≡ cell_nets.now) }
     {
         let mut loads = Vec::new(alloc);
         for _chip in 0..board.chips() + 1 {
             let load = Load::empty(alloc, cell_nets.nets)?;
             loads.push(load)?;
         }
+        let chip_of = Vec::with_capacity(alloc, cell_nets.cells())?;
         Ok(Deal {
-            chip_of: Vec::with_capacity(alloc, cell_nets.cells())?,
+            board,
+            cell_nets,
+            chip_of,
             loads,
         })
     }
 
     /// A chip that has room for one more cell: the one wished for, or else the first one.
-    fn chip_with_room(&self, board: &Board, wish: u32, cell_nets: &CellNets) -> u32
-        requires deal { IsDeal board.now cell_nets.now self.now }
-        requires room { length self.now.chip_of.items < board.now.chips * board.now.cells }
-        ensures chip { IsChip board.now result }
-        ensures room { cells_on self.now.chip_of.items result < board.now.cells }
+    fn chip_with_room(&self, wish: u32) -> u32
+        requires { length self.now.chip_of.items
+            < self.now.board.now.chips * self.now.board.now.cells }
+        ensures chip { IsChip self.now.board.now result }
+        ensures room { cells_on self.now.chip_of.items result < self.now.board.now.cells }
     {
+        let board = self.board;
         if wish >= 1 && wish <= board.chips() && self.loads[wish as usize].cells < board.cells() {
             return wish;
         }
@@ -52,15 +60,17 @@ impl Deal {
     }
 
     /// Puts the next cell on a chip.
-    fn put(&mut self, board: &Board, chip: u32, cell_nets: &CellNets) -> Result<(), AllocError>
-        requires deal { IsDeal board.now cell_nets.now self.old }
-        requires next { length self.old.chip_of.items < length cell_nets.now.of_cells.items }
-        requires chip { IsChip board.now chip }
-        requires room { cells_on self.old.chip_of.items chip < board.now.cells }
-        ensures deal { OnOk result (IsDeal board.now cell_nets.now self.new) }
+    fn put(&mut self, chip: u32) -> Result<(), AllocError>
+        requires next { length self.old.chip_of.items
+            < length self.old.cell_nets.now.of_cells.items }
+        requires chip { IsChip self.old.board.now chip }
+        requires room { cells_on self.old.chip_of.items chip < self.old.board.now.cells }
+        ensures board { self.new.board ≡ self.old.board }
+        ensures nets { self.new.cell_nets ≡ self.old.cell_nets }
         ensures chip_of { OnOk result (self.new.chip_of.items
             ≡ self.old.chip_of.items ++ chip ∷ []) }
     {
+        let cell_nets = self.cell_nets;
         let own = cell_nets.at(self.chip_of.len());
         self.chip_of.push(chip)?;
         self.loads[chip as usize].add(own);
@@ -70,12 +80,13 @@ impl Deal {
     /// Each cell on the chip that is wished for it, or where that is full on the first one with room.
     pub fn of(
         alloc: Global,
-        board: &Board,
-        cell_nets: &CellNets,
+        board: &'a Board,
+        cell_nets: &'a CellNets,
         wishes: &[u32],
     ) -> Result<Self, AllocError>
         requires { length cell_nets.now.of_cells.items ≤ board.now.chips * board.now.cells }
-        ensures deal { IfOk result (IsDeal board.now cell_nets.now) }
+        ensures board { IfOk result (λ deal. deal.board.now ≡ board.now) }
+        ensures nets { IfOk result (λ deal. deal.cell_nets.now ≡ cell_nets.now) }
         ensures each { IfOk result
             (λ deal. length deal.chip_of.items ≡ length cell_nets.now.of_cells.items) }
     {
@@ -85,20 +96,21 @@ impl Deal {
                 Some(wish) => *wish,
                 None => 0,
             };
-            let chip = deal.chip_with_room(board, wish, cell_nets);
-            deal.put(board, chip, cell_nets)?;
+            let chip = deal.chip_with_room(wish);
+            deal.put(chip)?;
         }
         Ok(deal)
     }
 
     /// Moves a cell to another chip.
-    pub fn shift(&mut self, board: &Board, cell: usize, chip: u32, cell_nets: &CellNets)
-        requires deal { IsDeal board.now cell_nets.now self.old }
+    pub fn shift(&mut self, cell: usize, chip: u32)
         requires cell { cell < length self.old.chip_of.items }
-        requires target { MayMoveTo board.now self.old.chip_of.items cell chip }
-        ensures deal { IsDeal board.now cell_nets.now self.new }
+        requires target { MayMoveTo self.old.board.now self.old.chip_of.items cell chip }
+        ensures board { self.new.board ≡ self.old.board }
+        ensures nets { self.new.cell_nets ≡ self.old.cell_nets }
         ensures chip_of { self.new.chip_of.items ≡ slice_set self.old.chip_of.items cell chip }
     {
+        let cell_nets = self.cell_nets;
         let own = cell_nets.at(cell);
         let from = self.chip_of[cell];
         self.loads[from as usize].remove(own);

@@ -25,7 +25,7 @@ fn dealt(alloc: Global, flat: &Flat, board: &Board) -> Result<Sequence<u32>, All
     let nets = u32::try_from(cell_nets.nets).unwrap_or(u32::MAX);
     let wishes = hint(alloc, nets, cell_nets.of_cells.as_slice(), board)?;
     let mut deal = Deal::of(alloc, board, &cell_nets, wishes.as_slice())?;
-    deal.descend(board, &cell_nets);
+    deal.descend();
     Ok(Sequence::of(deal.chip_of))
 }
 

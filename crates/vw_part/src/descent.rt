@@ -1,38 +1,36 @@
 //! Moves of single cells, until none helps.
 ghost use Rattle.std.specs.Prelude.{◌≡◌, ◌<◌, ℕ, true, false, length, MatchOption};
 ghost use Rattle.vw_plan.specs.Chips.{IsChip};
-ghost use Rattle.vw_part.specs.Steps.Deals.{IsDeal, IsGain, HasNoGain, MayMoveTo, met, spread};
+ghost use Rattle.vw_part.specs.Steps.Deals.{IsGain, HasNoGain, MayMoveTo, met, spread};
 
-use crate::cell_nets::CellNets;
 use crate::deal::Deal;
-use vw_plan::Board;
 
-impl Deal {
+impl<'a> Deal<'a> {
     /// How many of a cell's nets a chip has cells of, where the cell may be moved to the chip; 0 where it may not.
-    fn reach(&self, board: &Board, cell_nets: &CellNets, cell: usize, chip: u32) -> usize
-        requires deal { IsDeal board.now cell_nets.now self.now }
+    fn reach(&self, cell: usize, chip: u32) -> usize
         requires cell { cell < length self.now.chip_of.items }
-        requires chip { IsChip board.now chip }
-        ensures allowed { 0 < result → MayMoveTo board.now self.now.chip_of.items cell chip }
-        ensures met { MayMoveTo board.now self.now.chip_of.items cell chip
-            → result ≡ met cell_nets.now self.now.chip_of.items cell chip }
+        requires chip { IsChip self.now.board.now chip }
+        ensures allowed { 0 < result
+            → MayMoveTo self.now.board.now self.now.chip_of.items cell chip }
+        ensures met { MayMoveTo self.now.board.now self.now.chip_of.items cell chip
+            → result ≡ met self.now.cell_nets.now self.now.chip_of.items cell chip }
     {
         let load = &self.loads[chip as usize];
-        if self.chip_of[cell] == chip || load.cells >= board.cells() {
+        if self.chip_of[cell] == chip || load.cells >= self.board.cells() {
             return 0;
         }
-        load.met(cell_nets.at(cell))
+        load.met(self.cell_nets.at(cell))
     }
 
     /// The chip to which a cell's move lowers the number of needed pairs most, where some move does. A net of the cell
     /// leaves its chip where no other cell there has it, and comes to a new chip where no cell there has it.
-    fn target(&self, board: &Board, cell_nets: &CellNets, cell: usize) -> Option<u32>
-        requires deal { IsDeal board.now cell_nets.now self.now }
-        requires cell { cell < length self.now.chip_of.items }
-        ensures { MatchOption result (HasNoGain board.now cell_nets.now self.now.chip_of.items cell)
-            (IsGain board.now cell_nets.now self.now.chip_of.items cell) }
+    fn target(&self, cell: usize) -> Option<u32>
+        requires { cell < length self.now.chip_of.items }
+        ensures { MatchOption result
+            (HasNoGain self.now.board.now self.now.cell_nets.now self.now.chip_of.items cell)
+            (IsGain self.now.board.now self.now.cell_nets.now self.now.chip_of.items cell) }
     {
-        let own = cell_nets.at(cell);
+        let own = self.cell_nets.at(cell);
         let from = self.chip_of[cell];
         let lone = self.loads[from as usize].lone(own);
         if lone == 0 {
@@ -40,8 +38,8 @@ impl Deal {
         }
         let mut most = own.len() - lone;
         let mut best = None;
-        for chip in 1..board.chips() + 1 {
-            let reach = self.reach(board, cell_nets, cell, chip);
+        for chip in 1..self.board.chips() + 1 {
+            let reach = self.reach(cell, chip);
             if reach > most {
                 most = reach;
                 best = Some(chip);
@@ -51,20 +49,21 @@ impl Deal {
     }
 
     /// Moves a cell where that lowers the number of needed pairs most, and says whether some move does.
-    fn improve(&mut self, board: &Board, cell_nets: &CellNets, cell: usize) -> bool
-        requires deal { IsDeal board.now cell_nets.now self.old }
-        requires cell { cell < length self.old.chip_of.items }
-        ensures deal { IsDeal board.now cell_nets.now self.new }
+    fn improve(&mut self, cell: usize) -> bool
+        requires { cell < length self.old.chip_of.items }
+        ensures board { self.new.board ≡ self.old.board }
+        ensures nets { self.new.cell_nets ≡ self.old.cell_nets }
         ensures each { length self.new.chip_of.items ≡ length self.old.chip_of.items }
-        ensures lower { result ≡ true → spread board.now cell_nets.now self.new.chip_of.items
-            < spread board.now cell_nets.now self.old.chip_of.items }
+        ensures lower { result ≡ true
+            → spread self.old.board.now self.old.cell_nets.now self.new.chip_of.items
+            < spread self.old.board.now self.old.cell_nets.now self.old.chip_of.items }
         ensures same { result ≡ false → self.new.chip_of.items ≡ self.old.chip_of.items }
-        ensures settled { result ≡ false
-            → HasNoGain board.now cell_nets.now self.new.chip_of.items cell }
+        ensures settled { result ≡ false → HasNoGain self.old.board.now self.old.cell_nets.now
+            self.new.chip_of.items cell }
     {
-        match self.target(board, cell_nets, cell) {
+        match self.target(cell) {
             Some(chip) => {
-                self.shift(board, cell, chip, cell_nets);
+                self.shift(cell, chip);
                 true
             }
             None => false,
@@ -72,18 +71,19 @@ impl Deal {
     }
 
     /// Goes over all cells once, and says whether some move helped.
-    fn round(&mut self, board: &Board, cell_nets: &CellNets) -> bool
-        requires { IsDeal board.now cell_nets.now self.old }
-        ensures deal { IsDeal board.now cell_nets.now self.new }
+    fn round(&mut self) -> bool
+        ensures board { self.new.board ≡ self.old.board }
+        ensures nets { self.new.cell_nets ≡ self.old.cell_nets }
         ensures each { length self.new.chip_of.items ≡ length self.old.chip_of.items }
-        ensures lower { result ≡ true → spread board.now cell_nets.now self.new.chip_of.items
-            < spread board.now cell_nets.now self.old.chip_of.items }
+        ensures lower { result ≡ true
+            → spread self.old.board.now self.old.cell_nets.now self.new.chip_of.items
+            < spread self.old.board.now self.old.cell_nets.now self.old.chip_of.items }
         ensures settled { result ≡ false → (cell : ℕ) → cell < length self.new.chip_of.items
-            → HasNoGain board.now cell_nets.now self.new.chip_of.items cell }
+            → HasNoGain self.old.board.now self.old.cell_nets.now self.new.chip_of.items cell }
     {
         let mut moved = false;
         for cell in 0..self.chip_of.len() {
-            if self.improve(board, cell_nets, cell) {
+            if self.improve(cell) {
                 moved = true;
             }
         }
@@ -91,13 +91,13 @@ impl Deal {
     }
 
     /// Goes over the cells until no move helps. Each round but the last lowers the number of needed pairs.
-    pub fn descend(&mut self, board: &Board, cell_nets: &CellNets)
-        requires { IsDeal board.now cell_nets.now self.old }
-        ensures deal { IsDeal board.now cell_nets.now self.new }
+    pub fn descend(&mut self)
+        ensures board { self.new.board ≡ self.old.board }
+        ensures nets { self.new.cell_nets ≡ self.old.cell_nets }
         ensures each { length self.new.chip_of.items ≡ length self.old.chip_of.items }
         ensures settled { (cell : ℕ) → cell < length self.new.chip_of.items
-            → HasNoGain board.now cell_nets.now self.new.chip_of.items cell }
+            → HasNoGain self.old.board.now self.old.cell_nets.now self.new.chip_of.items cell }
     {
-        while self.round(board, cell_nets) {}
+        while self.round() {}
     }
 }

@@ -3,7 +3,6 @@ use Rattle.std.specs.Prelude.{◌≡◌, ◌≢◌, ◌≤◌, ◌<◌, ◌+◌,
 use Rattle.std.specs.List.{All, range_with_len}
 use Rattle.vw_plan.specs.declared.board.Board.{Board}
 use Rattle.vw_plan.specs.Chips.{IsChip, cells_on}
-use Rattle.vw_part.specs.declared.deal.Deal.{Deal}
 use Rattle.vw_part.specs.declared.load.Load.{Load}
 use Rattle.vw_part.specs.declared.cell_nets.CellNets.{CellNets}
 use Rattle.vw_part.specs.Steps.CellNets.{times_among}
@@ -30,12 +29,12 @@ pub record IsLoad (cell_nets : CellNets) (chip_of : List ℕ) (chip : ℕ) (load
   pub counts : (net : ℕ) → slice_index load.counts.items net ≡ cells_held chip_of cell_nets.of_cells.items chip net
 
 -- the chips of the first cells, none of them overfull, and what each chip holds
-pub record IsDeal (board : Board) (cell_nets : CellNets) (deal : Deal) : Type 0 where
-  pub few : length deal.chip_of.items ≤ length cell_nets.of_cells.items
-  pub chips : All (IsChip board) deal.chip_of.items
-  pub room : (chip : ℕ) → cells_on deal.chip_of.items chip ≤ board.cells
-  pub nodes : length deal.loads.items ≡ board.chips + 1
-  pub loads : (chip : ℕ) (default : Load) → chip ≤ board.chips → IsLoad cell_nets deal.chip_of.items chip (slice_index_or deal.loads.items chip default)
+pub record IsDeal (board : Board) (cell_nets : CellNets) (chip_of : List ℕ) (loads : List Load) : Type 0 where
+  pub few : length chip_of ≤ length cell_nets.of_cells.items
+  pub chips : All (IsChip board) chip_of
+  pub room : (chip : ℕ) → cells_on chip_of chip ≤ board.cells
+  pub nodes : length loads ≡ board.chips + 1
+  pub held : (chip : ℕ) (default : Load) → chip ≤ board.chips → IsLoad cell_nets chip_of chip (slice_index_or loads chip default)
 
 -- the nets of a cell
 abbrev pub nets_at : CellNets → ℕ → List ℕ

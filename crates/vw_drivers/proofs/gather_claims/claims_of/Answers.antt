@@ -1,5 +1,5 @@
-use Rattle.std.proofs.Common.{◌≡◌, ◌<◌, List, Option, Some, length, slice_get, sym, ◌∙◌, ap, ap₂, subst, arith}
-use Rattle.std.proofs.lemmas.Option.{same_Some}
+use Rattle.std.proofs.Common.{◌≡◌, ◌<◌, List, Option, Some, length, get_or, slice_get, sym, ◌∙◌, ap, ap₂, subst, arith}
+use Rattle.std.proofs.lemmas.Option.{same_Some, slice_get-get_or}
 use Rattle.vw_design.specs.declared.item.Item.{Item}
 use Rattle.vw_design.specs.declared.model.Model.{Model}
 use Rattle.vw_design.specs.Paths.{placings}
@@ -15,27 +15,28 @@ use Rattle.vw_drivers.proofs.Targets.{at_place}
 use Rattle.vw_drivers.proofs.gather_claims.claims_of.Goals as goal
 
 pub bounds-targets-model : goal.bounds-targets-model
-bounds-targets-model c = omega (arith, AllZip-length _ c.args.design.now.models c.args.targets.now c.requires.targets)
+bounds-targets-model c = omega (arith, AllZip-length _ c.args.targets.now.design.now.models c.args.targets.now.numbers.now c.args.targets.now.are)
 
 pub add_items-requires-clause-placed : goal.add_items-requires-clause-placed
 add_items-requires-clause-placed c =
-    let design = c.args.design.now in
+    let design = c.args.targets.now.design.now in
     let number = c.args.model in
     let model = c.index-models-model.result in
-    let targets = c.args.targets.now in
-    let within : number < length targets = omega (arith, AllZip-length _ design.models targets c.requires.targets) in
+    let targets = c.args.targets.now.numbers.now in
+    let within : number < length targets = omega (arith, AllZip-length _ design.models targets c.args.targets.now.are) in
     let at : slice_get design.models number ≡ Some model =
     ap (λ (models : List Model). slice_get models number) (sym c.models.ensures)
     ∙ at_place c.models.result.now number model (omega (arith, c.requires.within, ap (λ (models : List Model). length models) c.models.ensures)) c.index-models-model.is in
-    let placed : slice_get targets number ≡ Some c.index-targets-model.result = at_place targets number c.index-targets-model.result within c.index-targets-model.is in
-    let found = AllZip-at _ design.models targets number model c.requires.targets at in
-    let same : found.0 ≡ c.index-targets-model.result = same_Some found.0 c.index-targets-model.result (sym found.1 ∙ placed) in
+    let row = get_or targets number c.index-targets-model.result in
+    let placed : slice_get targets number ≡ Some row = slice_get-get_or targets number c.index-targets-model.result within in
+    let found = AllZip-at _ design.models targets number model c.args.targets.now.are at in
+    let same : found.0 ≡ row = same_Some found.0 row (sym found.1 ∙ placed) in
     subst (λ (items : List Item). AreModelNumbers design (placings items) c.as_slice-placed.result.now) (sym c.items.ensures)
     (subst (AreModelNumbers design (placings model.items)) (same ∙ sym c.as_slice-placed.ensures) found.2)
 
 pub returns : goal.returns
 returns c =
-    let design = c.args.design.now in
+    let design = c.args.targets.now.design.now in
     let number = c.args.model in
     let model = c.index-models-model.result in
     let at : slice_get design.models number ≡ Some model =

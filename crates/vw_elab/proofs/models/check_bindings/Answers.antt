@@ -14,13 +14,13 @@ told_output of = record { model = of.model; name = of.output }
 
 pub returns-in-Some : goal.returns-in-Some
 returns-in-Some c =
-    let design = c.args.design.now in
+    let design = c.args.targets.now.design.now in
     let at = c.in-Some.at in
     first_of_models design c.requires.models (formal_unknown (told_formal at)) (told_is told_formal c.in_ok-at.field-0 at (unknown_formal design) c.in_ok-at.ensures c.in-Some.is) refl refl refl
 
 pub returns-in-Some-2 : goal.returns-in-Some-2
 returns-in-Some-2 c =
-    let design = c.args.design.now in
+    let design = c.args.targets.now.design.now in
     let at = c.in-Some-2.at in
     first_of_models design c.requires.models (input_unbound (told_formal at))
     (nothing_told told_formal c.in_ok-at.field-0 (unknown_formal design) c.in_ok-at.ensures c.in_default.is)
@@ -28,7 +28,7 @@ returns-in-Some-2 c =
 
 pub returns-in-Some-3 : goal.returns-in-Some-3
 returns-in-Some-3 c =
-    let design = c.args.design.now in
+    let design = c.args.targets.now.design.now in
     let of = c.in-Some-3.of in
     first_of_models design c.requires.models (output_both_ways (told_output of))
     (nothing_told told_formal c.in_ok-at.field-0 (unknown_formal design) c.in_ok-at.ensures c.in_default.is)
@@ -37,7 +37,7 @@ returns-in-Some-3 c =
 
 pub returns : goal.returns
 returns c =
-    let design = c.args.design.now in
+    let design = c.args.targets.now.design.now in
     record {
       models = c.requires.models;
       formals_known = nothing_told told_formal c.in_ok-at.field-0 (unknown_formal design) c.in_ok-at.ensures c.in_default.is;

@@ -9,7 +9,7 @@ use Rattle.vw_elab.proofs.models.check_sizes.Goals as goal
 
 pub returns-in-Fits : goal.returns-in-Fits
 returns-in-Fits c =
-    let design = c.args.design.now in
+    let design = c.args.targets.now.design.now in
     let bindings = c.requires.bindings in
     let sizes : AreSizes design c.in-Fits.sizes = subst (IsMeasured design) c.in-Fits.is c.in_ok-sizes.ensures in (
       sizes,
@@ -25,5 +25,5 @@ returns-in-Fits c =
 
 pub returns-in_err-sizes : goal.returns-in_err-sizes
 returns-in_err-sizes c =
-    let design = c.args.design.now in
+    let design = c.args.targets.now.design.now in
     judged_by design (λ (sizes : Sizes). AreSizes design sizes × HasNoModelFault design) c.from_residual.result NoMemory c.from_residual.ensures tt

@@ -10,15 +10,15 @@ abbrev IsChecked : Design → List ℕ → Type 0
 IsChecked design order = IsModelOrder design order × HasBindings design
 
 pub returns-in_err-flags : goal.returns-in_err-flags
-returns-in_err-flags c = judged_by c.args.design.now (IsChecked c.args.design.now) c.from_residual.result NoMemory c.from_residual.ensures tt
+returns-in_err-flags c = judged_by c.args.targets.now.design.now (IsChecked c.args.targets.now.design.now) c.from_residual.result NoMemory c.from_residual.ensures tt
 
 pub returns-in_err-order : goal.returns-in_err-order
 returns-in_err-order c =
-    judged_by c.args.design.now (IsChecked c.args.design.now) c.from_residual-in_err-order.result c.in_err-order.field-0.0 c.from_residual-in_err-order.ensures c.in_err-order.ensures.order
+    judged_by c.args.targets.now.design.now (IsChecked c.args.targets.now.design.now) c.from_residual-in_err-order.result c.in_err-order.field-0.0 c.from_residual-in_err-order.ensures c.in_err-order.ensures.order
 
 pub returns-in_err-check_bindings : goal.returns-in_err-check_bindings
 returns-in_err-check_bindings c =
-    judged_by c.args.design.now (IsChecked c.args.design.now) c.from_residual-in_err-check_bindings.result c.in_err-check_bindings.field-0.0
+    judged_by c.args.targets.now.design.now (IsChecked c.args.targets.now.design.now) c.from_residual-in_err-check_bindings.result c.in_err-check_bindings.field-0.0
     c.from_residual-in_err-check_bindings.ensures c.in_err-check_bindings.ensures
 
 pub returns : goal.returns

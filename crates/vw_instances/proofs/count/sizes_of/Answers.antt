@@ -7,7 +7,7 @@ use Rattle.vw_instances.proofs.count.sizes_of.Goals as goal
 
 pub returns : goal.returns
 returns c =
-    let design = c.args.design.now in
+    let design = c.args.targets.now.design.now in
     let totals = c.in_ok-totals.totals in
     let small = nothing_big design totals c.in_ok-totals.ensures c.above.result c.above.ensures c.in_default.not-Some in
     are_sizes design totals c.in_ok-totals.ensures c.in_ok-tables.tables c.in_ok-tables.ensures small

@@ -22,16 +22,16 @@ module _ (design : Design) (targets : List (List (Option ℕ))) (model item befo
   no_model_is_next none = rw none refl
 
 -- a `.subckt` item goes by the model that it places
-model_is_next : (c : In-Some-Sub) → next_of c.args.design.now c.args.targets.now c.args.frame.model c.args.frame.item c.args.frame.before ≡ next_placed (target_at c.args.targets.now c.args.frame.model c.args.frame.before)
+model_is_next : (c : In-Some-Sub) → next_of c.args.targets.now.design.now c.args.targets.now.numbers.now c.args.frame.model c.args.frame.item c.args.frame.before ≡ next_placed (target_at c.args.targets.now.numbers.now c.args.frame.model c.args.frame.before)
 model_is_next c =
-    let targets = c.args.targets.now in
+    let targets = c.args.targets.now.numbers.now in
     let frame = c.args.frame in
     let model = c.in-Some.ensures.lookup in
     let item = c.in-Some-Sub.ensures.lookup in
     let items = c.items.result.now in
-    let stands = model_at_place c.args.design.now.models c.models.result.now frame.model c.in-Some.model.now c.models.ensures model.3.0 model.1 in
+    let stands = model_at_place c.args.targets.now.design.now.models c.models.result.now frame.model c.in-Some.model.now c.models.ensures model.3.0 model.1 in
     let here = ap (λ (list : List Item). slice_get list frame.item) (sym c.items.ensures) ∙ slice_get_read items (length items) frame.item c.in-Some-Sub.field-0.now refl item.3.0 item.1 in
-    next_of_item c.args.design.now targets frame.model frame.item frame.before c.in-Some.model.now c.in-Some-Sub.field-0.now stands here
+    next_of_item c.args.targets.now.design.now targets frame.model frame.item frame.before c.in-Some.model.now c.in-Some-Sub.field-0.now stands here
     ∙ ap (λ (found : Item). next_by (target_at targets frame.model frame.before) (Some found)) c.in-Some-Sub.field-0-is
 
 pub returns-in-None-target_at : goal.returns-in-None-target_at
@@ -44,7 +44,7 @@ pub returns-in_default : goal.returns-in_default
 returns-in_default c =
     let models = c.models.result.now in
     let frame = c.args.frame in
-    sym (no_model_is_next c.args.design.now c.args.targets.now frame.model frame.item frame.before
+    sym (no_model_is_next c.args.targets.now.design.now c.args.targets.now.numbers.now frame.model frame.item frame.before
     (ap (λ (list : List Model). slice_get list frame.model) (sym c.models.ensures) ∙ slice_get_past models frame.model c.in_default.ensures.lookup.3))
 
 pub returns-in-None : goal.returns-in-None
@@ -52,6 +52,6 @@ returns-in-None c =
     let frame = c.args.frame in
     let model = c.in-Some.ensures.lookup in
     let items = c.items.result.now in
-    let stands = model_at_place c.args.design.now.models c.models.result.now frame.model c.in-Some.model.now c.models.ensures model.3.0 model.1 in
-    sym (no_item_is_next c.args.design.now c.args.targets.now frame.model frame.item frame.before c.in-Some.model.now stands
+    let stands = model_at_place c.args.targets.now.design.now.models c.models.result.now frame.model c.in-Some.model.now c.models.ensures model.3.0 model.1 in
+    sym (no_item_is_next c.args.targets.now.design.now c.args.targets.now.numbers.now frame.model frame.item frame.before c.in-Some.model.now stands
     (ap (λ (list : List Item). slice_get list frame.item) (sym c.items.ensures) ∙ slice_get_past items frame.item c.in-None.ensures.lookup.3))

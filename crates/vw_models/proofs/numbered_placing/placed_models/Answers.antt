@@ -15,26 +15,26 @@ use Rattle.vw_models.proofs.numbered_placing.placed_models.Goals.{then-flags-num
 
 pub bounds-flags-number : goal.bounds-flags-number
 bounds-flags-number c =
-    let inside = within_models c.args.design.now.models c.models-model-items.result.now c.loop-number.number c.models-model-items.ensures c.loop-number-test.true in
-    omega (arith, inside, flags_each c.args.design.now c.args.flags.now c.requires.flags)
+    let inside = within_models c.args.targets.now.design.now.models c.models-model-items.result.now c.loop-number.number c.models-model-items.ensures c.loop-number-test.true in
+    omega (arith, inside, flags_each c.args.targets.now.design.now c.args.flags.now c.requires.flags)
 
 pub bounds-targets-number : goal.bounds-targets-number
 bounds-targets-number c =
-    let inside = within_models c.args.design.now.models c.models-model-items.result.now c.loop-number.number c.models-model-items.ensures c.loop-number-test.true in
-    omega (arith, inside, targets_each c.args.design.now c.args.targets.now c.requires.targets)
+    let inside = within_models c.args.targets.now.design.now.models c.models-model-items.result.now c.loop-number.number c.models-model-items.ensures c.loop-number-test.true in
+    omega (arith, inside, targets_each c.args.targets.now.design.now c.args.targets.now.numbers.now c.args.targets.now.are)
 
 pub add_placed-requires : goal.add_placed-requires
 add_placed-requires c =
-    let design = c.args.design.now in
-    let targets = c.args.targets.now in
+    let design = c.args.targets.now.design.now in
+    let targets = c.args.targets.now.numbers.now in
     let number = c.loop-number.number in
     let model = c.model-item.result in
     let at = model_at_place design.models c.models-model-items.result.now number model c.models-model-items.ensures c.loop-number-test.true c.model-item.is in
     let inside = within_models design.models c.models-model-items.result.now number c.models-model-items.ensures c.loop-number-test.true in
-    let within : number < length targets = omega (arith, inside, targets_each design targets c.requires.targets) in
-    let list : c.as_slice.result.now ≡ get_or targets number [] = c.as_slice.ensures ∙ c.index-targets-number.is ∙ get_or_default targets number c.index-targets-number.result [] within in
+    let within : number < length targets = omega (arith, inside, targets_each design targets c.args.targets.now.are) in
+    let list : c.as_slice.result.now ≡ get_or targets number [] = c.as_slice.ensures ∙ get_or_default targets number c.index-targets-number.result [] within in
     subst (λ (items : List Item). AreAlong design items c.as_slice.result.now) (sym c.items.ensures)
-    (subst (λ (l : List (Option ℕ)). AreAlong design model.items l) (sym list) (along_at design targets number model c.requires.targets at))
+    (subst (λ (l : List (Option ℕ)). AreAlong design model.items l) (sym list) (along_at design targets number model c.args.targets.now.are at))
 
 -- what the models from one on place
 abbrev behind : Design → List Model → List PlacedModel
@@ -63,7 +63,7 @@ module _ (design : Design) (others : List Model) (i : ℕ) (model : Model) (are 
 
 pub loop-number-preserved : goal.loop-number-preserved
 loop-number-preserved c =
-    let design = c.args.design.now in
+    let design = c.args.targets.now.design.now in
     let others = c.models-model-items.result.now in
     let number = c.loop-number.number in
     let model = c.model-item.result in
@@ -87,7 +87,7 @@ all_of design = refl
 
 pub returns : goal.returns
 returns c =
-    let design = c.args.design.now in
+    let design = c.args.targets.now.design.now in
     let now = c.loop-number.placed.items in
     let past : length design.models ≤ c.loop-number.number = subst (λ (l : List Model). length l ≤ c.loop-number.number) c.models-model-items.ensures c.loop-number-test.false in
     let left : behind design (drop c.loop-number.number design.models) ≡ [] = ap (behind design) (drop_all c.loop-number.number design.models past) in

@@ -6,7 +6,7 @@ use Rattle.vw_models.proofs.AddedPlacings.{IsAdding}
 use Rattle.vw_models.proofs.numbered_placing.placed_models.Given as goal
 
 abbrev pub invariant-loop-number : goal.invariant-loop-number
-invariant-loop-number l = IsAdding l.design []
-    (flat_map (λ model. filter_map (placed_by l.design) model.items) (filter (λ model. is_reached l.design model.name) (drop l.number l.design.models)))
-    (flat_map (λ model. filter_map (placed_by l.design) model.items) (filter (λ model. is_reached l.design model.name) l.design.models))
+invariant-loop-number l = IsAdding l.targets.design.now []
+    (flat_map (λ model. filter_map (placed_by l.targets.design.now) model.items) (filter (λ model. is_reached l.targets.design.now model.name) (drop l.number l.targets.design.now.models)))
+    (flat_map (λ model. filter_map (placed_by l.targets.design.now) model.items) (filter (λ model. is_reached l.targets.design.now model.name) l.targets.design.now.models))
     l.placed.items

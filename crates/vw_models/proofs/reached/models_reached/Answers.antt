@@ -10,7 +10,7 @@ if_ok P Q step (Ok x) holds = step x holds
 if_ok P Q step (Err error) holds = tt
 
 pub reach-requires : goal.reach-requires
-reach-requires c = within c.args.design.now c.args.targets.now c.requires
+reach-requires c = within c.args.targets.now.design.now c.args.targets.now.numbers.now c.args.targets.now.are
 
 pub returns : goal.returns
-returns c = if_ok _ _ (λ flags reach. are_flags c.args.design.now c.args.targets.now flags.items c.requires reach) c.reach.result c.reach.ensures
+returns c = if_ok _ _ (λ flags reach. are_flags c.args.targets.now.design.now c.args.targets.now.numbers.now flags.items c.args.targets.now.are reach) c.reach.result c.reach.ensures

@@ -15,26 +15,26 @@ use Rattle.vw_models.proofs.unknown.unknown_model.Goals.{then-flags-number+else-
 
 pub bounds-flags-number : goal.bounds-flags-number
 bounds-flags-number c =
-    let inside = within_models c.args.design.now.models c.models-model-items.result.now c.loop-number.number c.models-model-items.ensures c.loop-number-test.true in
-    omega (arith, inside, flags_each c.args.design.now c.args.flags.now c.requires.flags)
+    let inside = within_models c.args.targets.now.design.now.models c.models-model-items.result.now c.loop-number.number c.models-model-items.ensures c.loop-number-test.true in
+    omega (arith, inside, flags_each c.args.targets.now.design.now c.args.flags.now c.requires.flags)
 
 pub bounds-targets-number : goal.bounds-targets-number
 bounds-targets-number c =
-    let inside = within_models c.args.design.now.models c.models-model-items.result.now c.loop-number.number c.models-model-items.ensures c.loop-number-test.true in
-    omega (arith, inside, targets_each c.args.design.now c.args.targets.now c.requires.targets)
+    let inside = within_models c.args.targets.now.design.now.models c.models-model-items.result.now c.loop-number.number c.models-model-items.ensures c.loop-number-test.true in
+    omega (arith, inside, targets_each c.args.targets.now.design.now c.args.targets.now.numbers.now c.args.targets.now.are)
 
 pub unknown_item-line-requires : goal.unknown_item-line-requires
 unknown_item-line-requires c =
-    let design = c.args.design.now in
-    let targets = c.args.targets.now in
+    let design = c.args.targets.now.design.now in
+    let targets = c.args.targets.now.numbers.now in
     let number = c.loop-number.number in
     let model = c.model-item.result in
     let at = model_at_place design.models c.models-model-items.result.now number model c.models-model-items.ensures c.loop-number-test.true c.model-item.is in
     let inside = within_models design.models c.models-model-items.result.now number c.models-model-items.ensures c.loop-number-test.true in
-    let within : number < length targets = omega (arith, inside, targets_each design targets c.requires.targets) in
-    let list : c.as_slice.result.now ≡ get_or targets number [] = c.as_slice.ensures ∙ c.index-targets-number.is ∙ get_or_default targets number c.index-targets-number.result [] within in
+    let within : number < length targets = omega (arith, inside, targets_each design targets c.args.targets.now.are) in
+    let list : c.as_slice.result.now ≡ get_or targets number [] = c.as_slice.ensures ∙ get_or_default targets number c.index-targets-number.result [] within in
     subst (λ (items : List Item). AreAlong design items c.as_slice.result.now) (sym c.items.ensures)
-    (subst (λ (l : List (Option ℕ)). AreAlong design model.items l) (sym list) (along_at design targets number model c.requires.targets at))
+    (subst (λ (l : List (Option ℕ)). AreAlong design model.items l) (sym list) (along_at design targets number model c.args.targets.now.are at))
 
 -- the facts of a turn
 module _ (design : Design) (flags : List Bool) (others : List Model) (i : ℕ) (model : Model) (are_flags : AreModelsReached design flags) (are : others ≡ design.models) (within : i < length others) (at : model ≡ get_or others i model) where
@@ -68,14 +68,14 @@ module _ (design : Design) (flags : List Bool) (others : List Model) (i : ℕ) (
 
 pub returns-then-is_some : goal.returns-then-is_some
 returns-then-is_some c =
-    let design = c.args.design.now in
+    let design = c.args.targets.now.design.now in
     sym (found_now design c.args.flags.now c.models-model-items.result.now c.loop-number.number c.model-item.result c.requires.flags c.models-model-items.ensures c.loop-number-test.true c.model-item.is
     c.items.result.now c.unknown_item-line.result c.items.ensures c.unknown_item-line.ensures c.if-flags-number.true (sym c.is_some.ensures ∙ c.if-is_some.true))
     ∙ c.loop-number.invariant ∙ unknown_is design
 
 pub loop-number-preserved : goal.loop-number-preserved
 loop-number-preserved c =
-    let design = c.args.design.now in
+    let design = c.args.targets.now.design.now in
     elim c.if-flags-number.branch [
       | then-flags-number+else-is_some w ↦
           sym (nothing_now design c.args.flags.now c.models-model-items.result.now c.loop-number.number c.model-item.result c.requires.flags c.models-model-items.ensures c.loop-number-test.true c.model-item.is
@@ -88,5 +88,5 @@ loop-number-preserved c =
 
 pub returns : goal.returns
 returns c =
-    let all : length c.args.design.now.models ≤ c.loop-number.number = subst (λ (l : List Model). length l ≤ c.loop-number.number) c.models-model-items.ensures c.loop-number-test.false in
-    sym (nothing_left c.args.design.now c.loop-number.number all) ∙ c.loop-number.invariant ∙ unknown_is c.args.design.now
+    let all : length c.args.targets.now.design.now.models ≤ c.loop-number.number = subst (λ (l : List Model). length l ≤ c.loop-number.number) c.models-model-items.ensures c.loop-number-test.false in
+    sym (nothing_left c.args.targets.now.design.now c.loop-number.number all) ∙ c.loop-number.invariant ∙ unknown_is c.args.targets.now.design.now

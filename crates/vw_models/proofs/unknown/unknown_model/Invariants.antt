@@ -7,5 +7,5 @@ use Rattle.vw_models.proofs.unknown.unknown_model.Given as goal
 
 abbrev pub invariant-loop-number : goal.invariant-loop-number
 invariant-loop-number l =
-    first_found (λ model. first_found (unknown_of l.design) model.items) (filter (λ model. is_reached l.design model.name) (drop l.number l.design.models))
-    ≡ first_found (λ model. first_found (unknown_of l.design) model.items) (filter (λ model. is_reached l.design model.name) l.design.models)
+    first_found (λ model. first_found (unknown_of l.targets.design.now) model.items) (filter (λ model. is_reached l.targets.design.now model.name) (drop l.number l.targets.design.now.models))
+    ≡ first_found (λ model. first_found (unknown_of l.targets.design.now) model.items) (filter (λ model. is_reached l.targets.design.now model.name) l.targets.design.now.models)

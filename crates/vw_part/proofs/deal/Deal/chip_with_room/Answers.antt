@@ -12,15 +12,15 @@ loop-chip-preserved c = λ chip some low.
     let if_before = λ (before : chip < at). c.loop-chip.invariant chip some before in
     let if_here = λ (here : at ≤ chip).
     let is : at ≡ chip = omega arith in
-    let few : at ≤ c.args.board.now.chips = omega (arith, c.chips-chip-end.ensures, c.loop-chip-test.true) in
-    let load = loaded c.args.board.now c.args.cell_nets.now c.args.self.now at c.index-in-loop-chip.result.now c.requires.deal few c.index-in-loop-chip.ensures in
-    let full : c.args.board.now.cells ≤ cells_on chips at = omega (arith, load.cells, c.cells-in-loop-chip.ensures, c.if-index-cells-2.false) in
-    subst (λ (x : ℕ). c.args.board.now.cells ≤ cells_on chips x) is full in
+    let few : at ≤ c.args.self.now.board.now.chips = omega (arith, c.chips-chip-end.ensures, c.loop-chip-test.true) in
+    let load = loaded c.args.self.now at c.index-in-loop-chip.result.now few c.index-in-loop-chip.ensures in
+    let full : c.args.self.now.board.now.cells ≤ cells_on chips at = omega (arith, load.cells, c.cells-in-loop-chip.ensures, c.if-index-cells-2.false) in
+    subst (λ (x : ℕ). c.args.self.now.board.now.cells ≤ cells_on chips x) is full in
     ⊎_elim if_before if_here (cases_lt chip at)
 
 -- all chips can't be full
 pub returns-clause-chip : goal.returns-clause-chip
-returns-clause-chip c = absurd (not_all_full c.args.board.now c.args.self.now.chip_of.items c.requires.deal.chips c.requires.room (λ chip some low. c.loop-chip.invariant chip some (omega (arith, c.chips-chip-end.ensures, c.loop-chip-test.false))))
+returns-clause-chip c = absurd (not_all_full c.args.self.now.board.now c.args.self.now.chip_of.items c.args.self.now.is.chips c.requires (λ chip some low. c.loop-chip.invariant chip some (omega (arith, c.chips-chip-end.ensures, c.loop-chip-test.false))))
 
 pub returns-clause-room : goal.returns-clause-room
-returns-clause-room c = absurd (not_all_full c.args.board.now c.args.self.now.chip_of.items c.requires.deal.chips c.requires.room (λ chip some low. c.loop-chip.invariant chip some (omega (arith, c.chips-chip-end.ensures, c.loop-chip-test.false))))
+returns-clause-room c = absurd (not_all_full c.args.self.now.board.now c.args.self.now.chip_of.items c.args.self.now.is.chips c.requires (λ chip some low. c.loop-chip.invariant chip some (omega (arith, c.chips-chip-end.ensures, c.loop-chip-test.false))))

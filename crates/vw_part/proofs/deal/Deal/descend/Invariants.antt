@@ -1,10 +1,14 @@
 -- each round but the last lowers the spread
 use Rattle.std.proofs.Common.{◌≡◌, length}
-use Rattle.vw_part.specs.Steps.Deals.{IsDeal, spread}
+use Rattle.vw_part.specs.Steps.Deals.{spread}
 use Rattle.vw_part.proofs.deal.Deal.descend.Given as goal
 
 abbrev pub invariant-loop : goal.invariant-loop
-invariant-loop l = IsDeal l.board l.cell_nets l.self × (length l.self.chip_of.items ≡ length l.initial.self.chip_of.items)
+invariant-loop l = record {
+  board : l.self.board ≡ l.initial.self.board;
+  nets : l.self.cell_nets ≡ l.initial.self.cell_nets;
+  each : length l.self.chip_of.items ≡ length l.initial.self.chip_of.items;
+}
 
 abbrev pub decreases-loop : goal.decreases-loop
-decreases-loop l = spread l.board l.cell_nets l.self.chip_of.items
+decreases-loop l = spread l.self.board.now l.self.cell_nets.now l.self.chip_of.items

@@ -31,13 +31,15 @@ loop-chip-preserved c =
     let all = All-push (IsLoad cell_nets [] 0) loads load c.loop-chip.invariant.0 (empty_load cell_nets load c.in_ok-load.ensures.cells c.in_ok-load.ensures.counts) in
     (rw c.in_ok-push.ensures.items all, ap (λ (loads : List Load). length loads) c.in_ok-push.ensures.items ∙ length_push loads load ∙ omega arith)
 
-pub returns-clause-deal : goal.returns-clause-deal
-returns-clause-deal c =
-    let none = c.in_ok-with_capacity.ensures.items in
+pub invariant_of-result : goal.invariant_of-result
+invariant_of-result c =
+    let none = c.in_ok-chip_of.ensures.items in
     record {
-      few = omega (arith, ap (λ (chips : List ℕ). length chips) none);
-      chips = rw none (All-nil (IsChip c.args.board.now));
-      room = λ chip. rw none (omega arith);
-      nodes = omega (arith, c.loop-chip.invariant.1, c.chips-chip-end.ensures);
-      loads = λ chip default low. rw none (at_any_chip c.args.cell_nets.now chip (get_or c.loop-chip.loads.items chip default) (c.loop-chip.invariant.0 chip default (omega (arith, c.loop-chip.invariant.1, c.chips-chip-end.ensures))));
+      is = record {
+        few = omega (arith, ap (λ (chips : List ℕ). length chips) none);
+        chips = rw none (All-nil (IsChip c.args.board.now));
+        room = λ chip. rw none (omega arith);
+        nodes = omega (arith, c.loop-chip.invariant.1, c.chips-chip-end.ensures);
+        held = λ chip default low. rw none (at_any_chip c.args.cell_nets.now chip (get_or c.loop-chip.loads.items chip default) (c.loop-chip.invariant.0 chip default (omega (arith, c.loop-chip.invariant.1, c.chips-chip-end.ensures))));
+      };
     }

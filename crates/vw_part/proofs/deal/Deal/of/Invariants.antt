@@ -1,7 +1,10 @@
 -- the cells so far are dealt
 use Rattle.std.proofs.Common.{◌≡◌, length}
-use Rattle.vw_part.specs.Steps.Deals.{IsDeal}
 use Rattle.vw_part.proofs.deal.Deal.of.Given as goal
 
 abbrev pub invariant-loop-cell : goal.invariant-loop-cell
-invariant-loop-cell l = IsDeal l.board l.cell_nets l.deal × (length l.deal.chip_of.items ≡ l.cell)
+invariant-loop-cell l = record {
+  board : l.deal.board.now ≡ l.board;
+  nets : l.deal.cell_nets.now ≡ l.cell_nets;
+  each : length l.deal.chip_of.items ≡ l.cell;
+}

@@ -8,10 +8,10 @@ use Rattle.vw_part.proofs.deal.Deal.target.Goals as goal
 -- where the cell frees no net, no move helps
 pub returns-then-lone-eq0 : goal.returns-then-lone-eq0
 returns-then-lone-eq0 c = λ chip target helps.
-    let cell_nets = c.args.cell_nets.now in
+    let cell_nets = c.args.self.now.cell_nets.now in
     let chips = c.args.self.now.chip_of.items in
-    let from : c.index-from.result.now ≡ get_or chips c.args.cell 0 = c.index-from.ensures ∙ get_or_default chips c.args.cell c.index-from.result.now 0 c.requires.cell in
-    let lone : c.lone-lone.result ≡ freed cell_nets chips c.args.cell = freed_is c.args.board.now cell_nets c.args.self.now c.args.cell c.index-from.result.now c.lone-lone.result c.index.result.now c.at-own.result.now c.requires.deal c.requires.cell from c.index.ensures c.at-own.ensures c.lone-lone.ensures in
+    let from : c.index-from.result.now ≡ get_or chips c.args.cell 0 = c.index-from.ensures ∙ get_or_default chips c.args.cell c.index-from.result.now 0 c.requires in
+    let lone : c.lone-lone.result ≡ freed cell_nets chips c.args.cell = freed_is c.args.self.now c.args.cell c.index-from.result.now c.lone-lone.result c.index.result.now c.at-own.result.now c.requires from c.index.ensures c.at-own.ensures c.lone-lone.ensures in
     omega (arith, lone, c.if-lone-eq0.true, met-le cell_nets chips c.args.cell chip, helps)
 
 pub overflow_sub-most : goal.overflow_sub-most

@@ -6,6 +6,6 @@ use Rattle.vw_part.proofs.deal.Deal.target.Given as goal
 
 abbrev pub invariant-loop-chip : goal.invariant-loop-chip
 invariant-loop-chip l = record {
-  enough : length (nets_at l.cell_nets l.cell) ≤ l.most + l.lone;
-  best : MatchOption l.best ((l.most + l.lone ≡ length (nets_at l.cell_nets l.cell)) × ((chip : ℕ) → chip < l.chip → MayMoveTo l.board l.self.chip_of.items l.cell chip → ¬ (Helps l.cell_nets l.self.chip_of.items l.cell chip))) (IsGain l.board l.cell_nets l.self.chip_of.items l.cell);
+  enough : length (nets_at l.self.cell_nets.now l.cell) ≤ l.most + l.lone;
+  best : MatchOption l.best ((l.most + l.lone ≡ length (nets_at l.self.cell_nets.now l.cell)) × ((chip : ℕ) → chip < l.chip → MayMoveTo l.self.board.now l.self.chip_of.items l.cell chip → ¬ (Helps l.self.cell_nets.now l.self.chip_of.items l.cell chip))) (IsGain l.self.board.now l.self.cell_nets.now l.self.chip_of.items l.cell);
 }
