@@ -16,6 +16,7 @@ AllZip-prop R each [] (y ∷ ys) = λ no _. absurd no
 AllZip-prop R each (x ∷ xs) [] = λ no _. absurd no
 AllZip-prop R each (x ∷ xs) (y ∷ ys) = ×_prop (each x y) (AllZip-prop R each xs ys)
 
+-- two models are equal in one way
 Model-set : IsSet Model
 Model-set = Coded-set model.the_row.coded
 

@@ -10,6 +10,7 @@ ghost use Rattle.vw_nets.specs.Nets.{AreNets, printed_net, ports_pair};
 
 use crate::nets::{Nets, Pair};
 use crate::ports::{first_port, other_port};
+use crate::search::Search;
 use crate::wanted::Wanted;
 use std::alloc::{AllocError, Global};
 use vw_outside::Name;
@@ -20,7 +21,11 @@ impl<'a> Nets<'a> {
         requires { AreNets self.now }
         ensures { IfOk result (λ found. found ≡ printed_net (gated_clock self.now.design.now)) }
     {
-        self.wanted_read(alloc, &Wanted::Gated)
+        let search = Search {
+            nets: self,
+            wanted: &Wanted::Gated,
+        };
+        search.wanted_read(alloc)
     }
 
     /// The root port of the first control, and the first other one of another control.
@@ -66,6 +71,11 @@ impl<'a> Nets<'a> {
         ensures { IfOk result (λ found. found ≡ printed_net (clock_as_data self.now.design.now)) }
     {
         let clock_flags = self.clock_flags(alloc)?;
-        self.first_wanted(alloc, &Wanted::ClockPort(clock_flags.as_slice()))
+        let wanted = Wanted::ClockPort(clock_flags.as_slice());
+        let search = Search {
+            nets: self,
+            wanted: &wanted,
+        };
+        search.first_wanted(alloc)
     }
 }

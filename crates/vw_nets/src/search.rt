@@ -10,7 +10,7 @@ ghost use Rattle.vw_drivers.specs.Firsts.{number_named};
 ghost use Rattle.vw_drivers.specs.Names.{reads_of};
 ghost use Rattle.vw_drivers.specs.Tables.{instance_firsts};
 ghost use Rattle.vw_nets.specs.Nets.{AreNets, printed_net};
-ghost use Rattle.vw_nets.specs.Steps.Wanted.{wants, FindsAmong, HasFlagsOf, wanted_names, wanted_among, wanted_read, first_wanted};
+ghost use Rattle.vw_nets.specs.Steps.Wanted.{wants, FindsAmong, HasFlagsOf, HasFlagsOf-prop, wanted_names, wanted_among, wanted_read, first_wanted};
 
 use crate::items::{number_in_row, written_control};
 use crate::nets::Nets;
@@ -22,34 +22,38 @@ use vw_drivers::ModelClaims;
 use vw_instances::CellSite;
 use vw_outside::Name;
 
-impl<'a> Nets<'a> {
+/// A search among the nets that are read.
+#[derive(Clone, Copy)]
+pub(crate) struct Search<'n, 'a> {
+    pub(crate) nets: &'n Nets<'a>,
+    /// What is looked for.
+    pub(crate) wanted: &'n Wanted<'n>,
+    ghost flags: { HasFlagsOf nets.now wanted.now } by { HasFlagsOf-prop nets.now wanted.now },
+}
+
+impl<'n, 'a> Search<'n, 'a> {
     /// Whether the nets of an instance on whose names the first claim has this number are looked for.
-    fn is_wanted(&self, instance: u32, number: Option<u32>, wanted: &Wanted) -> bool
-        requires nets { AreNets self.now }
-        requires clock_flags { HasFlagsOf self.now wanted.now }
+    fn is_wanted(&self, instance: u32, number: Option<u32>) -> bool
+        requires nets { AreNets self.now.nets.now }
         ensures { (path : Path) (name : Word)
-            → slice_get (instances self.now.design.now) instance ≡ Some path
-            → number ≡ number_named (instance_firsts self.now.tables.now instance) name
-            → result ≡ wants self.now.design.now wanted.now (driver self.now.design.now path name) }
+            → slice_get (instances self.now.nets.now.design.now) instance ≡ Some path
+            → number ≡ number_named (instance_firsts self.now.nets.now.tables.now instance) name
+            → result ≡ wants self.now.nets.now.design.now self.now.wanted.now
+            (driver self.now.nets.now.design.now path name) }
     {
-        wanted.takes(self.drivers.source(self.tables, instance, number))
+        self.wanted.takes(self.nets.drivers.source(self.nets.tables, instance, number))
     }
 
     /// A name of an instance, where it is looked for.
-    fn only(
-        &self,
-        instance: u32,
-        name: &'a Name,
-        number: Option<u32>,
-        wanted: &Wanted,
-    ) -> Option<&'a Name>
-        requires nets { AreNets self.now }
-        requires clock_flags { HasFlagsOf self.now wanted.now }
-        ensures { (path : Path) → slice_get (instances self.now.design.now) instance ≡ Some path
-            → number ≡ number_named (instance_firsts self.now.tables.now instance) name.now
-            → lent result ≡ wanted_among self.now.design.now wanted.now path (name.now ∷ []) }
+    fn only(&self, instance: u32, name: &'a Name, number: Option<u32>) -> Option<&'a Name>
+        requires nets { AreNets self.now.nets.now }
+        ensures { (path : Path)
+            → slice_get (instances self.now.nets.now.design.now) instance ≡ Some path
+            → number ≡ number_named (instance_firsts self.now.nets.now.tables.now instance) name.now
+            → lent result
+            ≡ wanted_among self.now.nets.now.design.now self.now.wanted.now path (name.now ∷ []) }
     {
-        if self.is_wanted(instance, number, wanted) {
+        if self.is_wanted(instance, number) {
             Some(name)
         } else {
             None
@@ -62,16 +66,14 @@ impl<'a> Nets<'a> {
         instance: u32,
         names: &'a [Name],
         numbers: &[Option<u32>],
-        wanted: &Wanted,
     ) -> Option<&'a Name>
-        requires nets { AreNets self.now }
-        requires clock_flags { HasFlagsOf self.now wanted.now }
-        ensures { FindsAmong self.now wanted.now instance names.now numbers.now
-            names.now (lent result) }
+        requires nets { AreNets self.now.nets.now }
+        ensures { FindsAmong self.now.nets.now self.now.wanted.now instance names.now
+            numbers.now names.now (lent result) }
     {
         for (place, name) in names.iter().enumerate() {
             let number = number_in_row(numbers, place);
-            if self.is_wanted(instance, number, wanted) {
+            if self.is_wanted(instance, number) {
                 return Some(name);
             }
         }
@@ -79,21 +81,14 @@ impl<'a> Nets<'a> {
     }
 
     /// The first name that an item reads as data and that is looked for.
-    fn data_found(
-        &self,
-        instance: u32,
-        item: &'a Item,
-        numbers: &[Option<u32>],
-        wanted: &Wanted,
-    ) -> Option<&'a Name>
-        requires nets { AreNets self.now }
-        requires clock_flags { HasFlagsOf self.now wanted.now }
-        ensures { FindsAmong self.now wanted.now instance (reads_of item.now) numbers.now
-            (data_of item.now) (lent result) }
+    fn data_found(&self, instance: u32, item: &'a Item, numbers: &[Option<u32>]) -> Option<&'a Name>
+        requires nets { AreNets self.now.nets.now }
+        ensures { FindsAmong self.now.nets.now self.now.wanted.now instance (reads_of item.now)
+            numbers.now (data_of item.now) (lent result) }
     {
         match item {
-            Item::Names { ins, .. } => self.first_among(instance, ins.as_slice(), numbers, wanted),
-            Item::Latch { d, .. } => self.only(instance, d, number_in_row(numbers, 0), wanted),
+            Item::Names { ins, .. } => self.first_among(instance, ins.as_slice(), numbers),
+            Item::Latch { d, .. } => self.only(instance, d, number_in_row(numbers, 0)),
             Item::Sub { .. } => None,
         }
     }
@@ -104,73 +99,59 @@ impl<'a> Nets<'a> {
         instance: u32,
         item: &'a Item,
         numbers: &[Option<u32>],
-        wanted: &Wanted,
     ) -> Option<&'a Name>
-        requires nets { AreNets self.now }
-        requires clock_flags { HasFlagsOf self.now wanted.now }
-        ensures { FindsAmong self.now wanted.now instance (reads_of item.now) numbers.now
-            (controls_of item.now) (lent result) }
+        requires nets { AreNets self.now.nets.now }
+        ensures { FindsAmong self.now.nets.now self.now.wanted.now instance (reads_of item.now)
+            numbers.now (controls_of item.now) (lent result) }
     {
         match written_control(item) {
-            Some(control) => self.only(instance, control, number_in_row(numbers, 1), wanted),
+            Some(control) => self.only(instance, control, number_in_row(numbers, 1)),
             None => None,
         }
     }
 
     /// The first name of an item that is looked for.
-    fn read_found(
-        &self,
-        instance: u32,
-        item: &'a Item,
-        numbers: &[Option<u32>],
-        wanted: &Wanted,
-    ) -> Option<&'a Name>
-        requires nets { AreNets self.now }
-        requires clock_flags { HasFlagsOf self.now wanted.now }
-        ensures { FindsAmong self.now wanted.now instance (reads_of item.now) numbers.now
-            (wanted_names wanted.now item.now) (lent result) }
+    fn read_found(&self, instance: u32, item: &'a Item, numbers: &[Option<u32>]) -> Option<&'a Name>
+        requires nets { AreNets self.now.nets.now }
+        ensures { FindsAmong self.now.nets.now self.now.wanted.now instance (reads_of item.now)
+            numbers.now (wanted_names self.now.wanted.now item.now) (lent result) }
     {
-        match wanted {
-            Wanted::Undriven => match self.data_found(instance, item, numbers, wanted) {
+        match self.wanted {
+            Wanted::Undriven => match self.data_found(instance, item, numbers) {
                 Some(name) => Some(name),
-                None => self.control_found(instance, item, numbers, wanted),
+                None => self.control_found(instance, item, numbers),
             },
-            Wanted::Gated => self.control_found(instance, item, numbers, wanted),
-            Wanted::ClockPort(_) => self.data_found(instance, item, numbers, wanted),
+            Wanted::Gated => self.control_found(instance, item, numbers),
+            Wanted::ClockPort(_) => self.data_found(instance, item, numbers),
         }
     }
 
     /// The first name of the item of a cell that is looked for.
-    fn wanted_at(&self, cell: CellSite, wanted: &Wanted) -> Option<&'a Name>
-        requires nets { AreNets self.now }
-        requires clock_flags { HasFlagsOf self.now wanted.now }
+    fn wanted_at(&self, cell: CellSite) -> Option<&'a Name>
+        requires nets { AreNets self.now.nets.now }
         ensures { (path : Path) (item : Item)
-            → slice_get (instances self.now.design.now) cell.instance ≡ Some path
-            → item_at self.now.design.now path cell.item ≡ Some item
+            → slice_get (instances self.now.nets.now.design.now) cell.instance ≡ Some path
+            → item_at self.now.nets.now.design.now path cell.item ≡ Some item
             → lent result
-            ≡ wanted_among self.now.design.now wanted.now path (wanted_names wanted.now item) }
+            ≡ wanted_among self.now.nets.now.design.now self.now.wanted.now path
+            (wanted_names self.now.wanted.now item) }
     {
-        let item = self.item_found(cell)?;
-        let numbers = self.numbers_by(cell)?;
-        self.read_found(cell.instance, item, numbers, wanted)
+        let item = self.nets.item_found(cell)?;
+        let numbers = self.nets.numbers_by(cell)?;
+        self.read_found(cell.instance, item, numbers)
     }
 
     /// The first net that a gate or a latch reads and that is looked for.
-    pub(crate) fn wanted_read(
-        &self,
-        alloc: Global,
-        wanted: &Wanted,
-    ) -> Result<Option<Name>, AllocError>
-        requires nets { AreNets self.now }
-        requires clock_flags { HasFlagsOf self.now wanted.now }
+    pub(crate) fn wanted_read(&self, alloc: Global) -> Result<Option<Name>, AllocError>
+        requires nets { AreNets self.now.nets.now }
         ensures { IfOk result (λ found. found
-            ≡ printed_net (wanted_read self.now.design.now wanted.now)) }
+            ≡ printed_net (wanted_read self.now.nets.now.design.now self.now.wanted.now)) }
     {
-        for cell in self.cells {
-            let found = self.wanted_at(*cell, wanted);
+        for cell in self.nets.cells {
+            let found = self.wanted_at(*cell);
             if let Some(name) = found {
-                let table = self.tables.instances();
-                let net = print_net(alloc, self.design, table, cell.instance, name)?;
+                let table = self.nets.tables.instances();
+                let net = print_net(alloc, self.nets.design, table, cell.instance, name)?;
                 return Ok(Some(net));
             }
         }
@@ -178,32 +159,26 @@ impl<'a> Nets<'a> {
     }
 
     /// The first output of the root that is looked for.
-    fn wanted_output(&self, wanted: &Wanted) -> Option<&'a Name>
-        requires nets { AreNets self.now }
-        requires clock_flags { HasFlagsOf self.now wanted.now }
-        ensures { lent result ≡ wanted_among self.now.design.now wanted.now []
-            (model_outputs (model_at self.now.design.now [])) }
+    fn wanted_output(&self) -> Option<&'a Name>
+        requires nets { AreNets self.now.nets.now }
+        ensures { lent result ≡ wanted_among self.now.nets.now.design.now self.now.wanted.now []
+            (model_outputs (model_at self.now.nets.now.design.now [])) }
     {
-        let root = self.tables.instances()[0];
-        let claims = &self.tables.claims()[root.model as usize];
-        self.output_among(claims, self.design.models()[0].outputs(), wanted)
+        let root = self.nets.tables.instances()[0];
+        let claims = &self.nets.tables.claims()[root.model as usize];
+        self.output_among(claims, self.nets.design.models()[0].outputs())
     }
 
     /// The first of some names of the root that is looked for.
-    fn output_among(
-        &self,
-        claims: &ModelClaims,
-        names: &'a [Name],
-        wanted: &Wanted,
-    ) -> Option<&'a Name>
-        requires nets { AreNets self.now }
-        requires clock_flags { HasFlagsOf self.now wanted.now }
-        requires claims { claims.now.firsts ≡ instance_firsts self.now.tables.now 0 }
-        ensures { lent result ≡ wanted_among self.now.design.now wanted.now [] names.now }
+    fn output_among(&self, claims: &ModelClaims, names: &'a [Name]) -> Option<&'a Name>
+        requires nets { AreNets self.now.nets.now }
+        requires claims { claims.now.firsts ≡ instance_firsts self.now.nets.now.tables.now 0 }
+        ensures { lent result
+            ≡ wanted_among self.now.nets.now.design.now self.now.wanted.now [] names.now }
     {
         for name in names {
             let number = claims.first(name.as_slice());
-            if self.is_wanted(0, number, wanted) {
+            if self.is_wanted(0, number) {
                 return Some(name);
             }
         }
@@ -211,23 +186,19 @@ impl<'a> Nets<'a> {
     }
 
     /// The first net that is read and looked for.
-    pub(crate) fn first_wanted(
-        &self,
-        alloc: Global,
-        wanted: &Wanted,
-    ) -> Result<Option<Name>, AllocError>
-        requires nets { AreNets self.now }
-        requires clock_flags { HasFlagsOf self.now wanted.now }
+    pub(crate) fn first_wanted(&self, alloc: Global) -> Result<Option<Name>, AllocError>
+        requires nets { AreNets self.now.nets.now }
         ensures { IfOk result (λ found. found
-            ≡ printed_net (first_wanted self.now.design.now wanted.now)) }
+            ≡ printed_net (first_wanted self.now.nets.now.design.now self.now.wanted.now)) }
     {
-        let read = self.wanted_read(alloc, wanted)?;
+        let read = self.wanted_read(alloc)?;
         if read.is_some() {
             return Ok(read);
         }
-        match self.wanted_output(wanted) {
+        match self.wanted_output() {
             Some(name) => {
-                let net = print_net(alloc, self.design, self.tables.instances(), 0, name)?;
+                let table = self.nets.tables.instances();
+                let net = print_net(alloc, self.nets.design, table, 0, name)?;
                 Ok(Some(net))
             }
             None => Ok(None),

@@ -4,6 +4,7 @@ ghost use Rattle.vw_design.specs.NetFaults.{undriven};
 ghost use Rattle.vw_nets.specs.Nets.{AreNets, printed_net};
 
 use crate::nets::Nets;
+use crate::search::Search;
 use crate::wanted::Wanted;
 use std::alloc::{AllocError, Global};
 use vw_outside::Name;
@@ -14,6 +15,10 @@ impl<'a> Nets<'a> {
         requires { AreNets self.now }
         ensures { IfOk result (λ found. found ≡ printed_net (undriven self.now.design.now)) }
     {
-        self.first_wanted(alloc, &Wanted::Undriven)
+        let search = Search {
+            nets: self,
+            wanted: &Wanted::Undriven,
+        };
+        search.first_wanted(alloc)
     }
 }

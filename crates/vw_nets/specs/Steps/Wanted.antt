@@ -1,6 +1,8 @@
 -- What is looked for among the nets that are read.
 use Rattle.std.specs.Prelude.{◌≡◌, ℕ, Bool, true, false, List, ◌++◌, find, flat_map, is_none, slice_get, slice_index_or, Option, Some, None, option_map, []}
 use Rattle.std.specs.Option.{option_or}
+use Rattle.std.specs.Coded.{Unit-prop}
+use Rattle.std.proofs.Props.{props}
 use Rattle.vw_design.specs.declared.item.Item.{Item}
 use Rattle.vw_design.specs.declared.design.Design.{Design}
 use Rattle.vw_design.specs.Distinct.{has_name}
@@ -73,6 +75,16 @@ first_wanted design wanted =
 -- what is looked for has its clock_flags, by the tables of some nets
 abbrev pub HasFlagsOf : Nets → Wanted → Type 0
 HasFlagsOf nets wanted = HasFlags nets.design.now (root_firsts nets.tables.now) wanted
+
+-- it has them in one way, so that a struct may carry it
+HasFlags-prop : (design : Design) (root : List First) (wanted : Wanted) → IsProp (HasFlags design root wanted)
+HasFlags-prop design root Undriven = Unit-prop
+HasFlags-prop design root Gated = Unit-prop
+HasFlags-prop design root (ClockPort clock_flags) = Prim.hlevel props
+
+-- the same by the tables of nets
+pub HasFlagsOf-prop : (nets : Nets) (wanted : Wanted) → IsProp (HasFlagsOf nets wanted)
+HasFlagsOf-prop nets wanted = HasFlags-prop nets.design.now (root_firsts nets.tables.now) wanted
 
 -- what was found is the first of some names of an instance that is looked for, where these numbers are those of the first
 -- claims on what is read there

@@ -4,7 +4,7 @@ use Rattle.vw_design.specs.Paths.{Word, Net, printed, model_at, model_outputs}
 use Rattle.vw_design.specs.NetReads.{net_at}
 use Rattle.vw_nets.specs.Nets.{printed_net}
 use Rattle.vw_nets.specs.Steps.Wanted.{wanted_among, wanted_read}
-use Rattle.vw_nets.proofs.nets.Nets.first_wanted.Goals as goal
+use Rattle.vw_nets.proofs.search.Search.first_wanted.Goals as goal
 
 -- a name of the root where nothing was found before
 of_root : (read : Option Net) (found : Option Word) → found ≡ printed_net read → is_some found ≡ false → (output : Option Word) (name : Word) → Some name ≡ output → (net : Word) → net ≡ printed (net_at [] name)
@@ -14,7 +14,7 @@ of_root (Some read) found is none output name some net same = absurd (true≢fal
 
 pub returns-in-Some : goal.returns-in-Some
 returns-in-Some c =
-    let design = c.args.self.now.design.now in
-    let wanted = c.args.wanted.now in
+    let design = c.args.self.now.nets.now.design.now in
+    let wanted = c.args.self.now.wanted.now in
     of_root (wanted_read design wanted) c.in_ok-read.read c.in_ok-read.ensures (sym c.is_some.ensures ∙ c.if-is_some.false) (wanted_among design wanted [] (model_outputs (model_at design []))) c.in-Some.name.now
     c.in-Some.ensures c.in_ok-net-in-Some.net (c.in_ok-net-in-Some.ensures [] refl)

@@ -4,7 +4,7 @@ use Rattle.vw_design.specs.Drivers.{driver}
 use Rattle.vw_design.specs.Paths.{Word}
 use Rattle.vw_nets.specs.Steps.Wanted.{wants}
 use Rattle.vw_nets.proofs.SearchSteps.{find_next, find_now}
-use Rattle.vw_nets.proofs.nets.Nets.first_among.Goals as goal
+use Rattle.vw_nets.proofs.search.Search.first_among.Goals as goal
 
 pub returns-then-is_wanted : goal.returns-then-is_wanted
 returns-then-is_wanted c = λ path listed are.
@@ -12,7 +12,7 @@ returns-then-is_wanted c = λ path listed are.
     let i = c.loop-place.place in
     let name = c.index-names-place.result in
     let number = c.number_in_row-number.ensures ∙ are i name (slice_get_read names (length names) i name refl c.loop-place-test.true c.index-names-place.is) in
-    find_now (λ (w : Word). wants c.args.self.now.design.now c.args.wanted.now (driver c.args.self.now.design.now path w)) names i name c.loop-place-test.true c.index-names-place.is
+    find_now (λ (w : Word). wants c.args.self.now.nets.now.design.now c.args.self.now.wanted.now (driver c.args.self.now.nets.now.design.now path w)) names i name c.loop-place-test.true c.index-names-place.is
     (sym (c.is_wanted.ensures path name listed number) ∙ c.if-is_wanted.true) (c.loop-place.invariant path listed are)
 
 pub loop-place-preserved : goal.loop-place-preserved
@@ -21,5 +21,5 @@ loop-place-preserved c = λ path listed are.
     let i = c.loop-place.place in
     let name = c.index-names-place.result in
     let number = c.number_in_row-number.ensures ∙ are i name (slice_get_read names (length names) i name refl c.loop-place-test.true c.index-names-place.is) in
-    find_next (λ (w : Word). wants c.args.self.now.design.now c.args.wanted.now (driver c.args.self.now.design.now path w)) names i name c.loop-place-test.true c.index-names-place.is
+    find_next (λ (w : Word). wants c.args.self.now.nets.now.design.now c.args.self.now.wanted.now (driver c.args.self.now.nets.now.design.now path w)) names i name c.loop-place-test.true c.index-names-place.is
     (sym (c.is_wanted.ensures path name listed number) ∙ c.if-is_wanted.false) (c.loop-place.invariant path listed are)

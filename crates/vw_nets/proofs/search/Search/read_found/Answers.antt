@@ -9,7 +9,7 @@ use Rattle.vw_design.specs.NetReads.{data_of, controls_of}
 use Rattle.vw_nets.specs.Steps.Wanted.{wants, wanted_among, wanted_names}
 use Rattle.vw_nets.specs.declared.wanted.Wanted.{Wanted}
 use Rattle.vw_nets.specs.declared.wanted.Wanted.TheVariants.{Undriven}
-use Rattle.vw_nets.proofs.nets.Nets.read_found.Goals as goal
+use Rattle.vw_nets.proofs.search.Search.read_found.Goals as goal
 
 -- data first, and then the control
 both : (design : Design) (wanted : Wanted) (path : Path) (item : Item) → wanted ≡ Undriven
@@ -20,15 +20,15 @@ both design wanted path item is =
 
 pub returns-in-Some : goal.returns-in-Some
 returns-in-Some c = λ path listed are.
-    let design = c.args.self.now.design.now in
-    let wanted = c.args.wanted.now in
+    let design = c.args.self.now.nets.now.design.now in
+    let wanted = c.args.self.now.wanted.now in
     let item = c.args.item.now in
     sym (both design wanted path item c.in-Undriven.is ∙ ap (λ (o : Option Word). option_or o (wanted_among design wanted path (controls_of item))) (sym (c.in-Some.ensures path listed are)))
 
 pub returns-in-None : goal.returns-in-None
 returns-in-None c = λ path listed are.
-    let design = c.args.self.now.design.now in
-    let wanted = c.args.wanted.now in
+    let design = c.args.self.now.nets.now.design.now in
+    let wanted = c.args.self.now.wanted.now in
     let item = c.args.item.now in
     c.control_found.ensures path listed are
     ∙ sym (both design wanted path item c.in-Undriven.is ∙ ap (λ (o : Option Word). option_or o (wanted_among design wanted path (controls_of item))) (sym (c.in-None.ensures path listed are)))
