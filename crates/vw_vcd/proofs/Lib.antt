@@ -1,0 +1,8 @@
+pub mod Digits
+pub mod WaveParts
+pub mod SaidLines
+pub mod LinesOfText
+pub mod LastGiven
+pub mod GivenInWaves
+pub mod KnownValues
+pub mod Replays

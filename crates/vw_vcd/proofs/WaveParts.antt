@@ -1,0 +1,61 @@
+-- The parts of a wave: its clocks in two parts, and the pieces that its head is written of.
+use Rattle.std.proofs.Common.{◌≡◌, ◌<◌, ◌+◌, ◌++◌, ◌∙◌, ℕ, suc, Bool, List, [], ◌∷◌, length, drop, get_or, ap, refl, sym, append_assoc, arith}
+use Rattle.std.specs.Prelude.{codes}
+use Rattle.std.proofs.lemmas.List.{drop_more}
+use Rattle.vw_text.specs.Physical.{lines_text}
+use Rattle.vw_text.proofs.LineTexts.{lines_text-append}
+use Rattle.vw_text.proofs.WrittenPieces.{next_written}
+use Rattle.vw_vcd.specs.Changes.{last_row}
+use Rattle.vw_vcd.specs.Lines.{clock_lines, clocks_lines, var_line, var_lines}
+
+-- ---- clocks
+
+-- some clocks, and then others behind them
+pub clocks_append : (clock : ℕ) (before : List Bool) (rows more : List (List Bool))
+    → clocks_lines clock before (rows ++ more) ≡ clocks_lines clock before rows ++ clocks_lines (clock + length rows) (last_row before rows) more
+clocks_append clock before [] more = let none : clock ≡ clock + 0 = omega arith in ap (λ (first : ℕ). clocks_lines first before more) none
+clocks_append clock before (bits ∷ rows) more =
+    let here = clock_lines clock before bits in
+    let rest = clocks_lines (clock + 1) bits rows in
+    let next : clock + 1 + length rows ≡ clock + suc (length rows) = omega arith in
+    ap (λ (lines : List (List ℕ)). here ++ lines) (clocks_append (clock + 1) bits rows more)
+    ∙ ap (λ (first : ℕ). here ++ (rest ++ clocks_lines first (last_row bits rows) more)) next
+    ∙ sym (append_assoc here rest (clocks_lines (clock + suc (length rows)) (last_row bits rows) more))
+
+-- what stood before the first clock doesn't matter
+pub clocks_begin : (before : List Bool) (rows : List (List Bool)) → clocks_lines 0 before rows ≡ clocks_lines 0 [] rows
+clocks_begin before [] = refl
+clocks_begin before (bits ∷ rows) = refl
+
+-- ---- the head
+
+-- the pieces of the line of a signal
+pub var_written : (start id name end old begun with_id with_space with_name text : List ℕ)
+    → begun ≡ old ++ start → with_id ≡ begun ++ id → with_space ≡ with_id ++ 32 ∷ [] → with_name ≡ with_space ++ name → text ≡ with_name ++ (end ++ 10 ∷ [])
+    → text ≡ old ++ ((start ++ (id ++ 32 ∷ (name ++ end))) ++ 10 ∷ [])
+var_written start id name end old begun with_id with_space with_name text first second third fourth fifth =
+    let joined : ((((old ++ start) ++ id) ++ 32 ∷ []) ++ name) ++ (end ++ 10 ∷ []) ≡ old ++ ((start ++ (id ++ 32 ∷ (name ++ end))) ++ 10 ∷ []) = simp append_assoc in
+    fifth
+    ∙ ap (λ (front : List ℕ). front ++ (end ++ 10 ∷ []))
+    (fourth ∙ ap (λ (front : List ℕ). front ++ name) (third ∙ ap (λ (front : List ℕ). front ++ 32 ∷ []) (second ∙ ap (λ (front : List ℕ). front ++ id) first)))
+    ∙ joined
+
+-- the line of a signal is the first of those that are left
+pub vars_more : (nets : List (List ℕ)) (number : ℕ) (default net text more all : List ℕ) → number < length nets → net ≡ get_or nets number default → more ≡ text ++ (var_line number net ++ 10 ∷ [])
+    → text ++ lines_text (var_lines number (drop number nets)) ≡ all → more ++ lines_text (var_lines (number + 1) (drop (number + 1) nets)) ≡ all
+vars_more nets number default net text more all within is written so_far =
+    let rest = drop (number + 1) nets in
+    next_written text more all (var_line number net ++ 10 ∷ []) (lines_text (var_lines (number + 1) rest)) (lines_text (var_lines number (drop number nets))) written
+    (ap (λ (left : List (List ℕ)). lines_text (var_lines number left)) (drop_more nets number default within ∙ ap (λ (one : List ℕ). one ∷ rest) (sym is))) so_far
+
+-- the pieces of the head
+pub head_written : (vars : List (List ℕ)) (begun with_vars all : List ℕ)
+    → begun ≡ codes "$timescale 1 s $end\n$scope module design $end\n" → with_vars ≡ begun ++ lines_text vars → all ≡ with_vars ++ codes "$upscope $end\n$enddefinitions $end\n"
+    → all ≡ lines_text (codes "$timescale 1 s $end" ∷ codes "$scope module design $end" ∷ (vars ++ codes "$upscope $end" ∷ codes "$enddefinitions $end" ∷ []))
+head_written vars begun with_vars all first second last =
+    let start = codes "$timescale 1 s $end\n$scope module design $end\n" in
+    let end = codes "$upscope $end\n$enddefinitions $end\n" in
+    last
+    ∙ ap (λ (text : List ℕ). text ++ end) (second ∙ ap (λ (text : List ℕ). text ++ lines_text vars) first)
+    ∙ append_assoc start (lines_text vars) end
+    ∙ ap (λ (text : List ℕ). start ++ text) (sym (lines_text-append vars (codes "$upscope $end" ∷ codes "$enddefinitions $end" ∷ [])))

@@ -1,0 +1,9 @@
+-- what is written, and the signals that are left
+use Rattle.std.proofs.Common.{◌≡◌, ◌++◌, drop}
+use Rattle.vw_text.specs.Physical.{lines_text}
+use Rattle.vw_vcd.specs.Changes.{of_changed}
+use Rattle.vw_vcd.specs.Lines.{value_line}
+use Rattle.vw_vcd.proofs.changes.push_changes.Given as goal
+
+abbrev pub invariant-loop-number : goal.invariant-loop-number
+invariant-loop-number l = l.text.items ++ lines_text (of_changed value_line l.number (drop l.number l.before) (drop l.number l.bits)) ≡ l.fn.text.items ++ lines_text (of_changed value_line 0 l.before l.bits)

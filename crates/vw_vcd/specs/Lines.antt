@@ -1,0 +1,65 @@
+-- The text of a wave: a value change dump with the values 0 and 1 alone. Source: IEEE 1364 for the keywords and the forms of
+-- the lines; which of them are written, the names and the unit are this project's choice.
+use Rattle.std.specs.Prelude.{ℕ, ◌+◌, Bool, ◌||◌, List, [], ◌∷◌, ◌++◌, map, length, codes, if◌then◌else◌, ◌==◌}
+use Rattle.std.specs.Char.{is_ascii_alphanumeric}
+use Rattle.std.specs.Fmt.{decimal}
+use Rattle.vw_text.specs.Physical.{lines_text}
+use Rattle.vw_vcd.specs.Identifiers.{identifier}
+use Rattle.vw_vcd.specs.Changes.{of_each, of_changed, under}
+
+-- ---- the head
+
+-- ASCII letters, digits and `_` stay, and any other byte is `_`
+abbrev pub name_byte : ℕ → ℕ
+name_byte byte = if is_ascii_alphanumeric byte || byte == 95 then byte else 95
+
+-- what a viewer calls the signal with a printed net
+abbrev pub signal_name : List ℕ → List ℕ
+signal_name net = codes "n_" ++ map name_byte net
+
+-- the line that declares a signal, by its number and its printed net
+abbrev pub var_line : ℕ → List ℕ → List ℕ
+var_line number net = codes "$var wire 1 " ++ (identifier number ++ 32 ∷ (signal_name net ++ codes " $end"))
+
+-- the lines of signals, of which the first has this number
+abbrev pub var_lines : ℕ → List (List ℕ) → List (List ℕ)
+var_lines number [] = []
+var_lines number (net ∷ nets) = var_line number net ∷ var_lines (number + 1) nets
+
+-- the lines before the first clock
+abbrev pub head_lines : List (List ℕ) → List (List ℕ)
+head_lines nets =
+    codes "$timescale 1 s $end" ∷ codes "$scope module design $end" ∷ (var_lines 0 nets ++ codes "$upscope $end" ∷ codes "$enddefinitions $end" ∷ [])
+
+-- ---- clocks
+
+-- the line that a moment begins with
+abbrev pub time_line : ℕ → List ℕ
+time_line clock = 35 ∷ decimal clock
+
+-- the line of the value of a signal
+abbrev pub value_line : ℕ → Bool → List ℕ
+value_line number bit = (if bit then 49 else 48) ∷ identifier number
+
+-- the lines of a clock in which the signals have these values, behind a clock with those before: in clock 0 all values, and
+-- later the changed ones, and none where nothing has changed
+abbrev pub clock_lines : ℕ → List Bool → List Bool → List (List ℕ)
+clock_lines clock before bits =
+    if clock == 0
+    then time_line clock ∷ codes "$dumpvars" ∷ (of_each value_line 0 bits ++ codes "$end" ∷ [])
+    else under (time_line clock) (of_changed value_line 0 before bits)
+
+-- the lines of some clocks, of which the first has this number
+abbrev pub clocks_lines : ℕ → List Bool → List (List Bool) → List (List ℕ)
+clocks_lines clock before [] = []
+clocks_lines clock before (bits ∷ rows) = clock_lines clock before bits ++ clocks_lines (clock + 1) bits rows
+
+-- ---- the whole
+
+-- the lines of signals with these printed nets, which have the values of these rows, one row a clock
+abbrev pub wave_lines : List (List ℕ) → List (List Bool) → List (List ℕ)
+wave_lines nets rows = head_lines nets ++ (clocks_lines 0 [] rows ++ time_line (length rows) ∷ [])
+
+-- their text
+abbrev pub wave_text : List (List ℕ) → List (List Bool) → List ℕ
+wave_text nets rows = lines_text (wave_lines nets rows)
