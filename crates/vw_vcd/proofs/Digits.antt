@@ -17,6 +17,7 @@ spelled_94 (b ∷ bs) = (b - 33) + 94 * spelled_94 bs
 
 -- ---- the number that digits spell is the one that they are of
 
+-- all digits of a number spell it
 digits_spell : (more n : ℕ) → n < most more → spelled_94 (digits_94 more n) ≡ n
 digits_spell zero n small = omega arith
 digits_spell (suc more) n small =
@@ -50,6 +51,7 @@ first_digit n small =
 
 -- ---- which bytes they are
 
+-- no digit is a byte below `!`
 digits_above : (more n : ℕ) → All (λ b. 33 ≤ b) (digits_94 more n)
 digits_above zero n = All-nil (λ b. 33 ≤ b)
 digits_above (suc more) n =

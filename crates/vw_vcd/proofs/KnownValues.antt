@@ -22,11 +22,13 @@ changes_append given (one ∷ more) rest are further =
 module _ (id : ℕ → List ℕ) (apart : (one other : ℕ) → one < 2 ^ 32 → other < 2 ^ 32 → id one ≡ id other → one ≡ other) where
   -- ---- what is known after a clock
 
+  -- after the first clock, its values
   pub first_known : (bits : List Bool) → length bits < 2 ^ 32 → Knows id (of_each (given_in id 0 true) 0 bits) 0 bits
   first_known bits few time k since small =
       let here : k ≡ 0 + k = omega arith in
       ap (λ (one : ℕ). last_given (of_each (given_in id 0 true) 0 bits) time (id one)) here ∙ each_now id apart 0 true time 0 k bits since (omega arith) (omega arith)
 
+  -- after a later clock its values, where those before were known
   pub next_known : (given : List GivenValue) (from clock : ℕ) (before bits : List Bool) → from ≤ clock → length before ≡ length bits → length bits < 2 ^ 32
       → Knows id given from before → Knows id (given ++ of_changed (given_in id clock false) 0 before bits) clock bits
   next_known given from clock before bits order same few knows time k since small =
@@ -139,6 +141,7 @@ module _ (id : ℕ → List ℕ) (apart : (one other : ℕ) → one < 2 ^ 32 →
         by true false last passed taken = (λ (first : false ≡ false). last, taken false)
         by false true last passed taken = (λ (first : false ≡ false). last, taken true)
 
+  -- behind values that are known, whatever clocks give are changes
   pub rows_change : (given : List GivenValue) (signals from clock : ℕ) (before : List Bool) (rows : List (List Bool)) → from ≤ clock → 0 < clock → signals < 2 ^ 32
       → length before ≡ signals → AllByRecursion (λ row. length row ≡ signals) rows → Knows id given from before → AreChanges given (clocks_given id clock before rows)
   rows_change given signals from clock before [] order some few wide are knows = tt

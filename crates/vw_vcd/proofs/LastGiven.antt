@@ -14,10 +14,12 @@ given_in id clock first number bit = record { time = clock; first = first; id = 
 
 -- ---- in two parts
 
+-- nothing behind a value changes nothing
 pub or_none : {X : Type 0} (x : Option X) → option_or x None ≡ x
 or_none None = refl
 or_none (Some x) = refl
 
+-- the first of three
 or_assoc : {X : Type 0} (x y z : Option X) → option_or (option_or x y) z ≡ option_or x (option_or y z)
 or_assoc None y z = refl
 or_assoc (Some x) y z = refl
@@ -32,6 +34,7 @@ last_append (one ∷ given) more time id =
 
 -- ---- one value
 
+-- what one given value says of an identifier at a time
 abbrev one_last : ℕ → List ℕ → Bool → ℕ → List ℕ → Option Bool
 one_last clock one bit time id = if nat_le clock time && bytes_eq one id then Some bit else None
 
@@ -60,6 +63,7 @@ module _ (id : ℕ → List ℕ) (apart : (one other : ℕ) → one < 2 ^ 32 →
   each_later time other number (bit ∷ bits) later =
       ap₂ (λ (rest here : Option Bool). option_or rest here) (each_later time other (number + 1) bits later) (one_later clock time (id number) other bit later)
 
+  -- nor are the changed ones
   pub changed_later : (time : ℕ) (other : List ℕ) (number : ℕ) (before bits : List Bool) → time < clock → last_given (of_changed (given_in id clock first) number before bits) time other ≡ None
   changed_later time other number [] bits later = refl
   changed_later time other number (old ∷ before) [] later = refl
@@ -73,12 +77,14 @@ module _ (id : ℕ → List ℕ) (apart : (one other : ℕ) → one < 2 ^ 32 →
   pub other_id : (number lower : ℕ) → lower < number → number < 2 ^ 32 → id number ≡ id lower → ⊥
   other_id number lower below small same = let is : number ≡ lower = apart number lower small (omega arith) same in omega arith
 
+  -- all values give nothing to a signal before the first of them
   each_none : (time lower number : ℕ) (bits : List Bool) → lower < number → number + length bits ≤ 2 ^ 32 → last_given (of_each (given_in id clock first) number bits) time (id lower) ≡ None
   each_none time lower number [] below few = refl
   each_none time lower number (bit ∷ bits) below few =
       ap₂ (λ (rest here : Option Bool). option_or rest here) (each_none time lower (number + 1) bits (omega arith) (omega arith))
       (one_other clock time (id number) (id lower) bit (other_id number lower below (omega arith)))
 
+  -- nor do the changed ones
   changed_none : (time lower number : ℕ) (before bits : List Bool) → lower < number → number + length bits ≤ 2 ^ 32 → last_given (of_changed (given_in id clock first) number before bits) time (id lower) ≡ None
   changed_none time lower number [] bits below few = refl
   changed_none time lower number (old ∷ before) [] below few = refl

@@ -1,6 +1,6 @@
 pub mod Digits
 pub mod WaveParts
-pub mod SaidLines
+pub mod StatedLines
 pub mod LinesOfText
 pub mod LastGiven
 pub mod GivenInWaves

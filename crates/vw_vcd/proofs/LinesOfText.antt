@@ -12,13 +12,14 @@ use Rattle.vw_text.proofs.FirstLine.{ends_line, line_first}
 use Rattle.vw_text.proofs.FoundBytes.{HasNo}
 use Rattle.vw_vcd.specs.Identifiers.{identifier}
 use Rattle.vw_vcd.specs.Changes.{of_each, of_changed, under}
-use Rattle.vw_vcd.specs.Lines.{name_byte, signal_name, var_line, var_lines, head_lines, time_line, value_line, clock_lines, clocks_lines, wave_lines, wave_text}
+use Rattle.vw_vcd.specs.Lines.{name_byte, signal_name, var_line, var_lines, lines_of_head, time_line, value_line, lines_of_clock, lines_of_clocks, wave_lines, wave_text}
 use Rattle.vw_vcd.proofs.Digits.{identifier_without}
 
 -- no byte ends a line
 abbrev IsWhole : List ℕ → Type 0
 IsWhole line = HasNo ends_line line
 
+-- so it is with each of some lines
 abbrev AreWhole : List (List ℕ) → Type 0
 AreWhole lines = AllByRecursion IsWhole lines
 
@@ -39,24 +40,30 @@ tried (b ∷ bs) none =
     let parts = or_parts (ends_line b) (list_any ends_line bs) none in
     All-cons (λ b. ends_line b ≡ false) b bs parts.0 (tried bs parts.1)
 
+-- two parts of a line
 both : (one other : List ℕ) → IsWhole one → IsWhole other → IsWhole (one ++ other)
 both one other = All-append (λ b. ends_line b ≡ false) one other
 
+-- a byte before others
 byte_before : (b : ℕ) (bs : List ℕ) → ends_line b ≡ false → IsWhole bs → IsWhole (b ∷ bs)
 byte_before b bs = All-cons (λ b. ends_line b ≡ false) b bs
 
+-- a byte of a name ends no line
 name_byte_is : (byte : ℕ) → ends_line (name_byte byte) ≡ false
 name_byte_is byte =
     let stays = λ (b : ℕ). is_ascii_alphanumeric b || b == 95 in
     cond_both (stays byte) byte 95 (λ (b : ℕ). ends_line b ≡ false) (λ is. ne_eqb byte 10 (λ (same : byte ≡ 10). true≢false (sym is ∙ ap stays same))) (λ other. refl)
 
+-- so it is with all of them
 name_bytes : (net : List ℕ) → IsWhole (map name_byte net)
 name_bytes [] = All-nil (λ b. ends_line b ≡ false)
 name_bytes (byte ∷ net) = byte_before (name_byte byte) (map name_byte net) (name_byte_is byte) (name_bytes net)
 
+-- and with those of an identifier
 identifier_is : (number : ℕ) → IsWhole (identifier number)
 identifier_is number = identifier_without 10 (omega arith) number
 
+-- the line of a signal
 var_is : (number : ℕ) (net : List ℕ) → IsWhole (var_line number net)
 var_is number net =
     let end = codes " $end" in
@@ -65,11 +72,13 @@ var_is number net =
     (byte_before 32 (signal_name net ++ end) refl
     (both (signal_name net) end (both (codes "n_") (map name_byte net) (tried (codes "n_") refl) (name_bytes net)) (tried end refl))))
 
+-- the lines of the signals
 vars_are : (number : ℕ) (nets : List (List ℕ)) → AreWhole (var_lines number nets)
 vars_are number [] = tt
 vars_are number (net ∷ nets) = (var_is number net, vars_are (number + 1) nets)
 
-head_is : (nets : List (List ℕ)) → AreWhole (head_lines nets)
+-- the lines of the head
+head_is : (nets : List (List ℕ)) → AreWhole (lines_of_head nets)
 head_is nets =
     let end = codes "$upscope $end" ∷ codes "$enddefinitions $end" ∷ [] in (
       tried (codes "$timescale 1 s $end") refl,
@@ -79,17 +88,21 @@ head_is nets =
       ),
     )
 
+-- the line of a time
 time_is : (clock : ℕ) → IsWhole (time_line clock)
 time_is clock = byte_before 35 _ refl (decimal_without 10 (omega arith) clock)
 
+-- the line of a value
 value_is : (number : ℕ) (bit : Bool) → IsWhole (value_line number bit)
 value_is number true = byte_before 49 (identifier number) refl (identifier_is number)
 value_is number false = byte_before 48 (identifier number) refl (identifier_is number)
 
+-- the lines of all values
 each_is : (number : ℕ) (bits : List Bool) → AreWhole (of_each value_line number bits)
 each_is number [] = tt
 each_is number (bit ∷ bits) = (value_is number bit, each_is (number + 1) bits)
 
+-- the lines of the changed ones
 changed_is : (number : ℕ) (before bits : List Bool) → AreWhole (of_changed value_line number before bits)
 changed_is number [] bits = tt
 changed_is number (old ∷ before) [] = tt
@@ -98,26 +111,29 @@ changed_is number (false ∷ before) (false ∷ bits) = changed_is (number + 1) 
 changed_is number (true ∷ before) (false ∷ bits) = (value_is number false, changed_is (number + 1) before bits)
 changed_is number (false ∷ before) (true ∷ bits) = (value_is number true, changed_is (number + 1) before bits)
 
+-- lines under another one
 under_is : (line : List ℕ) (lines : List (List ℕ)) → IsWhole line → AreWhole lines → AreWhole (under line lines)
 under_is line [] whole all = tt
 under_is line (other ∷ lines) whole all = (whole, all)
 
-clock_is : (clock : ℕ) (before bits : List Bool) → AreWhole (clock_lines clock before bits)
+-- the lines of a clock
+clock_is : (clock : ℕ) (before bits : List Bool) → AreWhole (lines_of_clock clock before bits)
 clock_is clock before bits =
     let end = codes "$end" ∷ [] in
     cond_both (clock == 0) (time_line clock ∷ codes "$dumpvars" ∷ (of_each value_line 0 bits ++ end)) (under (time_line clock) (of_changed value_line 0 before bits)) AreWhole
     (λ first. (time_is clock, (tried (codes "$dumpvars") refl, all_append IsWhole (of_each value_line 0 bits) end (each_is 0 bits) (tried (codes "$end") refl, tt))))
     (λ later. under_is (time_line clock) (of_changed value_line 0 before bits) (time_is clock) (changed_is 0 before bits))
 
-clocks_are : (clock : ℕ) (before : List Bool) (rows : List (List Bool)) → AreWhole (clocks_lines clock before rows)
+-- the lines of clocks
+clocks_are : (clock : ℕ) (before : List Bool) (rows : List (List Bool)) → AreWhole (lines_of_clocks clock before rows)
 clocks_are clock before [] = tt
 clocks_are clock before (bits ∷ rows) =
-    all_append IsWhole (clock_lines clock before bits) (clocks_lines (clock + 1) bits rows) (clock_is clock before bits) (clocks_are (clock + 1) bits rows)
+    all_append IsWhole (lines_of_clock clock before bits) (lines_of_clocks (clock + 1) bits rows) (clock_is clock before bits) (clocks_are (clock + 1) bits rows)
 
 -- so the lines of a wave are those of its text
 pub wave_again : (nets : List (List ℕ)) (rows : List (List Bool)) → text_lines (wave_text nets rows) ≡ wave_lines nets rows
 wave_again nets rows =
-    let clocks = clocks_lines 0 [] rows in
+    let clocks = lines_of_clocks 0 [] rows in
     let end = time_line (length rows) ∷ [] in
     lines_again (wave_lines nets rows)
-    (all_append IsWhole (head_lines nets) (clocks ++ end) (head_is nets) (all_append IsWhole clocks end (clocks_are 0 [] rows) (time_is (length rows), tt)))
+    (all_append IsWhole (lines_of_head nets) (clocks ++ end) (head_is nets) (all_append IsWhole clocks end (clocks_are 0 [] rows) (time_is (length rows), tt)))

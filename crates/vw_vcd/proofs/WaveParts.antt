@@ -6,24 +6,24 @@ use Rattle.vw_text.specs.Physical.{lines_text}
 use Rattle.vw_text.proofs.LineTexts.{lines_text-append}
 use Rattle.vw_text.proofs.WrittenPieces.{next_written}
 use Rattle.vw_vcd.specs.Changes.{last_row}
-use Rattle.vw_vcd.specs.Lines.{clock_lines, clocks_lines, var_line, var_lines}
+use Rattle.vw_vcd.specs.Lines.{lines_of_clock, lines_of_clocks, var_line, var_lines}
 
 -- ---- clocks
 
 -- some clocks, and then others behind them
 pub clocks_append : (clock : ℕ) (before : List Bool) (rows more : List (List Bool))
-    → clocks_lines clock before (rows ++ more) ≡ clocks_lines clock before rows ++ clocks_lines (clock + length rows) (last_row before rows) more
-clocks_append clock before [] more = let none : clock ≡ clock + 0 = omega arith in ap (λ (first : ℕ). clocks_lines first before more) none
+    → lines_of_clocks clock before (rows ++ more) ≡ lines_of_clocks clock before rows ++ lines_of_clocks (clock + length rows) (last_row before rows) more
+clocks_append clock before [] more = let none : clock ≡ clock + 0 = omega arith in ap (λ (first : ℕ). lines_of_clocks first before more) none
 clocks_append clock before (bits ∷ rows) more =
-    let here = clock_lines clock before bits in
-    let rest = clocks_lines (clock + 1) bits rows in
+    let here = lines_of_clock clock before bits in
+    let rest = lines_of_clocks (clock + 1) bits rows in
     let next : clock + 1 + length rows ≡ clock + suc (length rows) = omega arith in
     ap (λ (lines : List (List ℕ)). here ++ lines) (clocks_append (clock + 1) bits rows more)
-    ∙ ap (λ (first : ℕ). here ++ (rest ++ clocks_lines first (last_row bits rows) more)) next
-    ∙ sym (append_assoc here rest (clocks_lines (clock + suc (length rows)) (last_row bits rows) more))
+    ∙ ap (λ (first : ℕ). here ++ (rest ++ lines_of_clocks first (last_row bits rows) more)) next
+    ∙ sym (append_assoc here rest (lines_of_clocks (clock + suc (length rows)) (last_row bits rows) more))
 
 -- what stood before the first clock doesn't matter
-pub clocks_begin : (before : List Bool) (rows : List (List Bool)) → clocks_lines 0 before rows ≡ clocks_lines 0 [] rows
+pub clocks_begin : (before : List Bool) (rows : List (List Bool)) → lines_of_clocks 0 before rows ≡ lines_of_clocks 0 [] rows
 clocks_begin before [] = refl
 clocks_begin before (bits ∷ rows) = refl
 

@@ -1,7 +1,7 @@
 pub mod Identifiers
 pub mod Changes
 pub mod Lines
-pub mod Said
+pub mod Statements
 pub mod Replay
 pub mod Replayed
 pub mod Progress

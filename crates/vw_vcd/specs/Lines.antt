@@ -27,13 +27,13 @@ var_lines number [] = []
 var_lines number (net ∷ nets) = var_line number net ∷ var_lines (number + 1) nets
 
 -- the lines before the first clock
-abbrev pub head_lines : List (List ℕ) → List (List ℕ)
-head_lines nets =
+abbrev pub lines_of_head : List (List ℕ) → List (List ℕ)
+lines_of_head nets =
     codes "$timescale 1 s $end" ∷ codes "$scope module design $end" ∷ (var_lines 0 nets ++ codes "$upscope $end" ∷ codes "$enddefinitions $end" ∷ [])
 
 -- ---- clocks
 
--- the line that a moment begins with
+-- the line of a time
 abbrev pub time_line : ℕ → List ℕ
 time_line clock = 35 ∷ decimal clock
 
@@ -43,22 +43,22 @@ value_line number bit = (if bit then 49 else 48) ∷ identifier number
 
 -- the lines of a clock in which the signals have these values, behind a clock with those before: in clock 0 all values, and
 -- later the changed ones, and none where nothing has changed
-abbrev pub clock_lines : ℕ → List Bool → List Bool → List (List ℕ)
-clock_lines clock before bits =
+abbrev pub lines_of_clock : ℕ → List Bool → List Bool → List (List ℕ)
+lines_of_clock clock before bits =
     if clock == 0
     then time_line clock ∷ codes "$dumpvars" ∷ (of_each value_line 0 bits ++ codes "$end" ∷ [])
     else under (time_line clock) (of_changed value_line 0 before bits)
 
 -- the lines of some clocks, of which the first has this number
-abbrev pub clocks_lines : ℕ → List Bool → List (List Bool) → List (List ℕ)
-clocks_lines clock before [] = []
-clocks_lines clock before (bits ∷ rows) = clock_lines clock before bits ++ clocks_lines (clock + 1) bits rows
+abbrev pub lines_of_clocks : ℕ → List Bool → List (List Bool) → List (List ℕ)
+lines_of_clocks clock before [] = []
+lines_of_clocks clock before (bits ∷ rows) = lines_of_clock clock before bits ++ lines_of_clocks (clock + 1) bits rows
 
 -- ---- the whole
 
 -- the lines of signals with these printed nets, which have the values of these rows, one row a clock
 abbrev pub wave_lines : List (List ℕ) → List (List Bool) → List (List ℕ)
-wave_lines nets rows = head_lines nets ++ (clocks_lines 0 [] rows ++ time_line (length rows) ∷ [])
+wave_lines nets rows = lines_of_head nets ++ (lines_of_clocks 0 [] rows ++ time_line (length rows) ∷ [])
 
 -- their text
 abbrev pub wave_text : List (List ℕ) → List (List Bool) → List ℕ

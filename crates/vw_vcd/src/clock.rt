@@ -2,13 +2,13 @@
 ghost use Rattle.std.specs.Prelude.{◌≡◌, ◌<◌, ◌++◌, ◌∷◌, ◌^◌, [], codes, length, OnOk};
 ghost use Rattle.vw_text.specs.Physical.{lines_text};
 ghost use Rattle.vw_vcd.specs.Changes.{of_changed, of_each, under};
-ghost use Rattle.vw_vcd.specs.Lines.{clock_lines, time_line, value_line};
+ghost use Rattle.vw_vcd.specs.Lines.{lines_of_clock, time_line, value_line};
 
 use crate::changes::{has_change, push_changes, push_values};
 use itoa::Buffer;
 use std::alloc::AllocError;
 
-/// Appends the line that a moment begins with.
+/// Appends the line of a time.
 pub(crate) fn push_time(text: &mut Vec<u8>, clock: u64) -> Result<(), AllocError>
     ensures { OnOk result (text.new.items ≡ text.old.items ++ (time_line clock ++ 10 ∷ [])) }
 {
@@ -61,7 +61,7 @@ pub(crate) fn push_clock(
     requires same { length before.now ≡ length bits.now }
     requires few { length bits.now < 2 ^ 32 }
     ensures { OnOk result (text.new.items
-        ≡ text.old.items ++ lines_text (clock_lines clock before.now bits.now)) }
+        ≡ text.old.items ++ lines_text (lines_of_clock clock before.now bits.now)) }
 {
     if clock == 0 {
         push_first(text, bits)

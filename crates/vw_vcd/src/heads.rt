@@ -1,7 +1,7 @@
 //! The lines before the first clock.
 ghost use Rattle.std.specs.Prelude.{◌≡◌, ◌<◌, ◌++◌, ◌∷◌, ◌^◌, [], length, IfOk, OnOk};
 ghost use Rattle.vw_text.specs.Physical.{lines_text};
-ghost use Rattle.vw_vcd.specs.Lines.{head_lines, name_byte, signal_name, var_line, var_lines};
+ghost use Rattle.vw_vcd.specs.Lines.{lines_of_head, name_byte, signal_name, var_line, var_lines};
 
 use crate::identifier::push_identifier;
 use std::alloc::{AllocError, Global};
@@ -57,7 +57,7 @@ fn push_vars(text: &mut Vec<u8>, nets: &[Name]) -> Result<(), AllocError>
 /// identifiers differ. It takes memory for the text.
 pub fn head(alloc: Global, names: &[Name]) -> Result<Vec<u8>, AllocError>
     requires { length names.now < 2 ^ 32 }
-    ensures { IfOk result (λ text. text.items ≡ lines_text (head_lines names.now)) }
+    ensures { IfOk result (λ text. text.items ≡ lines_text (lines_of_head names.now)) }
 {
     let mut text = Vec::new(alloc);
     text.extend_from_slice(b"$timescale 1 s $end\n$scope module design $end\n")?;

@@ -3,7 +3,7 @@ ghost use Rattle.std.specs.Prelude.{◌≡◌, ◌<◌, ◌+◌, ◌++◌, ◌�
 ghost use Rattle.vw_text.specs.Physical.{lines_text};
 ghost use Rattle.vw_vcd.specs.Changes.{last_row};
 ghost use Rattle.vw_vcd.specs.Identifiers.{identifier};
-ghost use Rattle.vw_vcd.specs.Lines.{clocks_lines, head_lines, time_line, wave_text};
+ghost use Rattle.vw_vcd.specs.Lines.{lines_of_clocks, lines_of_head, time_line, wave_text};
 ghost use Rattle.vw_vcd.specs.Replayed.{WavesReplay};
 
 /// No two signals have one identifier.
@@ -15,11 +15,11 @@ pub fn identifiers_differ()
 /// these. What stood before the first clock doesn't matter.
 pub fn waves_join()
     ensures parts { (nets : List (List ℕ)) (rows : List (List Bool)) → wave_text nets rows
-        ≡ lines_text (head_lines nets) ++ (lines_text (clocks_lines 0 [] rows) ++ lines_text (time_line (length rows) ∷ [])) }
+        ≡ lines_text (lines_of_head nets) ++ (lines_text (lines_of_clocks 0 [] rows) ++ lines_text (time_line (length rows) ∷ [])) }
     ensures joined { (clock : ℕ) (before : List Bool) (rows more : List (List Bool))
-        → clocks_lines clock before (rows ++ more)
-        ≡ clocks_lines clock before rows ++ clocks_lines (clock + length rows) (last_row before rows) more }
-    ensures begins { (before : List Bool) (rows : List (List Bool)) → clocks_lines 0 before rows ≡ clocks_lines 0 [] rows }
+        → lines_of_clocks clock before (rows ++ more)
+        ≡ lines_of_clocks clock before rows ++ lines_of_clocks (clock + length rows) (last_row before rows) more }
+    ensures begins { (before : List Bool) (rows : List (List Bool)) → lines_of_clocks 0 before rows ≡ lines_of_clocks 0 [] rows }
 {}
 
 /// The replay of a wave gives the values of every signal in every clock, its last time is the number of clocks, and each value

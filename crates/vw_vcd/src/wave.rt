@@ -1,7 +1,7 @@
 //! Waves, clock by clock.
 ghost use Rattle.std.specs.Prelude.{◌≡◌, ◌<◌, ◌+◌, ◌++◌, ◌∷◌, ◌^◌, [], length, IfOk, OnErr, OnOk};
 ghost use Rattle.vw_text.specs.Physical.{lines_text};
-ghost use Rattle.vw_vcd.specs.Lines.{clock_lines, time_line};
+ghost use Rattle.vw_vcd.specs.Lines.{lines_of_clock, time_line};
 
 use crate::clock::{push_clock, push_time};
 use std::alloc::{AllocError, Global};
@@ -54,7 +54,7 @@ impl Wave {
         requires signals { length bits.now ≡ length self.old.last }
         requires few { self.old.clocks < 2 ^ 32 }
         ensures text { OnOk result (text.new.items
-            ≡ text.old.items ++ lines_text (clock_lines self.old.clocks self.old.last bits.now)) }
+            ≡ text.old.items ++ lines_text (lines_of_clock self.old.clocks self.old.last bits.now)) }
         ensures seen { OnOk result (self.new ≡ record { clocks = self.old.clocks + 1; last = bits.now }) }
         ensures refused { OnErr result (self.new ≡ self.old) }
     {
@@ -69,7 +69,7 @@ impl Wave {
         requires signals { length bits.now ≡ length self.old.last }
         requires few { self.old.clocks < 2 ^ 32 }
         ensures text { IfOk result (λ text. text.items
-            ≡ lines_text (clock_lines self.old.clocks self.old.last bits.now)) }
+            ≡ lines_text (lines_of_clock self.old.clocks self.old.last bits.now)) }
         ensures seen { OnOk result (self.new ≡ record { clocks = self.old.clocks + 1; last = bits.now }) }
         ensures refused { OnErr result (self.new ≡ self.old) }
     {
