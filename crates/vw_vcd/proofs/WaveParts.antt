@@ -4,7 +4,7 @@ use Rattle.std.specs.Prelude.{codes}
 use Rattle.std.proofs.lemmas.List.{drop_more}
 use Rattle.vw_text.specs.Physical.{lines_text}
 use Rattle.vw_text.proofs.LineTexts.{lines_text-append}
-use Rattle.vw_text.proofs.WrittenPieces.{next_written}
+use Rattle.vw_text.proofs.WrittenPieces.{joined, next_written}
 use Rattle.vw_vcd.specs.Changes.{last_row}
 use Rattle.vw_vcd.specs.Lines.{lines_of_clock, lines_of_clocks, var_line, var_lines}
 
@@ -30,15 +30,8 @@ clocks_begin before (bits ∷ rows) = refl
 -- ---- the head
 
 -- the pieces of the line of a signal
-pub var_written : (start id name end old begun with_id with_space with_name text : List ℕ)
-    → begun ≡ old ++ start → with_id ≡ begun ++ id → with_space ≡ with_id ++ 32 ∷ [] → with_name ≡ with_space ++ name → text ≡ with_name ++ (end ++ 10 ∷ [])
-    → text ≡ old ++ ((start ++ (id ++ 32 ∷ (name ++ end))) ++ 10 ∷ [])
-var_written start id name end old begun with_id with_space with_name text first second third fourth fifth =
-    let joined : ((((old ++ start) ++ id) ++ 32 ∷ []) ++ name) ++ (end ++ 10 ∷ []) ≡ old ++ ((start ++ (id ++ 32 ∷ (name ++ end))) ++ 10 ∷ []) = simp append_assoc in
-    fifth
-    ∙ ap (λ (front : List ℕ). front ++ (end ++ 10 ∷ []))
-    (fourth ∙ ap (λ (front : List ℕ). front ++ name) (third ∙ ap (λ (front : List ℕ). front ++ 32 ∷ []) (second ∙ ap (λ (front : List ℕ). front ++ id) first)))
-    ∙ joined
+pub var_pieces : (start id name end : List ℕ) → joined start (id ∷ (32 ∷ []) ∷ name ∷ (end ++ 10 ∷ []) ∷ []) ≡ (start ++ (id ++ 32 ∷ (name ++ end))) ++ 10 ∷ []
+var_pieces start id name end = simp append_assoc
 
 -- the line of a signal is the first of those that are left
 pub vars_more : (nets : List (List ℕ)) (number : ℕ) (default net text more all : List ℕ) → number < length nets → net ≡ get_or nets number default → more ≡ text ++ (var_line number net ++ 10 ∷ [])
@@ -49,13 +42,7 @@ vars_more nets number default net text more all within is written so_far =
     (ap (λ (left : List (List ℕ)). lines_text (var_lines number left)) (drop_more nets number default within ∙ ap (λ (one : List ℕ). one ∷ rest) (sym is))) so_far
 
 -- the pieces of the head
-pub head_written : (vars : List (List ℕ)) (begun with_vars all : List ℕ)
-    → begun ≡ codes "$timescale 1 s $end\n$scope module design $end\n" → with_vars ≡ begun ++ lines_text vars → all ≡ with_vars ++ codes "$upscope $end\n$enddefinitions $end\n"
-    → all ≡ lines_text (codes "$timescale 1 s $end" ∷ codes "$scope module design $end" ∷ (vars ++ codes "$upscope $end" ∷ codes "$enddefinitions $end" ∷ []))
-head_written vars begun with_vars all first second last =
-    let start = codes "$timescale 1 s $end\n$scope module design $end\n" in
-    let end = codes "$upscope $end\n$enddefinitions $end\n" in
-    last
-    ∙ ap (λ (text : List ℕ). text ++ end) (second ∙ ap (λ (text : List ℕ). text ++ lines_text vars) first)
-    ∙ append_assoc start (lines_text vars) end
-    ∙ ap (λ (text : List ℕ). start ++ text) (sym (lines_text-append vars (codes "$upscope $end" ∷ codes "$enddefinitions $end" ∷ [])))
+pub head_pieces : (vars : List (List ℕ)) → joined (codes "$timescale 1 s $end\n$scope module design $end\n") (lines_text vars ∷ codes "$upscope $end\n$enddefinitions $end\n" ∷ [])
+    ≡ lines_text (codes "$timescale 1 s $end" ∷ codes "$scope module design $end" ∷ (vars ++ codes "$upscope $end" ∷ codes "$enddefinitions $end" ∷ []))
+head_pieces vars =
+    ap (λ (text : List ℕ). codes "$timescale 1 s $end\n$scope module design $end\n" ++ text) (sym (lines_text-append vars (codes "$upscope $end" ∷ codes "$enddefinitions $end" ∷ [])))
