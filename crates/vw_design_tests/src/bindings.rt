@@ -1,6 +1,6 @@
 ghost use Rattle.vw_design.specs.ModelNumbers.{AreModelsReached};
 
-use crate::plain::{add_behind, add_number, assert_same};
+use crate::same::assert_same;
 use std::alloc::{AllocError, Global};
 use std::process::Abort;
 use std::test::Fail;
@@ -10,6 +10,7 @@ use vw_models::{
     FormalAt, OutputOf, Targets, both_ways, models_reached, targets_of, unbound_input,
     unknown_formal,
 };
+use vw_shown::{add_behind, add_number};
 
 /// A formal with its line.
 fn formal_text(alloc: Global, kind: &[u8], found: &FormalAt) -> Result<Vec<u8>, AllocError> {

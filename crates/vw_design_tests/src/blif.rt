@@ -1,6 +1,6 @@
 ghost use Rattle.std.specs.Prelude.{◌<◌, length};
 
-use crate::plain::{add_behind, add_number, add_words, assert_number, assert_same};
+use crate::same::{assert_number, assert_same};
 use std::alloc::{AllocError, Global};
 use std::process::Abort;
 use std::test::Fail;
@@ -8,6 +8,7 @@ use vw_blif::read;
 use vw_design::{Bind, Design, Edge, Item, Model};
 use vw_net::{Cover, Init, Mark};
 use vw_outside::Name;
+use vw_shown::{add_behind, add_number, add_words};
 
 /// Adds a row of a table, by its number.
 fn add_row(shown: &mut Vec<u8>, cover: &Cover, row: u64) -> Result<(), AllocError>

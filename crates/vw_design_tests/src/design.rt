@@ -1,10 +1,11 @@
 use crate::blif::{add_bind, add_model};
-use crate::plain::{assert_same, name};
+use crate::same::assert_same;
 use std::alloc::{AllocError, Global};
 use std::test::Fail;
 use vw_design::{Bind, Edge, Item, Model};
 use vw_net::{Init, Sequence};
 use vw_outside::Name;
+use vw_shown::name;
 
 /// A list of one name with these bytes.
 fn names(alloc: Global, bytes: &[u8]) -> Result<Sequence<Name>, AllocError> {

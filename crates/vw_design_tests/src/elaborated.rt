@@ -1,4 +1,4 @@
-use crate::plain::{add_list, assert_same, name};
+use crate::same::assert_same;
 use std::alloc::{AllocError, Global};
 use std::process::Abort;
 use std::test::Fail;
@@ -6,6 +6,7 @@ use vw_blif::read;
 use vw_elab::{Driver, Elaborated, elaborate};
 use vw_flat::flatten;
 use vw_net::{Cell, Flat};
+use vw_shown::{add_list, name};
 
 /// The elaborated design of a text that has no fault.
 fn elaborated(alloc: Global, text: &[u8]) -> Option<Elaborated> {

@@ -1,5 +1,5 @@
-//! Tests of the crates that read and elaborate designs, of the stimulus and of what lies outside the program. They call
-//! what these crates offer to others. They stand in a crate of their own, since a crate with tests is proved twice.
+//! Tests of the crates that read and elaborate designs. They call what these crates offer to others. They stand in a crate
+//! of their own, since a crate with tests is proved twice.
 #![tactic(auto)]
 
 #[cfg(test)]
@@ -17,12 +17,6 @@ mod models;
 #[cfg(test)]
 mod names;
 #[cfg(test)]
-mod outside;
-#[cfg(test)]
-mod plain;
-#[cfg(test)]
-mod rows;
+mod same;
 #[cfg(test)]
 mod sizes;
-#[cfg(test)]
-mod text;

@@ -1,4 +1,4 @@
-use crate::plain::{add_list, add_number, add_words, assert_same};
+use crate::same::assert_same;
 use std::alloc::{AllocError, Global};
 use std::process::Abort;
 use std::test::Fail;
@@ -6,6 +6,7 @@ use vw_blif::read;
 use vw_design::Design;
 use vw_models::{ModelOrder, Targets, models_reached, order_of, targets_of, unknown_model};
 use vw_outside::Name;
+use vw_shown::{add_list, add_number, add_words};
 
 /// The line of an unknown model.
 fn unknown(alloc: Global, line: u64) -> Result<Vec<u8>, AllocError> {

@@ -1,11 +1,12 @@
 use crate::claims::claims_at;
-use crate::plain::{add_numbers, add_option, add_options, assert_same};
+use crate::same::assert_same;
 use std::alloc::{AllocError, Global};
 use std::test::Fail;
 use vw_blif::read;
 use vw_design::Design;
 use vw_drivers::{ModelClaims, ModelNames, PlacedNames, Way, names_of};
 use vw_models::{Targets, targets_of};
+use vw_shown::{add_numbers, add_option, add_options};
 
 /// A gate, a placed model and a latch whose control nothing drives; the placed model is a gate.
 const TEXT: &[u8] =

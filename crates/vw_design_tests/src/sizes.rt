@@ -1,4 +1,4 @@
-use crate::plain::{add_number, assert_same};
+use crate::same::assert_same;
 use std::alloc::{AllocError, Global};
 use std::process::Abort;
 use std::test::Fail;
@@ -7,6 +7,7 @@ use vw_design::Design;
 use vw_instances::{Before, Measured, Sizes, sizes_of};
 use vw_models::{ModelOrder, Targets, models_reached, order_of, targets_of, unknown_model};
 use vw_net::Sequence;
+use vw_shown::add_number;
 
 /// What counting a design gives, if its models are known and place each other in no circle.
 fn measured(alloc: Global, design: &Design) -> Result<Option<Measured>, AllocError> {

@@ -1,6 +1,7 @@
-//! What is found, written plainly as a text, for tests.
+//! For tests: what is found, written plainly as a text.
+#![tactic(auto)]
+
 use std::alloc::{AllocError, Global};
-use std::process::Abort;
 use vw_outside::Name;
 
 /// A name with these bytes.
@@ -71,14 +72,4 @@ pub fn add_option(
         Some(number) => add_number(alloc, text, u64::from(number)),
         None => text.extend_from_slice(b"-"),
     }
-}
-
-/// Asserts that what is found of a text is what is wanted.
-pub fn assert_same(rt: &impl Abort, text: &[u8], found: &[u8], wanted: &[u8]) {
-    assert_eq!(rt; found, wanted, "{text:?}");
-}
-
-/// Asserts that the number that is found of a text is the one that is wanted, or that there is none.
-pub fn assert_number(rt: &impl Abort, text: &[u8], found: Option<u64>, wanted: Option<u64>) {
-    assert_eq!(rt; found, wanted, "{text:?}");
 }

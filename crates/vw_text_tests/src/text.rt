@@ -1,7 +1,8 @@
-use crate::plain::{add_number, add_words, assert_number, assert_same, name};
+use crate::same::{assert_number, assert_same};
 use std::alloc::{AllocError, Global};
 use std::process::Abort;
 use std::test::Fail;
+use vw_shown::{add_number, add_words, name};
 use vw_text::{Line, lines, number};
 
 /// Adds a line: its number and its words, and `|`.

@@ -1,10 +1,11 @@
-use crate::plain::{assert_number, assert_same, name};
+use crate::same::{assert_number, assert_same};
 use std::alloc::{AllocError, Global};
 use std::process::Abort;
 use std::test::Fail;
 use vw_net::Bits;
 use vw_outside::{Failed, Name, Shelf};
 use vw_rows::{StimFault, Stimulus};
+use vw_shown::name;
 
 /// A shelf that tells nothing, has one text under every name, gives at most so many bytes a read, and fails at one read.
 #[derive(Drop)]

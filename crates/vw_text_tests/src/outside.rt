@@ -1,6 +1,6 @@
 ghost use Rattle.std.specs.Prelude.{◌<◌};
 
-use crate::plain::{assert_same, name};
+use crate::same::assert_same;
 use std::alloc::{AllocError, Global};
 use std::process::Abort;
 use std::test::Fail;
@@ -9,6 +9,7 @@ use vw_outside::{
     ErrSink, FileShelf, Held, MemShelf, MemSink, OutSink, Shelf, Sink, TextRefused, put_all,
     read_text,
 };
+use vw_shown::name;
 
 /// A path of this process under `/tmp`.
 fn path(rt: &HostRuntime, name: &str) -> Result<String, AllocError> {

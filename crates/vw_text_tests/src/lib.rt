@@ -1,0 +1,12 @@
+//! Tests of lines and words, of the stimulus, and of what lies outside the program. They call what these crates offer to
+//! others. They stand in a crate of their own, since a crate with tests is proved twice.
+#![tactic(auto)]
+
+#[cfg(test)]
+mod outside;
+#[cfg(test)]
+mod rows;
+#[cfg(test)]
+mod same;
+#[cfg(test)]
+mod text;
