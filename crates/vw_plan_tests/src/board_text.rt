@@ -1,6 +1,6 @@
 ghost use Rattle.std.specs.Prelude.{◌≡◌};
 
-use crate::boards::{CROSSED_RING, TRIANGLE, board, distances_of};
+use crate::boards::{TRIANGLE, board, distances_of};
 use crate::same::{are_bytes, are_numbers};
 use std::alloc::{AllocError, Global};
 use std::process::Abort;
@@ -311,6 +311,9 @@ fn nodes_of_a_triangle_are_one_link_apart(rt: HostRuntime) -> Result<(), Fail> {
 
 #[test]
 fn walks_go_by_other_nodes(rt: HostRuntime) -> Result<(), Fail> {
+    // a ring from the host over three chips, and a way back from chip 3 to chip 1
+    let text =
+        b"board 1\nchips 4\ncells 1\nsettle 0\npins 8\nlink 0 1 1\nlink 1 2 1\nlink 2 3 1\nlink 3 0 1\nlink 3 1 1\nlink 1 4 1\nlink 4 3 1\n";
     let table = &[
         (0, 1, 1, 1),
         (0, 2, 2, 1),
@@ -321,5 +324,5 @@ fn walks_go_by_other_nodes(rt: HostRuntime) -> Result<(), Fail> {
         (2, 1, 2, 3),
         (4, 2, 3, 3),
     ];
-    are_apart(&rt, rt.alloc(), CROSSED_RING, 4, table)
+    are_apart(&rt, rt.alloc(), text, 4, table)
 }

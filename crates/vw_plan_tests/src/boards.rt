@@ -13,14 +13,6 @@ use vw_plan::Board;
 pub const TRIANGLE: &[u8] =
     b"board 1\nchips 2\ncells 1\nsettle 0\npins 4\nlink 0 1 1\nlink 0 2 1\nlink 1 0 1\nlink 1 2 1\nlink 2 0 1\nlink 2 1 1\n";
 
-/// The triangle, with room for two cells on each chip.
-pub const TWO_EACH: &[u8] =
-    b"board 1\nchips 2\ncells 2\nsettle 0\npins 4\nlink 0 1 1\nlink 0 2 1\nlink 1 0 1\nlink 1 2 1\nlink 2 0 1\nlink 2 1 1\n";
-
-/// A ring from the host over chips 1 to 3, a way from chip 3 to chip 1, and one from chip 1 by chip 4 to chip 3.
-pub const CROSSED_RING: &[u8] =
-    b"board 1\nchips 4\ncells 1\nsettle 0\npins 8\nlink 0 1 1\nlink 1 2 1\nlink 2 3 1\nlink 3 0 1\nlink 3 1 1\nlink 1 4 1\nlink 4 3 1\n";
-
 /// The board of a text.
 pub fn board(alloc: Global, text: &[u8]) -> Result<Board, Fail> {
     match read(alloc, text) {

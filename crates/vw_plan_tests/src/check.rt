@@ -1,6 +1,6 @@
 use crate::boards::{TRIANGLE, board};
-use crate::netlists::{made, of_latches};
-use crate::plans::{TOGGLE, TOGGLE_PLAN, plan_of};
+use crate::netlists::{Netlist, Part, made, of_latches};
+use crate::plans::plan_of;
 use crate::same::are_bytes;
 use std::alloc::{AllocError, Global};
 use std::process::Abort;
@@ -52,6 +52,13 @@ fn is_message(
 const ROOMY: &[u8] =
     b"board 1\nchips 2\ncells 2\nsettle 1\npins 4\nlink 0 1 1\nlink 0 2 1\nlink 1 0 1\nlink 1 2 1\nlink 2 0 1\nlink 2 1 1\n";
 
+/// A gate that reads the input and a latch, which reads the gate and is the output.
+const TOGGLE: Netlist = Netlist {
+    inputs: 1,
+    parts: &[Part::Gate(&[0, 2]), Part::Latch(1)],
+    outputs: &[2],
+};
+
 /// Asserts the message for each plan of the toggle on a board.
 fn are_messages(
     rt: &impl Abort,
@@ -68,7 +75,10 @@ fn are_messages(
 
 /// Plans for the triangle.
 const PLANS: &[(&[u8], &[u8])] = &[
-    (TOGGLE_PLAN, b""),
+    (
+        b"plan 1 2 4 2\nchips 1 2\nwire 0 1 1\nhop 0 1 0 0\nwire 1 2 1\nhop 1 2 0 1\nwire 2 0 1\nhop 2 0 0 0\nwire 2 1 1\nhop 2 1 0 0\nend\n",
+        b"",
+    ),
     (
         b"plan 1 3 0 0\nchips 1 2 1\nend\n",
         b"plan 3: 3 cells, wanted 2\n",
@@ -135,7 +145,10 @@ fn the_first_fault_of_a_plan_is_named(rt: HostRuntime) -> Result<(), Fail> {
 
 /// Plans for the board where gates settle.
 const SETTLING: &[(&[u8], &[u8])] = &[
-    (TOGGLE_PLAN, b"plan 14: wire 1 sent at 1, usable at 2\n"),
+    (
+        b"plan 1 2 4 2\nchips 1 2\nwire 0 1 1\nhop 0 1 0 0\nwire 1 2 1\nhop 1 2 0 1\nwire 2 0 1\nhop 2 0 0 0\nwire 2 1 1\nhop 2 1 0 0\nend\n",
+        b"plan 14: wire 1 sent at 1, usable at 2\n",
+    ),
     (
         b"plan 1 2 4 3\nchips 1 2\nwire 0 1 1\nhop 0 1 0 0\nwire 1 2 1\nhop 1 2 0 2\nwire 2 0 1\nhop 2 0 0 0\nwire 2 1 1\nhop 2 1 0 0\nend\n",
         b"",

@@ -1,10 +1,14 @@
-use crate::boards::{TWO_EACH, board};
+use crate::boards::board;
 use crate::same::are_either;
 use std::alloc::{AllocError, Global};
 use std::process::Abort;
 use std::test::Fail;
 use vw_hint::hint;
 use vw_net::Sequence;
+
+/// Two chips with room for two cells on each.
+const TWO_EACH: &[u8] =
+    b"board 1\nchips 2\ncells 2\nsettle 0\npins 4\nlink 0 1 1\nlink 0 2 1\nlink 1 0 1\nlink 1 2 1\nlink 2 0 1\nlink 2 1 1\n";
 
 /// One chip with room for a single cell.
 const ONE: &[u8] = b"board 1\nchips 1\ncells 1\nsettle 0\npins 2\nlink 0 1 1\nlink 1 0 1\n";

@@ -1,6 +1,5 @@
-use crate::boards::{TRIANGLE, TWO_EACH, board, may_be_chips};
-use crate::netlists::{gate, latch, made, of_latches, ordered};
-use crate::plans::TOGGLE;
+use crate::boards::{TRIANGLE, board, may_be_chips};
+use crate::netlists::{Netlist, Part, gate, latch, made, of_latches, ordered};
 use crate::same::{are_either, are_wide_numbers, is_count};
 use std::alloc::Global;
 use std::process::Abort;
@@ -8,6 +7,10 @@ use std::test::Fail;
 use vw_net::{Ordered, Sequence};
 use vw_part::{PartFault, partition};
 use vw_wires::needed;
+
+/// That with room for two cells on each chip.
+const TWO_EACH: &[u8] =
+    b"board 1\nchips 2\ncells 2\nsettle 0\npins 4\nlink 0 1 1\nlink 0 2 1\nlink 1 0 1\nlink 1 2 1\nlink 2 0 1\nlink 2 1 1\n";
 
 /// Four chips in a ring with the host, with room for 80 cells on each.
 const RING: &[u8] =
@@ -58,6 +61,13 @@ fn on_chip(chips: &[u32], chip: u32) -> usize {
     }
     count
 }
+
+/// A gate that reads the input and a latch, which reads the gate and is the output.
+const TOGGLE: Netlist = Netlist {
+    inputs: 1,
+    parts: &[Part::Gate(&[0, 2]), Part::Latch(1)],
+    outputs: &[2],
+};
 
 /// Asserts that a netlist's cells are dealt to these chips, or to those, and how many pairs are needed.
 fn is_either(

@@ -1,10 +1,13 @@
-use crate::plans::{TOGGLE_PLAN, is_plan, plan_of};
+use crate::plans::{is_plan, plan_of};
 use crate::same::{are_bytes, is_count};
 use std::alloc::{AllocError, Global};
 use std::process::Abort;
 use std::test::Fail;
 use vw_plan::Plan;
 use vw_plantext::{PlanTextFault, print, read};
+
+const TPLAN: &[u8] =
+    b"plan 1 2 4 2\nchips 1 2\nwire 0 1 1\nhop 0 1 0 0\nwire 1 2 1\nhop 1 2 0 1\nwire 2 0 1\nhop 2 0 0 0\nwire 2 1 1\nhop 2 1 0 0\nend\n";
 
 /// What reading a text answers: the text that the plan is printed as, or the message of the fault.
 fn again(alloc: Global, text: &[u8]) -> Result<Vec<u8>, AllocError> {
@@ -27,21 +30,21 @@ fn is_bad_line(rt: &impl Abort, alloc: Global, text: &[u8], line: usize) -> Resu
     is_again(rt, alloc, text, message.as_bytes())
 }
 
-/// The numbers of the hops of the toggle's plan, and its period.
-const TOGGLE_NUMBERS: &[u64] = &[
+/// The numbers of the hops of that plan, and its period.
+const TNUMBERS: &[u64] = &[
     0, 1, 0, 1, 0, 0, 1, 2, 1, 2, 0, 1, 2, 0, 2, 0, 0, 0, 2, 1, 2, 1, 0, 0, 2,
 ];
 
 #[test]
 fn a_plan_is_read_as_it_stands(rt: HostRuntime) -> Result<(), Fail> {
-    let plan = plan_of(rt.alloc(), TOGGLE_PLAN)?;
-    is_plan(&rt, rt.alloc(), &plan, &[1, 2], 4, TOGGLE_NUMBERS)?;
+    let plan = plan_of(rt.alloc(), TPLAN)?;
+    is_plan(&rt, rt.alloc(), &plan, &[1, 2], 4, TNUMBERS)?;
     Ok(())
 }
 
 /// Texts of plans.
 const PLANS: &[&[u8]] = &[
-    TOGGLE_PLAN,
+    TPLAN,
     b"plan 1 0 0 1\nchips\nend\n",
     // the greatest numbers of each kind
     b"plan 1 1 1 4611686018427387904\nchips 4294967295\nwire 4294967295 4294967295 1\nhop 4294967295 4294967295 4294967295 4611686018427387904\nend\n",
@@ -78,7 +81,7 @@ fn fronts_are_refused(rt: &impl Abort, alloc: Global, text: &[u8]) -> Result<usi
 
 #[test]
 fn each_front_of_a_plan_is_refused_at_its_next_line(rt: HostRuntime) -> Result<(), Fail> {
-    let line = fronts_are_refused(&rt, rt.alloc(), TOGGLE_PLAN)?;
+    let line = fronts_are_refused(&rt, rt.alloc(), TPLAN)?;
     is_count(&rt, line, 12);
     Ok(())
 }

@@ -1,22 +1,10 @@
-//! The toggle and its plan, plans of texts, and the numbers of plans, for tests.
-use crate::netlists::{Netlist, Part};
+//! Plans of texts, and the numbers of plans, for tests.
 use crate::same::{are_numbers, are_wide_numbers, is_count};
 use std::alloc::{AllocError, Global};
 use std::process::Abort;
 use std::test::Fail;
 use vw_plan::{Hop, Plan, Wire};
 use vw_plantext::read;
-
-/// A gate that reads the input and a latch, which reads the gate and is the output.
-pub const TOGGLE: Netlist = Netlist {
-    inputs: 1,
-    parts: &[Part::Gate(&[0, 2]), Part::Latch(1)],
-    outputs: &[2],
-};
-
-/// A plan of it on the triangle: its gate on chip 1, its latch on chip 2.
-pub const TOGGLE_PLAN: &[u8] =
-    b"plan 1 2 4 2\nchips 1 2\nwire 0 1 1\nhop 0 1 0 0\nwire 1 2 1\nhop 1 2 0 1\nwire 2 0 1\nhop 2 0 0 0\nwire 2 1 1\nhop 2 1 0 0\nend\n";
 
 /// The plan of a text.
 pub fn plan_of(alloc: Global, text: &[u8]) -> Result<Plan, Fail> {

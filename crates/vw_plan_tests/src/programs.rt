@@ -1,7 +1,7 @@
 //! Programs of nodes.
-use crate::boards::{TRIANGLE, board};
-use crate::netlists::made;
-use crate::plans::{TOGGLE, TOGGLE_PLAN, plan_of};
+use crate::boards::board;
+use crate::netlists::{Netlist, Part, made};
+use crate::plans::plan_of;
 use crate::same::are_numbers;
 use std::alloc::{AllocError, Global};
 use std::process::Abort;
@@ -32,10 +32,20 @@ fn all_numbers(alloc: Global, checked: &Checked) -> Result<Vec<u32>, AllocError>
     Ok(all)
 }
 
+/// A gate that reads the input and a latch, which reads the gate and is the output.
+const TOGGLE: Netlist = Netlist {
+    inputs: 1,
+    parts: &[Part::Gate(&[0, 2]), Part::Latch(1)],
+    outputs: &[2],
+};
+
 /// Boards of two chips and plans of the toggle on them. The second board has a link over which a bit takes two microcycles, and
 /// its plan has the greatest period.
 const PLANS: &[(&[u8], &[u8])] = &[
-    (TRIANGLE, TOGGLE_PLAN),
+    (
+        b"board 1\nchips 2\ncells 1\nsettle 0\npins 4\nlink 0 1 1\nlink 0 2 1\nlink 1 0 1\nlink 1 2 1\nlink 2 0 1\nlink 2 1 1\n",
+        b"plan 1 2 4 2\nchips 1 2\nwire 0 1 1\nhop 0 1 0 0\nwire 1 2 1\nhop 1 2 0 1\nwire 2 0 1\nhop 2 0 0 0\nwire 2 1 1\nhop 2 1 0 0\nend\n",
+    ),
     (
         b"board 2\nchips 2\ncells 1\nsettle 0\npins 4\nlink 0 1 1 1\nlink 0 2 1 1\nlink 1 0 1 1\nlink 1 2 1 2\nlink 2 0 1 1\nlink 2 1 1 1\n",
         b"plan 1 2 4 4611686018427387904\nchips 1 2\nwire 0 1 1\nhop 0 1 0 0\nwire 1 2 1\nhop 1 2 0 1\nwire 2 0 1\nhop 2 0 0 0\nwire 2 1 1\nhop 2 1 0 0\nend\n",

@@ -1,6 +1,6 @@
 ghost use Rattle.std.specs.Prelude.{◌≡◌};
 
-use crate::boards::{CROSSED_RING, TRIANGLE, distances_of};
+use crate::boards::{TRIANGLE, distances_of};
 use crate::same::are_numbers;
 use std::alloc::{AllocError, Global};
 use std::process::Abort;
@@ -55,7 +55,11 @@ fn neighbours_are_one_link_apart(rt: HostRuntime) -> Result<(), Fail> {
     are_walks(&rt, rt.alloc(), TRIANGLE, 2, NEIGHBOURS)
 }
 
-/// Some walks of the crossed ring.
+/// A ring from the host over chips 1 to 3, a way from chip 3 to chip 1, and one from chip 1 by chip 4 to chip 3.
+const RING: &[u8] =
+    b"board 1\nchips 4\ncells 1\nsettle 0\npins 8\nlink 0 1 1\nlink 1 2 1\nlink 2 3 1\nlink 3 0 1\nlink 3 1 1\nlink 1 4 1\nlink 4 3 1\n";
+
+/// Some of its walks.
 const WALKS: &[(u32, u32, &[u32])] = &[
     (0, 1, &[0, 1]),
     (0, 3, &[0, 1, 2, 3]),
@@ -69,5 +73,5 @@ const WALKS: &[(u32, u32, &[u32])] = &[
 
 #[test]
 fn walks_go_by_other_nodes(rt: HostRuntime) -> Result<(), Fail> {
-    are_walks(&rt, rt.alloc(), CROSSED_RING, 4, WALKS)
+    are_walks(&rt, rt.alloc(), RING, 4, WALKS)
 }

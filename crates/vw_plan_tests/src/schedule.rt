@@ -5,7 +5,7 @@ ghost use Rattle.vw_plan.specs.Routes.{AreRoutes};
 
 use crate::boards::{are_chips, board};
 use crate::netlists::{Netlist, Part, made};
-use crate::plans::{TOGGLE, numbers_of};
+use crate::plans::numbers_of;
 use crate::same::are_wide_numbers;
 use std::alloc::{AllocError, Global};
 use std::process::Abort;
@@ -110,7 +110,14 @@ const RING: &[u8] =
 const ROW: &[u8] =
     b"board 1\nchips 3\ncells 8\nsettle 0\npins 4\nlink 0 1 1\nlink 1 0 1\nlink 1 2 1\nlink 2 1 1\nlink 2 3 1\nlink 3 2 1\n";
 
-/// The toggle, placed on boards of two chips. What its gate says is known when both its inputs have arrived.
+/// A gate that reads the input and a latch, which reads the gate and is the output. What the gate says is known when both
+/// have arrived.
+const TOGGLE: Netlist = Netlist {
+    inputs: 1,
+    parts: &[Part::Gate(&[0, 2]), Part::Latch(1)],
+    outputs: &[2],
+};
+
 const TOGGLES: &[Case] = &[
     Case {
         netlist: TOGGLE,
