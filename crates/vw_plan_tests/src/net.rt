@@ -130,47 +130,6 @@ fn tables_have_their_values(rt: HostRuntime) -> Result<(), Fail> {
     have_values(&rt, rt.alloc(), MATCHES)
 }
 
-/// The marks that a table of so many inputs, at most 128, gives back for these rows, as a text with a blank behind each row.
-fn given_back(alloc: Global, width: u32, rows: &[&[u8]]) -> Result<Vec<u8>, Fail> {
-    if width > 128 {
-        return Err("too wide".into());
-    }
-    let mut table = Vec::new(alloc);
-    for marks in rows {
-        table.push(row(alloc, width, marks)?)?;
-    }
-    let cover = Cover::make(alloc, width, true, Sequence::of(table))?;
-    let mut text = Vec::new(alloc);
-    for number in 0..cover.count() {
-        for input in 0..cover.inputs() {
-            text.push(match cover.mark(number, input) {
-                Mark::Zero => b'0',
-                Mark::One => b'1',
-                Mark::Any => b'-',
-            })?;
-        }
-        text.push(b' ')?;
-    }
-    Ok(text)
-}
-
-#[test]
-fn rows_are_given_back(rt: HostRuntime) -> Result<(), Fail> {
-    let alloc = rt.alloc();
-    assert!(&rt; given_back(alloc, 0, EMPTY)? == b" ".as_slice());
-    assert!(&rt; given_back(alloc, 1, ZERO)? == b"0 ".as_slice());
-    assert!(&rt; given_back(alloc, 7, SEVEN)? == b"1-----0 -01---- ".as_slice());
-    let wide = given_back(alloc, 127, LAST_OF_127)?;
-    assert!(&rt; wide.len() == 128 && wide.strip_suffix(b"-1 ").is_some());
-    let widest = given_back(alloc, 128, ENDS_OF_128)?;
-    assert!(&rt;
-        widest.len() == 129
-            && widest.strip_suffix(b"-1 ").is_some()
-            && widest.strip_prefix(b"0-").is_some()
-    );
-    Ok(())
-}
-
 /// Whether a latch that reads net 0 and a gate that reads one net make a netlist, with an output that stands so many times.
 fn fit(alloc: Global, inputs: u32, net: u32, output: u32, times: usize) -> Result<bool, Fail> {
     let mut cells = Vec::new(alloc);
