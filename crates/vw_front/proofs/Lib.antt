@@ -1,2 +1,5 @@
+pub mod MadeOfTexts
+pub mod NameLists
 pub mod NetlistLoops
 pub mod RunningDesigns
+pub mod SignalNames

@@ -10,9 +10,13 @@ ghost use Rattle.vw_flat.specs.Printed.{printed_site};
 ghost use Rattle.vw_flat.specs.Probed.{IsProbedFlat};
 ghost use Rattle.vw_order.specs.Faults.{IsOrderFault};
 ghost use Rattle.vw_front.specs.Designs.{SpellsDesign, IsNetlistOf, RefusesText, RefusesElaboration, RefusesModels, RefusesProbe, RefusesLoop, RefusesNetlist, RefusesDesign, Judges};
-ghost use Rattle.vw_front.specs.Steps.OrderedDesigns.{IsOrderedOf};
+ghost use Rattle.vw_front.specs.NamedNetlists.{IsNamedNetlistOf};
+ghost use Rattle.vw_front.specs.Names.{net_names, output_names};
+ghost use Rattle.vw_front.specs.Steps.OrderedDesigns.{IsOrderedOf, IsNamedOf};
 
 use crate::fault::NetlistFault;
+use crate::named::NamedNetlist;
+use crate::names::{net_names, output_names};
 use std::alloc::{AllocError, Global};
 use vw_blif::{TextFault, read};
 use vw_design::{Design, ordered_is_loop_free};
@@ -131,6 +135,39 @@ fn ordered_of(
     ordered_flat(alloc, elaborated, flat)
 }
 
+/// A netlist with the names that its nets and the outputs of its root have in the design.
+fn with_names(
+    alloc: Global,
+    elaborated: &Elaborated,
+    ordered: Ordered,
+) -> Result<NamedNetlist, AllocError>
+    requires { (nets : List Net) × IsFlatOf elaborated.now nets ordered.flat }
+    ensures ordered { IfOk result (λ named. named.ordered ≡ ordered) }
+    ensures nets { IfOk result (λ named. named.nets ≡ net_names elaborated.now) }
+    ensures outputs { IfOk result (λ named. named.outputs ≡ output_names elaborated.now) }
+{
+    let nets = Sequence::of(net_names(alloc, elaborated)?);
+    let outputs = Sequence::of(output_names(alloc, elaborated)?);
+    Ok(NamedNetlist::make(ordered, nets, outputs))
+}
+
+/// The netlist of a design with the nets that probes find, with an order of its gates and with its names.
+fn named_of(
+    alloc: Global,
+    elaborated: &Elaborated,
+    probes: &[Name],
+) -> Result<NamedNetlist, NetlistFault>
+    requires { length probes.now ≤ 64 }
+    ensures { Judges (IsNamedOf probes.now elaborated.now)
+        (RefusesNetlist probes.now elaborated.now) result }
+{
+    let ordered = ordered_of(alloc, elaborated, probes)?;
+    match with_names(alloc, elaborated, ordered) {
+        Ok(named) => Ok(named),
+        Err(_) => Err(NetlistFault::NoMemory),
+    }
+}
+
 /// The netlist of the design that a text spells, with an order of its gates. Its outputs are those of the design, and behind
 /// them the nets that the probes find.
 pub fn netlist_of_text(alloc: Global, text: &[u8], probes: &[Name]) -> Result<Ordered, NetlistFault>
@@ -141,4 +178,21 @@ pub fn netlist_of_text(alloc: Global, text: &[u8], probes: &[Name]) -> Result<Or
     let ordered = ordered_of(alloc, &elaborated, probes);
     drop(elaborated);
     ordered
+}
+
+/// The netlist of the design that a text spells, as `netlist_of_text` gives it, and with it the names of the nets and of the
+/// outputs. They are made once, and are as large as the paths of all cells.
+pub fn named_netlist_of_text(
+    alloc: Global,
+    text: &[u8],
+    probes: &[Name],
+) -> Result<NamedNetlist, NetlistFault>
+    requires { length probes.now ≤ 64 }
+    ensures { Judges (IsNamedNetlistOf probes.now text.now) (RefusesDesign probes.now text.now)
+        result }
+{
+    let elaborated = elaborated_of_text(alloc, text)?;
+    let named = named_of(alloc, &elaborated, probes);
+    drop(elaborated);
+    named
 }
