@@ -9,3 +9,4 @@ pub mod CheckedTexts
 pub mod GatheredBatches
 pub mod GatheredTexts
 pub mod NextBatches
+pub mod TraceLines

@@ -28,8 +28,16 @@ rows_text first (row ∷ outputs) (state ∷ latches) = clock_text first row sta
 abbrev pub end_text : ℕ → List Bool → List ℕ
 end_text clocks last = codes "end " ++ decimal clocks ++ 32 ∷ bits_text last ++ 10 ∷ []
 
--- the trace of a history of this many outputs, probes and latches; in each clock the probes stand behind the outputs
+-- what follows the first line, where the clocks of a history are numbered from this number on
+abbrev pub lines_from : ℕ → History → List ℕ
+lines_from first history = rows_text first history.outputs history.states ++ end_text (first + length history.outputs) history.last
+
+-- the trace of a history of this many outputs, probes and latches, whose clocks are numbered from `first` on; in each clock
+-- the probes stand behind the outputs
+abbrev pub trace_text_from : ℕ → ℕ → ℕ → ℕ → History → List ℕ
+trace_text_from first output_count probe_count latch_count history =
+    head_text output_count probe_count latch_count ++ lines_from first history
+
+-- the same, from clock 0 on
 abbrev pub trace_text : ℕ → ℕ → ℕ → History → List ℕ
-trace_text output_count probe_count latch_count history =
-    head_text output_count probe_count latch_count ++ rows_text 0 history.outputs history.states
-    ++ end_text (length history.outputs) history.last
+trace_text = trace_text_from 0

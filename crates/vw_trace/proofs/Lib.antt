@@ -1,4 +1,4 @@
 pub mod Clocks
-pub mod TraceLines
 pub mod Streaming
-pub mod StreamedTraces
+pub mod StreamedTexts
+pub mod RecordedBatches

@@ -1,4 +1,4 @@
--- The lines of clocks, written while a checked stimulus is read again.
+-- The clocks of a netlist, written down while a checked stimulus is read again.
 use Rattle.std.proofs.Common.{◌≡◌, ◌≢◌, ◌+◌, ℕ, Bool, false, true≢false, List, [], ◌++◌, length, take, drop, Result, Ok, Err, refl, sym, ◌∙◌, ap, ap₂, subst, arith, append_assoc, append-nil, length-append}
 use Rattle.std.specs.List.{All}
 use Rattle.std.proofs.Math.Seq.{take-add}
@@ -6,7 +6,7 @@ use Rattle.std.proofs.lemmas.List.{take-append-drop, take_at, take_all}
 use Rattle.std.proofs.lemmas.List.Elements.{All-append, All-nil}
 use Rattle.vw_net.specs.declared.flat.Flat.{Flat}
 use Rattle.vw_net.specs.Cells.{latch_count}
-use Rattle.vw_net.specs.History.{state_after}
+use Rattle.vw_net.specs.History.{History, flat_history, joined, state_after}
 use Rattle.vw_net.proofs.Counts.{length-state_after}
 use Rattle.vw_outside.specs.declared.unwritten.Unwritten.{Unwritten}
 use Rattle.vw_outside.specs.declared.unwritten.Unwritten.TheVariants as unwritten
@@ -21,8 +21,11 @@ use Rattle.vw_rows.specs.Stimulus.{stimulus_rows, is_text_fault}
 use Rattle.vw_rows.specs.Standing.{StandsIn, GaveMore}
 use Rattle.vw_trace.specs.RunFaults.{run_fault_of, run_fault_of_rows}
 use Rattle.vw_trace.specs.Streamed.{IsNotHeld, MayBeRows, EndsStreaming, DoneFor}
-use Rattle.vw_trace.specs.Steps.StreamedClocks.{clock_lines, StreamsClocks}
-use Rattle.vw_trace.proofs.TraceLines.{HistoriesJoin, clock_lines-append}
+use Rattle.vw_trace.specs.Steps.Recording.{Point, RecordsOut, RecordsClocks}
+
+-- what histories one after the other say of a netlist
+abbrev pub HistoriesJoin : Flat → Type 0
+HistoriesJoin flat = (state : List Bool) (first second : List (List Bool)) → flat_history flat state (first ++ second) ≡ joined (flat_history flat state first) (flat_history flat (state_after flat state first) second)
 
 -- ---- what is told of the stimulus
 
@@ -95,49 +98,6 @@ front_further told width rows next front wide same = record {
       ∙ sym (take-add (length rows) (length next) all) ∙ ap (λ (n : ℕ). take n all) (sym (length-append rows next));
 }
 
--- ---- what is written
-
--- the lines of these rows were written, and the state is the one after them
-pub record WroteLines (flat : Flat) (start : List Bool) (before : SeenSink) (rows : List (List Bool)) (done : ℕ) (state : List Bool) (out : SeenSink) : Type 0 where
-  pub count : length rows ≡ done
-  pub state_is : state ≡ state_after flat start rows
-  pub wrote : out ≡ appended before (clock_lines flat 0 start rows)
-
--- nothing was written yet
-pub no_lines : (flat : Flat) (start : List Bool) (before : SeenSink) → WroteLines flat start before [] 0 start before
-no_lines flat start before = record { count = refl; state_is = refl; wrote = sym (appended-nil before) }
-
-module _ (flat : Flat) (join : HistoriesJoin flat) (start : List Bool) (before : SeenSink) where
-  module _ (rows : List (List Bool)) (done : ℕ) (state : List Bool) (out : SeenSink) (so_far : WroteLines flat start before rows done state out) where
-    -- the lines of these rows and of further ones
-    lines_more : (more : List (List Bool)) → clock_lines flat 0 start (rows ++ more) ≡ clock_lines flat 0 start rows ++ clock_lines flat done state more
-    lines_more more =
-        let place : 0 + length rows ≡ done = omega (arith, so_far.count) in
-        clock_lines-append flat join 0 start rows more
-        ∙ ap₂ (λ (n : ℕ) (s : List Bool). clock_lines flat 0 start rows ++ clock_lines flat n s more) place (sym so_far.state_is)
-
-    pub lines_left : (whole more : List (List Bool)) → whole ≡ rows ++ more → IsLeft before (clock_lines flat 0 start whole) out (clock_lines flat done state more)
-    lines_left whole more split = record {
-      so_far = clock_lines flat 0 start rows;
-      seen = so_far.wrote;
-      whole = sym (lines_more more) ∙ ap (clock_lines flat 0 start) (sym split);
-    }
-
-    pub batch_left : (next whole more : List (List Bool)) → whole ≡ (rows ++ next) ++ more
-        → IsLeft before (clock_lines flat 0 start whole) out (clock_lines flat done state next ++ clock_lines flat (done + length next) (state_after flat state next) more)
-    batch_left next whole more split =
-        subst (λ (rest : List ℕ). IsLeft before (clock_lines flat 0 start whole) out rest) (clock_lines-append flat join done state next more)
-        (lines_left whole (next ++ more) (split ∙ append_assoc rows next more))
-
-    pub lines_further : (next : List (List Bool)) (end : ℕ) (new : List Bool) (after : SeenSink) → end ≡ done + length next → new ≡ state_after flat state next → after ≡ appended out (clock_lines flat done state next)
-        → WroteLines flat start before (rows ++ next) end new after
-    lines_further next end new after ends state_new more = record {
-      count = length-append rows next ∙ omega (arith, so_far.count, ends);
-      state_is = state_new ∙ ap (λ (s : List Bool). state_after flat s next) so_far.state_is ∙ sym (ap (λ history. history.last) (join start rows next));
-      wrote = more ∙ ap (λ (sink : SeenSink). appended sink (clock_lines flat done state next)) so_far.wrote
-          ∙ appended-appended before (clock_lines flat 0 start rows) (clock_lines flat done state next) ∙ ap (appended before) (sym (lines_more next));
-    }
-
 -- ---- what is done meanwhile
 
 -- what was done for the first of some rows
@@ -178,28 +138,38 @@ module _ (name text : List ℕ) (shelf : SeenShelf) (out : SeenSink) (shelf_afte
 
 -- ---- underway
 
--- so many rows were read and their lines written, and what else is done for them was done; where a text is held, the stimulus
--- stands in it; all else is as it was
-pub record IsUnderway (stimulus : Stimulus) (flat : Flat) (start : List Bool) (Done : List (List Bool) → Type 0) (shelf : SeenShelf) (out : SeenSink)
-    (now : Stimulus) (state : List Bool) (shelf_now : SeenShelf) (out_now : SeenSink) : Type 0 where
+-- so many rows were read and their clocks written down, and what else is done for them was done; where a text is held, the
+-- stimulus stands in it; all else is as it was
+pub record IsUnderway (stimulus : Stimulus) (flat : Flat) (start : Point) (Done : List (List Bool) → Type 0) (shelf : SeenShelf) (out : SeenSink)
+    (now : Stimulus) (here : Point) (shelf_now : SeenShelf) (out_now : SeenSink) : Type 0 where
   pub rows : List (List Bool)
   pub front : IsFrontOfRows (shelf.told stimulus.name) stimulus.width rows
-  pub wrote : WroteLines flat start out rows now.done state out_now
+  pub count : length rows ≡ now.done
+  pub clock_is : here.clock ≡ start.clock + length rows
+  pub state_is : here.state ≡ state_after flat start.state rows
+  pub written : List ℕ
+  pub wrote : out_now ≡ appended out written
+  pub left : (more : List (List Bool)) → start.left (flat_history flat start.state (rows ++ more)) ≡ written ++ here.left (flat_history flat here.state more)
   pub name : now.name ≡ stimulus.name
   pub width : now.width ≡ stimulus.width
   pub clocks : now.clocks ≡ stimulus.clocks
   pub shelf_is : shelf_now ≡ shelf
   pub stands : (text : List ℕ) → shelf.told stimulus.name ≡ held text → StandsIn now text
-  pub latches : length state ≡ latch_count flat.cells
+  pub latches : length here.state ≡ latch_count flat.cells
   pub meanwhile : Done rows
 
 -- before the first batch
-pub begins : (stimulus : Stimulus) (flat : Flat) (start : List Bool) (Done : List (List Bool) → Type 0) (shelf : SeenShelf) (out : SeenSink) → stimulus.done ≡ 0 → ((text : List ℕ) → shelf.told stimulus.name ≡ held text → StandsIn stimulus text)
-    → length start ≡ latch_count flat.cells → Done [] → IsUnderway stimulus flat start Done shelf out stimulus start shelf out
+pub begins : (stimulus : Stimulus) (flat : Flat) (start : Point) (Done : List (List Bool) → Type 0) (shelf : SeenShelf) (out : SeenSink) → stimulus.done ≡ 0 → ((text : List ℕ) → shelf.told stimulus.name ≡ held text → StandsIn stimulus text)
+    → length start.state ≡ latch_count flat.cells → Done [] → IsUnderway stimulus flat start Done shelf out stimulus start shelf out
 begins stimulus flat start Done shelf out fresh stands latches none = record {
   rows = [];
   front = record { wide = All-nil (λ row. length row ≡ stimulus.width); same = λ text all is said. refl };
-  wrote = subst (λ (n : ℕ). WroteLines flat start out [] n start out) (sym fresh) (no_lines flat start out);
+  count = sym fresh;
+  clock_is = (let e : start.clock ≡ start.clock + 0 = omega arith in e);
+  state_is = refl;
+  written = [];
+  wrote = sym (appended-nil out);
+  left = λ more. refl;
   name = refl;
   width = refl;
   clocks = refl;
@@ -209,13 +179,17 @@ begins stimulus flat start Done shelf out fresh stands latches none = record {
   meanwhile = none;
 }
 
-module _ (stimulus : Stimulus) (flat : Flat) (join : HistoriesJoin flat) (start : List Bool) (Done : List (List Bool) → Type 0) (shelf : SeenShelf) (out : SeenSink) (now : Stimulus) (state : List Bool) (shelf_now : SeenShelf) (out_now : SeenSink)
-    (underway : IsUnderway stimulus flat start Done shelf out now state shelf_now out_now) where
+module _ (stimulus : Stimulus) (flat : Flat) (join : HistoriesJoin flat) (start : Point) (Done : List (List Bool) → Type 0) (shelf : SeenShelf) (out : SeenSink) (now : Stimulus) (here : Point) (shelf_now : SeenShelf) (out_now : SeenSink)
+    (underway : IsUnderway stimulus flat start Done shelf out now here shelf_now out_now) where
   abbrev told : Told
   told = shelf.told stimulus.name
 
   abbrev rows_then : List (List Bool)
   rows_then = underway.rows
+
+  -- the text of a whole run
+  abbrev text_of : List (List Bool) → List ℕ
+  text_of rows = start.left (flat_history flat start.state rows)
 
   -- what is told of the stimulus is what was told before
   told_then : shelf_now.told now.name ≡ told
@@ -226,23 +200,26 @@ module _ (stimulus : Stimulus) (flat : Flat) (join : HistoriesJoin flat) (start 
       let stands = underway.stands text is in
       (stands.rows, ap (λ (n : ℕ). stimulus_rows n text) (sym underway.width) ∙ stands.accepted)
 
+  -- what is left of the text of a run that goes on so
+  left_then : (whole more : List (List Bool)) → whole ≡ rows_then ++ more → IsLeft out (text_of whole) out_now (here.left (flat_history flat here.state more))
+  left_then whole more split = record { so_far = underway.written; seen = underway.wrote; whole = sym (underway.left more) ∙ ap text_of (sym split) }
+
   -- the stimulus stands in each text that is held
   pub stands_then : (text : List ℕ) → shelf_now.told now.name ≡ held text → StandsIn now text
   stands_then text is = underway.stands text (sym told_then ∙ is)
 
   -- rows weren't read
-  pub unread : (fault : StimFault) (last : List Bool) (shelf_after : SeenShelf) → (fault ≡ rows_faults.ReadFault → CountsFault now.name shelf_now shelf_after) → (fault ≢ rows_faults.ReadFault → shelf_after ≡ shelf_now)
-      → ((text : List ℕ) → shelf_now.told now.name ≡ held text → is_text_fault fault ≡ false) → StreamsClocks stimulus flat start last Done shelf out shelf_after out_now (Err (run_fault_of_rows fault))
-  unread fault last shelf_after counts kept sure =
+  pub unread : (fault : StimFault) (last : List Bool) (left_after : History → List ℕ) (shelf_after : SeenShelf) → (fault ≡ rows_faults.ReadFault → CountsFault now.name shelf_now shelf_after) → (fault ≢ rows_faults.ReadFault → shelf_after ≡ shelf_now)
+      → ((text : List ℕ) → shelf_now.told now.name ≡ held text → is_text_fault fault ≡ false) → RecordsClocks stimulus flat start last left_after Done shelf out shelf_after out_now (Err (run_fault_of_rows fault))
+  unread fault last left_after shelf_after counts kept sure =
       let begun = begin_with told stimulus.width rows_then has underway.front in
-      let left = lines_left flat join start out rows_then now.done state out_now underway.wrote begun.whole begun.more begun.split in
       let counted : fault ≡ rows_faults.ReadFault → CountsFault stimulus.name shelf shelf_after =
       λ is. subst (λ (s : SeenShelf). CountsFault stimulus.name s shelf_after) underway.shelf_is (subst (λ (name : List ℕ). CountsFault name shelf_now shelf_after) underway.name (counts is)) in
       record {
         rows = begun.whole;
         are = begun.are;
-        ends = ends_unread stimulus.name (clock_lines flat 0 start begun.whole) shelf out shelf_after out_now fault
-            (part_written out (clock_lines flat 0 start begun.whole) out_now (clock_lines flat now.done state begun.more) left)
+        ends = ends_unread stimulus.name (text_of begun.whole) shelf out shelf_after out_now fault
+            (part_written out (text_of begun.whole) out_now (here.left (flat_history flat here.state begun.more)) (left_then begun.whole begun.more begun.split))
             counted (λ is. kept is ∙ underway.shelf_is) (λ text is. sure text (told_then ∙ is));
         meanwhile = done_for_front Done rows_then begun.more begun.whole begun.split underway.meanwhile;
         all = tt;
@@ -254,63 +231,72 @@ module _ (stimulus : Stimulus) (flat : Flat) (join : HistoriesJoin flat) (start 
     front_then = front_further told stimulus.width rows_then next underway.front
         (subst (λ (n : ℕ). All (λ row. length row ≡ n) next) underway.width wide)
         (λ text all is said. are_next text all (told_then ∙ is) (ap (λ (n : ℕ). stimulus_rows n text) underway.width ∙ said)
-        ∙ ap (λ (n : ℕ). take 256 (drop n all)) (sym underway.wrote.count))
+        ∙ ap (λ (n : ℕ). take 256 (drop n all)) (sym underway.count))
 
     -- what is done meanwhile for further rows
     module _ (Ran : ℕ → List Bool → List (List Bool) → Type 0) (DoneAfter : List (List Bool) → Type 0)
-        (joins : (more : List (List Bool)) → Ran (0 + length rows_then) (state_after flat start rows_then) more → DoneAfter (rows_then ++ more)) where
-      done_then : (more : List (List Bool)) → Ran now.done state more → DoneAfter (rows_then ++ more)
+        (joins : (more : List (List Bool)) → Ran (start.clock + length rows_then) (state_after flat start.state rows_then) more → DoneAfter (rows_then ++ more)) where
+      done_then : (more : List (List Bool)) → Ran here.clock here.state more → DoneAfter (rows_then ++ more)
       done_then more ran =
-          let place : now.done ≡ 0 + length rows_then = omega (arith, underway.wrote.count) in
-          joins more (subst (λ (n : ℕ). Ran n (state_after flat start rows_then) more) place (subst (λ (s : List Bool). Ran now.done s more) underway.wrote.state_is ran))
+          joins more (subst (λ (n : ℕ). Ran n (state_after flat start.state rows_then) more) underway.clock_is (subst (λ (s : List Bool). Ran here.clock s more) underway.state_is ran))
 
-      -- the lines of a batch weren't written whole
-      pub unwritten_lines : (why : Unwritten) (last : List Bool) → WritesOut (clock_lines flat now.done state next) out_now out_after (Err why) → (count : ℕ) → Ran now.done state (take count next)
-          → StreamsClocks stimulus flat start last DoneAfter shelf out shelf_after out_after (Err (run_fault_of why))
-      unwritten_lines why last failed count ran =
+      -- the clocks of a batch weren't all written down
+      pub unwritten_lines : (why : Unwritten) (last : List Bool) (left_new left_after : History → List ℕ) → RecordsOut flat next here left_new out_now out_after (Err why) → (count : ℕ) → Ran here.clock here.state (take count next)
+          → RecordsClocks stimulus flat start last left_after DoneAfter shelf out shelf_after out_after (Err (run_fault_of why))
+      unwritten_lines why last left_new left_after recorded count ran =
           let begun = begin_with told stimulus.width (rows_then ++ next) has front_then in
-          let left = batch_left flat join start out rows_then now.done state out_now underway.wrote next begun.whole begun.more begun.split in
+          let begun_split : begun.whole ≡ rows_then ++ (next ++ begun.more) = begun.split ∙ append_assoc rows_then next begun.more in
+          let rest = recorded.front begun.more in
+          let left : IsLeft out (text_of begun.whole) out_now (recorded.text ++ rest.0) =
+          subst (λ (r : List ℕ). IsLeft out (text_of begun.whole) out_now r) rest.1 (left_then begun.whole (next ++ begun.more) begun_split) in
           record {
             rows = begun.whole;
             are = begun.are;
-            ends = ends_unwritten stimulus.name (clock_lines flat 0 start begun.whole) shelf out shelf_after out_after why (same ∙ underway.shelf_is)
-                (unwritten_in_piece out (clock_lines flat 0 start begun.whole) out_now out_after (clock_lines flat now.done state next)
-                (clock_lines flat (now.done + length next) (state_after flat state next) begun.more) why left failed);
+            ends = ends_unwritten stimulus.name (text_of begun.whole) shelf out shelf_after out_after why (same ∙ underway.shelf_is)
+                (unwritten_in_piece out (text_of begun.whole) out_now out_after recorded.text rest.0 why left recorded.writes);
             meanwhile = done_for_front DoneAfter (rows_then ++ take count next) (drop count next ++ begun.more) begun.whole
                 (batch_split rows_then next begun.more begun.whole count begun.split) (done_then (take count next) ran);
             all = tt;
           }
 
       -- one batch more
-      pub further : (new : Stimulus) (state_new : List Bool) → GaveMore (length next) now new → ((text : List ℕ) → shelf_now.told now.name ≡ held text → StandsIn new text)
-          → state_new ≡ state_after flat state next → out_after ≡ appended out_now (clock_lines flat now.done state next) → Ran now.done state next
-          → IsUnderway stimulus flat start DoneAfter shelf out new state_new shelf_after out_after
-      further new state_new gave stands state_is wrote ran = record {
+      pub further : (new : Stimulus) (there : Point) → GaveMore (length next) now new → ((text : List ℕ) → shelf_now.told now.name ≡ held text → StandsIn new text)
+          → there.clock ≡ here.clock + length next → there.state ≡ state_after flat here.state next → RecordsOut flat next here there.left out_now out_after (Ok tt) → Ran here.clock here.state next
+          → IsUnderway stimulus flat start DoneAfter shelf out new there shelf_after out_after
+      further new there gave stands clock_is state_is recorded ran = record {
         rows = rows_then ++ next;
         front = front_then;
-        wrote = lines_further flat join start out rows_then now.done state out_now underway.wrote next new.done state_new out_after gave.done state_is wrote;
+        count = length-append rows_then next ∙ omega (arith, underway.count, gave.done);
+        clock_is = omega (arith, length-append rows_then next, clock_is, underway.clock_is);
+        state_is = state_is ∙ ap (λ (s : List Bool). state_after flat s next) underway.state_is ∙ sym (ap (λ history. history.last) (join start.state rows_then next));
+        written = underway.written ++ recorded.text;
+        wrote = recorded.writes ∙ ap (λ (sink : SeenSink). appended sink recorded.text) underway.wrote ∙ appended-appended out underway.written recorded.text;
+        left = λ more.
+            ap text_of (append_assoc rows_then next more) ∙ underway.left (next ++ more)
+            ∙ ap (λ (rest : List ℕ). underway.written ++ rest) (recorded.rest more ∙ ap (λ (s : List Bool). recorded.text ++ there.left (flat_history flat s more)) (sym state_is))
+            ∙ sym (append_assoc underway.written recorded.text (there.left (flat_history flat there.state more)));
         name = gave.name ∙ underway.name;
         width = gave.width ∙ underway.width;
         clocks = gave.clocks ∙ underway.clocks;
         shelf_is = same ∙ underway.shelf_is;
         stands = λ text is. stands text (told_then ∙ is);
-        latches = ap (λ (s : List Bool). length s) state_is ∙ length-state_after flat state next underway.latches;
+        latches = ap (λ (s : List Bool). length s) state_is ∙ length-state_after flat here.state next underway.latches;
         meanwhile = done_then next ran;
       }
 
   -- all rows were given
-  pub all_given : now.done ≡ now.clocks → StreamsClocks stimulus flat start state Done shelf out shelf_now out_now (Ok tt)
+  pub all_given : now.done ≡ now.clocks → RecordsClocks stimulus flat start here.state here.left Done shelf out shelf_now out_now (Ok tt)
   all_given all_done = record {
     rows = rows_then;
     are = record {
       same = λ text all is said.
           let stands = underway.stands text is in
           let same = same_rows told stimulus.width text text stands.rows all is is (ap (λ (n : ℕ). stimulus_rows n text) (sym underway.width) ∙ stands.accepted) said in
-          let long : length rows_then ≡ length all = underway.wrote.count ∙ all_done ∙ sym stands.clocks ∙ ap (λ (r : List (List Bool)). length r) same in
+          let long : length rows_then ≡ length all = underway.count ∙ all_done ∙ sym stands.clocks ∙ ap (λ (r : List (List Bool)). length r) same in
           underway.front.same text all is said ∙ take_all (length rows_then) all (omega (arith, long));
       wide = λ none. underway.front.wide;
     };
-    ends = (underway.shelf_is, underway.wrote.wrote);
+    ends = (underway.shelf_is, underway.written, underway.wrote, sym (underway.left []) ∙ ap text_of (append-nil rows_then));
     meanwhile = underway.meanwhile;
-    all = (underway.wrote.count ∙ all_done ∙ underway.clocks, underway.wrote.state_is);
+    all = (underway.count ∙ all_done ∙ underway.clocks, underway.state_is);
   }

@@ -2,4 +2,5 @@ pub mod FlatTrace
 pub mod Engines
 pub mod RunFaults
 pub mod Streamed
+pub mod Recorded
 pub mod Steps

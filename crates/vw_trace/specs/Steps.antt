@@ -1,2 +1,2 @@
 -- What functions of this crate and of those above it compute, step by step. No public clause cites it.
-pub mod StreamedClocks
+pub mod Recording

@@ -1,6 +1,8 @@
 -- A text that is written while a checked stimulus is read again.
-use Rattle.std.specs.Prelude.{◌≡◌, ℕ, Bool, true, List, length, take, Result, Ok, Err}
+use Rattle.std.specs.Prelude.{◌≡◌, ℕ, Bool, true, List, length, take, Result, Ok, Err, OnOk}
 use Rattle.std.specs.List.{All}
+use Rattle.vw_net.specs.declared.flat.Flat.{Flat}
+use Rattle.vw_net.specs.History.{state_after}
 use Rattle.vw_outside.specs.Told.{Told, held}
 use Rattle.vw_outside.specs.Reads.{SeenShelf, CountsFault}
 use Rattle.vw_outside.specs.Writes.{SeenSink, appended, WrotePart, FailedAfterPart}
@@ -39,3 +41,7 @@ pub record Streams (name : List ℕ) (width : ℕ) (Text : List (List Bool) → 
   pub are : MayBeRows (shelf.told name) width rows
   pub ends : EndsStreaming name (Text rows) shelf out shelf_after out_after answer
   pub meanwhile : DoneFor Done rows answer
+
+-- after a success there are as many rows as this, and these are the latch values after them
+abbrev pub EndsAt : Flat → List Bool → ℕ → List Bool → Result (Unit {0}) RunFault → List (List Bool) → Type 0
+EndsAt flat start clocks last answer rows = OnOk answer ((length rows ≡ clocks) × (last ≡ state_after flat start rows))

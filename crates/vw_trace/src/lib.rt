@@ -1,12 +1,19 @@
-//! Traces of netlists, whatever works out their clocks: a simulator that lies here, or an engine above.
+//! Traces of netlists, and other texts over their clocks, whatever works these out: a simulator that lies here, or an engine
+//! above.
 #![tactic(auto)]
 
 mod batch;
 mod engine;
 mod fault;
+mod record;
+mod recorder;
 mod simulation;
 mod trace;
+mod trace_recorder;
 
 pub use engine::{Batch, Engine};
 pub use fault::RunFault;
-pub use trace::{BATCH, write_end, write_head, write_trace, write_trace_by};
+pub use record::{BATCH, record_run};
+pub use recorder::Recorder;
+pub use trace::{write_head, write_trace, write_trace_by};
+pub use trace_recorder::TraceRecorder;

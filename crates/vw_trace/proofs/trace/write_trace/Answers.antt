@@ -1,6 +1,6 @@
 use Rattle.std.proofs.lemmas.Result.{err_from_is_err_and}
 use Rattle.vw_trace.specs.FlatTrace.{flat_trace}
-use Rattle.vw_trace.proofs.StreamedTraces.{nothing_streamed}
+use Rattle.vw_trace.proofs.StreamedTexts.{nothing_streamed}
 use Rattle.vw_trace.proofs.trace.write_trace.Goals as goal
 
 pub returns-in_err-simulation-clause-streams : goal.returns-in_err-simulation-clause-streams

@@ -5,7 +5,7 @@ use Rattle.vw_net.specs.Cells.{start_values}
 use Rattle.vw_net.proofs.Counts.{length-start_values}
 use Rattle.vw_trace.specs.FlatTrace.{trace_from, flat_trace}
 use Rattle.vw_trace.specs.Streamed.{Streams}
-use Rattle.vw_trace.proofs.StreamedTraces.{nothing_streamed}
+use Rattle.vw_trace.proofs.StreamedTexts.{nothing_streamed}
 use Rattle.vw_trace.proofs.trace.write_trace_by.Given.{Over}
 use Rattle.vw_trace.proofs.trace.write_trace_by.Goals as goal
 use Rattle.vw_trace.proofs.trace.write_trace_by.Goals.{In_ok-state}
@@ -31,5 +31,5 @@ pub returns-clause-streams : goal.returns-clause-streams
 returns-clause-streams g c =
     let at = goal.at.returns-clause-streams g c in
     let stimulus = c.args.stimulus.now in
-    subst (λ (state : List Bool). Streams stimulus.name stimulus.width (trace_from c.args.probes state (g.E.Engine.netlist c.args.engine.now)) (λ rows. Unit {0}) (g.S.Shelf.seen c.args.shelf.now) (g.O.Sink.seen c.args.out.now)
+    subst (λ (state : List Bool). Streams stimulus.name stimulus.width (trace_from c.args.probes 0 state (g.E.Engine.netlist c.args.engine.now)) (λ rows. Unit {0}) (g.S.Shelf.seen c.args.shelf.now) (g.O.Sink.seen c.args.out.now)
     (g.S.Shelf.seen c.write_lines.new.shelf) (g.O.Sink.seen c.write_lines.new.out) c.write_lines.result) (starts g at.In_ok-state) c.write_lines.ensures.streams
