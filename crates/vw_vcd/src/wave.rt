@@ -47,6 +47,13 @@ impl Wave {
         Ok(Wave { clocks: 0, last })
     }
 
+    /// How many clocks it has seen.
+    pub fn clocks(&self) -> u64
+        ensures { result ≡ self.now.clocks }
+    {
+        self.clocks
+    }
+
     /// Appends the lines of the next clock, in which the signals have these values: in the first clock all values, and later
     /// those that differ from the clock before; where none does, nothing. It takes memory for the text alone. Where there is
     /// none, the wave stays as it was, and some of the lines may have been appended.

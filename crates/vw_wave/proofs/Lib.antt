@@ -1,0 +1,4 @@
+pub mod PutBits
+pub mod SignalRows
+pub mod StreamedWaves
+pub mod WaveLeft

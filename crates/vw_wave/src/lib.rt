@@ -1,0 +1,11 @@
+//! Waves of runs.
+#![tactic(auto)]
+
+mod laws;
+mod recorder;
+mod row;
+mod write;
+
+pub use laws::waves_of_runs_replay;
+pub use recorder::WaveRecorder;
+pub use write::{write_wave, write_wave_by};

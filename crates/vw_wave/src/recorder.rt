@@ -1,0 +1,131 @@
+//! The lines of a wave.
+ghost use Rattle.std.specs.Prelude.{◌≡◌, ◌<◌, ◌+◌, ◌++◌, ◌^◌, ℕ, List, length, IfOk, OnOk};
+ghost use Rattle.std.specs.List.{All};
+ghost use Rattle.vw_net.specs.Cells.{latch_count};
+ghost use Rattle.vw_net.specs.History.{History};
+ghost use Rattle.vw_text.specs.Physical.{lines_text};
+ghost use Rattle.vw_vcd.specs.Changes.{last_row};
+ghost use Rattle.vw_vcd.specs.Lines.{lines_of_clock, lines_of_clocks, lines_of_head, wave_text};
+ghost use Rattle.vw_wave.specs.FlatWave.{joined_rows, signal_rows, wave_left};
+
+use crate::row::put_signals;
+use std::alloc::{AllocError, Global};
+use vw_net::{Bits, Flat};
+use vw_trace::{Batch, Recorder};
+use vw_vcd::Wave;
+
+/// What writes down the clocks of a netlist as a wave, all but its head.
+#[derive(Drop)]
+pub struct WaveRecorder {
+    /// The wave so far.
+    pub wave: Wave,
+    /// How many outputs each clock has, with the probes among them.
+    pub outputs: usize,
+    /// How many latches there are.
+    pub latches: usize,
+    /// The values of all signals in the clock at hand.
+    row: Bits,
+    ghost few: { outputs + latches < 2 ^ 32 },
+    ghost signals: { length wave.last ≡ outputs + latches },
+    ghost wide: { length row ≡ outputs + latches },
+}
+
+impl WaveRecorder {
+    /// What writes down the clocks of a netlist from the first on, before which the latches have these values. It takes
+    /// memory for two bits of each signal.
+    pub fn make(alloc: Global, flat: &Flat, state: &Bits) -> Result<Self, AllocError>
+        requires { length state.now ≡ latch_count flat.now.cells }
+        ensures clocks { IfOk result (λ recorder. recorder.wave.clocks ≡ 0) }
+        ensures outputs { IfOk result (λ recorder. recorder.outputs ≡ length flat.now.outputs) }
+        ensures latches { IfOk result (λ recorder. recorder.latches ≡ latch_count flat.now.cells) }
+        ensures fresh { IfOk result (λ recorder. (names : List (List ℕ)) (history : History)
+            → length history.outputs ≡ length history.states
+            → lines_text (lines_of_head names) ++ wave_left recorder.wave history
+            ≡ wave_text names (signal_rows history)) }
+    {
+        let outputs = flat.outputs().len();
+        let latches = state.len();
+        let wave = Wave::make(alloc, (outputs + latches) as u32)?;
+        let row = Bits::of(vec![in alloc; false; outputs + latches]?);
+        Ok(WaveRecorder {
+            wave,
+            outputs,
+            latches,
+            row,
+        })
+    }
+
+    /// Appends the lines of the next clock. It takes memory for the text alone.
+    fn push_clock(
+        &mut self,
+        text: &mut Vec<u8>,
+        outputs: &Bits,
+        state: &Bits,
+    ) -> Result<(), AllocError>
+        requires outputs { length outputs.now ≡ self.old.outputs }
+        requires latches { length state.now ≡ self.old.latches }
+        requires few { self.old.wave.clocks < 2 ^ 32 }
+        ensures text { OnOk result (text.new.items ≡ text.old.items
+            ++ lines_text (lines_of_clock self.old.wave.clocks self.old.wave.last (outputs.now ++ state.now))) }
+        ensures seen { OnOk result (self.new.wave
+            ≡ record { clocks = self.old.wave.clocks + 1; last = outputs.now ++ state.now }) }
+        ensures outputs { self.new.outputs ≡ self.old.outputs }
+        ensures latches { self.new.latches ≡ self.old.latches }
+    {
+        put_signals(outputs, state, &mut self.row);
+        self.wave.push_row(text, &self.row)
+    }
+
+    /// Appends the lines of the next clocks.
+    fn push_clocks(
+        &mut self,
+        text: &mut Vec<u8>,
+        outputs: &[Bits],
+        states: &[Bits],
+    ) -> Result<(), AllocError>
+        requires count { length outputs.now ≡ length states.now }
+        requires outputs { All (λ bits. length bits ≡ self.old.outputs) outputs.now }
+        requires states { All (λ bits. length bits ≡ self.old.latches) states.now }
+        requires few { self.old.wave.clocks + length outputs.now < 2 ^ 32 }
+        ensures text { OnOk result (text.new.items ≡ text.old.items
+            ++ lines_text (lines_of_clocks self.old.wave.clocks self.old.wave.last
+            (joined_rows outputs.now states.now))) }
+        ensures clocks { OnOk result (self.new.wave.clocks
+            ≡ self.old.wave.clocks + length outputs.now) }
+        ensures last { OnOk result (self.new.wave.last
+            ≡ last_row self.old.wave.last (joined_rows outputs.now states.now)) }
+        ensures outputs { self.new.outputs ≡ self.old.outputs }
+        ensures latches { self.new.latches ≡ self.old.latches }
+    {
+        for (clock, row) in outputs.iter().enumerate() {
+            self.push_clock(text, row, &states[clock])?;
+        }
+        Ok(())
+    }
+}
+
+impl Recorder for WaveRecorder {
+    ghost use Rattle.vw_wave.specs.FlatWave.{wave_left};
+
+    ghost left = { λ recorder. wave_left recorder.wave };
+
+    ghost outputs = { λ recorder. recorder.outputs };
+
+    ghost latches = { λ recorder. recorder.latches };
+
+    ghost clocks = { λ recorder. recorder.wave.clocks };
+
+    fn next_clock(&self) -> u64 {
+        self.wave.clocks()
+    }
+
+    fn lines(&mut self, alloc: Global, batch: &Batch) -> Result<Vec<u8>, AllocError> {
+        let mut text = Vec::new(alloc);
+        self.push_clocks(&mut text, batch.outputs.as_slice(), batch.states.as_slice())?;
+        Ok(text)
+    }
+
+    fn end(&self, alloc: Global, _last: &Bits) -> Result<Vec<u8>, AllocError> {
+        self.wave.end(alloc)
+    }
+}
