@@ -1,4 +1,4 @@
-//! Runs of a board in batches of clocks, with one worker.
+//! Runs of a planned design with one worker.
 ghost use Rattle.std.specs.Prelude.{◌≡◌, ◌≤◌, ℕ, List, length, IfOk, Result, Ok, Err};
 ghost use Rattle.vw_outside.specs.Told.{held};
 ghost use Rattle.vw_rows.specs.Standing.{StandsIn};
@@ -6,40 +6,12 @@ ghost use Rattle.vw_trace.specs.FlatTrace.{flat_trace};
 ghost use Rattle.vw_trace.specs.Streamed.{Streams};
 ghost use Rattle.vw_run.specs.Runs.{without_count};
 
-use crate::running_board::{RunningBoard, batch_of};
-use std::alloc::{AllocError, Global};
-use vw_net::{Bits, Flat, Rows};
+use std::alloc::Global;
+use vw_batches::RunningBoard;
 use vw_outside::{Shelf, Sink};
 use vw_plan::Checked;
 use vw_rows::Stimulus;
-use vw_trace::{Batch, Engine, RunFault, write_trace_by};
-use vw_world::World;
-
-/// By itself a board runs in one worker: each batch is a job of its world.
-impl Engine for RunningBoard {
-    ghost use Rattle.std.specs.Prelude.{◌+◌, length, Some};
-
-    ghost netlist = { λ board. board.job.checked.ordered.flat };
-
-    ghost done = { λ board. Some (board.job.first + length board.job.rows) };
-
-    fn flat(&self) -> &Flat {
-        self.flat()
-    }
-
-    fn work_out(
-        &mut self,
-        alloc: Global,
-        first: u64,
-        rows: Rows,
-        state: &mut Bits,
-    ) -> Result<Batch, AllocError> {
-        self.take_job(alloc, first, rows, state);
-        let mut world = World::make(alloc, self.programs(), self.job())?;
-        world.finish();
-        Ok(batch_of(world.into_answer(), state))
-    }
-}
+use vw_trace::{RunFault, write_trace_by};
 
 /// Runs a planned design on its board over a checked stimulus, of which nothing was given, and appends the trace of the
 /// unpartitioned design. The last `probes` outputs of its netlist are probes. Free latches start at `unknown`. It answers

@@ -3,17 +3,14 @@
 
 mod alone;
 mod compiler;
-mod crewed_board;
 mod fault;
-mod laws;
 mod routes;
-mod running_board;
 mod together;
 
 pub use alone::run_alone;
 pub use compiler::compile;
 pub use fault::{CompileFault, CompileRefused};
-pub use laws::{fewer_rows_carry_fewer_words, jobs_carry_their_rows};
 pub use routes::routes_of;
 pub use together::run;
+pub use vw_batches::{fewer_rows_carry_fewer_words, jobs_carry_their_rows};
 pub use vw_trace::RunFault;

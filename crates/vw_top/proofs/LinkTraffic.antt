@@ -18,8 +18,8 @@ use Rattle.vw_plan.specs.declared.board.Board.{Board}
 use Rattle.vw_plan.specs.declared.plan.Plan.{Plan}
 use Rattle.vw_plan.specs.PlannedBoard.{PlannedBoard, planned_board}
 use Rattle.vw_prog.specs.declared.word.Word.{Word}
-use Rattle.vw_run.specs.Traffic.{traffic}
-use Rattle.vw_run.proofs.LinkWords.{words_of_front}
+use Rattle.vw_batches.specs.Traffic.{traffic}
+use Rattle.vw_batches.proofs.LinkWords.{words_of_front}
 use Rattle.vw_top.specs.Messages.{vocabulary, Call, CallWork}
 use Rattle.vw_top.specs.Commands.{Scripts, no_links, netlist_course, board_scripts, board_course}
 use Rattle.vw_top.specs.TracedStatuses.{IsTrace}

@@ -19,7 +19,7 @@ use Rattle.vw_plantext.specs.Content.{content_of}
 use Rattle.vw_plantext.specs.Grammar.{spelling}
 use Rattle.vw_prog.specs.declared.word.Word.{Word}
 use Rattle.vw_rows.specs.Trace.{trace_text}
-use Rattle.vw_run.specs.Traffic.{scripts_of, traffic}
+use Rattle.vw_batches.specs.Traffic.{scripts_of, traffic}
 use Rattle.vw_trace.specs.FlatTrace.{flat_trace}
 use Rattle.vw_top.specs.declared.vocabulary.File.TheVariants as files
 use Rattle.vw_top.specs.declared.vocabulary.Reason.TheVariants.{Usage}

@@ -1,6 +1,6 @@
 use Rattle.std.proofs.lemmas.Result.{err_from_is_err_and}
 use Rattle.vw_trace.specs.FlatTrace.{flat_trace}
-use Rattle.vw_trace.proofs.StreamedTraces.{nothing_streamed}
+use Rattle.vw_trace.proofs.StreamedTexts.{nothing_streamed}
 use Rattle.vw_run.proofs.alone.run_alone.Goals as goal
 
 -- there was no memory for the board

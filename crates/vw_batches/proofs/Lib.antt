@@ -1,0 +1,2 @@
+pub mod JoinedTraffic
+pub mod LinkWords

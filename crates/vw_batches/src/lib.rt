@@ -1,0 +1,11 @@
+//! Boards that run a planned design batch by batch, in any number of workers, and what is written down meanwhile.
+#![tactic(auto)]
+
+mod crewed_board;
+mod going;
+mod laws;
+mod running_board;
+
+pub use going::go_on;
+pub use laws::{fewer_rows_carry_fewer_words, jobs_carry_their_rows};
+pub use running_board::RunningBoard;

@@ -1,5 +1,0 @@
-use Rattle.vw_run.proofs.LinkWords.{script_is_words}
-use Rattle.vw_run.proofs.laws.jobs_carry_their_rows.Goals as goal
-
-pub returns : goal.returns
-returns c = script_is_words
