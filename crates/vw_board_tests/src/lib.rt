@@ -1,7 +1,10 @@
-//! Tests of the commands over boards that run nothing, `check` and `plan`: which plans are sound, and why others aren't.
+//! Tests of the commands over boards that run nothing, `check`, `plan` and `emit`: which plans are sound, and why others
+//! aren't.
 #![tactic(auto)]
 
 #[cfg(test)]
 mod checks;
+#[cfg(test)]
+mod emits;
 #[cfg(test)]
 mod plans;

@@ -2,7 +2,7 @@
 use Rattle.std.proofs.Common.{◌≡◌, ◌<◌, ℕ, List, Ok, Err, refl, inl, inr, arith}
 use Rattle.vw_course.specs.declared.unfinished.Unfinished.TheVariants.{ReadFault, WriteFault, NoMemory, Refused}
 use Rattle.vw_outside.specs.Told.{Told}
-use Rattle.vw_course.specs.Vocabulary.{Vocabulary}
+use Rattle.vw_course.specs.Vocabulary.{Vocabulary, IsNoStop}
 use Rattle.vw_course.specs.Outside.{Work}
 use Rattle.vw_course.specs.Course.{Course, works, refuses, reads, makes}
 use Rattle.vw_course.specs.Follows.{May, Answer, Follows}
@@ -31,7 +31,7 @@ module _ {V : Vocabulary} (course : Course V) (call : SeenCall V.Word) where
   done (Err NoMemory) follows ends status = absurd (omega (arith, ends.0, status))
   done (Err (Refused reason)) follows ends status = absurd (omega (arith, ends.0, status, V.some reason))
 
-  refused : (answer : Answer V) → FollowedBy answer → EndsAs answer → 0 < call.status → call.status < 7 → IsRefused course call
+  refused : (answer : Answer V) → FollowedBy answer → EndsAs answer → 0 < call.status → IsNoStop call.status → IsRefused course call
   refused (Ok tt) follows ends some few = absurd (omega (arith, ends.0, some))
   refused (Err (ReadFault file)) follows ends some few = absurd (omega (arith, ends.0, few))
   refused (Err WriteFault) follows ends some few = absurd (omega (arith, ends.0, few))
@@ -66,7 +66,7 @@ module _ {V : Vocabulary} (course : Course V) (call : SeenCall V.Word) where
       record { status = status; shelf = is.0; part = is.1; message = ends.1 }
   want_of_memory (Err (Refused reason)) follows ends status = absurd (omega (arith, ends.0, status, V.few reason))
 
-  known : (answer : Answer V) → EndsAs answer → call.status < 10
+  known : (answer : Answer V) → EndsAs answer → call.status < 12
   known (Ok tt) ends = omega (arith, ends.0)
   known (Err (ReadFault file)) ends = omega (arith, ends.0)
   known (Err WriteFault) ends = omega (arith, ends.0)

@@ -1,7 +1,7 @@
 -- What holds at every place of a course, and what it says of a call.
 use Rattle.std.proofs.Common.{◌≡◌, ◌≢◌, ◌<◌, ◌⊎◌, ℕ, List, [], inl, inr, sym, ◌∙◌, subst}
 use Rattle.vw_outside.specs.Told.{Told, held}
-use Rattle.vw_course.specs.Vocabulary.{Vocabulary}
+use Rattle.vw_course.specs.Vocabulary.{Vocabulary, IsNoStop}
 use Rattle.vw_course.specs.Outside.{Work, DidPart, ShelfAlone}
 use Rattle.vw_course.specs.Course.{Again, once, again, Course, works, refuses, reads, makes, Judged, Kind, Making, judges, made, stage}
 use Rattle.vw_course.specs.Follows.{May, IsAgain, BreaksOff}
@@ -59,6 +59,13 @@ IsOnce (refuses reason) = Unit {0}
 IsOnce (reads file name next) = Unit {0}
 IsOnce (makes A Good Bad Comes apart sure next) = Unit {0}
 
+-- each file that is read again is held
+abbrev pub IsHeldThere : {V : Vocabulary} → (List ℕ → Told) → Course V → Type 0
+IsHeldThere told (works over work) = ReadsHeld told over
+IsHeldThere told (refuses reason) = Unit {0}
+IsHeldThere told (reads file name next) = Unit {0}
+IsHeldThere told (makes A Good Bad Comes apart sure next) = Unit {0}
+
 -- ---- with which statuses it is refused
 
 abbrev pub BreaksNever : {V : Vocabulary} → ℕ → Again V → Type 0
@@ -81,16 +88,47 @@ IsNever {V = V} number (makes A Good Bad Comes apart sure next) = (reason : V.Re
 
 -- ---- stages
 
+-- this holds where something is judged or made, and where one of these files is read
+pub record IsPassed {V : Vocabulary} (files : Files V) (Q : Course V → Type 0) : Type 1 where
+  pub at_file : (file : V.File) (name : List ℕ) (next : List ℕ → Course V) → IsOneOf files (file, name) → Q (reads file name next)
+  pub at_making : (A : Type 0) (Good : A → Type 0) (Bad : V.Reason → Type 0) (Comes : Type 0)
+      (apart : (x : A) (reason : V.Reason) → Good x → Bad reason → ⊥) (sure : (reason : V.Reason) → Comes → Bad reason → ⊥)
+      (next : (x : A) → Good x → Course V) → Q (makes A Good Bad Comes apart sure next)
+
+-- so does that only these files are read, that none is read again, that nothing is broken off with a status, and that each file
+-- that is read again is held
+module _ (V : Vocabulary) (files : Files V) where
+  pub passes_reads : IsPassed {V = V} files (ReadsOnly {V = V} files)
+  passes_reads = record { at_file = λ file name next one. one; at_making = λ A Good Bad Comes apart sure next. tt }
+
+  pub passes_once : IsPassed {V = V} files IsOnce
+  passes_once = record { at_file = λ file name next one. tt; at_making = λ A Good Bad Comes apart sure next. tt }
+
+  pub passes_unbroken : (number : ℕ) → IsPassed {V = V} files (IsUnbroken number)
+  passes_unbroken number = record { at_file = λ file name next one. tt; at_making = λ A Good Bad Comes apart sure next. tt }
+
+  pub passes_held : (told : List ℕ → Told) → IsPassed {V = V} files (IsHeldThere told)
+  passes_held told = record { at_file = λ file name next one. tt; at_making = λ A Good Bad Comes apart sure next. tt }
+
+-- what so holds behind something that is judged or made, or behind a stage, holds at every place of the course with it
+module _ {V : Vocabulary} (files : Files V) (Q : Course V → Type 0) (passed : IsPassed files Q) where
+  pub every_judges : {A : Type 0} {number : ℕ} (judged : Judged V A number) (next : A → Course V) → ((x : A) → Every Q (next x)) → Every Q (judges judged next)
+  every_judges {A = A} judged next later = (
+    passed.at_making A judged.Good judged.Bad ((x : A) × judged.Good x) judged.apart (λ reason some bad. judged.apart some.0 reason some.1 bad) (λ x is. next x),
+    λ x good. later x,
+  )
+
+  pub every_made : {A : Type 0} {number : ℕ} (making : Making V A number) (next : A → Course V) → ((x : A) → Every Q (next x)) → Every Q (made making next)
+  every_made {A = A} making next later = (
+    passed.at_making A making.judged.Good making.judged.Bad making.Comes making.judged.apart making.sure (λ x is. next x),
+    λ x good. later x,
+  )
+
+  pub every_stage : {A : Type 0} (kind : Kind V A) (name : List ℕ) (next : A → Course V) → IsOneOf files (kind.file, name) → ((x : A) → Every Q (next x)) → Every Q (stage kind name next)
+  every_stage kind name next one later =
+      (passed.at_file kind.file name (λ text. judges (kind.judged text) next) one, λ text. every_judges (kind.judged text) next later)
+
 module _ {V : Vocabulary} where
-  pub reads_stage : {A : Type 0} (files : Files V) (kind : Kind V A) (name : List ℕ) (next : A → Course V) → IsOneOf files (kind.file, name) → ((x : A) → Every (ReadsOnly files) (next x)) → Every (ReadsOnly files) (stage kind name next)
-  reads_stage files kind name next one later = (one, λ text. (tt, λ x good. later x))
-
-  pub once_stage : {A : Type 0} (kind : Kind V A) (name : List ℕ) (next : A → Course V) → ((x : A) → Every IsOnce (next x)) → Every IsOnce (stage kind name next)
-  once_stage kind name next later = (tt, λ text. (tt, λ x good. later x))
-
-  pub unbroken_stage : {A : Type 0} (number : ℕ) (kind : Kind V A) (name : List ℕ) (next : A → Course V) → ((x : A) → Every (IsUnbroken number) (next x)) → Every (IsUnbroken number) (stage kind name next)
-  unbroken_stage number kind name next later = (tt, λ text. (tt, λ x good. later x))
-
   never_judged : {A : Type 0} {number : ℕ} (judged : Judged V A number) (other : ℕ) (reason : V.Reason) → number ≢ other → judged.Bad reason → V.status reason ≢ other
   never_judged judged other reason differs bad is = differs (sym (judged.its_status reason bad) ∙ is)
 
@@ -131,15 +169,6 @@ module _ {V : Vocabulary} (told : List ℕ → Told) (number : ℕ) (course : Co
 
 -- ---- files that are read again and are held
 
-abbrev pub IsHeldThere : {V : Vocabulary} → (List ℕ → Told) → Course V → Type 0
-IsHeldThere told (works over work) = ReadsHeld told over
-IsHeldThere told (refuses reason) = Unit {0}
-IsHeldThere told (reads file name next) = Unit {0}
-IsHeldThere told (makes A Good Bad Comes apart sure next) = Unit {0}
-
-pub held_stage : {V : Vocabulary} (told : List ℕ → Told) {A : Type 0} (kind : Kind V A) (name : List ℕ) (next : A → Course V) → ((x : A) → Every (IsHeldThere told) (next x)) → Every (IsHeldThere told) (stage kind name next)
-held_stage told kind name next later = (tt, λ text. (tt, λ x good. later x))
-
 module _ {V : Vocabulary} (told : List ℕ → Told) (course : Course V) where
   held_whole : (over : Again V) (reason : V.Reason) → BreaksOff over told reason → ReadsHeld told over → ⊥
   held_whole once reason breaks held_is = breaks
@@ -173,9 +202,9 @@ module _ {V : Vocabulary} (course : Course V) (call : SeenCall V.Word) (is : IsC
       by (inr (did, may, shelf, part)) = no_break told number course whole refused.reason did same may
 
     -- this is no status of the command
-    pub never_status : 0 < number → number < 7 → call.status ≢ number
+    pub never_status : 0 < number → IsNoStop number → call.status ≢ number
     never_status some few status =
-        let refused = table.refused (subst (λ (n : ℕ). 0 < n) (sym status) some) (subst (λ (n : ℕ). n < 7) (sym status) few) in
+        let refused = table.refused (subst (λ (n : ℕ). 0 < n) (sym status) some) (subst IsNoStop (sym status) few) in
         none_of refused (sym refused.status ∙ status)
 
   -- ---- the file at which a read failed

@@ -2,7 +2,7 @@
 -- what a call did to it.
 use Rattle.std.proofs.Common.{◌≡◌, ◌≢◌, ◌<◌, ◌⊎◌, ℕ, List, inl, inr, sym, ◌∙◌, subst}
 use Rattle.vw_outside.specs.Told.{Told, absent, held, IsTextOf}
-use Rattle.vw_course.specs.Vocabulary.{Vocabulary}
+use Rattle.vw_course.specs.Vocabulary.{Vocabulary, IsNoStop}
 use Rattle.vw_course.specs.Outside.{Work, DidPart}
 use Rattle.vw_course.specs.Course.{Course, works, refuses, reads, makes, Judged, Kind, Making, judges, made, stage}
 use Rattle.vw_course.specs.Follows.{May}
@@ -150,7 +150,7 @@ module _ {V : Vocabulary} (course : Course V) (call : SeenCall V.Word) (is : IsC
           record { reason = refused.reason; why = says refused.reason same may; status = refused.status; leaves = leaves; message = refused.message }
       by (inr (did, may, shelf, part)) = absurd (unbroken refused.reason did same may)
 
-    pub refused_for : 0 < number → number < 7 → call.status ≡ number → IsRefusedFor V Why call
+    pub refused_for : 0 < number → IsNoStop number → call.status ≡ number → IsRefusedFor V Why call
     refused_for some few status =
-        let refused = (call_table course call is).refused (subst (λ (n : ℕ). 0 < n) (sym status) some) (subst (λ (n : ℕ). n < 7) (sym status) few) in
+        let refused = (call_table course call is).refused (subst (λ (n : ℕ). 0 < n) (sym status) some) (subst IsNoStop (sym status) few) in
         why refused (sym refused.status ∙ status)

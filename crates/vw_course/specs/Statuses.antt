@@ -4,7 +4,7 @@ use Rattle.vw_outside.specs.Told.{absent, held}
 use Rattle.vw_outside.specs.Faults.{one_more}
 use Rattle.vw_outside.specs.Reads.{CountsFault}
 use Rattle.vw_outside.specs.Writes.{SeenSink, WrotePart, FailedAfterPart}
-use Rattle.vw_course.specs.Vocabulary.{Vocabulary}
+use Rattle.vw_course.specs.Vocabulary.{Vocabulary, IsNoStop}
 use Rattle.vw_course.specs.Outside.{SeenOutside, Work, with_all, DidPart, FailedInPart, ShelfAlone}
 use Rattle.vw_course.specs.Course.{Course, writing}
 use Rattle.vw_course.specs.Follows.{May}
@@ -110,11 +110,11 @@ MayDo course call did = May call.before.shelf.told (WorksHere call.before.shelf.
 -- the table of statuses
 pub record Statuses {V : Vocabulary} (course : Course V) (call : SeenCall V.Word) : Type 0 where
   pub done : call.status ≡ 0 → IsDone (MayDo course call) call
-  pub refused : 0 < call.status → call.status < 7 → IsRefused course call
+  pub refused : 0 < call.status → IsNoStop call.status → IsRefused course call
   pub read_fault : call.status ≡ 7 → IsReadFault course call
   pub write_fault : call.status ≡ 8 → IsWriteStop (MayDo course call) call
   pub want_of_memory : call.status ≡ 9 → IsMemoryStop (MayDo course call) call
-  pub known : call.status < 10
+  pub known : call.status < 12
   -- what is accepted is carried out, unless the outside stops the call; then out is as it was, or has a part of what
   -- status 0 would have written
   pub accepted : (files : Files V) → (let told = call.before.shelf.told in StandsAt told files (IsToWork told files (λ did. Unit {0})) course)

@@ -1,5 +1,6 @@
 //! What a program's commands read, and why they refuse.
 ghost use Rattle.std.specs.Prelude.{◌≡◌, ◌<◌, ℕ, List, IfOk};
+ghost use Rattle.vw_course.specs.Vocabulary.{IsNoStop};
 
 use std::alloc::{AllocError, Global};
 
@@ -15,7 +16,7 @@ pub trait CommandFile {
 
 /// A reason for which commands refuse: what is wrong with their words or files.
 pub trait RefusalReason {
-    /// The exit status, which is one of 1 to 6.
+    /// The exit status, which is one of 1 to 6, 10 and 11.
     ghost exit_status: { Self → ℕ };
 
     /// The message line, with the byte that ends the line.
@@ -23,7 +24,7 @@ pub trait RefusalReason {
 
     ghost some: { (reason : Self) → 0 < exit_status reason };
 
-    ghost few: { (reason : Self) → exit_status reason < 7 };
+    ghost few: { (reason : Self) → IsNoStop (exit_status reason) };
 
     /// The exit status.
     fn status(&self) -> u8

@@ -4,3 +4,4 @@ pub mod LineShapes
 pub mod CoverRows
 pub mod ChosenLines
 pub mod ModelLines
+pub mod Limits

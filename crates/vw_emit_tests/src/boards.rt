@@ -4,10 +4,6 @@ use std::test::Fail;
 use vw_emit::{EmitFault, emit};
 use vw_samples::{Texts, planned};
 
-/// A plan of the toggle over so many microcycles that its sequencers have too many cells.
-pub const LONG_PLAN: &str =
-    "plan 1 2 4 40000\nchips 1 2\nwire 0 1 1\nhop 0 1 0 0\nwire 1 2 1\nhop 1 2 0 1\nwire 2 0 1\nhop 2 0 0 0\nwire 2 1 1\nhop 2 1 0 0\nend\n";
-
 /// A latch that turns at each clock. It is on chip 2, its bit goes to the host by way of chip 1, and takes three microcycles
 /// on the first way. Another latch is free, and a table without rows is an off-set.
 pub const SLOW: Texts = Texts {

@@ -2,11 +2,13 @@
 #![tactic(auto)]
 
 mod boards;
+mod emitted;
 mod jobs;
 mod pieces;
 mod texts;
 
 pub use boards::{PLANNED_AND, PLANNED_FAR_FLIP, PLANNED_FLIP, PLANNED_TOGGLE, Texts, planned};
+pub use emitted::{EMITTED_AND, EMITTED_TOGGLE, LONG_PLAN};
 pub use jobs::job_of;
 pub use pieces::{Piece, is_spelled, push_form, repeated, spelled};
 pub use texts::{

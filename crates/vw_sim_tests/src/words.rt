@@ -3,7 +3,7 @@ use std::alloc::Global;
 use std::process::Abort;
 use std::test::Fail;
 use vw_sample_calls::{are_found, names_of};
-use vw_words::{Form, Place, Setting, Value, first_wrong, form_of, number_or_zero};
+use vw_words::{Entry, Form, Place, Setting, Value, command_of, first_wrong, number_or_zero};
 
 const NAME: Place = Place::Any(Value::Name);
 
@@ -31,25 +31,34 @@ const PROBE: Setting = Setting {
     times: 3,
 };
 
-/// A form with names and settings, one with a number and a setting, and one with a keyword alone.
-const FORMS: &[Form] = &[
-    Form {
-        places: &[Place::Keyword(b"run"), NAME, NAME],
-        settings: &[PLAN, WORKERS, UNKNOWN, PROBE],
+/// A form with names and settings, one with a number and a setting, and one with a keyword alone, by their numbers.
+const FORMS: &[Entry<u8>] = &[
+    Entry {
+        command: 0,
+        form: Form {
+            places: &[Place::Keyword(b"run"), NAME, NAME],
+            settings: &[PLAN, WORKERS, UNKNOWN, PROBE],
+        },
     },
-    Form {
-        places: &[
-            Place::Keyword(b"demo"),
-            Place::Any(Value::Number {
-                least: 1,
-                most: 20_000,
-            }),
-        ],
-        settings: &[WORKERS],
+    Entry {
+        command: 1,
+        form: Form {
+            places: &[
+                Place::Keyword(b"demo"),
+                Place::Any(Value::Number {
+                    least: 1,
+                    most: 20_000,
+                }),
+            ],
+            settings: &[WORKERS],
+        },
     },
-    Form {
-        places: &[Place::Keyword(b"demo")],
-        settings: &[],
+    Entry {
+        command: 2,
+        form: Form {
+            places: &[Place::Keyword(b"demo")],
+            settings: &[],
+        },
     },
 ];
 
@@ -58,11 +67,11 @@ const FORMS: &[Form] = &[
 fn forms_are_found(
     rt: &impl Abort,
     alloc: Global,
-    table: &[(&[&str], Option<usize>, u64)],
+    table: &[(&[&str], Option<u8>, u64)],
 ) -> Result<(), Fail> {
     for (words, form, wrong) in table {
         let names = names_of(alloc, words)?;
-        assert_eq!(rt; form_of(FORMS, &names), *form, "{words:?}");
+        assert_eq!(rt; command_of(FORMS, &names), *form, "{words:?}");
         assert_eq!(rt; first_wrong(FORMS, &names), *wrong, "{words:?}");
     }
     Ok(())
@@ -70,7 +79,7 @@ fn forms_are_found(
 
 #[test]
 fn words_have_the_first_form_that_fits(rt: HostRuntime) -> Result<(), Fail> {
-    const TABLE: &[(&[&str], Option<usize>, u64)] = &[
+    const TABLE: &[(&[&str], Option<u8>, u64)] = &[
         (&["run", "d", "s"], Some(0), 4),
         (&["run", "unknown=0", "s"], Some(0), 4),
         (&["run", "d", "s", "plan=p"], Some(0), 5),
@@ -101,7 +110,7 @@ fn words_have_the_first_form_that_fits(rt: HostRuntime) -> Result<(), Fail> {
 
 #[test]
 fn the_first_wrong_word_has_its_place(rt: HostRuntime) -> Result<(), Fail> {
-    const TABLE: &[(&[&str], Option<usize>, u64)] = &[
+    const TABLE: &[(&[&str], Option<u8>, u64)] = &[
         (&[], None, 1),
         (&["fly", "d", "s"], None, 1),
         (&["run"], None, 2),

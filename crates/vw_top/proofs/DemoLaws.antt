@@ -14,11 +14,13 @@ use Rattle.vw_gen.specs.Stimulus.{stimulus_text}
 use Rattle.vw_gen.specs.Summary.{summary}
 use Rattle.vw_top.specs.Messages.{vocabulary, Call}
 use Rattle.vw_top.specs.Demo.{board_name, design_name, generated, stimulus_name}
-use Rattle.vw_top.specs.Commands.{demo_course, demo_run}
+use Rattle.vw_top.specs.Commands.{trace_of, netlist_trace, demo_course, demo_run}
 use Rattle.vw_top.specs.LinkTraffic.{CarriesAll}
-use Rattle.vw_top.specs.RunStatuses.{AreGood}
+use Rattle.vw_top.specs.PlannedStatuses.{AreSpelled}
 use Rattle.vw_top.specs.DemoStatuses.{DemoStatuses, IsRunOfTexts}
 use Rattle.vw_top.proofs.HeadlineLaw.{headline}
+use Rattle.vw_top.specs.RunStatuses.{RunStatuses}
+use Rattle.vw_top.proofs.StreamedTraces.{traces_agree}
 use Rattle.vw_top.proofs.RunLaws.{run_table}
 
 module _ (cells workers : ℕ) (call : Call) where
@@ -27,6 +29,9 @@ module _ (cells workers : ℕ) (call : Call) where
   inside = texts_before vocabulary (generated cells) (summary cells) (λ name. 0) (seen_bytes [] 0) call.before call.after
 
   module _ (run : Call) (is_run : IsCallOf (demo_run workers) run) (before_is : run.before ≡ inside) where
+    run_statuses : RunStatuses [] (trace_of false) design_name board_name None stimulus_name workers false run
+    run_statuses = run_table [] (trace_of false) (netlist_trace 0 false) (traces_agree [] false) design_name board_name None stimulus_name workers false run (omega arith) is_run
+
     held_there : (name : List ℕ) → run.before.shelf.told name ≡ held (generated cells name)
     held_there name = ap (λ (o : SeenOutside vocabulary.Word). o.shelf.told name) before_is
 
@@ -35,20 +40,20 @@ module _ (cells workers : ℕ) (call : Call) where
       texts = held_there;
       links = ap (λ (o : SeenOutside vocabulary.Word). o.links) before_is;
       links_after = after;
-      statuses = run_table [] design_name board_name stimulus_name workers false run (omega arith) is_run;
+      statuses = run_statuses;
     }
 
     -- the demo has the statuses of its run, but for 8
-    others_by : call.status ≢ 7 → ((run.status ≡ call.status) ⊎ ((call.status ≡ 8) × (run.status ≡ 9))) → (call.status ≢ 2) × (call.status ≢ 4) × (call.status ≢ 7)
+    others_by : call.status ≢ 7 → ((run.status ≡ call.status) ⊎ ((call.status ≡ 8) × (run.status ≡ 9))) → (call.status ≢ 2) × (call.status ≢ 4) × (call.status ≢ 7) × (call.status ≢ 10) × (call.status ≢ 11)
     others_by not_read (inl same) =
-        let others = (run_table [] design_name board_name stimulus_name workers false run (omega arith) is_run).others in
-        ((λ two. others.0 (same ∙ two)), (λ four. others.1 (same ∙ four)), not_read)
-    others_by not_read (inr eight) = ((λ two. absurd (omega (arith, two, eight.0))), (λ four. absurd (omega (arith, four, eight.0))), not_read)
+        let others = run_statuses.others in
+        ((λ two. others.0 (same ∙ two)), (λ four. others.1 (same ∙ four)), not_read, (λ ten. others.2 (same ∙ ten)), (λ eleven. others.3 (same ∙ eleven)))
+    others_by not_read (inr eight) = ((λ two. absurd (omega (arith, two, eight.0))), (λ four. absurd (omega (arith, four, eight.0))), not_read, (λ ten. absurd (omega (arith, ten, eight.0))), (λ eleven. absurd (omega (arith, eleven, eight.0))))
 
-    on_links_by : run.status ≡ 0 → CarriesAll [] workers false (design_text cells) (stimulus_text cells) (AreGood [] design_name board_name stimulus_name workers false (design_text cells) (generated cells board_name)) run
+    on_links_by : run.status ≡ 0 → CarriesAll [] workers false (design_text cells) (stimulus_text cells) (AreSpelled [] None (design_text cells) (generated cells board_name) []) run
     on_links_by status =
-        (run_table [] design_name board_name stimulus_name workers false run (omega arith) is_run).on_links (design_text cells) (generated cells board_name) (stimulus_text cells)
-        (record { design_held = held_there design_name; board_held = held_there board_name }) (held_there stimulus_name) status
+        run_statuses.on_links (design_text cells) (generated cells board_name) [] (stimulus_text cells)
+        (record { design_held = held_there design_name; board_held = held_there board_name; plan_held = tt }) (held_there stimulus_name) status
 
   -- the run that ends so, and what stands at err before it and after it
   abbrev run_to : SeenOutside vocabulary.Word → SeenSink → ℕ → Call
@@ -59,7 +64,7 @@ module _ (cells workers : ℕ) (call : Call) where
       let found = done_inside vocabulary (generated cells) (summary cells) (λ name. 0) (seen_bytes [] 0) call.before call.after (demo_run workers) follows in
       let run = run_to (with_all found.0 inside) call.err_after 0 in
       let is_run : IsCallOf (demo_run workers) run = record { answer = Ok tt; follows = found.1; ends = (refl, silent) } in
-      let trace = headline [] design_name board_name stimulus_name workers false run None is_run (design_text cells) (stimulus_text cells) refl refl refl in
+      let trace = headline [] design_name board_name None stimulus_name workers false run is_run (design_text cells) (stimulus_text cells) refl refl refl in
       record {
         run = run;
         is = run_of_texts run is_run refl (sym (ap (λ (o : SeenOutside vocabulary.Word). o.links) found.2));
@@ -67,7 +72,8 @@ module _ (cells workers : ℕ) (call : Call) where
         done = λ status. record {
           spelled = trace.spelled;
           rows = trace.rows;
-          are = trace.are;
+          design_is = trace.design_is;
+          rows_are = trace.rows_are;
           wrote = ap (λ (o : SeenOutside vocabulary.Word). o.out) found.2
               ∙ ap (λ (sink : SeenSink). appended call.before.out (summary cells (unwrap_or sink.told found.0.text))) trace.wrote;
         };

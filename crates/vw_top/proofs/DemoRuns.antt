@@ -1,16 +1,15 @@
 -- A run over the generated texts as the course of a demo.
-use Rattle.std.proofs.Common.{◌≡◌, ◌≤◌, ◌∷◌, ℕ, zero, suc, List, [], Option, Some, None, false, ◌∙◌, ap, ap₂, refl, subst, arith, if◌then◌else◌}
+use Rattle.std.proofs.Common.{◌≡◌, ◌≤◌, ◌∷◌, ℕ, zero, suc, List, [], Some, None, false, ◌∙◌, ap, ap₂, refl, subst, arith, if◌then◌else◌}
 use Rattle.std.specs.Global.{Vec}
 use Rattle.std.specs.Str.{bytes_eq}
 use Rattle.std.proofs.Math.Path.{fun_ext}
 use Rattle.vw_outside.specs.Reads.{SeenShelf, CountsFault}
 use Rattle.vw_outside.specs.Writes.{SeenSink}
 use Rattle.vw_outside.specs.Sure.{SureTexts, seen_sure, sure_text}
-use Rattle.vw_course.specs.declared.outside.Outside.{Outside}
 use Rattle.vw_course.specs.Outside.{Carried}
 use Rattle.vw_course.specs.Course.{Course}
 use Rattle.vw_course.specs.Follows.{Answer, Follows}
-use Rattle.vw_course.specs.Goes.{IsFollowed, IsSame, GoesOver, seen_outside}
+use Rattle.vw_course.specs.Goes.{IsFollowed, seen_outside}
 use Rattle.vw_course.specs.OnTexts.{EndsSummed, on_texts}
 use Rattle.vw_course.proofs.OnTexts.{summed_follows}
 use Rattle.vw_gen.specs.Board.{board_text}

@@ -1,3 +1,4 @@
+pub mod FoundVerbs
 pub mod OnBoards
 pub mod FlatTraces
 pub mod StreamedTraces
@@ -5,13 +6,16 @@ pub mod ReadyLaws
 pub mod TracedLaws
 pub mod LinkTraffic
 pub mod SimLaws
-pub mod FittedLaws
-pub mod PlanLaws
+pub mod FewRows
+pub mod WaveLaws
 pub mod PlannedLaws
+pub mod WrittenLaws
+pub mod PlanLaws
 pub mod CheckLaws
+pub mod EmitLaws
 pub mod RunLaws
-pub mod RunGivenLaws
 pub mod UsageLaws
+pub mod ConstantLaws
 pub mod HeadlineLaw
 pub mod DemoRuns
 pub mod DemoLaws

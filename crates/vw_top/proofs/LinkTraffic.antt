@@ -4,9 +4,9 @@ use Rattle.std.specs.Prelude.{ltb}
 use Rattle.std.proofs.Math.Path.{fun_ext}
 use Rattle.std.proofs.lemmas.Bool.{lt-ltb, le-ltb}
 use Rattle.vw_design.specs.Paths.{Word as ProbeWord}
+use Rattle.vw_front.specs.Designs.{WatchedDesign}
 use Rattle.vw_net.specs.Cells.{start_values}
 use Rattle.vw_net.specs.declared.ordered.Ordered.{Ordered}
-use Rattle.vw_outside.specs.Told.{Told, held, IsTextOf}
 use Rattle.vw_outside.specs.Reads.{SeenShelf}
 use Rattle.vw_outside.specs.Writes.{SeenSink}
 use Rattle.vw_course.specs.declared.outside.Outside.{Outside}
@@ -21,27 +21,24 @@ use Rattle.vw_prog.specs.declared.word.Word.{Word}
 use Rattle.vw_batches.specs.Traffic.{traffic}
 use Rattle.vw_batches.proofs.LinkWords.{words_of_front}
 use Rattle.vw_top.specs.Messages.{vocabulary, Call, CallWork}
-use Rattle.vw_top.specs.Commands.{Scripts, no_links, netlist_course, board_scripts, board_course}
-use Rattle.vw_top.specs.TracedStatuses.{IsTrace}
+use Rattle.vw_top.specs.Commands.{TextOver, Scripts, no_links, netlist_course, board_scripts, board_course}
+use Rattle.vw_top.specs.TracedStatuses.{designs, IsTrace}
 use Rattle.vw_top.specs.LinkTraffic.{UsesBoard, CarriesAll}
 use Rattle.vw_top.proofs.StreamedTraces.{HaveParts}
 
--- a text that is held is one that the name may have
-pub of_held : {told : Told} (text : List ℕ) → told ≡ held text → IsTextOf told text
-of_held {told = told} text is = subst (λ (t : Told). IsTextOf t text) (sym is) refl
-
-module _ (probes : List ProbeWord) (call : Call) (workers : ℕ) (unknown : Bool) (d s : List ℕ) (May Is : Ordered → Board → Plan → Type 0)
+module _ (probes : List ProbeWord) (text : TextOver WatchedDesign) (design : List ℕ) (call : Call) (workers : ℕ) (unknown : Bool) (d s : List ℕ) (May Is : Ordered → Board → Plan → Type 0)
     (also : (ordered : Ordered) (board : Board) (plan : Plan) → May ordered board plan → Is ordered board plan) where
-  pub carries_all : IsDone (IsTrace probes unknown d s (UsesBoard workers unknown May)) call → CarriesAll probes workers unknown d s Is call
+  pub carries_all : IsDone (IsTrace (designs probes design) text d s (UsesBoard workers unknown May)) call → CarriesAll probes workers unknown d s Is call
   carries_all done =
       let trace = done.is in
       let uses = trace.uses in
       let words : done.did.scripts ≡ board_scripts workers unknown (planned_board uses.ordered uses.board uses.plan) trace.rows =
       ap (λ (w : CallWork). w.scripts) trace.is ∙ ap (λ (scripts : Scripts). scripts trace.rows) uses.are in
       record {
-        spelled = trace.spelled;
+        spelled = trace.its;
         rows = trace.rows;
-        are = trace.are;
+        design_is = trace.are.spells;
+        rows_are = trace.are.rows_are;
         ordered = uses.ordered;
         board = uses.board;
         plan = uses.plan;
@@ -74,18 +71,18 @@ module _ (unknown : Bool) (planned : PlannedBoard) where
 
 -- so a function that follows the course of a netlist without links follows that of a planned board with one worker, and one
 -- with more than one worker follows that of any other such number
-module _ {S O : Type 0} (seen_shelf : S → SeenShelf) (seen_out : O → SeenSink) (Moved : Carried vocabulary.Word → Carried vocabulary.Word → Type 0) (stimulus : List ℕ) (unknown : Bool) (ordered : Ordered) (board : Board) (plan : Plan) (count : ℕ) where
+module _ {S O : Type 0} (seen_shelf : S → SeenShelf) (seen_out : O → SeenSink) (Moved : Carried vocabulary.Word → Carried vocabulary.Word → Type 0) (stimulus : List ℕ) (unknown : Bool) (ordered : Ordered) (board : Board) (plan : Plan) (text : TextOver Ordered) where
   abbrev planned : PlannedBoard
   planned = planned_board ordered board plan
 
   pub goes_alone : (workers : ℕ) → workers ≤ 1 → {before after : Outside S O} {answer : Answer vocabulary}
-      → GoesOver seen_shelf seen_out vocabulary Moved (netlist_course count stimulus unknown no_links ordered) before after answer
-      → GoesOver seen_shelf seen_out vocabulary Moved (board_course count stimulus workers unknown ordered board plan) before after answer
+      → GoesOver seen_shelf seen_out vocabulary Moved (netlist_course stimulus text no_links ordered) before after answer
+      → GoesOver seen_shelf seen_out vocabulary Moved (board_course stimulus text workers unknown ordered board plan) before after answer
   goes_alone workers few {before = before} {after = after} {answer = answer} goes =
-      subst (λ (scripts : Scripts). GoesOver seen_shelf seen_out vocabulary Moved (netlist_course count stimulus unknown scripts ordered) before after answer) (sym (board_alone unknown planned workers few)) goes
+      subst (λ (scripts : Scripts). GoesOver seen_shelf seen_out vocabulary Moved (netlist_course stimulus text scripts ordered) before after answer) (sym (board_alone unknown planned workers few)) goes
 
   pub goes_together : (workers other : ℕ) → 1 < workers → 1 < other → {before after : Outside S O} {answer : Answer vocabulary}
-      → GoesOver seen_shelf seen_out vocabulary Moved (board_course count stimulus workers unknown ordered board plan) before after answer
-      → GoesOver seen_shelf seen_out vocabulary Moved (board_course count stimulus other unknown ordered board plan) before after answer
+      → GoesOver seen_shelf seen_out vocabulary Moved (board_course stimulus text workers unknown ordered board plan) before after answer
+      → GoesOver seen_shelf seen_out vocabulary Moved (board_course stimulus text other unknown ordered board plan) before after answer
   goes_together workers other several others {before = before} {after = after} {answer = answer} goes =
-      subst (λ (scripts : Scripts). GoesOver seen_shelf seen_out vocabulary Moved (netlist_course count stimulus unknown scripts ordered) before after answer) (board_together unknown planned workers other several others) goes
+      subst (λ (scripts : Scripts). GoesOver seen_shelf seen_out vocabulary Moved (netlist_course stimulus text scripts ordered) before after answer) (board_together unknown planned workers other several others) goes

@@ -1,5 +1,5 @@
 -- From a planned board that is ready to run to the course of a command that runs it.
-use Rattle.std.proofs.Common.{◌≡◌, ◌⊎◌, ℕ, List, Option, Some, None, Result, Ok, Err, refl, sym, ◌∙◌, ap, ap₂, subst, inl, inr}
+use Rattle.std.proofs.Common.{◌≡◌, ◌⊎◌, ℕ, List, Option, Some, None, Result, Ok, Err, sym, ◌∙◌, subst, inr}
 use Rattle.vw_design.specs.Paths.{Word}
 use Rattle.vw_net.specs.declared.ordered.Ordered.{Ordered}
 use Rattle.vw_outside.specs.Told.{Told, IsTextOf}
@@ -9,7 +9,7 @@ use Rattle.vw_course.specs.declared.outside.Outside.{Outside}
 use Rattle.vw_course.specs.declared.unfinished.Unfinished.{Unfinished}
 use Rattle.vw_course.specs.Outside.{SeenOutside, Carried}
 use Rattle.vw_course.specs.Course.{Course, cut}
-use Rattle.vw_course.specs.Follows.{Answer, May, EndsHere, Follows}
+use Rattle.vw_course.specs.Follows.{Answer, Follows}
 use Rattle.vw_course.specs.Goes.{seen_outside, IsSame, GoesOver, EndsPart}
 use Rattle.vw_course.proofs.GoesLaws.{IsStill}
 use Rattle.vw_course.proofs.PartLaws.{EndsIn, IsNoMemory, at_cut, stage_part, made_part, judged_part, part_ends}
@@ -19,7 +19,6 @@ use Rattle.vw_plan.specs.declared.board.Board.{Board}
 use Rattle.vw_plan.specs.declared.checked.Checked.{Checked}
 use Rattle.vw_plan.specs.declared.plan.Plan.{Plan}
 use Rattle.vw_plan.specs.PlannedBoard.{planned_board}
-use Rattle.vw_plan.specs.Good.{IsGood}
 use Rattle.vw_plan.specs.Sound.{IsSound}
 use Rattle.vw_plantext.specs.PlanText.{Spells as SpellsPlan}
 use Rattle.vw_run.specs.Compiled.{IsCompiled}
@@ -28,7 +27,8 @@ use Rattle.vw_top.specs.declared.vocabulary.Reason.{Reason}
 use Rattle.vw_top.specs.Messages.{vocabulary}
 use Rattle.vw_top.specs.Kinds.{netlist_kind, board_kind, plan_kind, soundness, planning}
 use Rattle.vw_top.specs.Commands.{Rest, given_sound_course, with_plan_course, on_board_course, ready_course}
-use Rattle.vw_top.specs.Steps.Stages.{cut_there, IsCheckedPlan, IsPlanBy, IsPlanned, IsOnBoard, IsReadyBoard}
+use Rattle.vw_top.specs.Steps.Stages.{cut_there, IsCheckedPlan, IsPlanned, IsOnBoard, IsReadyBoard}
+use Rattle.vw_top.specs.PlannedStatuses.{IsPlanBy}
 
 -- ---- what was made, in the words of the next function
 
@@ -61,11 +61,10 @@ module _ (shelf mid : SeenShelf) (same : mid ≡ shelf) where
   board_of_design probes design board given ordered checked text of netlist is = record {
     d = text;
     design_of = of;
-    netlist = subst (IsNetlistOf probes text) (sym is.its_ordered) netlist;
     b = is.b;
     board_of = subst (λ (s : SeenShelf). IsTextOf (s.told board) is.b) same is.board_of;
-    board_is = is.board_is;
-    plan = subst (λ (one : Ordered). IsPlanBy shelf.told given one checked.board checked.plan) (sym is.its_ordered)
+    on = record { netlist = subst (IsNetlistOf probes text) (sym is.its_ordered) netlist; board_is = is.board_is };
+    plan_is = subst (λ (one : Ordered). IsPlanBy shelf.told given one checked.board checked.plan) (sym is.its_ordered)
         (subst (λ (s : SeenShelf). IsPlanBy s.told given ordered checked.board checked.plan) same is.plan);
   }
 
@@ -91,7 +90,7 @@ module _ (probes : List Word) (rest : Rest) (before after : SeenOutside vocabula
     pub ready_rest : (design board : List ℕ) (given : Option (List ℕ)) (checked : Checked) → IsReadyBoard probes before.shelf.told design board given checked
         → Comes answer (rest checked.ordered checked.board checked.plan) → Comes answer (ready_course probes design board given rest)
     ready_rest design board given checked is goes =
-        inr (is.d, is.design_of, inr (checked.ordered, is.netlist, inr (is.b, is.board_of, inr (checked.board, is.board_is, with_plan given checked.ordered checked.board checked.plan is.plan goes))))
+        inr (is.d, is.design_of, inr (checked.ordered, is.on.netlist, inr (is.b, is.board_of, inr (checked.board, is.on.board_is, with_plan given checked.ordered checked.board checked.plan is.plan_is goes))))
 
   module _ (unfinished : Unfinished File Reason) where
     abbrev Ends : Course vocabulary → Type 0

@@ -3,6 +3,7 @@ use Rattle.std.proofs.Common.{◌≡◌, ℕ, Bool, List, length, take, Option, 
 use Rattle.std.proofs.Math.Path.{fun_ext}
 use Rattle.vw_net.specs.declared.ordered.Ordered.{Ordered}
 use Rattle.vw_design.specs.Flattened.{IsFlatOf}
+use Rattle.vw_design.specs.Paths.{Word as ProbeWord}
 use Rattle.vw_front.specs.Designs.{WatchedDesign}
 use Rattle.vw_outside.specs.Told.{Told, untold, absent, held, IsTextOf}
 use Rattle.vw_outside.specs.Reads.{SeenShelf}
@@ -22,40 +23,49 @@ use Rattle.vw_rows.specs.Standing.{StandsIn, IsAtStart}
 use Rattle.vw_rows.specs.Stimulus.{stimulus_rows}
 use Rattle.vw_trace.specs.declared.fault.RunFault.{RunFault}
 use Rattle.vw_trace.specs.declared.fault.RunFault.TheVariants as runs
-use Rattle.vw_trace.specs.FlatTrace.{flat_trace}
 use Rattle.vw_trace.specs.Streamed.{IsNotHeld, MayBeRows, EndsStreaming, DoneFor, Streams}
 use Rattle.vw_top.specs.declared.vocabulary.File.{File}
 use Rattle.vw_top.specs.declared.vocabulary.File.TheVariants as files
 use Rattle.vw_top.specs.declared.vocabulary.Reason.{Reason}
 use Rattle.vw_top.specs.Messages.{vocabulary, CallWork}
 use Rattle.vw_top.specs.Kinds.{rows_kind, IsBadStimulus, IsBadAgain}
-use Rattle.vw_top.specs.Commands.{trace_of, Scripts, no_links, tracing, IsSomeTrace, trace_course, rows_course, design_course, netlist_course}
+use Rattle.vw_top.specs.Commands.{trace_of, netlist_trace, TextOver, Scripts, no_links, tracing, IsSomeTrace, trace_course, rows_course, design_course, netlist_course}
 use Rattle.vw_top.specs.Steps.Stages.{run_answer}
 use Rattle.vw_top.proofs.FlatTraces.{trace_same}
 
 -- ---- from a netlist to its design
 
-module _ (F : Course vocabulary → Type 0) (stimulus : List ℕ) (unknown : Bool) (scripts : Scripts) (watched : WatchedDesign) (ordered : Ordered) (is : IsFlatOf watched.design watched.nets ordered.flat) (count : ℕ) (counted : count ≡ length watched.nets) where
-  traces_same : flat_trace count unknown ordered.flat ≡ trace_of unknown watched
-  traces_same = fun_ext (trace_same unknown count watched ordered.flat is counted)
+-- a text of netlists is that of the designs of which they are
+abbrev pub IsTextOfDesigns : List ProbeWord → TextOver WatchedDesign → TextOver Ordered → Type 0
+IsTextOfDesigns probes text flat_text = (watched : WatchedDesign) (ordered : Ordered) → IsFlatOf watched.design watched.nets ordered.flat → length probes ≡ length watched.nets
+    → (rows : List (List Bool)) → flat_text ordered rows ≡ text watched rows
+
+-- so are traces
+pub traces_agree : (probes : List ProbeWord) (unknown : Bool) → IsTextOfDesigns probes (trace_of unknown) (netlist_trace (length probes) unknown)
+traces_agree probes unknown watched ordered is counted rows = trace_same unknown (length probes) watched ordered.flat is counted rows
+
+module _ (F : Course vocabulary → Type 0) (stimulus : List ℕ) (text : TextOver WatchedDesign) (flat_text : TextOver Ordered) (scripts : Scripts) (watched : WatchedDesign) (ordered : Ordered) (is : IsFlatOf watched.design watched.nets ordered.flat)
+    (same : (rows : List (List Bool)) → flat_text ordered rows ≡ text watched rows) where
+  texts_same : flat_text ordered ≡ text watched
+  texts_same = fun_ext same
 
   -- the course of a netlist is that of its design
-  pub of_design : F (netlist_course count stimulus unknown scripts ordered) → F (design_course stimulus unknown scripts watched)
+  pub of_design : F (netlist_course stimulus flat_text scripts ordered) → F (design_course stimulus text scripts watched)
   of_design of =
-      subst (λ (width : ℕ). F (rows_course stimulus width (trace_of unknown watched) scripts)) is.inputs
-      (subst (λ (trace : List (List Bool) → List ℕ). F (rows_course stimulus ordered.flat.inputs trace scripts)) traces_same of)
+      subst (λ (width : ℕ). F (rows_course stimulus width (text watched) scripts)) is.inputs
+      (subst (λ (its : List (List Bool) → List ℕ). F (rows_course stimulus ordered.flat.inputs its scripts)) texts_same of)
 
-  pub of_netlist : F (design_course stimulus unknown scripts watched) → F (netlist_course count stimulus unknown scripts ordered)
+  pub of_netlist : F (design_course stimulus text scripts watched) → F (netlist_course stimulus flat_text scripts ordered)
   of_netlist of =
-      subst (λ (trace : List (List Bool) → List ℕ). F (rows_course stimulus ordered.flat.inputs trace scripts)) (sym traces_same)
-      (subst (λ (width : ℕ). F (rows_course stimulus width (trace_of unknown watched) scripts)) (sym is.inputs) of)
+      subst (λ (its : List (List Bool) → List ℕ). F (rows_course stimulus ordered.flat.inputs its scripts)) (sym texts_same)
+      (subst (λ (width : ℕ). F (rows_course stimulus width (text watched) scripts)) (sym is.inputs) of)
 
 -- so a function that follows the one follows the other
-module _ {S O : Type 0} (seen_shelf : S → SeenShelf) (seen_out : O → SeenSink) (stimulus : List ℕ) (unknown : Bool) (scripts : Scripts) where
-  pub goes_of_design : {before after : Outside S O} {answer : Answer vocabulary} (watched : WatchedDesign) (ordered : Ordered) → IsFlatOf watched.design watched.nets ordered.flat → (count : ℕ) → count ≡ length watched.nets
-      → Goes seen_shelf seen_out vocabulary (netlist_course count stimulus unknown scripts ordered) before after answer → Goes seen_shelf seen_out vocabulary (design_course stimulus unknown scripts watched) before after answer
-  goes_of_design {before = before} {after = after} {answer = answer} watched ordered is count counted goes =
-      of_design (λ (course : Course vocabulary). Goes seen_shelf seen_out vocabulary course before after answer) stimulus unknown scripts watched ordered is count counted goes
+module _ {S O : Type 0} (seen_shelf : S → SeenShelf) (seen_out : O → SeenSink) (stimulus : List ℕ) (text : TextOver WatchedDesign) (flat_text : TextOver Ordered) (scripts : Scripts) where
+  pub goes_of_design : {before after : Outside S O} {answer : Answer vocabulary} (watched : WatchedDesign) (ordered : Ordered) → IsFlatOf watched.design watched.nets ordered.flat → ((rows : List (List Bool)) → flat_text ordered rows ≡ text watched rows)
+      → Goes seen_shelf seen_out vocabulary (netlist_course stimulus flat_text scripts ordered) before after answer → Goes seen_shelf seen_out vocabulary (design_course stimulus text scripts watched) before after answer
+  goes_of_design {before = before} {after = after} {answer = answer} watched ordered is same goes =
+      of_design (λ (course : Course vocabulary). Goes seen_shelf seen_out vocabulary course before after answer) stimulus text flat_text scripts watched ordered is same goes
 
 -- ---- what is left of the outside
 

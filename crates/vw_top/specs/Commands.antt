@@ -9,6 +9,7 @@ use Rattle.vw_design.specs.NetReads.{root_outputs}
 use Rattle.vw_design.specs.Clocks.{columns}
 use Rattle.vw_design.specs.PathHistory.{path_history}
 use Rattle.vw_front.specs.Designs.{WatchedDesign}
+use Rattle.vw_front.specs.Names.{signal_names}
 use Rattle.vw_course.specs.Course.{again, Course, works, refuses, writes, judges, made, stage}
 use Rattle.vw_course.specs.OnTexts.{on_texts}
 use Rattle.vw_plan.specs.declared.board.Board.{Board}
@@ -18,17 +19,21 @@ use Rattle.vw_plan.specs.HopCounts.{hop_count}
 use Rattle.vw_plantext.specs.Content.{content_of}
 use Rattle.vw_plantext.specs.Grammar.{spelling}
 use Rattle.vw_prog.specs.declared.word.Word.{Word}
+use Rattle.vw_emit.specs.Emitted.{emitted_text}
 use Rattle.vw_rows.specs.Trace.{trace_text}
 use Rattle.vw_batches.specs.Traffic.{scripts_of, traffic}
 use Rattle.vw_trace.specs.FlatTrace.{flat_trace}
+use Rattle.vw_vcd.specs.Lines.{wave_text}
+use Rattle.vw_wave.specs.FlatWave.{flat_wave, signal_rows}
 use Rattle.vw_top.specs.declared.vocabulary.File.TheVariants as files
 use Rattle.vw_top.specs.declared.vocabulary.Reason.TheVariants.{Usage}
 use Rattle.vw_top.specs.Words.{Spelled}
 use Rattle.vw_top.specs.Words as words
+use Rattle.vw_top.specs.Help.{help_text, version_text}
 use Rattle.vw_top.specs.Demo.{board_name, design_name, generated, stimulus_name}
 use Rattle.vw_gen.specs.Summary.{summary}
 use Rattle.vw_top.specs.Messages.{vocabulary, CallWork}
-use Rattle.vw_top.specs.Kinds.{design_kind, netlist_kind, rows_kind, IsBadAgain, board_kind, plan_kind, soundness, planning}
+use Rattle.vw_top.specs.Kinds.{design_kind, netlist_kind, rows_kind, IsBadAgain, board_kind, plan_kind, soundness, planning, emission}
 
 -- ---- traces
 
@@ -64,66 +69,47 @@ abbrev pub rows_course : List ℕ → ℕ → (List (List Bool) → List ℕ) �
 rows_course stimulus width trace scripts =
     stage (rows_kind width) stimulus (trace_course stimulus width trace scripts)
 
--- so for a design, and for a netlist of which so many last outputs are probes
-abbrev pub design_course : List ℕ → Bool → Scripts → WatchedDesign → Course vocabulary
-design_course stimulus unknown scripts watched =
-    rows_course stimulus (length (columns watched.design)) (trace_of unknown watched) scripts
+-- a text of each thing that is run over rows
+abbrev pub TextOver : Type 0 → Type 0
+TextOver Thing = Thing → List (List Bool) → List ℕ
 
-abbrev pub netlist_course : ℕ → List ℕ → Bool → Scripts → Ordered → Course vocabulary
-netlist_course count stimulus unknown scripts ordered =
-    rows_course stimulus ordered.flat.inputs (flat_trace count unknown ordered.flat) scripts
+-- so for a design, and for a netlist
+abbrev pub design_course : List ℕ → TextOver WatchedDesign → Scripts → WatchedDesign → Course vocabulary
+design_course stimulus text scripts watched =
+    rows_course stimulus (length (columns watched.design)) (text watched) scripts
+
+abbrev pub netlist_course : List ℕ → TextOver Ordered → Scripts → Ordered → Course vocabulary
+netlist_course stimulus text scripts ordered = rows_course stimulus ordered.flat.inputs (text ordered) scripts
+
+-- the trace of a netlist of which so many last outputs are probes
+abbrev pub netlist_trace : ℕ → Bool → TextOver Ordered
+netlist_trace count unknown ordered = flat_trace count unknown ordered.flat
 
 -- ---- sim
 
--- the design first, with its probes
+-- the design first, with its probes, and no links are used
+abbrev pub over_design_course : List ProbeWord → List ℕ → List ℕ → TextOver WatchedDesign → Course vocabulary
+over_design_course probes design stimulus text = stage (design_kind probes) design (design_course stimulus text no_links)
+
 abbrev pub sim_course : List ProbeWord → List ℕ → List ℕ → Bool → Course vocabulary
-sim_course probes design stimulus unknown = stage (design_kind probes) design (design_course stimulus unknown no_links)
+sim_course probes design stimulus unknown = over_design_course probes design stimulus (trace_of unknown)
 
--- ---- check
+-- ---- wave
 
--- what is written of a sound plan: its wires, its hops, and its period
-abbrev pub sound_text : Plan → List ℕ
-sound_text plan =
-    codes "sound " ++ (decimal (length plan.wires)
-    ++ (32 ∷ decimal (hop_count plan.wires) ++ (32 ∷ decimal plan.period ++ 10 ∷ [])))
+-- the wave of a design with watched nets over rows, with the names of its signals, where free latches start at `unknown`
+abbrev pub wave_of : List ProbeWord → Bool → TextOver WatchedDesign
+wave_of probes unknown watched rows =
+    wave_text (signal_names probes watched.design) (signal_rows (path_history watched.design watched.nets unknown rows))
 
--- a plan is sound for a netlist on a board, and its size is written
-abbrev pub sound_course : Ordered → Board → Plan → Course vocabulary
-sound_course ordered board plan = judges (soundness (planned_board ordered board plan)) (λ done. writes (sound_text plan))
+-- the same of a netlist whose signals have these names
+abbrev pub netlist_wave : List ProbeWord → Bool → TextOver Ordered
+netlist_wave names unknown ordered = flat_wave names unknown ordered.flat
 
--- the plan is read, and judged
-abbrev pub check_plan_course : List ℕ → Ordered → Board → Course vocabulary
-check_plan_course plan ordered board = stage plan_kind plan (sound_course ordered board)
+abbrev pub wave_course : List ProbeWord → List ℕ → List ℕ → Bool → Course vocabulary
+wave_course probes design stimulus unknown = over_design_course probes design stimulus (wave_of probes unknown)
 
--- the board before it
-abbrev pub check_board_course : List ℕ → List ℕ → Ordered → Course vocabulary
-check_board_course board plan ordered = stage board_kind board (check_plan_course plan ordered)
+-- ---- what comes behind a planned board
 
--- the design first
-abbrev pub check_course : List ProbeWord → List ℕ → List ℕ → List ℕ → Course vocabulary
-check_course probes design board plan = stage (netlist_kind probes) design (check_board_course board plan)
-
--- ---- plan
-
--- the text of a plan
-abbrev pub text_of_plan : Plan → List ℕ
-text_of_plan plan = spelling (content_of plan)
-
--- a good plan is made wherever the cells have room, and its text is written
-abbrev pub good_course : Ordered → Board → Course vocabulary
-good_course ordered board = made (planning ordered board) (λ plan. writes (text_of_plan plan))
-
--- the board is read before it
-abbrev pub plan_board_course : List ℕ → Ordered → Course vocabulary
-plan_board_course board ordered = stage board_kind board (good_course ordered)
-
--- the design first
-abbrev pub plan_course : List ProbeWord → List ℕ → List ℕ → Course vocabulary
-plan_course probes design board = stage (netlist_kind probes) design (plan_board_course board)
-
--- ---- run
-
--- what comes behind a planned board
 abbrev pub Rest : Type 1
 Rest = Ordered → Board → Plan → Course vocabulary
 
@@ -145,18 +131,61 @@ on_board_course board given rest ordered = stage board_kind board (with_plan_cou
 abbrev pub ready_course : List ProbeWord → List ℕ → List ℕ → Option (List ℕ) → Rest → Course vocabulary
 ready_course probes design board given rest = stage (netlist_kind probes) design (on_board_course board given rest)
 
+-- ---- check
+
+-- what is written of a sound plan: its wires, its hops, and its period
+abbrev pub sound_text : Plan → List ℕ
+sound_text plan =
+    codes "sound " ++ (decimal (length plan.wires)
+    ++ (32 ∷ decimal (hop_count plan.wires) ++ (32 ∷ decimal plan.period ++ 10 ∷ [])))
+
+abbrev pub size_rest : Rest
+size_rest ordered board plan = writes (sound_text plan)
+
+abbrev pub check_course : List ProbeWord → List ℕ → List ℕ → List ℕ → Course vocabulary
+check_course probes design board plan = ready_course probes design board (Some plan) size_rest
+
+-- ---- plan
+
+-- the text of a plan
+abbrev pub text_of_plan : Plan → List ℕ
+text_of_plan plan = spelling (content_of plan)
+
+abbrev pub plan_rest : Rest
+plan_rest ordered board plan = writes (text_of_plan plan)
+
+abbrev pub plan_course : List ProbeWord → List ℕ → List ℕ → Course vocabulary
+plan_course probes design board = ready_course probes design board None plan_rest
+
+-- ---- emit
+
+-- the planned board is written as a design, where this is within the limits of designs
+abbrev pub emit_rest : Rest
+emit_rest ordered board plan =
+    judges (emission (planned_board ordered board plan)) (λ done. writes (emitted_text (planned_board ordered board plan)))
+
+abbrev pub emit_course : List ℕ → List ℕ → Option (List ℕ) → Course vocabulary
+emit_course design board given = ready_course [] design board given emit_rest
+
+-- ---- run
+
 -- the words that the links of a planned board carry: none with one worker, which uses no link
 abbrev pub board_scripts : ℕ → Bool → PlannedBoard → Scripts
 board_scripts workers unknown planned rows = scripts_of workers (traffic planned unknown rows)
 
--- a planned board runs: what is written is the trace of its netlist, which knows no plan
-abbrev pub board_course : ℕ → List ℕ → ℕ → Bool → Rest
-board_course count stimulus workers unknown ordered board plan =
-    netlist_course count stimulus unknown (board_scripts workers unknown (planned_board ordered board plan)) ordered
+-- a planned board runs: what is written is a text of its netlist, which knows no plan
+abbrev pub board_course : List ℕ → TextOver Ordered → ℕ → Bool → Rest
+board_course stimulus text workers unknown ordered board plan =
+    netlist_course stimulus text (board_scripts workers unknown (planned_board ordered board plan)) ordered
+
+-- such a board is made ready before
+abbrev pub over_rows_course : List ProbeWord → List ℕ → List ℕ → Option (List ℕ) → List ℕ → TextOver Ordered → ℕ → Bool → Course vocabulary
+over_rows_course probes design board given stimulus text workers unknown =
+    ready_course probes design board given (board_course stimulus text workers unknown)
 
 abbrev pub run_course : List ProbeWord → List ℕ → List ℕ → Option (List ℕ) → List ℕ → ℕ → Bool → Course vocabulary
 run_course probes design board given stimulus workers unknown =
-    ready_course probes design board given (board_course (length probes) stimulus workers unknown)
+    over_rows_course probes design board given stimulus (netlist_trace (length probes) unknown) workers unknown
 
 -- ---- demo
 
@@ -181,4 +210,8 @@ course_of (words.plan design board probes) = plan_course probes design board
 course_of (words.run design board stimulus given workers unknown probes) =
     run_course probes design board given stimulus workers unknown
 course_of (words.demo cells workers) = demo_course cells workers
+course_of (words.wave design stimulus unknown probes) = wave_course probes design stimulus unknown
+course_of (words.emit design board given) = emit_course design board given
+course_of words.help = writes help_text
+course_of words.version = writes version_text
 course_of (words.nothing place) = usage_course place

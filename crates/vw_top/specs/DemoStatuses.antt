@@ -1,6 +1,8 @@
 -- What each status of `demo` says of its texts.
-use Rattle.std.specs.Prelude.{◌≡◌, ◌≢◌, ◌<◌, ◌⊎◌, ℕ, Bool, false, List, []}
-use Rattle.vw_front.specs.Designs.{WatchedDesign}
+use Rattle.std.specs.Prelude.{◌≡◌, ◌≢◌, ◌<◌, ◌⊎◌, ℕ, Bool, false, List, [], length, None}
+use Rattle.vw_course.specs.Vocabulary.{IsNoStop}
+use Rattle.vw_design.specs.Clocks.{columns}
+use Rattle.vw_front.specs.Designs.{WatchedDesign, IsWatchedDesignOf}
 use Rattle.vw_gen.specs.Design.{design_text}
 use Rattle.vw_gen.specs.Stimulus.{stimulus_text}
 use Rattle.vw_outside.specs.Told.{held}
@@ -9,16 +11,18 @@ use Rattle.vw_gen.specs.Summary.{summary}
 use Rattle.vw_top.specs.Messages.{Call}
 use Rattle.vw_top.specs.Demo.{board_name, design_name, generated, stimulus_name}
 use Rattle.vw_top.specs.Commands.{trace_of}
-use Rattle.vw_top.specs.TracedStatuses.{AreSpelled}
+use Rattle.vw_top.specs.Kinds.{IsRowsOf}
+use Rattle.vw_top.specs.PlannedStatuses.{AreSpelled}
 use Rattle.vw_top.specs.LinkTraffic.{CarriesAll}
-use Rattle.vw_top.specs.RunStatuses.{AreGood, RunStatuses}
+use Rattle.vw_top.specs.RunStatuses.{RunStatuses}
 
 -- out has, behind what it had before, exactly the summary of the trace of the generated design, which knows no board, over
 -- the generated rows
 pub record WritesSummary (cells : ℕ) (call : Call) : Type 0 where
   pub spelled : WatchedDesign
   pub rows : List (List Bool)
-  pub are : AreSpelled [] (design_text cells) (stimulus_text cells) spelled rows
+  pub design_is : IsWatchedDesignOf [] (design_text cells) spelled
+  pub rows_are : IsRowsOf (length (columns spelled.design)) (stimulus_text cells) rows
   pub wrote : call.after.out ≡ appended call.before.out (summary cells (trace_of false spelled rows))
 
 -- a call of `run` over the generated texts, while which links carried what they carried in this call
@@ -27,7 +31,7 @@ pub record IsRunOfTexts (cells workers : ℕ) (call run : Call) : Type 0 where
   pub links : run.before.links ≡ call.before.links
   pub links_after : run.after.links ≡ call.after.links
   -- all that is said of runs: when the texts are refused, for which reason, and that they run otherwise
-  pub statuses : RunStatuses [] design_name board_name stimulus_name workers false run
+  pub statuses : RunStatuses [] (trace_of false) design_name board_name None stimulus_name workers false run
 
 -- nothing changed, and the message is that of the run
 pub record IsRefusedAs (call run : Call) : Type 0 where
@@ -44,8 +48,8 @@ pub record DemoStatuses (cells workers : ℕ) (call : Call) : Type 0 where
   pub done : call.status ≡ 0 → WritesSummary cells call
   -- 0: each link has carried its script of one good plan over all clocks, where several workers run it
   pub on_links : call.status ≡ 0 → CarriesAll [] workers false (design_text cells) (stimulus_text cells)
-      (AreGood [] design_name board_name stimulus_name workers false (design_text cells) (generated cells board_name)) run
+      (AreSpelled [] None (design_text cells) (generated cells board_name) []) run
   -- 1, 3, 5 and 6: as the run is
-  pub refused : 0 < call.status → call.status < 7 → IsRefusedAs call run
+  pub refused : 0 < call.status → IsNoStop call.status → IsRefusedAs call run
   -- these aren't statuses of it
-  pub others : (call.status ≢ 2) × (call.status ≢ 4) × (call.status ≢ 7)
+  pub others : (call.status ≢ 2) × (call.status ≢ 4) × (call.status ≢ 7) × (call.status ≢ 10) × (call.status ≢ 11)

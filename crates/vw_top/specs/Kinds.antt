@@ -24,6 +24,10 @@ use Rattle.vw_check.specs.Faults.{plan_fault}
 use Rattle.vw_check.proofs.SoundPlans.{faultless}
 use Rattle.vw_rows.specs.declared.fault.StimFault.{StimFault}
 use Rattle.vw_rows.specs.Stimulus.{stimulus_rows, is_text_fault}
+use Rattle.vw_emit.specs.declared.fault.EmitFault.{EmitFault}
+use Rattle.vw_emit.specs.Emitted.{FitsDesigns, IsEmitFault}
+use Rattle.vw_emit.specs.Messages.{is_emit_fault}
+use Rattle.vw_emit.proofs.Limits.{fits_apart}
 use Rattle.vw_run.specs.declared.fault.CompileFault.TheVariants.{TooManyCells}
 use Rattle.vw_run.proofs.Fits.{sound_plans_fit}
 use Rattle.vw_top.specs.declared.vocabulary.File.TheVariants as files
@@ -177,4 +181,19 @@ planning ordered board = record {
   };
   Comes = HasRoom ordered board;
   sure = λ reason room bad. not-le_of_lt bad.1 room;
+}
+
+-- ---- a planned board as a design
+
+-- why it isn't written: it, or its text, is above a limit of designs, and this is the first one
+abbrev pub IsBadEmission : PlannedBoard → Reason → Type 0
+IsBadEmission planned reason = (fault : EmitFault) × (reason ≡ reasons.Emit fault) × IsTrue (is_emit_fault fault) × IsEmitFault planned fault
+
+-- it is within the limits, or above one
+abbrev pub emission : PlannedBoard → Judged vocabulary (Unit {0}) 10
+emission planned = record {
+  Good = λ done. FitsDesigns planned;
+  Bad = IsBadEmission planned;
+  apart = λ done reason fits bad. fits_apart planned bad.0 fits bad.2 bad.3;
+  its_status = λ reason bad. ap reason_status bad.1;
 }

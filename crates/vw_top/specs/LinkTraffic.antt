@@ -1,15 +1,16 @@
 -- What the tables of `run` say of the words that links carry.
-use Rattle.std.specs.Prelude.{◌≡◌, ℕ, Bool, List}
+use Rattle.std.specs.Prelude.{◌≡◌, ℕ, Bool, List, length}
 use Rattle.vw_net.specs.declared.ordered.Ordered.{Ordered}
 use Rattle.vw_design.specs.Paths.{Word}
-use Rattle.vw_front.specs.Designs.{WatchedDesign}
+use Rattle.vw_design.specs.Clocks.{columns}
+use Rattle.vw_front.specs.Designs.{WatchedDesign, IsWatchedDesignOf}
 use Rattle.vw_course.specs.Outside.{carried}
 use Rattle.vw_plan.specs.declared.board.Board.{Board}
 use Rattle.vw_plan.specs.declared.plan.Plan.{Plan}
 use Rattle.vw_plan.specs.PlannedBoard.{planned_board}
 use Rattle.vw_top.specs.Messages.{Call}
 use Rattle.vw_top.specs.Commands.{Scripts, board_scripts}
-use Rattle.vw_top.specs.TracedStatuses.{AreSpelled}
+use Rattle.vw_top.specs.Kinds.{IsRowsOf}
 
 -- links are used as some planned board of this kind uses them
 pub record UsesBoard (workers : ℕ) (unknown : Bool) (Is : Ordered → Board → Plan → Type 0) (scripts : Scripts) : Type 0 where
@@ -23,7 +24,8 @@ pub record UsesBoard (workers : ℕ) (unknown : Bool) (Is : Ordered → Board �
 pub record CarriesAll (probes : List Word) (workers : ℕ) (unknown : Bool) (d s : List ℕ) (Is : Ordered → Board → Plan → Type 0) (call : Call) : Type 0 where
   pub spelled : WatchedDesign
   pub rows : List (List Bool)
-  pub are : AreSpelled probes d s spelled rows
+  pub design_is : IsWatchedDesignOf probes d spelled
+  pub rows_are : IsRowsOf (length (columns spelled.design)) s rows
   pub ordered : Ordered
   pub board : Board
   pub plan : Plan

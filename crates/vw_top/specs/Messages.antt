@@ -1,8 +1,8 @@
 -- The files of commands and the reasons for which they refuse, with their statuses and message lines.
 use Rattle.std.specs.Prelude.{◌<◌, ℕ, List, [], ◌∷◌, ◌++◌, codes}
 use Rattle.std.specs.Fmt.{decimal}
-use Rattle.std.proofs.Common.{lit<}
-use Rattle.vw_course.specs.Vocabulary.{Vocabulary, vocabulary_of}
+use Rattle.std.proofs.Common.{inl, inr, lit<}
+use Rattle.vw_course.specs.Vocabulary.{Vocabulary, IsNoStop, vocabulary_of}
 use Rattle.vw_course.specs.Outside.{Work}
 use Rattle.vw_course.specs.Endings.{SeenCall}
 use Rattle.vw_front.specs.Messages.{fault_text as design_fault_text}
@@ -10,12 +10,13 @@ use Rattle.vw_board.specs.Messages.{fault_text as board_fault_text}
 use Rattle.vw_plantext.specs.Messages.{fault_text as plan_text_fault_text}
 use Rattle.vw_check.specs.Messages.{fault_text as plan_fault_text}
 use Rattle.vw_prog.specs.declared.word.Word.{Word}
+use Rattle.vw_emit.specs.Messages.{fault_text as emit_fault_text}
 use Rattle.vw_run.specs.Messages.{fault_text as compile_fault_text}
 use Rattle.vw_rows.specs.Messages.{fault_text as stimulus_fault_text}
 use Rattle.vw_top.specs.declared.vocabulary.File.{File}
 use Rattle.vw_top.specs.declared.vocabulary.File.TheVariants as files
 use Rattle.vw_top.specs.declared.vocabulary.Reason.{Reason}
-use Rattle.vw_top.specs.declared.vocabulary.Reason.TheVariants.{Design, Usage, Board, PlanText, Plan, Stimulus, Fit}
+use Rattle.vw_top.specs.declared.vocabulary.Reason.TheVariants.{Design, Usage, Board, PlanText, Plan, Stimulus, Fit, Emit}
 
 abbrev pub file_text : File → List ℕ
 file_text files.Design = codes "design"
@@ -35,6 +36,7 @@ reason_status (PlanText fault) = 4
 reason_status (Plan fault) = 4
 reason_status (Stimulus fault) = 5
 reason_status (Fit fault) = 6
+reason_status (Emit fault) = 10
 
 abbrev pub reason_line : Reason → List ℕ
 reason_line (Design fault) = design_fault_text fault
@@ -44,8 +46,9 @@ reason_line (PlanText fault) = plan_text_fault_text fault
 reason_line (Plan fault) = plan_fault_text fault
 reason_line (Stimulus fault) = stimulus_fault_text fault
 reason_line (Fit fault) = compile_fault_text fault
+reason_line (Emit fault) = emit_fault_text fault
 
--- the statuses are those from 1 to 6
+-- the statuses are those from 1 to 6, and 10
 abbrev pub reason_some : (reason : Reason) → 0 < reason_status reason
 reason_some (Design fault) = lit< tt
 reason_some (Usage place) = lit< tt
@@ -54,15 +57,17 @@ reason_some (PlanText fault) = lit< tt
 reason_some (Plan fault) = lit< tt
 reason_some (Stimulus fault) = lit< tt
 reason_some (Fit fault) = lit< tt
+reason_some (Emit fault) = lit< tt
 
-abbrev pub reason_few : (reason : Reason) → reason_status reason < 7
-reason_few (Design fault) = lit< tt
-reason_few (Usage place) = lit< tt
-reason_few (Board fault) = lit< tt
-reason_few (PlanText fault) = lit< tt
-reason_few (Plan fault) = lit< tt
-reason_few (Stimulus fault) = lit< tt
-reason_few (Fit fault) = lit< tt
+abbrev pub reason_few : (reason : Reason) → IsNoStop (reason_status reason)
+reason_few (Design fault) = inl (lit< tt)
+reason_few (Usage place) = inl (lit< tt)
+reason_few (Board fault) = inl (lit< tt)
+reason_few (PlanText fault) = inl (lit< tt)
+reason_few (Plan fault) = inl (lit< tt)
+reason_few (Stimulus fault) = inl (lit< tt)
+reason_few (Fit fault) = inl (lit< tt)
+reason_few (Emit fault) = inr (lit< tt, lit< tt)
 
 -- what the courses of commands speak of
 abbrev pub vocabulary : Vocabulary

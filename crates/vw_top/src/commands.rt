@@ -1,18 +1,24 @@
 //! The public calls, and how they end.
-ghost use Rattle.std.specs.Prelude.{◌≡◌, ◌<◌, ◌≤◌, MatchOption};
+ghost use Rattle.std.specs.Prelude.{◌≡◌, false, true, MatchOption};
 ghost use Rattle.vw_course.specs.Endings.{IsCallOf};
 ghost use Rattle.vw_course.specs.Goes.{Goes, GoesOver, IsCalled, IsFollowed, MovedFrom, Unmoved, seen_call, seen_outside};
 ghost use Rattle.vw_top.specs.Commands.{course_of};
 ghost use Rattle.vw_top.specs.Messages.{vocabulary};
-ghost use Rattle.vw_top.specs.Words.{spelled_by, workers_of};
+ghost use Rattle.vw_top.specs.Steps.Commands.{command_view};
+ghost use Rattle.vw_top.specs.Words.{spelled_by, needs_runtime};
 
+use crate::board_files::BoardFiles;
 use crate::check::check;
 use crate::demo::{demo_by_one, demo_by_several};
+use crate::emit::emit;
+use crate::help::{help, version};
 use crate::plan::plan;
+use crate::probes::Probes;
 use crate::run::{run_by_one, run_by_several};
 use crate::sim::sim;
 use crate::vocabulary::{Reason, Unfinished};
-use crate::words::{Command, command_of, probes_of, workers_of};
+use crate::wave::wave;
+use crate::words::{Command, command_of, probes_of};
 use std::alloc::Global;
 use std::marker::Sync;
 use std::sync::Wait;
@@ -21,18 +27,18 @@ use vw_course::{Outside, report};
 use vw_outside::{BurstGate, Name, Shelf, Sink};
 use vw_prog::Fabric;
 
-/// Carries out the command that words spell, up to its message. They don't ask for several workers.
+/// Carries out a command that needs no runtime, up to its message.
 fn carry_out<S: Shelf, O: Sink>(
     alloc: Global,
-    words: &[Name],
+    command: Command<'_>,
     outside: &mut Outside<'_, '_, S, O>,
 ) -> Result<(), Unfinished>
-    requires { workers_of (spelled_by words.now) ≤ 1 }
-    ensures { Goes S.seen O.seen vocabulary (course_of (spelled_by words.now)) outside.old
+    requires { needs_runtime (command_view command) ≡ false }
+    ensures { Goes S.seen O.seen vocabulary (course_of (command_view command.entry)) outside.old
         outside.new
         result }
 {
-    match command_of(words) {
+    match command {
         Command::Sim {
             design,
             stimulus,
@@ -40,7 +46,18 @@ fn carry_out<S: Shelf, O: Sink>(
             probes,
         } => {
             let probes = probes_of(alloc, probes)?;
-            sim(alloc, design, &probes, stimulus, unknown, outside)
+            let probes = Probes { nets: &probes };
+            sim(alloc, design, probes, stimulus, unknown, outside)
+        }
+        Command::Wave {
+            design,
+            stimulus,
+            unknown,
+            probes,
+        } => {
+            let probes = probes_of(alloc, probes)?;
+            let probes = Probes { nets: &probes };
+            wave(alloc, design, probes, stimulus, unknown, outside)
         }
         Command::Check {
             design,
@@ -49,7 +66,13 @@ fn carry_out<S: Shelf, O: Sink>(
             probes,
         } => {
             let probes = probes_of(alloc, probes)?;
-            check(alloc, design, &probes, board, plan, outside)
+            let files = BoardFiles {
+                design,
+                probes: Probes { nets: &probes },
+                board,
+                plan: Some(plan),
+            };
+            check(alloc, &files, outside)
         }
         Command::Plan {
             design,
@@ -57,7 +80,13 @@ fn carry_out<S: Shelf, O: Sink>(
             probes,
         } => {
             let probes = probes_of(alloc, probes)?;
-            plan(alloc, design, &probes, board, outside)
+            let files = BoardFiles {
+                design,
+                probes: Probes { nets: &probes },
+                board,
+                plan: None,
+            };
+            plan(alloc, &files, outside)
         }
         Command::Run {
             design,
@@ -69,30 +98,49 @@ fn carry_out<S: Shelf, O: Sink>(
             ..
         } => {
             let probes = probes_of(alloc, probes)?;
-            run_by_one(
-                alloc, design, &probes, board, plan, stimulus, unknown, outside,
-            )
+            let files = BoardFiles {
+                design,
+                probes: Probes { nets: &probes },
+                board,
+                plan,
+            };
+            run_by_one(alloc, &files, stimulus, unknown, outside)
+        }
+        Command::Emit {
+            design,
+            board,
+            plan,
+        } => {
+            let files = BoardFiles {
+                design,
+                probes: Probes { nets: &[] },
+                board,
+                plan,
+            };
+            emit(alloc, &files, outside)
         }
         Command::Demo { size, .. } => demo_by_one(alloc, size, outside),
+        Command::Help => help(outside),
+        Command::Version => version(outside),
         Command::Nothing(place) => Err(Unfinished::Refused(Reason::Usage(place))),
     }
 }
 
-/// Carries out the command with several workers that words spell, up to its message.
+/// Carries out a command that needs a runtime, up to its message.
 fn carry_out_together<R: Threads + Wait + Sync, S: Shelf, F: Fabric, G: BurstGate, O: Sink>(
     rt: &R,
     alloc: Global,
-    words: &[Name],
+    command: Command<'_>,
     fabric: &mut F,
     gate: &G,
     outside: &mut Outside<'_, '_, S, O>,
 ) -> Result<(), Unfinished>
-    requires { 1 < workers_of (spelled_by words.now) }
+    requires { needs_runtime (command_view command) ≡ true }
     ensures { GoesOver S.seen O.seen vocabulary
         (MovedFrom (F.carried fabric.old) (F.carried fabric.new))
-        (course_of (spelled_by words.now)) outside.old outside.new result }
+        (course_of (command_view command.entry)) outside.old outside.new result }
 {
-    match command_of(words) {
+    match command {
         Command::Run {
             design,
             board,
@@ -103,9 +151,14 @@ fn carry_out_together<R: Threads + Wait + Sync, S: Shelf, F: Fabric, G: BurstGat
             probes,
         } => {
             let probes = probes_of(alloc, probes)?;
+            let files = BoardFiles {
+                design,
+                probes: Probes { nets: &probes },
+                board,
+                plan,
+            };
             run_by_several(
-                rt, alloc, design, &probes, board, plan, stimulus, workers, unknown, fabric, gate,
-                outside,
+                rt, alloc, &files, stimulus, workers, unknown, fabric, gate, outside,
             )
         }
         Command::Demo { size, workers } => {
@@ -115,43 +168,86 @@ fn carry_out_together<R: Threads + Wait + Sync, S: Shelf, F: Fabric, G: BurstGat
     }
 }
 
-/// Carries out the command that words spell over this shelf and this sink, up to its message.
+/// Carries out a command that needs no runtime over this shelf and this sink, up to its message.
 fn follow<S: Shelf, O: Sink>(
     alloc: Global,
-    words: &[Name],
+    command: Command<'_>,
     shelf: &mut S,
     out: &mut O,
 ) -> Result<(), Unfinished>
-    requires { workers_of (spelled_by words.now) ≤ 1 }
-    ensures { IsFollowed vocabulary Unmoved (course_of (spelled_by words.now)) (S.seen shelf.old)
+    requires { needs_runtime (command_view command) ≡ false }
+    ensures { IsFollowed vocabulary Unmoved (course_of (command_view command.entry)) (S.seen shelf.old)
         (O.seen out.old) (S.seen shelf.new) (O.seen out.new) result }
 {
     let mut outside = Outside { shelf, out };
-    carry_out(alloc, words, &mut outside)
+    carry_out(alloc, command, &mut outside)
 }
 
-/// The same for a run with several workers.
+/// The same for one that needs a runtime.
 fn follow_together<R: Threads + Wait + Sync, S: Shelf, F: Fabric, G: BurstGate, O: Sink>(
     rt: &R,
     alloc: Global,
-    words: &[Name],
+    command: Command<'_>,
     shelf: &mut S,
     fabric: &mut F,
     gate: &G,
     out: &mut O,
 ) -> Result<(), Unfinished>
-    requires { 1 < workers_of (spelled_by words.now) }
+    requires { needs_runtime (command_view command) ≡ true }
     ensures { IsFollowed vocabulary (MovedFrom (F.carried fabric.old) (F.carried fabric.new))
-        (course_of (spelled_by words.now)) (S.seen shelf.old) (O.seen out.old)
+        (course_of (command_view command.entry)) (S.seen shelf.old) (O.seen out.old)
         (S.seen shelf.new) (O.seen out.new) result }
 {
     let mut outside = Outside { shelf, out };
-    carry_out_together(rt, alloc, words, fabric, gate, &mut outside)
+    carry_out_together(rt, alloc, command, fabric, gate, &mut outside)
+}
+
+/// Carries out a command that needs no runtime, and gives the exit status.
+fn without_runtime<S: Shelf, O: Sink, E: Sink>(
+    alloc: Global,
+    command: Command<'_>,
+    shelf: &mut S,
+    out: &mut O,
+    err: &mut E,
+) -> u8
+    requires { needs_runtime (command_view command) ≡ false }
+    ensures { IsCalled vocabulary (course_of (command_view command.entry))
+        (S.seen shelf.old) (O.seen out.old) (E.seen err.old)
+        (S.seen shelf.new) (O.seen out.new) (E.seen err.new)
+        result }
+{
+    match follow(alloc, command, shelf, out) {
+        Ok(()) => 0,
+        Err(unfinished) => report(alloc, &unfinished, err),
+    }
+}
+
+/// Carries out a command that needs a runtime, and gives the exit status.
+fn together<R: Threads + Wait + Sync, S: Shelf, F: Fabric, G: BurstGate, O: Sink, E: Sink>(
+    rt: &R,
+    alloc: Global,
+    command: Command<'_>,
+    shelf: &mut S,
+    fabric: &mut F,
+    gate: &G,
+    out: &mut O,
+    err: &mut E,
+) -> u8
+    requires { needs_runtime (command_view command) ≡ true }
+    ensures { IsCallOf (course_of (command_view command.entry)) (seen_call
+        (seen_outside (S.seen shelf.old) (O.seen out.old) (F.carried fabric.old)) (E.seen err.old)
+        (seen_outside (S.seen shelf.new) (O.seen out.new) (F.carried fabric.new)) (E.seen err.new)
+        result) }
+{
+    match follow_together(rt, alloc, command, shelf, fabric, gate, out) {
+        Ok(()) => 0,
+        Err(unfinished) => report(alloc, &unfinished, err),
+    }
 }
 
 /// Carries out the command that the words after the program's name spell, in this thread and without a runtime, and gives
-/// the exit status. So it returns, whatever is outside. It answers nothing exactly where the words ask for several
-/// workers; then nothing was read or written. Of all else it says what `virtual_wires` says.
+/// the exit status. So it returns, whatever is outside. It answers nothing exactly where the command needs a runtime, as
+/// one with several workers does; then nothing was read or written. Of all else it says what `virtual_wires` says.
 pub fn alone<S: Shelf, O: Sink, E: Sink>(
     alloc: Global,
     words: &[Name],
@@ -160,51 +256,25 @@ pub fn alone<S: Shelf, O: Sink, E: Sink>(
     err: &mut E,
 ) -> Option<u8>
     ensures { MatchOption result
-        ((1 < workers_of (spelled_by words.now))
+        ((needs_runtime (spelled_by words.now) ≡ true)
         × (shelf.new ≡ shelf.old) × (out.new ≡ out.old) × (err.new ≡ err.old))
-        (λ status. (workers_of (spelled_by words.now) ≤ 1)
+        (λ status. (needs_runtime (spelled_by words.now) ≡ false)
         × IsCalled vocabulary (course_of (spelled_by words.now))
         (S.seen shelf.old) (O.seen out.old) (E.seen err.old)
         (S.seen shelf.new) (O.seen out.new) (E.seen err.new)
         status) }
 {
-    if workers_of(words) > 1 {
+    let command = command_of(words);
+    if command.needs_runtime() {
         return None;
     }
-    let status = match follow(alloc, words, shelf, out) {
-        Ok(()) => 0,
-        Err(unfinished) => report(alloc, &unfinished, err),
-    };
-    Some(status)
-}
-
-/// Carries out a run with several workers, and gives the exit status.
-fn together<R: Threads + Wait + Sync, S: Shelf, F: Fabric, G: BurstGate, O: Sink, E: Sink>(
-    rt: &R,
-    alloc: Global,
-    words: &[Name],
-    shelf: &mut S,
-    fabric: &mut F,
-    gate: &G,
-    out: &mut O,
-    err: &mut E,
-) -> u8
-    requires { 1 < workers_of (spelled_by words.now) }
-    ensures { IsCallOf (course_of (spelled_by words.now)) (seen_call
-        (seen_outside (S.seen shelf.old) (O.seen out.old) (F.carried fabric.old)) (E.seen err.old)
-        (seen_outside (S.seen shelf.new) (O.seen out.new) (F.carried fabric.new)) (E.seen err.new)
-        result) }
-{
-    match follow_together(rt, alloc, words, shelf, fabric, gate, out) {
-        Ok(()) => 0,
-        Err(unfinished) => report(alloc, &unfinished, err),
-    }
+    Some(without_runtime(alloc, command, shelf, out, err))
 }
 
 /// Carries out the command that the words after the program's name spell, and gives the exit status. After each
 /// status but 0 one message line goes to `err`. What each status means, when it comes and what it leaves, the laws
-/// `headline`, `call_statuses`, `sim_statuses`, `check_statuses`, `plan_statuses`, `run_statuses`, `run_given_statuses`,
-/// `demo_statuses` and `usage_statuses` say.
+/// `headline`, `call_statuses`, `sim_statuses`, `wave_statuses`, `check_statuses`, `plan_statuses`, `run_statuses`, `emit_statuses`,
+/// `demo_statuses`, `help_statuses`, `version_statuses` and `usage_statuses` say.
 ///
 /// A run with several workers has the nodes of the board in groups on threads of the runtime. The words between them go
 /// over links of the fabric, and each group passes the gate before each of its bursts. That such a run ends isn't
@@ -225,8 +295,9 @@ pub fn virtual_wires<R: Threads + Wait + Sync, S: Shelf, F: Fabric, G: BurstGate
         (seen_outside (S.seen shelf.new) (O.seen out.new) (F.carried fabric.new)) (E.seen err.new)
         result) }
 {
-    match alone(alloc, words, shelf, out, err) {
-        Some(status) => status,
-        None => together(rt, alloc, words, shelf, fabric, gate, out, err),
+    let command = command_of(words);
+    if command.needs_runtime() {
+        return together(rt, alloc, command, shelf, fabric, gate, out, err);
     }
+    without_runtime(alloc, command, shelf, out, err)
 }

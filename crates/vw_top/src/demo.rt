@@ -9,6 +9,8 @@ ghost use Rattle.vw_top.specs.Demo.{board_name, design_name, generated, stimulus
 ghost use Rattle.vw_gen.specs.Summary.{summary};
 ghost use Rattle.vw_top.specs.Messages.{vocabulary};
 
+use crate::board_files::BoardFiles;
+use crate::probes::Probes;
 use crate::run::{run_by_one, run_by_several};
 use crate::size::Size;
 use crate::vocabulary::Unfinished;
@@ -95,7 +97,13 @@ fn run_alone<S: Shelf, O: Sink>(
     ensures { Goes S.seen O.seen vocabulary
         (run_course [] design.now board.now None stimulus.now 1 false) outside.old outside.new result }
 {
-    run_by_one(alloc, design, &[], board, None, stimulus, false, outside)
+    let files = BoardFiles {
+        design,
+        probes: Probes { nets: &[] },
+        board,
+        plan: None,
+    };
+    run_by_one(alloc, &files, stimulus, false, outside)
 }
 
 /// Runs the texts of these names in this thread.
@@ -135,14 +143,17 @@ fn run_named_by_several<R: Threads + Wait + Sync, F: Fabric, G: BurstGate>(
         (seen_sure shelf.old.files.items) (seen_sink trace.old)
         (seen_sure shelf.new.files.items) (seen_sink trace.new) result }
 {
+    let files = BoardFiles {
+        design,
+        probes: Probes { nets: &[] },
+        board,
+        plan: None,
+    };
     let mut inside = Outside { shelf, out: trace };
     run_by_several(
         rt,
         alloc,
-        design,
-        &[],
-        board,
-        None,
+        &files,
         stimulus,
         workers,
         false,

@@ -1,18 +1,20 @@
 //! The files of commands, each read and judged at its own stage.
-ghost use Rattle.std.specs.Prelude.{◌≡◌, ◌≤◌, length, IfOk};
+ghost use Rattle.std.specs.Prelude.{◌≡◌, IfOk};
 ghost use Rattle.vw_board.specs.BoardText.{Spells as SpellsBoard};
 ghost use Rattle.vw_course.specs.Stages.{EndsJudging, EndsStage};
 ghost use Rattle.vw_front.specs.Designs.{IsNetlistOf};
+ghost use Rattle.vw_front.specs.NamedNetlists.{IsNamedNetlistOf};
 ghost use Rattle.vw_plantext.specs.PlanText.{Spells as SpellsPlan};
 ghost use Rattle.vw_rows.specs.Standing.{IsAtStart, StandsIn};
 ghost use Rattle.vw_top.specs.Kinds.{IsBadDesign, IsBadBoard, IsBadPlanText, IsBadStimulus};
 ghost use Rattle.vw_top.specs.Steps.Stages.{run_answer};
 
+use crate::probes::Probes;
 use crate::vocabulary::{File, Reason, Unfinished};
 use std::alloc::Global;
 use vw_blif::TextFault;
 use vw_board::BoardFault;
-use vw_front::{NetlistFault, netlist_of_text};
+use vw_front::{NamedNetlist, NetlistFault, named_netlist_of_text, netlist_of_text};
 use vw_net::Ordered;
 use vw_outside::{Name, Shelf, TextRefused, read_text};
 use vw_plan::{Board, Plan};
@@ -30,11 +32,11 @@ const BOARD_LIMIT: u64 = 1_048_576;
 const PLAN_LIMIT: u64 = 67_108_864;
 
 /// The netlist of the design that a text spells with the nets that probes find, with an order of its gates.
-fn design_of_text(alloc: Global, text: &[u8], probes: &[Name]) -> Result<Ordered, Unfinished>
-    requires { length probes.now ≤ 64 }
-    ensures { EndsJudging (IsNetlistOf probes.now text.now) (IsBadDesign probes.now text.now) result }
+fn design_of_text(alloc: Global, text: &[u8], probes: Probes<'_>) -> Result<Ordered, Unfinished>
+    ensures { EndsJudging (IsNetlistOf probes.entry.nets.now text.now)
+        (IsBadDesign probes.entry.nets.now text.now) result }
 {
-    match netlist_of_text(alloc, text, probes) {
+    match netlist_of_text(alloc, text, probes.nets) {
         Ok(ordered) => Ok(ordered),
         Err(NetlistFault::NoMemory) => Err(Unfinished::NoMemory),
         Err(fault) => Err(Unfinished::Refused(Reason::Design(fault))),
@@ -46,15 +48,52 @@ pub fn read_design<S: Shelf>(
     alloc: Global,
     shelf: &mut S,
     name: &Name,
-    probes: &[Name],
+    probes: Probes<'_>,
 ) -> Result<Ordered, Unfinished>
-    requires { length probes.now ≤ 64 }
     ensures { EndsStage File.Design name.now
-        (IsNetlistOf probes.now) (IsBadDesign probes.now)
+        (IsNetlistOf probes.entry.nets.now) (IsBadDesign probes.entry.nets.now)
         (S.seen shelf.old) (S.seen shelf.new) result }
 {
     match read_text(alloc, shelf, name, DESIGN_LIMIT) {
         Ok(text) => design_of_text(alloc, &text, probes),
+        Err(TextRefused::TooLarge) => {
+            let fault = NetlistFault::Text(TextFault::TooLarge);
+            Err(Unfinished::Refused(Reason::Design(fault)))
+        }
+        Err(TextRefused::ReadFault) => Err(Unfinished::ReadFault(File::Design)),
+        Err(TextRefused::NoMemory) => Err(Unfinished::NoMemory),
+    }
+}
+
+/// The netlist of the design that a text spells with the nets that probes find, with the names of its nets.
+fn named_design_of_text(
+    alloc: Global,
+    text: &[u8],
+    probes: Probes<'_>,
+) -> Result<NamedNetlist, Unfinished>
+    ensures { EndsJudging (IsNamedNetlistOf probes.entry.nets.now text.now)
+        (IsBadDesign probes.entry.nets.now text.now) result }
+{
+    match named_netlist_of_text(alloc, text, probes.nets) {
+        Ok(named) => Ok(named),
+        Err(NetlistFault::NoMemory) => Err(Unfinished::NoMemory),
+        Err(fault) => Err(Unfinished::Refused(Reason::Design(fault))),
+    }
+}
+
+/// Reads the design as `read_design` does, and keeps the names of its nets.
+pub fn read_named_design<S: Shelf>(
+    alloc: Global,
+    shelf: &mut S,
+    name: &Name,
+    probes: Probes<'_>,
+) -> Result<NamedNetlist, Unfinished>
+    ensures { EndsStage File.Design name.now
+        (IsNamedNetlistOf probes.entry.nets.now) (IsBadDesign probes.entry.nets.now)
+        (S.seen shelf.old) (S.seen shelf.new) result }
+{
+    match read_text(alloc, shelf, name, DESIGN_LIMIT) {
+        Ok(text) => named_design_of_text(alloc, &text, probes),
         Err(TextRefused::TooLarge) => {
             let fault = NetlistFault::Text(TextFault::TooLarge);
             Err(Unfinished::Refused(Reason::Design(fault)))

@@ -1,23 +1,30 @@
 //! The commands of Virtual Wires: what they read, what they write, and how they end.
 #![tactic(auto)]
 
+mod board_files;
 mod check;
 mod checked;
 mod commands;
 mod demo;
+mod emit;
 mod files;
+mod forms;
+mod help;
 mod plan;
+mod probes;
 mod ready;
 mod run;
 mod sim;
 mod size;
 mod statuses;
 mod vocabulary;
+mod wave;
 mod words;
 
 pub use commands::{alone, virtual_wires};
 pub use statuses::{
-    call_statuses, check_statuses, demo_statuses, headline, plan_statuses, run_given_statuses,
-    run_statuses, sim_statuses, usage_statuses,
+    call_statuses, check_statuses, demo_statuses, emit_statuses, headline, help_statuses,
+    plan_statuses, run_statuses, sim_statuses, usage_statuses, version_statuses, wave_statuses,
+    waves_show_designs,
 };
 pub use vocabulary::{File, Reason, Unfinished};

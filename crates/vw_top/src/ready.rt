@@ -1,11 +1,12 @@
 //! A design on its board with its plan, ready to run.
 ghost use Rattle.std.specs.Option.{option_copied};
-ghost use Rattle.std.specs.Prelude.{◌≤◌, Some, None, length};
+ghost use Rattle.std.specs.Prelude.{Some, None};
 ghost use Rattle.vw_course.specs.Goes.{EndsPart};
 ghost use Rattle.vw_top.specs.Commands.{given_sound_course, on_board_course, ready_course, with_plan_course};
 ghost use Rattle.vw_top.specs.Messages.{vocabulary};
 ghost use Rattle.vw_top.specs.Steps.Stages.{IsOnBoard, IsPlanned, IsReadyBoard, cut_there};
 
+use crate::board_files::BoardFiles;
 use crate::checked::{good_plan, sound_plan};
 use crate::files::{read_board, read_design, read_given_plan};
 use crate::vocabulary::Unfinished;
@@ -84,19 +85,15 @@ fn ready_on_board<S: Shelf>(
 /// Reads a design with its probes and a board, and the plan that is given or makes one, which is checked.
 pub fn ready_board<S: Shelf>(
     alloc: Global,
-    design: &Name,
-    probes: &[Name],
-    board: &Name,
-    plan: Option<&[u8]>,
+    files: &BoardFiles<'_, '_, '_, '_>,
     shelf: &mut S,
 ) -> Result<Checked, Unfinished>
-    requires { length probes.now ≤ 64 }
-    ensures { EndsPart vocabulary
-        (ready_course probes.now design.now board.now (option_copied plan.entry) cut_there)
-        (IsReadyBoard probes.now (S.seen shelf.old).told design.now board.now
-        (option_copied plan.entry))
+    ensures { let given = option_copied files.now.plan in EndsPart vocabulary
+        (ready_course files.now.probes.nets.now files.now.design.now files.now.board.now given cut_there)
+        (IsReadyBoard files.now.probes.nets.now (S.seen shelf.old).told files.now.design.now
+        files.now.board.now given)
         (S.seen shelf.old) (S.seen shelf.new) result }
 {
-    let ordered = read_design(alloc, shelf, design, probes)?;
-    ready_on_board(alloc, ordered, board, plan, shelf)
+    let ordered = read_design(alloc, shelf, files.design, files.probes)?;
+    ready_on_board(alloc, ordered, files.board, files.plan, shelf)
 }

@@ -3,10 +3,11 @@ ghost use Rattle.std.specs.Option.{option_copied};
 ghost use Rattle.std.specs.Prelude.{◌≡◌, ◌<◌, ◌≤◌, ℕ, length};
 ghost use Rattle.vw_course.specs.Goes.{Goes, GoesOver, MovedFrom};
 ghost use Rattle.vw_run.specs.Runs.{without_count};
-ghost use Rattle.vw_top.specs.Commands.{board_course, run_course};
+ghost use Rattle.vw_top.specs.Commands.{board_course, netlist_trace, run_course};
 ghost use Rattle.vw_top.specs.Messages.{vocabulary};
 ghost use Rattle.vw_top.specs.Steps.Stages.{run_answer};
 
+use crate::board_files::BoardFiles;
 use crate::files::{check_rows, run_answer};
 use crate::ready::ready_board;
 use crate::vocabulary::Unfinished;
@@ -42,7 +43,8 @@ fn run_checked<S: Shelf, O: Sink>(
 ) -> Result<(), Unfinished>
     requires { probes ≤ length checked.ordered.flat.outputs }
     ensures { (workers : ℕ) → workers ≤ 1 → Goes S.seen O.seen vocabulary
-        (board_course probes stimulus.now workers unknown checked.ordered checked.board checked.plan)
+        (board_course stimulus.now (netlist_trace probes unknown) workers unknown checked.ordered
+        checked.board checked.plan)
         outside.old outside.new result }
 {
     let mut rows = check_rows(alloc, outside.shelf, stimulus, &checked.ordered)?;
@@ -75,7 +77,8 @@ fn run_checked_together<R: Threads + Wait + Sync, S: Shelf, F: Fabric, G: BurstG
     requires probes { probes ≤ length checked.ordered.flat.outputs }
     ensures { GoesOver S.seen O.seen vocabulary
         (MovedFrom (F.carried fabric.old) (F.carried fabric.new))
-        (board_course probes stimulus.now workers unknown checked.ordered checked.board checked.plan)
+        (board_course stimulus.now (netlist_trace probes unknown) workers unknown checked.ordered
+        checked.board checked.plan)
         outside.old outside.new result }
 {
     let mut rows = check_rows(alloc, outside.shelf, stimulus, &checked.ordered)?;
@@ -98,43 +101,29 @@ fn run_checked_together<R: Threads + Wait + Sync, S: Shelf, F: Fabric, G: BurstG
 }
 
 /// Runs a design on a board over a stimulus, by the plan that is given or by one that is made, free latches starting at
-/// `unknown`, and writes its trace with the nets
-/// that the probes find. One worker runs it.
+/// `unknown`, and writes its trace with the nets that the probes find. One worker runs it.
 pub fn run_by_one<S: Shelf, O: Sink>(
     alloc: Global,
-    design: &Name,
-    probes: &[Name],
-    board: &Name,
-    plan: Option<&[u8]>,
+    files: &BoardFiles<'_, '_, '_, '_>,
     stimulus: &Name,
     unknown: bool,
     outside: &mut Outside<'_, '_, S, O>,
 ) -> Result<(), Unfinished>
-    requires { length probes.now ≤ 64 }
     ensures { (workers : ℕ) → workers ≤ 1 → Goes S.seen O.seen vocabulary
-        (run_course probes.now design.now board.now (option_copied plan.entry) stimulus.now workers
-        unknown)
+        (run_course files.now.probes.nets.now files.now.design.now files.now.board.now
+        (option_copied files.now.plan) stimulus.now workers unknown)
         outside.old outside.new result }
 {
-    let checked = ready_board(alloc, design, probes, board, plan, outside.shelf)?;
-    run_checked(
-        alloc,
-        checked,
-        probes.len() as u32,
-        stimulus,
-        unknown,
-        outside,
-    )
+    let checked = ready_board(alloc, files, outside.shelf)?;
+    let probes = files.probes.nets.len() as u32;
+    run_checked(alloc, checked, probes, stimulus, unknown, outside)
 }
 
 /// The same with several workers, on threads of this runtime.
 pub fn run_by_several<R: Threads + Wait + Sync, S: Shelf, F: Fabric, G: BurstGate, O: Sink>(
     rt: &R,
     alloc: Global,
-    design: &Name,
-    probes: &[Name],
-    board: &Name,
-    plan: Option<&[u8]>,
+    files: &BoardFiles<'_, '_, '_, '_>,
     stimulus: &Name,
     workers: u64,
     unknown: bool,
@@ -142,16 +131,15 @@ pub fn run_by_several<R: Threads + Wait + Sync, S: Shelf, F: Fabric, G: BurstGat
     gate: &G,
     outside: &mut Outside<'_, '_, S, O>,
 ) -> Result<(), Unfinished>
-    requires several { 1 < workers }
-    requires few { length probes.now ≤ 64 }
+    requires { 1 < workers }
     ensures { GoesOver S.seen O.seen vocabulary
         (MovedFrom (F.carried fabric.old) (F.carried fabric.new))
-        (run_course probes.now design.now board.now (option_copied plan.entry) stimulus.now workers
-        unknown)
+        (run_course files.now.probes.nets.now files.now.design.now files.now.board.now
+        (option_copied files.now.plan) stimulus.now workers unknown)
         outside.old outside.new result }
 {
-    let checked = ready_board(alloc, design, probes, board, plan, outside.shelf)?;
-    let probes = probes.len() as u32;
+    let checked = ready_board(alloc, files, outside.shelf)?;
+    let probes = files.probes.nets.len() as u32;
     run_checked_together(
         rt, alloc, checked, probes, stimulus, workers, unknown, fabric, gate, outside,
     )

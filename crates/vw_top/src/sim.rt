@@ -1,10 +1,11 @@
 //! The command `sim`.
 ghost use Rattle.std.specs.Prelude.{◌≤◌, length};
 ghost use Rattle.vw_course.specs.Goes.{Goes};
-ghost use Rattle.vw_top.specs.Commands.{netlist_course, no_links, sim_course};
+ghost use Rattle.vw_top.specs.Commands.{netlist_course, netlist_trace, no_links, sim_course};
 ghost use Rattle.vw_top.specs.Messages.{vocabulary};
 
 use crate::files::{check_rows, read_design, run_answer};
+use crate::probes::Probes;
 use crate::vocabulary::Unfinished;
 use std::alloc::Global;
 use vw_course::Outside;
@@ -23,7 +24,7 @@ fn sim_netlist<S: Shelf, O: Sink>(
 ) -> Result<(), Unfinished>
     requires { probes ≤ length ordered.flat.outputs }
     ensures { Goes S.seen O.seen vocabulary
-        (netlist_course probes stimulus.now unknown no_links ordered)
+        (netlist_course stimulus.now (netlist_trace probes unknown) no_links ordered)
         outside.old outside.new result }
 {
     let mut rows = check_rows(alloc, outside.shelf, stimulus, &ordered)?;
@@ -44,21 +45,20 @@ fn sim_netlist<S: Shelf, O: Sink>(
 pub fn sim<S: Shelf, O: Sink>(
     alloc: Global,
     design: &Name,
-    probes: &[Name],
+    probes: Probes<'_>,
     stimulus: &Name,
     unknown: bool,
     outside: &mut Outside<'_, '_, S, O>,
 ) -> Result<(), Unfinished>
-    requires { length probes.now ≤ 64 }
     ensures { Goes S.seen O.seen vocabulary
-        (sim_course probes.now design.now stimulus.now unknown)
+        (sim_course probes.entry.nets.now design.now stimulus.now unknown)
         outside.old outside.new result }
 {
     let ordered = read_design(alloc, outside.shelf, design, probes)?;
     sim_netlist(
         alloc,
         ordered,
-        probes.len() as u32,
+        probes.nets.len() as u32,
         stimulus,
         unknown,
         outside,

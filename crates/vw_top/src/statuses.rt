@@ -1,19 +1,24 @@
 //! Laws of the commands, as contracts of functions that do nothing.
-ghost use Rattle.std.specs.Prelude.{◌≡◌, ◌≤◌, ℕ, Bool, List, Option, Some, None, length};
+ghost use Rattle.std.specs.Prelude.{◌≡◌, ◌≤◌, ℕ, Bool, List, Option, length};
 ghost use Rattle.vw_design.specs.Paths.{Word};
 ghost use Rattle.vw_course.specs.Endings.{IsCallOf};
 ghost use Rattle.vw_course.specs.Statuses.{Holds, Statuses};
-ghost use Rattle.vw_top.specs.Words.{Spelled};
-ghost use Rattle.vw_top.specs.Commands.{check_course, course_of, demo_course, plan_course, run_course, sim_course, usage_course};
+ghost use Rattle.vw_top.specs.Words.{Spelled, help, version};
+ghost use Rattle.vw_top.specs.Commands.{check_course, course_of, demo_course, emit_course, plan_course, run_course, sim_course, trace_of, usage_course, wave_course, wave_of};
 ghost use Rattle.vw_top.specs.Messages.{Call};
 ghost use Rattle.vw_top.specs.Headline.{WritesTrace};
+ghost use Rattle.vw_top.specs.WaveLaw.{WavesReplay};
 ghost use Rattle.vw_top.specs.UsageStatuses.{UsageStatuses};
 ghost use Rattle.vw_top.specs.SimStatuses.{SimStatuses};
 ghost use Rattle.vw_top.specs.CheckStatuses.{CheckStatuses};
+ghost use Rattle.vw_top.specs.EmitStatuses.{EmitStatuses};
 ghost use Rattle.vw_top.specs.PlanStatuses.{PlanStatuses};
 ghost use Rattle.vw_top.specs.RunStatuses.{RunStatuses};
-ghost use Rattle.vw_top.specs.RunGivenStatuses.{RunGivenStatuses};
+ghost use Rattle.vw_top.specs.ConstantStatuses.{ConstantStatuses};
+ghost use Rattle.vw_top.specs.Help.{help_text, version_text};
 ghost use Rattle.vw_top.specs.DemoStatuses.{DemoStatuses};
+
+use vw_wave::waves_of_runs_replay;
 
 /// The headline. Whatever the board, the plan and the number of workers, and in whatever order the workers have run: where
 /// the texts of design and stimulus are held and the status of `run` is 0, out has exactly the trace of the unpartitioned
@@ -36,8 +41,23 @@ pub fn call_statuses()
 pub fn sim_statuses()
     ensures { (probes : List Word) (design stimulus : List ℕ) (unknown : Bool) (call : Call)
         → IsCallOf (sim_course probes design stimulus unknown) call
-        → SimStatuses probes design stimulus unknown call }
+        → SimStatuses probes (trace_of unknown) design stimulus call }
 {}
+
+/// What each status of `wave` says of its files: after status 0, out has the wave of the design.
+pub fn wave_statuses()
+    ensures { (probes : List Word) (design stimulus : List ℕ) (unknown : Bool) (call : Call)
+        → IsCallOf (wave_course probes design stimulus unknown) call
+        → SimStatuses probes (wave_of probes unknown) design stimulus call }
+{}
+
+/// What a viewer finds in the wave of a design, with 64 probes at most: at each clock each output, probe and latch has its
+/// bit, the last time is the number of clocks, and each value behind the first block is a change.
+pub fn waves_show_designs()
+    ensures { WavesReplay }
+{
+    waves_of_runs_replay();
+}
 
 /// What each status of `check` says of its files, with 64 probes at most.
 pub fn check_statuses()
@@ -53,22 +73,21 @@ pub fn plan_statuses()
         → PlanStatuses probes design board call }
 {}
 
-/// What each status of `run` says of its files, with 64 probes at most, where it makes its plan itself: after status 0, out has the trace of the
-/// unpartitioned design, and with several workers each link has carried exactly its words of one good plan.
+/// What each status of `run` says of its files, with 64 probes at most, where it is given a plan and where it makes one: after
+/// status 0 the plan is sound, or good, and out has the trace of the unpartitioned design; with several workers each link has
+/// carried exactly its words of that plan.
 pub fn run_statuses()
     ensures { (probes : List Word) → length probes ≤ 64
-        → (design board stimulus : List ℕ) (workers : ℕ) (unknown : Bool) (call : Call)
-        → IsCallOf (run_course probes design board None stimulus workers unknown) call
-        → RunStatuses probes design board stimulus workers unknown call }
+        → (design board stimulus : List ℕ) (given : Option (List ℕ)) (workers : ℕ) (unknown : Bool)
+        (call : Call) → IsCallOf (run_course probes design board given stimulus workers unknown) call
+        → RunStatuses probes (trace_of unknown) design board given stimulus workers unknown call }
 {}
 
-/// What each status of `run` says of its files, with 64 probes at most, where it is given a plan: after status 0, the plan is sound, and out has
-/// the trace of the unpartitioned design; with several workers each link has carried exactly its words of that plan.
-pub fn run_given_statuses()
-    ensures { (probes : List Word) → length probes ≤ 64
-        → (design board plan stimulus : List ℕ) (workers : ℕ) (unknown : Bool) (call : Call)
-        → IsCallOf (run_course probes design board (Some plan) stimulus workers unknown) call
-        → RunGivenStatuses probes design board plan stimulus workers unknown call }
+/// What each status of `emit` says of its files, where it is given a plan and where it makes one.
+pub fn emit_statuses()
+    ensures { (design board : List ℕ) (given : Option (List ℕ)) (call : Call)
+        → IsCallOf (emit_course design board given) call
+        → EmitStatuses design board given call }
 {}
 
 /// What each status of `demo` says of its texts: after status 0, out has the summary of the trace of the unpartitioned
@@ -76,6 +95,17 @@ pub fn run_given_statuses()
 pub fn demo_statuses()
     ensures { (cells workers : ℕ) (call : Call) → IsCallOf (demo_course cells workers) call
         → DemoStatuses cells workers call }
+{}
+
+/// What each status of `--help` says.
+pub fn help_statuses()
+    ensures { (call : Call) → IsCallOf (course_of help) call → ConstantStatuses help_text call }
+{}
+
+/// What each status of `--version` says.
+pub fn version_statuses()
+    ensures { (call : Call) → IsCallOf (course_of version) call
+        → ConstantStatuses version_text call }
 {}
 
 /// What each status says of words that spell no command.

@@ -7,6 +7,7 @@ use std::alloc::{AllocError, Global};
 use vw_board::BoardFault;
 use vw_check::PlanFault;
 use vw_course::{CommandFile, RefusalReason};
+use vw_emit::EmitFault;
 use vw_front::NetlistFault;
 use vw_plantext::PlanTextFault;
 use vw_rows::StimFault;
@@ -54,6 +55,8 @@ pub enum Reason {
     Stimulus(StimFault),
     /// The design has no plan on the board, since its cells have no room.
     Fit(CompileFault),
+    /// The planned board isn't written, since it or its text is too large.
+    Emit(EmitFault),
 }
 
 /// The message line for words that spell no command, the word at this place being the first wrong one.
@@ -83,6 +86,7 @@ impl RefusalReason for Reason {
             Reason::PlanText(_) | Reason::Plan(_) => 4,
             Reason::Stimulus(_) => 5,
             Reason::Fit(_) => 6,
+            Reason::Emit(_) => 10,
         }
     }
 
@@ -95,6 +99,7 @@ impl RefusalReason for Reason {
             Reason::Plan(fault) => fault.text(alloc),
             Reason::Stimulus(fault) => fault.text(alloc),
             Reason::Fit(fault) => fault.text(alloc),
+            Reason::Emit(fault) => fault.text(alloc),
         }
     }
 }

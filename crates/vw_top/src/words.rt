@@ -1,11 +1,15 @@
-ghost use Rattle.std.specs.Prelude.{◌≡◌, ◌≤◌, IfOk, length, option_map, take};
-ghost use Rattle.vw_top.specs.Words.{spelled_by, workers_of, sim_of, check_of, plan_of, run_of, demo_of, cells_given, most_probes};
-ghost use Rattle.vw_top.specs.Steps.Commands.{command_view, spelled_as};
+ghost use Rattle.std.specs.Prelude.{◌≡◌, ◌≤◌, IfOk, length, map, option_and_then, option_map, take};
+ghost use Rattle.vw_top.specs.Words.{spelled_as, spelled_by, found_verb, sim_of, wave_of, check_of, plan_of, run_of, emit_of, demo_of, cells_given};
+ghost use Rattle.vw_top.specs.declared.forms.TheConstants.{MOST_PROBES};
+ghost use Rattle.vw_top.specs.Steps.Commands.{command_form, command_view};
 
+use crate::forms::{
+    COMMANDS, DEFAULT_WORKERS, MOST_CELLS, MOST_PROBES, PLAN, PROBE, UNKNOWN, Verb, WORKERS,
+};
 use crate::size::Size;
 use std::alloc::{AllocError, Global};
 use vw_outside::Name;
-use vw_words::{Form, Names, Place, Setting, Value, first_wrong, form_of, number_or_zero};
+use vw_words::{Entry, Names, first_wrong, number_or_zero};
 
 /// What words spell: a command, with the names of its files and its settings, or none.
 #[derive(Drop)]
@@ -19,11 +23,21 @@ pub enum Command<'a> {
         /// The nets that are watched.
         probes: Names<'a>,
     },
+    /// Runs a design over a stimulus, and writes its wave.
+    Wave {
+        design: &'a Name,
+        stimulus: &'a Name,
+        /// The value that free latches start at.
+        unknown: bool,
+        /// The nets that are watched.
+        probes: Names<'a>,
+    },
     /// Checks a plan of a design on a board, and writes its size.
     Check {
         design: &'a Name,
         board: &'a Name,
-        plan: &'a Name,
+        /// The name of the plan.
+        plan: &'a [u8],
         /// The nets that are watched.
         probes: Names<'a>,
     },
@@ -48,84 +62,48 @@ pub enum Command<'a> {
         /// The nets that are watched.
         probes: Names<'a>,
     },
+    /// Writes a planned board as a design.
+    Emit {
+        design: &'a Name,
+        board: &'a Name,
+        /// The name of the plan, where one is given.
+        plan: Option<&'a [u8]>,
+    },
     /// Runs a generated design on a generated board, and writes a summary of its trace.
     Demo {
         size: Size,
         /// How many workers run the nodes of the board.
         workers: u64,
     },
+    /// Writes how the program is called.
+    Help,
+    /// Writes the version of the program.
+    Version,
     /// No command; the number of the first wrong word, from 1.
     Nothing(u64),
 }
 
-/// The name of a file.
-const FILE: Place = Place::Any(Value::Name);
+impl<'a> Command<'a> {
+    ghost use Rattle.vw_top.specs.Steps.Commands.{command_view};
+    ghost use Rattle.vw_top.specs.Words.{needs_runtime};
 
-/// The value that free latches start at.
-const UNKNOWN: Setting = Setting {
-    name: b"unknown",
-    value: Value::Bit,
-    times: 1,
-};
-
-/// How many nets may be watched.
-const MOST_PROBES: usize = 64;
-
-/// A net that is watched.
-const PROBE: Setting = Setting {
-    name: b"probe",
-    value: Value::Name,
-    times: MOST_PROBES,
-};
-
-/// The plan to run on.
-const PLAN: Setting = Setting {
-    name: b"plan",
-    value: Value::Name,
-    times: 1,
-};
-
-/// How many workers run the nodes of a board, and how many where none are given.
-const WORKERS: Setting = Setting {
-    name: b"workers",
-    value: Value::Number { least: 1, most: 64 },
-    times: 1,
-};
-
-const DEFAULT_WORKERS: u64 = 4;
-
-/// How many cells a demo has at most.
-const MOST_CELLS: u64 = 20_000;
-
-/// The number of cells of a demo.
-const CELLS: Value = Value::Number {
-    least: 1,
-    most: MOST_CELLS,
-};
-
-/// The forms of the commands.
-const FORMS: [Form; 5] = [
-    Form {
-        places: &[Place::Keyword(b"sim"), FILE, FILE],
-        settings: &[UNKNOWN, PROBE],
-    },
-    Form {
-        places: &[Place::Keyword(b"check"), FILE, FILE, FILE],
-        settings: &[PROBE],
-    },
-    Form {
-        places: &[Place::Keyword(b"plan"), FILE, FILE],
-        settings: &[PROBE],
-    },
-    Form {
-        places: &[Place::Keyword(b"run"), FILE, FILE, FILE],
-        settings: &[PLAN, WORKERS, UNKNOWN, PROBE],
-    },
-    Form {
-        places: &[Place::Keyword(b"demo"), Place::Any(CELLS)],
-        settings: &[WORKERS],
-    },
-];
+    /// Whether it needs a runtime: only what runs a board with several workers does.
+    pub fn needs_runtime(&self) -> bool
+        ensures { result ≡ needs_runtime (command_view self.now) }
+    {
+        match self {
+            Command::Run { workers, .. } | Command::Demo { workers, .. } => *workers > 1,
+            Command::Sim { .. }
+            | Command::Wave { .. }
+            | Command::Check { .. }
+            | Command::Plan { .. }
+            | Command::Emit { .. }
+            | Command::Help
+            | Command::Version
+            | Command::Nothing(_) => false,
+        }
+    }
+}
 
 /// The command that words of the form of `sim` spell.
 fn sim_of(words: &[Name]) -> Option<Command<'_>>
@@ -133,6 +111,21 @@ fn sim_of(words: &[Name]) -> Option<Command<'_>>
 {
     match words {
         [_, design, stimulus, settings @ ..] => Some(Command::Sim {
+            design,
+            stimulus,
+            unknown: UNKNOWN.bit(settings, false),
+            probes: PROBE.names(settings),
+        }),
+        _ => None,
+    }
+}
+
+/// The command that words of the form of `wave` spell.
+fn wave_of(words: &[Name]) -> Option<Command<'_>>
+    ensures { option_map command_view result ≡ wave_of words.now }
+{
+    match words {
+        [_, design, stimulus, settings @ ..] => Some(Command::Wave {
             design,
             stimulus,
             unknown: UNKNOWN.bit(settings, false),
@@ -150,7 +143,7 @@ fn check_of(words: &[Name]) -> Option<Command<'_>>
         [_, design, board, plan, settings @ ..] => Some(Command::Check {
             design,
             board,
-            plan,
+            plan: plan.as_slice(),
             probes: PROBE.names(settings),
         }),
         _ => None,
@@ -189,6 +182,20 @@ fn run_of(words: &[Name]) -> Option<Command<'_>>
     }
 }
 
+/// The command that words of the form of `emit` spell.
+fn emit_of(words: &[Name]) -> Option<Command<'_>>
+    ensures { option_map command_view result ≡ emit_of words.now }
+{
+    match words {
+        [_, design, board, settings @ ..] => Some(Command::Emit {
+            design,
+            board,
+            plan: PLAN.name(settings),
+        }),
+        _ => None,
+    }
+}
+
 /// The number of cells that a word spells. The form of the words lets no other number through.
 fn size_of(word: &Name) -> Size
     ensures { result.cells ≡ cells_given word.now }
@@ -211,43 +218,44 @@ fn demo_of(words: &[Name]) -> Option<Command<'_>>
     }
 }
 
-/// The command that words spell which have the form with a number.
-fn spelled_as(number: Option<usize>, words: &[Name]) -> Option<Command<'_>>
-    ensures { option_map command_view result ≡ spelled_as number words.now }
+/// What words of the form of a command spell.
+fn spelled_as(verb: Verb, words: &[Name]) -> Option<Command<'_>>
+    ensures { option_map command_view result ≡ spelled_as verb words.now }
 {
-    match number? {
-        0 => sim_of(words),
-        1 => check_of(words),
-        2 => plan_of(words),
-        3 => run_of(words),
-        4 => demo_of(words),
-        _ => None,
+    match verb {
+        Verb::Sim => sim_of(words),
+        Verb::Wave => wave_of(words),
+        Verb::Check => check_of(words),
+        Verb::Plan => plan_of(words),
+        Verb::Run => run_of(words),
+        Verb::Emit => emit_of(words),
+        Verb::Demo => demo_of(words),
+        Verb::Help => Some(Command::Help),
+        Verb::Version => Some(Command::Version),
     }
+}
+
+/// The command of a table whose form the words have, with its files and settings.
+fn found_command<'w>(table: &[Entry<Verb>], words: &'w [Name]) -> Option<Command<'w>>
+    ensures { option_map command_view result
+        ≡ option_and_then (λ verb. spelled_as verb words.now) (found_verb words.now (map command_form table.now)) }
+{
+    spelled_as(vw_words::command_of(table, words)?, words)
 }
 
 /// The command that words spell.
 pub fn command_of(words: &[Name]) -> Command<'_>
     ensures { spelled_by words.now ≡ command_view result }
 {
-    match spelled_as(form_of(&FORMS, words), words) {
+    match found_command(&COMMANDS, words) {
         Some(command) => command,
-        None => Command::Nothing(first_wrong(&FORMS, words)),
-    }
-}
-
-/// How many workers the words ask for: one, where they don't run a board.
-pub fn workers_of(words: &[Name]) -> u64
-    ensures { result ≡ workers_of (spelled_by words.now) }
-{
-    match command_of(words) {
-        Command::Run { workers, .. } | Command::Demo { workers, .. } => workers,
-        _ => 1,
+        None => Command::Nothing(first_wrong(&COMMANDS, words)),
     }
 }
 
 /// The nets that are watched, each in a word of its own. The form of the words lets no more through than these.
 pub fn probes_of(alloc: Global, probes: Names<'_>) -> Result<Vec<Name>, AllocError>
-    ensures values { IfOk result (λ list. list.items ≡ take most_probes probes.entry) }
+    ensures values { IfOk result (λ list. list.items ≡ take MOST_PROBES probes.entry) }
     ensures few { IfOk result (λ list. length list.items ≤ 64) }
 {
     let mut list = Vec::new(alloc);

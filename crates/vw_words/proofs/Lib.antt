@@ -1,4 +1,3 @@
-pub mod FoundForms
 pub mod WordsOfForms
 pub mod ToldApart
 pub mod CountedValues

@@ -1,6 +1,6 @@
 -- Words against forms: which form they have, or the first wrong word. Source: this project.
-use Rattle.std.specs.Prelude.{ℕ, zero, suc, max, Bool, ◌&&◌, List, [], ◌∷◌, ◌++◌, length, if◌then◌else◌, nat_le, nat_lt, ◌==◌, ◌+◌, Option, count_by}
-use Rattle.std.specs.List.{list_any, position_from}
+use Rattle.std.specs.Prelude.{ℕ, zero, suc, max, Bool, ◌&&◌, List, [], ◌∷◌, ◌++◌, length, if◌then◌else◌, nat_le, nat_lt, ◌==◌, ◌+◌, count_by}
+use Rattle.std.specs.List.{list_any}
 use Rattle.vw_words.specs.Forms.{Place, suits, Setting, gives, Form}
 
 -- whether a word gives a setting that may be given once more behind the words before it
@@ -25,10 +25,6 @@ matched_by form words = matched form.places form.settings words
 -- whether words have a form: all places, and settings behind them
 abbrev pub has_form : List (List ℕ) → Form → Bool
 has_form words form = matched_by form words == length words && nat_le (length form.places) (length words)
-
--- the number of the first form that words have
-abbrev pub form_of : List Form → List (List ℕ) → Option ℕ
-form_of forms words = position_from (has_form words) 0 forms
 
 -- how many words, from the first, are as some form has them
 abbrev pub furthest : List Form → List (List ℕ) → ℕ

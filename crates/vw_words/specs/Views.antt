@@ -6,6 +6,7 @@ use Rattle.vw_words.specs.declared.place.Place.{Place as HeldPlace}
 use Rattle.vw_words.specs.declared.place.Place.TheVariants.{Keyword, Any}
 use Rattle.vw_words.specs.declared.setting.Setting.{Setting as HeldSetting}
 use Rattle.vw_words.specs.declared.form.Form.{Form as HeldForm}
+use Rattle.vw_words.specs.declared.forms.Entry.{Entry}
 use Rattle.vw_words.specs.Forms.{Value, bit, name, number, Place, keyword, any, Setting, Form}
 
 abbrev pub value_view : HeldValue → Value
@@ -23,8 +24,9 @@ setting_view setting = record { name = setting.name.now; value = value_view sett
 abbrev pub form_view : HeldForm → Form
 form_view form = record { places = map place_view form.places.now; settings = map setting_view form.settings.now }
 
-abbrev pub forms_view : List HeldForm → List Form
-forms_view forms = map form_view forms
+-- the forms of a table of commands
+abbrev pub forms_view : {C : Type 0} → List (Entry C) → List Form
+forms_view table = map (λ entry. form_view entry.form) table
 
 abbrev pub settings_view : List HeldSetting → List Setting
 settings_view settings = map setting_view settings

@@ -10,7 +10,7 @@ mod setting;
 mod value;
 
 pub use form::Form;
-pub use forms::{first_wrong, form_of};
+pub use forms::{Entry, command_of, first_wrong};
 pub use laws::{form_has_words, words_have_form};
 pub use names::Names;
 pub use place::Place;

@@ -15,7 +15,7 @@ use Rattle.vw_top.specs.Words.{Spelled, spelled_by}
 use Rattle.vw_top.specs.Words as words
 use Rattle.vw_top.specs.Messages.{reason_line, Call, CallWork}
 use Rattle.vw_top.specs.Commands.{sim_course, course_of, trace_of}
-use Rattle.vw_top.specs.TracedStatuses.{HoldTexts}
+use Rattle.vw_top.specs.TracedStatuses.{designs, HoldTexts}
 use Rattle.vw_top.specs.SimStatuses.{SimStatuses}
 use Rattle.vw_example.specs.SimulateStatuses.{IsSimulated, HasBadDesign, HasBadRows, SimulateStatuses}
 use Rattle.vw_example.proofs.simulate.Goals as goal
@@ -65,9 +65,9 @@ its_sim = words.sim (codes "design") (codes "stimulus") false []
 spells_sim : spelled_by (codes "sim" ∷ codes "design" ∷ codes "stimulus" ∷ []) ≡ its_sim
 spells_sim = refl
 
-module _ (design stimulus out err : List ℕ) (call : Call) (hold : HoldTexts [] (codes "design") (codes "stimulus") false call design stimulus)
+module _ (design stimulus out err : List ℕ) (call : Call) (hold : HoldTexts (designs [] (codes "design")) (trace_of false) (codes "stimulus") call design stimulus)
     (none : call.before.out.told ≡ Some []) (some : call.after.out.told ≡ Some out) (unsaid : call.err_before ≡ seen_bytes [] 0) (said : call.err_after ≡ seen_bytes err 0)
-    (table : SimStatuses [] (codes "design") (codes "stimulus") false call) where
+    (table : SimStatuses [] (trace_of false) (codes "design") (codes "stimulus") call) where
   no_trace : call.after ≡ call.before → out ≡ []
   no_trace same =
       let told : Some out ≡ Some [] = sym some ∙ ap (λ (o : SeenOutside Word). o.out.told) same ∙ none in cc
@@ -81,9 +81,9 @@ module _ (design stimulus out err : List ℕ) (call : Call) (hold : HoldTexts []
       let trace = done.is in
       let told : Some err ≡ Some [] = ap (λ (sink : SeenSink). sink.told) (sym said ∙ done.silent ∙ unsaid) in
       record {
-        spelled = trace.spelled;
+        spelled = trace.its;
         rows = trace.rows;
-        is = trace.are.design;
+        is = trace.are.spells;
         read = trace.are.rows_are;
         trace = whole_text call.before.out call.after.out done.did.text out none some (ap (λ (o : SeenOutside Word). o.out) done.leaves) ∙ ap (λ (did : CallWork). did.text) trace.is;
         no_message = cc;
@@ -91,7 +91,7 @@ module _ (design stimulus out err : List ℕ) (call : Call) (hold : HoldTexts []
 
   bad_design : call.status ≡ 1 → HasBadDesign design out err
   bad_design is =
-      let refused = table.no_design design hold.design_held is in
+      let refused = table.no_design design hold.its_held is in
       record { reason = refused.reason; refused = refused.why; no_trace = no_trace refused.leaves; message = line_is (reason_line refused.reason) refused.message }
 
   bad_rows : call.status ≡ 5 → HasBadRows design stimulus out err
@@ -112,10 +112,10 @@ module _ (design stimulus out err : List ℕ) (call : Call) (hold : HoldTexts []
     done = done;
     no_design = bad_design;
     no_rows = bad_rows;
-    others = table.others;
-    known = all.known;
+    others = (table.others.0, table.others.1, table.others.2, table.others.3);
+    known = omega (arith, all.known, table.others.4, table.others.5);
     part = λ spelled rows is read.
-        front_of_text call.before.out call.after.out (trace_of false spelled rows) out none some (table.traced.part design stimulus spelled rows hold (record { design = is; rows_are = read }));
+        front_of_text call.before.out call.after.out (trace_of false spelled rows) out none some (table.traced.part design stimulus spelled rows hold (record { spells = is; rows_are = read }));
   }
 
 pub returns : goal.returns
@@ -137,6 +137,6 @@ returns c =
     let copied_err : c.in_ok-to_vec-2.field-0.items ≡ c.bytes-2.result.now = search rules in
     let err : c.alone.new.err.written.items ≡ c.in_ok-to_vec-2.field-0.items = sym (copied_err ∙ c.bytes-2.ensures) in
     let no_fault : c.alone.new.err.faults ≡ 0 = omega (arith, c.if-err-gt0.false) in
-    outcome c.args.design.items c.args.stimulus.items c.in_ok-to_vec.field-0.items c.in_ok-to_vec-2.field-0.items call (record { design_held = both.design_held; stimulus_held = both.stimulus_held })
+    outcome c.args.design.items c.args.stimulus.items c.in_ok-to_vec.field-0.items c.in_ok-to_vec-2.field-0.items call (record { its_held = both.design_held; stimulus_held = both.stimulus_held })
     (ap Some c.new-out.ensures.written) (ap Some out) (ap₂ seen_bytes c.new-err.ensures.written c.new-err.ensures.faults) (ap₂ seen_bytes err no_fault)
     (c.sim_statuses.ensures [] (codes "design") (codes "stimulus") false call its_call) (c.call_statuses.ensures its_sim call its_call)

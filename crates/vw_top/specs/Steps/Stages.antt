@@ -1,22 +1,20 @@
 -- What the stages of commands make.
-use Rattle.std.specs.Prelude.{◌≡◌, ℕ, List, Option, Some, None, IsTrue, Result, Ok, Err}
+use Rattle.std.specs.Prelude.{◌≡◌, ℕ, List, Option, IsTrue, Result, Ok, Err}
 use Rattle.vw_net.specs.declared.ordered.Ordered.{Ordered}
 use Rattle.vw_design.specs.Paths.{Word}
 use Rattle.vw_outside.specs.Told.{Told, IsTextOf}
-use Rattle.vw_front.specs.Designs.{IsNetlistOf}
 use Rattle.vw_board.specs.BoardText.{Spells as SpellsBoard}
-use Rattle.vw_plantext.specs.PlanText.{Spells as SpellsPlan}
 use Rattle.vw_plan.specs.declared.board.Board.{Board}
-use Rattle.vw_plan.specs.declared.plan.Plan.{Plan}
-use Rattle.vw_plan.specs.Good.{IsGood}
 use Rattle.vw_check.specs.declared.fault.PlanFault.{PlanFault}
 use Rattle.vw_check.specs.Answers.{is_plan_fault}
 use Rattle.vw_course.specs.Course.{cut}
 use Rattle.vw_course.specs.declared.unfinished.Unfinished.{Unfinished}
 use Rattle.vw_course.specs.declared.unfinished.Unfinished.TheVariants.{ReadFault, WriteFault, NoMemory, Refused}
 use Rattle.vw_plan.specs.declared.checked.Checked.{Checked}
-use Rattle.vw_plan.specs.PlannedBoard.{PlannedBoard, planned_board}
+use Rattle.vw_plan.specs.PlannedBoard.{PlannedBoard}
 use Rattle.vw_plan.specs.Sound.{IsSound}
+use Rattle.std.specs.Global.{Vec}
+use Rattle.vw_emit.specs.Emitted.{FitsDesigns, emitted_text}
 use Rattle.vw_trace.specs.declared.fault.RunFault.{RunFault}
 use Rattle.vw_trace.specs.declared.fault.RunFault.TheVariants as runs
 use Rattle.vw_top.specs.declared.vocabulary.File.{File}
@@ -24,6 +22,7 @@ use Rattle.vw_top.specs.declared.vocabulary.File.TheVariants as files
 use Rattle.vw_top.specs.declared.vocabulary.Reason.{Reason}
 use Rattle.vw_top.specs.declared.vocabulary.Reason.TheVariants as reasons
 use Rattle.vw_top.specs.Commands.{Rest}
+use Rattle.vw_top.specs.PlannedStatuses.{IsPlanBy, MaySpell}
 
 -- the design, the board and the plan of the planned, which is sound
 pub record IsCheckedPlan (planned : PlannedBoard) (checked : Checked) : Type 0 where
@@ -31,6 +30,11 @@ pub record IsCheckedPlan (planned : PlannedBoard) (checked : Checked) : Type 0 w
   pub ordered : checked.ordered ≡ planned.ordered
   pub board : checked.board ≡ planned.board
   pub plan : checked.plan ≡ planned.plan
+
+-- the text of the planned board, which is within the limits
+pub record IsEmitted (planned : PlannedBoard) (text : Vec ℕ) : Type 0 where
+  pub fits : FitsDesigns planned
+  pub is : text.items ≡ emitted_text planned
 
 -- the command refuses for the fault of the plan; for want of memory, and for nothing else, it is stopped
 abbrev pub EndsFault : PlanFault → Unfinished File Reason → Type 0
@@ -53,12 +57,6 @@ run_answer (Err runs.NoMemory) = Err NoMemory
 abbrev pub cut_there : Rest
 cut_there ordered board plan = cut
 
--- the plan is good, or it is that of a text that the given name may have, and sound
-abbrev pub IsPlanBy : (List ℕ → Told) → Option (List ℕ) → Ordered → Board → Plan → Type 0
-IsPlanBy told None ordered board plan = IsGood (planned_board ordered board plan)
-IsPlanBy told (Some name) ordered board plan =
-    (text : List ℕ) × IsTextOf (told name) text × SpellsPlan text plan × IsSound (planned_board ordered board plan)
-
 -- this netlist on this board, with such a plan
 pub record IsPlanned (told : List ℕ → Told) (given : Option (List ℕ)) (ordered : Ordered) (board : Board) (checked : Checked) : Type 0 where
   pub its_ordered : checked.ordered ≡ ordered
@@ -73,12 +71,7 @@ pub record IsOnBoard (told : List ℕ → Told) (board : List ℕ) (given : Opti
   pub board_is : SpellsBoard b checked.board
   pub plan : IsPlanBy told given ordered checked.board checked.plan
 
--- the netlist of a text that the name may have
-pub record IsReadyBoard (probes : List Word) (told : List ℕ → Told) (design board : List ℕ) (given : Option (List ℕ)) (checked : Checked) : Type 0 where
-  pub d : List ℕ
-  pub design_of : IsTextOf (told design) d
-  pub netlist : IsNetlistOf probes d checked.ordered
-  pub b : List ℕ
-  pub board_of : IsTextOf (told board) b
-  pub board_is : SpellsBoard b checked.board
-  pub plan : IsPlanBy told given checked.ordered checked.board checked.plan
+-- texts that the names may have spell what was made ready
+abbrev pub IsReadyBoard : List Word → (List ℕ → Told) → List ℕ → List ℕ → Option (List ℕ) → Checked → Type 0
+IsReadyBoard probes told design board given checked =
+    MaySpell probes design board given told checked.ordered checked.board checked.plan

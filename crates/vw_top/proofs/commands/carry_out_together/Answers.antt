@@ -1,14 +1,27 @@
-use Rattle.std.proofs.Common.{◌≡◌, sym, subst}
+use Rattle.std.proofs.Common.{◌≡◌, ℕ, List, take, sym, ◌∙◌, ap, subst}
+use Rattle.std.specs.Option.{option_copied}
 use Rattle.vw_course.specs.Goes.{GoesOver, MovedFrom}
 use Rattle.vw_top.specs.Commands.{course_of}
 use Rattle.vw_top.specs.Messages.{vocabulary}
-use Rattle.vw_top.specs.Words.{Spelled, spelled_by}
+use Rattle.vw_top.specs.Steps.Commands.{command_view}
+use Rattle.vw_top.specs.Words.{Spelled}
+use Rattle.vw_top.specs.declared.forms.TheConstants.{MOST_PROBES}
 use Rattle.vw_top.specs.Words as words
 use Rattle.vw_top.proofs.commands.carry_out_together.Goals as goal
 
 -- the words spell this demo
 pub returns-in-Demo : goal.returns-in-Demo
 returns-in-Demo g c =
-    let is : spelled_by c.args.words.now ≡ words.demo c.in-Demo.size.cells c.in-Demo.workers = c.in-Demo.ensures in
+    let is : command_view c.args.command ≡ words.demo c.in-Demo.size.cells c.in-Demo.workers = ap command_view c.in-Demo.is in
     subst (λ (spelled : Spelled). GoesOver g.S.Shelf.seen g.O.Sink.seen vocabulary (MovedFrom (g.F.Fabric.carried c.args.fabric.now) (g.F.Fabric.carried c.demo_by_several.new.fabric)) (course_of spelled) c.args.outside.now c.demo_by_several.new.outside c.demo_by_several.result) (sym is)
     c.demo_by_several.ensures
+
+-- and this run, with the nets that the words watch
+pub returns-in_ok-probes-in-Run : goal.returns-in_ok-probes-in-Run
+returns-in_ok-probes-in-Run g c =
+    let run = c.in-Run in
+    let probes : c.deref.result.now ≡ take MOST_PROBES run.probes = c.deref.ensures.value ∙ c.in_ok-probes-in-Run.ensures.values in
+    let spells = λ (watched : List (List ℕ)). words.run run.design.now run.board.now run.stimulus.now (option_copied run.plan) run.workers run.unknown watched in
+    let is : command_view c.args.command ≡ spells (take MOST_PROBES run.probes) = ap command_view run.is in
+    subst (λ (spelled : Spelled). GoesOver g.S.Shelf.seen g.O.Sink.seen vocabulary (MovedFrom (g.F.Fabric.carried c.args.fabric.now) (g.F.Fabric.carried c.run_by_several.new.fabric)) (course_of spelled) c.args.outside.now c.run_by_several.new.outside c.run_by_several.result) (sym (is ∙ ap spells (sym probes)))
+    c.run_by_several.ensures

@@ -4,7 +4,7 @@ use Rattle.std.specs.Option.{option_copied}
 use Rattle.vw_course.specs.Goes.{Unmoved}
 use Rattle.vw_course.proofs.GoesLaws.{unmoved_still}
 use Rattle.vw_top.specs.Messages.{vocabulary}
-use Rattle.vw_top.specs.Commands.{board_course}
+use Rattle.vw_top.specs.Commands.{board_course, netlist_trace}
 use Rattle.vw_top.proofs.FlatTraces.{probes_fit}
 use Rattle.vw_top.proofs.ReadyLaws.{goes_unready, goes_ready}
 use Rattle.vw_top.proofs.run.run_by_one.Goals as goal
@@ -13,17 +13,17 @@ pub returns-in_err-checked : goal.returns-in_err-checked
 returns-in_err-checked g c = λ workers few.
     let p = err_from_is_err_and c.from_residual.result c.from_residual.ensures.1 in
     rw (p.1, p.2)
-    (goes_unready g.S.Shelf.seen g.O.Sink.seen Unmoved c.args.probes.now (board_course (length c.args.probes.now) c.args.stimulus.now workers c.args.unknown) c.args.design.now c.args.board.now (option_copied c.args.plan) c.args.outside.now _ (record { shelf = refl; out = refl }) refl
+    (goes_unready g.S.Shelf.seen g.O.Sink.seen Unmoved c.args.files.now.probes.nets.now (board_course c.args.stimulus.now (netlist_trace (length c.args.files.now.probes.nets.now) c.args.unknown) workers c.args.unknown) c.args.files.now.design.now c.args.files.now.board.now (option_copied c.args.files.now.plan) c.args.outside.now _ (record { shelf = refl; out = refl }) refl
     (unmoved_still vocabulary) c.in_err-checked.field-0.0 c.in_err-checked.ensures)
 
 -- the probes are among the outputs
 pub run_checked-requires : goal.run_checked-requires
 run_checked-requires g c =
     let ready = c.in_ok-checked.ensures.1 in
-    omega (arith, c.requires, probes_fit c.args.probes.now ready.d c.in_ok-checked.checked.ordered ready.netlist)
+    omega (arith, c.args.files.now.probes.few, probes_fit c.args.files.now.probes.nets.now ready.d c.in_ok-checked.checked.ordered ready.on.netlist)
 
 pub returns : goal.returns
 returns g c = λ workers few.
     let mid = record c.args.outside.now { shelf = record c.args.outside.now.shelf { now = c.ready_board.new.shelf } } in
-    goes_ready g.S.Shelf.seen g.O.Sink.seen Unmoved c.args.probes.now (board_course (length c.args.probes.now) c.args.stimulus.now workers c.args.unknown) c.args.design.now c.args.board.now (option_copied c.args.plan) c.args.outside.now mid (record { shelf = refl; out = refl }) refl
+    goes_ready g.S.Shelf.seen g.O.Sink.seen Unmoved c.args.files.now.probes.nets.now (board_course c.args.stimulus.now (netlist_trace (length c.args.files.now.probes.nets.now) c.args.unknown) workers c.args.unknown) c.args.files.now.design.now c.args.files.now.board.now (option_copied c.args.files.now.plan) c.args.outside.now mid (record { shelf = refl; out = refl }) refl
     c.in_ok-checked.checked _ c.run_checked.result c.in_ok-checked.ensures (c.run_checked.ensures workers few)

@@ -2,8 +2,7 @@ use Rattle.std.proofs.Common.{length, arith, refl, sym, ◌∙◌}
 use Rattle.std.proofs.lemmas.Result.{err_from_is_err_and}
 use Rattle.std.specs.Option.{option_copied}
 use Rattle.vw_course.specs.Goes.{MovedFrom}
-use Rattle.vw_top.specs.Messages.{vocabulary}
-use Rattle.vw_top.specs.Commands.{board_course}
+use Rattle.vw_top.specs.Commands.{board_course, netlist_trace}
 use Rattle.vw_top.proofs.FlatTraces.{probes_fit}
 use Rattle.vw_top.proofs.ReadyLaws.{goes_unready, goes_ready}
 use Rattle.vw_top.proofs.run.run_by_several.Goals as goal
@@ -13,18 +12,18 @@ returns-in_err-checked g c =
     let p = err_from_is_err_and c.from_residual.result c.from_residual.ensures.1 in
     let links = g.F.Fabric.carried c.args.fabric.now in
     rw (p.1, p.2)
-    (goes_unready g.S.Shelf.seen g.O.Sink.seen (MovedFrom links links) c.args.probes.now (board_course (length c.args.probes.now) c.args.stimulus.now c.args.workers c.args.unknown) c.args.design.now c.args.board.now (option_copied c.args.plan) c.args.outside.now _ (record { shelf = refl; out = refl }) refl
+    (goes_unready g.S.Shelf.seen g.O.Sink.seen (MovedFrom links links) c.args.files.now.probes.nets.now (board_course c.args.stimulus.now (netlist_trace (length c.args.files.now.probes.nets.now) c.args.unknown) c.args.workers c.args.unknown) c.args.files.now.design.now c.args.files.now.board.now (option_copied c.args.files.now.plan) c.args.outside.now _ (record { shelf = refl; out = refl }) refl
     (λ before after moved. moved.1 ∙ sym moved.0) c.in_err-checked.field-0.0 c.in_err-checked.ensures)
 
 -- the probes are among the outputs
 pub run_checked_together-requires-clause-probes : goal.run_checked_together-requires-clause-probes
 run_checked_together-requires-clause-probes g c =
     let ready = c.in_ok-checked.ensures.1 in
-    omega (arith, c.requires.few, probes_fit c.args.probes.now ready.d c.in_ok-checked.checked.ordered ready.netlist)
+    omega (arith, c.args.files.now.probes.few, probes_fit c.args.files.now.probes.nets.now ready.d c.in_ok-checked.checked.ordered ready.on.netlist)
 
 pub returns : goal.returns
 returns g c =
     let mid = record c.args.outside.now { shelf = record c.args.outside.now.shelf { now = c.ready_board.new.shelf } } in
     let Moved = MovedFrom (g.F.Fabric.carried c.args.fabric.now) (g.F.Fabric.carried c.run_checked_together.new.fabric) in
-    goes_ready g.S.Shelf.seen g.O.Sink.seen Moved c.args.probes.now (board_course (length c.args.probes.now) c.args.stimulus.now c.args.workers c.args.unknown) c.args.design.now c.args.board.now (option_copied c.args.plan) c.args.outside.now mid (record { shelf = refl; out = refl }) refl
+    goes_ready g.S.Shelf.seen g.O.Sink.seen Moved c.args.files.now.probes.nets.now (board_course c.args.stimulus.now (netlist_trace (length c.args.files.now.probes.nets.now) c.args.unknown) c.args.workers c.args.unknown) c.args.files.now.design.now c.args.files.now.board.now (option_copied c.args.files.now.plan) c.args.outside.now mid (record { shelf = refl; out = refl }) refl
     c.in_ok-checked.checked _ c.run_checked_together.result c.in_ok-checked.ensures c.run_checked_together.ensures

@@ -1,11 +1,10 @@
-use Rattle.std.proofs.Common.{◌<◌, refl, sym, ◌∙◌, arith}
+use Rattle.std.proofs.Common.{refl, sym, ◌∙◌, arith}
 use Rattle.std.proofs.lemmas.Result.{err_from_is_err_and}
 use Rattle.vw_course.specs.Goes.{MovedFrom}
 use Rattle.vw_plan.specs.PlannedBoard.{planned_board}
 use Rattle.vw_run.specs.Runs.{without_count}
 use Rattle.vw_trace.specs.FlatTrace.{flat_trace}
-use Rattle.vw_top.specs.Messages.{vocabulary}
-use Rattle.vw_top.specs.Commands.{board_scripts}
+use Rattle.vw_top.specs.Commands.{netlist_trace, board_scripts}
 use Rattle.vw_top.proofs.StreamedTraces.{goes_unchecked, goes_streaming, stands_held, over_links}
 use Rattle.vw_top.proofs.LinkTraffic.{board_parts, goes_together}
 use Rattle.vw_top.proofs.run.run_checked_together.Goals as goal
@@ -34,7 +33,7 @@ returns g c =
     let mid = record c.args.outside.now { shelf = record c.args.outside.now.shelf { now = c.check_rows.new.shelf } } in
     let Moved = MovedFrom (g.F.Fabric.carried c.args.fabric.now) (g.F.Fabric.carried c.run-ran.new.fabric) in
     rw c.clocks_answer.ensures
-    (goes_together g.S.Shelf.seen g.O.Sink.seen Moved c.args.stimulus.now c.args.unknown ordered checked.board checked.plan c.args.probes workers c.args.workers (omega (arith, c.min-workers.ensures, c.requires.several)) c.requires.several
+    (goes_together g.S.Shelf.seen g.O.Sink.seen Moved c.args.stimulus.now c.args.unknown ordered checked.board checked.plan (netlist_trace c.args.probes c.args.unknown) workers c.args.workers (omega (arith, c.min-workers.ensures, c.requires.several)) c.requires.several
     (goes_streaming g.S.Shelf.seen g.O.Sink.seen Moved c.args.stimulus.now ordered.flat.inputs (flat_trace c.args.probes c.args.unknown ordered.flat) (board_scripts workers c.args.unknown planned) c.args.outside.now mid (record { shelf = refl; out = refl }) refl
     (board_parts c.args.unknown planned workers) _ c.in_ok-rows.rows (without_count c.run-ran.result) (record { shelf = refl; out = refl }) c.in_ok-rows.ensures.judges c.in_ok-rows.ensures.starts
     (λ links links_after moved. over_links (board_scripts workers c.args.unknown planned) links links_after moved c.run-ran.ensures.streams)))

@@ -1,5 +1,5 @@
-use Rattle.std.proofs.Common.{◌≡◌, ◌<◌, ◌+◌, ◌++◌, ℕ, zero, suc, List, [], ◌∷◌, length, length-take, take, append_assoc, append-nil, refl, sym, ◌∙◌, ap, ap₂, arith, rules}
-use Rattle.vw_top.specs.Words.{most_probes}
+use Rattle.std.proofs.Common.{◌≡◌, ◌<◌, ◌+◌, ◌++◌, ℕ, zero, suc, List, [], ◌∷◌, length, length-take, take, append_assoc, append-nil, sym, ◌∙◌, ap, ap₂, arith, rules}
+use Rattle.vw_top.specs.declared.forms.TheConstants.{MOST_PROBES}
 use Rattle.vw_top.proofs.words.probes_of.Goals as goal
 
 pub loop-probe-init : goal.loop-probe-init
@@ -33,10 +33,10 @@ none_left words left all (suc count) empty is =
 pub returns-clause-values : goal.returns-clause-values
 returns-clause-values c =
     let steps = c.in-None.ensures.steps in
-    none_left c.loop-probe.list.items c.loop-probe.probe-iterator.iter (take most_probes c.args.probes) c.loop-probe.probe-iterator.n (λ some. (steps some).0) c.loop-probe.invariant
+    none_left c.loop-probe.list.items c.loop-probe.probe-iterator.iter (take MOST_PROBES c.args.probes) c.loop-probe.probe-iterator.n (λ some. (steps some).0) c.loop-probe.invariant
 
 pub returns-clause-few : goal.returns-clause-few
 returns-clause-few c =
     let steps = c.in-None.ensures.steps in
-    let all = none_left c.loop-probe.list.items c.loop-probe.probe-iterator.iter (take most_probes c.args.probes) c.loop-probe.probe-iterator.n (λ some. (steps some).0) c.loop-probe.invariant in
-    omega (arith, ap (λ (list : List (List ℕ)). length list) all, length-take most_probes c.args.probes)
+    let all = none_left c.loop-probe.list.items c.loop-probe.probe-iterator.iter (take MOST_PROBES c.args.probes) c.loop-probe.probe-iterator.n (λ some. (steps some).0) c.loop-probe.invariant in
+    omega (arith, ap (λ (list : List (List ℕ)). length list) all, length-take MOST_PROBES c.args.probes)

@@ -4,8 +4,8 @@ use Rattle.vw_words.specs.Matched.{furthest}
 use Rattle.vw_words.specs.Views.{forms_view}
 use Rattle.vw_words.proofs.forms.first_wrong.Given as goal
 
-abbrev pub invariant-loop-form : goal.invariant-loop-form
-invariant-loop-form l = record {
+abbrev pub invariant-loop-entry : goal.invariant-loop-entry
+invariant-loop-entry g l = record {
   within : l.furthest ≤ length l.words;
-  rest : max l.furthest (furthest (forms_view (drop l.form-index l.forms)) l.words) ≡ furthest (forms_view l.forms) l.words;
+  rest : max l.furthest (furthest (forms_view (drop l.entry-index l.table)) l.words) ≡ furthest (forms_view l.table) l.words;
 }

@@ -1,0 +1,156 @@
+//! The words of each command: its keyword, its files, and its settings.
+use vw_words::{Entry, Form, Place, Setting, Value};
+
+/// The commands.
+#[derive(Clone, Copy)]
+pub enum Verb {
+    Sim,
+    Wave,
+    Check,
+    Plan,
+    Run,
+    Emit,
+    Demo,
+    Help,
+    Version,
+}
+
+/// The name of a file.
+const FILE: Place = Place::Any(Value::Name);
+
+/// The value that free latches start at.
+pub const UNKNOWN: Setting = Setting {
+    name: b"unknown",
+    value: Value::Bit,
+    times: 1,
+};
+
+/// How many nets may be watched.
+pub const MOST_PROBES: usize = 64;
+
+/// A net that is watched.
+pub const PROBE: Setting = Setting {
+    name: b"probe",
+    value: Value::Name,
+    times: MOST_PROBES,
+};
+
+/// The plan to run by.
+pub const PLAN: Setting = Setting {
+    name: b"plan",
+    value: Value::Name,
+    times: 1,
+};
+
+/// How many workers run the nodes of a board.
+pub const WORKERS: Setting = Setting {
+    name: b"workers",
+    value: Value::Number { least: 1, most: 64 },
+    times: 1,
+};
+
+/// How many do where none are given.
+pub const DEFAULT_WORKERS: u64 = 4;
+
+/// How many cells a demo has at most.
+pub const MOST_CELLS: u64 = 20_000;
+
+/// sim DESIGN STIM [unknown=0|1] [probe=NET]..
+const SIM: Form = Form {
+    places: &[Place::Keyword(b"sim"), FILE, FILE],
+    settings: &[UNKNOWN, PROBE],
+};
+
+/// wave DESIGN STIM [unknown=0|1] [probe=NET]..
+const WAVE: Form = Form {
+    places: &[Place::Keyword(b"wave"), FILE, FILE],
+    settings: &[UNKNOWN, PROBE],
+};
+
+/// check DESIGN BOARD PLAN [probe=NET]..
+const CHECK: Form = Form {
+    places: &[Place::Keyword(b"check"), FILE, FILE, FILE],
+    settings: &[PROBE],
+};
+
+/// plan DESIGN BOARD [probe=NET]..
+const MAKE_PLAN: Form = Form {
+    places: &[Place::Keyword(b"plan"), FILE, FILE],
+    settings: &[PROBE],
+};
+
+/// run DESIGN BOARD STIM [plan=FILE] [workers=N] [unknown=0|1] [probe=NET]..
+const RUN: Form = Form {
+    places: &[Place::Keyword(b"run"), FILE, FILE, FILE],
+    settings: &[PLAN, WORKERS, UNKNOWN, PROBE],
+};
+
+/// emit DESIGN BOARD [plan=FILE]
+const EMIT: Form = Form {
+    places: &[Place::Keyword(b"emit"), FILE, FILE],
+    settings: &[PLAN],
+};
+
+/// demo CELLS [workers=N]
+const DEMO: Form = Form {
+    places: &[
+        Place::Keyword(b"demo"),
+        Place::Any(Value::Number {
+            least: 1,
+            most: MOST_CELLS,
+        }),
+    ],
+    settings: &[WORKERS],
+};
+
+/// --help
+const HELP: Form = Form {
+    places: &[Place::Keyword(b"--help")],
+    settings: &[],
+};
+
+/// --version
+const VERSION: Form = Form {
+    places: &[Place::Keyword(b"--version")],
+    settings: &[],
+};
+
+/// Each command with the form of its words.
+pub const COMMANDS: [Entry<Verb>; 9] = [
+    Entry {
+        command: Verb::Sim,
+        form: SIM,
+    },
+    Entry {
+        command: Verb::Wave,
+        form: WAVE,
+    },
+    Entry {
+        command: Verb::Check,
+        form: CHECK,
+    },
+    Entry {
+        command: Verb::Plan,
+        form: MAKE_PLAN,
+    },
+    Entry {
+        command: Verb::Run,
+        form: RUN,
+    },
+    Entry {
+        command: Verb::Emit,
+        form: EMIT,
+    },
+    Entry {
+        command: Verb::Demo,
+        form: DEMO,
+    },
+    Entry {
+        command: Verb::Help,
+        form: HELP,
+    },
+    Entry {
+        command: Verb::Version,
+        form: VERSION,
+    },
+];
