@@ -17,6 +17,8 @@ mod models;
 #[cfg(test)]
 mod names;
 #[cfg(test)]
+mod printed;
+#[cfg(test)]
 mod same;
 #[cfg(test)]
 mod sizes;

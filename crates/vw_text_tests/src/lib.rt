@@ -1,5 +1,5 @@
-//! Tests of lines and words, of the stimulus, and of what lies outside the program. They call what these crates offer to
-//! others. They stand in a crate of their own, since a crate with tests is proved twice.
+//! Tests of lines and words, of the stimulus, of waves, and of what lies outside the program. They call what these crates
+//! offer to others. They stand in a crate of their own, since a crate with tests is proved twice.
 #![tactic(auto)]
 
 #[cfg(test)]
@@ -10,3 +10,5 @@ mod rows;
 mod same;
 #[cfg(test)]
 mod text;
+#[cfg(test)]
+mod waves;

@@ -9,7 +9,7 @@ use vw_shown::name;
 
 /// A shelf that tells nothing, has one text under every name, gives at most so many bytes a read, and fails at one read.
 #[derive(Drop)]
-struct Quiet {
+pub(crate) struct Quiet {
     text: Vec<u8>,
     most: usize,
     calls: u64,
@@ -37,7 +37,7 @@ impl Shelf for Quiet {
 }
 
 /// Such a shelf, of which no read fails.
-fn quiet_shelf(alloc: Global, text: &[u8], most: usize) -> Result<Quiet, AllocError> {
+pub(crate) fn quiet_shelf(alloc: Global, text: &[u8], most: usize) -> Result<Quiet, AllocError> {
     Ok(Quiet {
         text: text.to_vec(alloc)?,
         most,
