@@ -1,0 +1,11 @@
+//! Stuck-at faults that rows reveal.
+#![tactic(auto)]
+
+mod laws;
+mod open;
+
+pub use laws::{
+    first_rows_reveal, nothing_is_stuck, open_faults_change_no_output, unreached_nets_are_open,
+    unread_nets_are_open,
+};
+pub use open::Open;
