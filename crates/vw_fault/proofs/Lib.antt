@@ -1,3 +1,9 @@
 pub mod Plain
 pub mod Differences
 pub mod Unreached
+pub mod Lanes
+pub mod Tables
+pub mod RowLanes
+pub mod Latches
+pub mod Gates
+pub mod Values

@@ -1,3 +1,4 @@
 pub mod Found
 pub mod Stuck
 pub mod Reached
+pub mod Steps

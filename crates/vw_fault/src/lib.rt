@@ -1,8 +1,13 @@
 //! Stuck-at faults that rows reveal.
 #![tactic(auto)]
 
+mod clock;
+mod gate;
 mod laws;
 mod open;
+mod stuck;
+mod table;
+mod words;
 
 pub use laws::{
     first_rows_reveal, nothing_is_stuck, open_faults_change_no_output, unreached_nets_are_open,
