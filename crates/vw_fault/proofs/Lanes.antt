@@ -1,10 +1,10 @@
 -- The bits of a lane of words.
-use Rattle.std.proofs.Common.{◌≡◌, ◌<◌, ◌+◌, ◌-◌, ◌^◌, ◌%◌, ◌==◌, ◌&&◌, ◌||◌, ◌∙◌, ◌≢◌, not, ℕ, zero, suc, min, max, Bool, true, false, List, length, get_or, set, bit_and, bit_or, bit_xor, if◌then◌else◌, ap, ap₂, sym, refl, ⊎_elim, arith}
+use Rattle.std.proofs.Common.{◌++◌, ◌∷◌, [], take, ◌≡◌, ◌<◌, ◌+◌, ◌-◌, ◌^◌, ◌%◌, ◌==◌, ◌&&◌, ◌||◌, ◌∙◌, ◌≢◌, not, ℕ, zero, suc, min, max, Bool, true, false, List, length, get_or, set, bit_and, bit_or, bit_xor, if◌then◌else◌, ap, ap₂, sym, refl, ⊎_elim, arith}
 use Rattle.std.specs.Int.{bit_at}
 use Rattle.std.proofs.Math.ListN.{get_or-map}
 use Rattle.std.proofs.lemmas.Bool.{cases_eq}
 use Rattle.std.proofs.lemmas.Grind.{get_or-set_at}
-use Rattle.std.proofs.lemmas.List.{get_or_default, get_or-set_other, length-map, map-set}
+use Rattle.std.proofs.lemmas.List.{get_or_default, get_or-set_other, length-map, map-set, take_more, take_more_set}
 use Rattle.std.proofs.lemmas.Nat.Bits.{bit_at-lt, bit_at-zero, bit_at_and, bit_at_or, bit_at_xor, bit_at_ones, bit_at-pow_same, bit_at-pow_other, shr_and_one}
 use Rattle.vw_net.specs.TruthTable.{bit_of}
 use Rattle.vw_fault.specs.declared.stuck.Stuck.{Stuck}
@@ -119,3 +119,16 @@ input_further find lane words after row place word within written is before net 
     let if_here = λ (same : net ≡ place). get_or-set_at (lane_bits lane words) place net bit false same (omega (arith, within, size)) ∙ is ∙ ap (λ (at : ℕ). find at (get_or row at false)) (sym same) in
     let if_before = λ (other : net ≡ place → ⊥). get_or-set_other (lane_bits lane words) place net bit false other ∙ before net (omega arith) in
     ap (λ (bits : List Bool). get_or bits net false) (lane_set lane words after place word written) ∙ ⊎_elim if_here if_before (cases_eq net place)
+
+-- the lanes below a number
+pub lane_below : (used lane : ℕ) → lane < used → bit_of (2 ^ used - 1) lane ≡ true
+lane_below used lane within = bit_of-is (2 ^ used - 1) lane ∙ ap (λ (n : ℕ). n == 1) (bit_at_ones used lane within)
+
+-- one bit more in every lane
+pub bit_further : (lane : ℕ) (words after : List ℕ) (bits : List Bool) (place word : ℕ) → place < length words → place < length bits → after ≡ set words place word → bit_of word lane ≡ get_or bits place false → take place (lane_bits lane words) ≡ take place bits → take (place + 1) (lane_bits lane after) ≡ take (place + 1) bits
+bit_further lane words after bits place word within inside written is so_far =
+    let size = length-lane_bits lane words in
+    ap (take (place + 1)) (lane_set lane words after place word written)
+    ∙ take_more_set (lane_bits lane words) place (bit_of word lane) (omega (arith, within, size))
+    ∙ ap₂ (λ (front : List Bool) (bit : Bool). front ++ bit ∷ []) so_far is
+    ∙ sym (take_more bits place false inside)

@@ -7,3 +7,6 @@ pub mod RowLanes
 pub mod Latches
 pub mod Gates
 pub mod Values
+pub mod Masks
+pub mod Groups
+pub mod Rounds

@@ -3,14 +3,20 @@
 
 mod clock;
 mod gate;
+mod grading;
+mod group;
 mod laws;
 mod open;
+mod outputs;
+mod passes;
 mod stuck;
 mod table;
 mod words;
+mod workers;
 
 pub use laws::{
     first_rows_reveal, nothing_is_stuck, open_faults_change_no_output, unreached_nets_are_open,
     unread_nets_are_open,
 };
 pub use open::Open;
+pub use passes::grade;
