@@ -10,3 +10,4 @@ pub mod Values
 pub mod Masks
 pub mod Groups
 pub mod Rounds
+pub mod Marks

@@ -1,5 +1,6 @@
 -- Faults that are graded by the first rows, and then again; and the plain outputs, clock by clock.
-use Rattle.std.proofs.Common.{◌≡◌, ◌<◌, ◌+◌, ◌++◌, ◌∙◌, append_assoc, not, ℕ, zero, suc, Bool, true, false, List, [], ◌∷◌, length, map, take, drop, get_or, filter, ap, ap₂, sym, refl, ⊎_elim, All, true≢false, arith}
+use Rattle.std.proofs.Common.{◌≡◌, ◌<◌, ◌+◌, ◌++◌, ◌||◌, ◌∙◌, append_assoc, not, ℕ, zero, suc, Bool, true, false, List, [], ◌∷◌, length, map, take, drop, get_or, filter, ap, ap₂, sym, refl, ⊎_elim, All, true≢false, arith}
+use Rattle.std.proofs.Math.Path.{fun_ext}
 use Rattle.std.proofs.lemmas.Bool.{cases_Bool}
 use Rattle.std.proofs.lemmas.List.{drop_more, take-append-drop}
 use Rattle.std.proofs.lemmas.List.Elements.{All-append, All-cons, All-nil, All-weaker}
@@ -13,8 +14,11 @@ use Rattle.vw_fault.specs.declared.open.Open.{Open}
 use Rattle.vw_fault.specs.Found.{found_next_state, found_outputs, found_outputs_at}
 use Rattle.vw_fault.specs.Steps.Groups.{is_seen, open_of}
 use Rattle.vw_fault.specs.Stuck.{is_detected, net_faults}
+use Rattle.vw_fault.specs.Reached.{IsClosed}
+use Rattle.vw_fault.specs.Steps.Reaching.{is_marked}
 use Rattle.vw_fault.proofs.Differences.{detected_sooner}
 use Rattle.vw_fault.proofs.Groups.{outputs-from_found}
+use Rattle.vw_fault.proofs.Unreached.{unreached}
 
 one_more : {X : Type 0} (test weaker : X → Bool) → ((x : X) → test x ≡ true → weaker x ≡ true) → (x : X) (xs : List X) → filter test (filter weaker xs) ≡ filter test xs
     → (passes passes_weaker : Bool) → test x ≡ passes → weaker x ≡ passes_weaker → filter test (filter weaker (x ∷ xs)) ≡ filter test (x ∷ xs)
@@ -82,3 +86,10 @@ plain_further flat find state after row bits value rows made new whole place wit
     ∙ ap (λ (one : List Bool). made ++ (one ∷ later (found_next_state as_it_is flat row state))) here
     ∙ ap (λ (left : List (List Bool)). made ++ found_outputs as_it_is flat state left) (sym cut)
     ∙ so_far
+
+-- a fault of a net that reaches no output isn't seen, so it need not be looked for
+pub unreached_listed : (grading : Grading) (marks : List Bool) → IsClosed grading.ordered.now.flat (is_marked marks) → (faults : List Open) → filter (λ fault. not (is_marked marks fault.net) || not (is_seen grading fault)) faults ≡ open_of grading faults
+unreached_listed grading marks closed faults = ap (λ (test : Open → Bool). filter test faults) (fun_ext (λ fault. by fault (is_marked marks fault.net) refl)) where
+  by : (fault : Open) (marked : Bool) → is_marked marks fault.net ≡ marked → (not (is_marked marks fault.net) || not (is_seen grading fault)) ≡ not (is_seen grading fault)
+  by fault true is = rw is refl
+  by fault false is = rw is (sym (ap not (unreached grading.ordered.now.flat grading.start.now grading.rows.now fault (is_marked marks) closed is)))

@@ -11,7 +11,7 @@ use Rattle.vw_net.specs.Table.{Table}
 use Rattle.vw_net.specs.Cover.{cover_value, mark_at}
 use Rattle.vw_net.specs.Mark.{mark_matches, row_matches}
 
-drop_at : {X : Type 0} (xs : List X) (place : ℕ) (x : X) → slice_get xs place ≡ Some x → drop place xs ≡ x ∷ drop (place + 1) xs
+pub drop_at : {X : Type 0} (xs : List X) (place : ℕ) (x : X) → slice_get xs place ≡ Some x → drop place xs ≡ x ∷ drop (place + 1) xs
 drop_at xs place x is = drop_more xs place x (slice_get_within xs place x is) ∙ ap (λ (first : _). first ∷ drop (place + 1) xs) (get_or_from_slice_get xs place x x is)
 
 -- one mark more of a row

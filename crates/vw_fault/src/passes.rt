@@ -7,8 +7,10 @@ ghost use Rattle.vw_fault.specs.Steps.Groups.{net_count, open_of};
 ghost use Rattle.vw_fault.specs.Stuck.{net_faults, open_faults};
 
 use crate::grading::Grading;
+use crate::merged::{marked_faults, with_unmarked};
 use crate::open::Open;
 use crate::outputs::plain_outputs;
+use crate::reached::reached_nets;
 use crate::workers::open_among;
 use std::alloc::{AllocError, Global};
 use std::marker::Sync;
@@ -43,7 +45,25 @@ pub fn grade<R: Threads + Sync>(
         rows,
         plain: &plain,
     };
-    open_in_passes(rt, alloc, &grading, faults, workers)
+    open_with_unreached(rt, alloc, &grading, &faults, workers)
+}
+
+/// The faults that the rows don't reveal. Those of nets that reach no output aren't run.
+fn open_with_unreached<R: Threads + Sync>(
+    rt: &R,
+    alloc: Global,
+    grading: &Grading,
+    faults: &[Open],
+    workers: u32,
+) -> Result<Vec<Open>, AllocError>
+    requires workers { workers ≤ 64 }
+    requires within { All (λ fault. fault.net < net_count grading.now) faults.now }
+    ensures { IfOk result (λ left. left.items ≡ open_of grading.now faults.now) }
+{
+    let marks = reached_nets(alloc, grading.ordered.flat())?;
+    let reached = marked_faults(alloc, faults, &marks)?;
+    let left = open_in_passes(rt, alloc, grading, reached, workers)?;
+    with_unmarked(alloc, faults, &marks, &left)
 }
 
 /// Both faults of each net.

@@ -7,11 +7,11 @@ use Rattle.vw_fault.proofs.Rounds.{faults_within}
 use Rattle.vw_fault.proofs.passes.grade.Goals as goal
 
 -- both faults of each net are of these nets
-pub open_in_passes-requires-clause-within : goal.open_in_passes-requires-clause-within
-open_in_passes-requires-clause-within g c κs within =
+pub open_with_unreached-requires-clause-within : goal.open_with_unreached-requires-clause-within
+open_with_unreached-requires-clause-within g c κs within =
     let flat = c.args.ordered.now.flat in
     let nets = flat.inputs + length flat.cells in
     let inputs = c.inputs.ensures ∙ ap (λ (f : Flat). f.inputs) c.flat-flat.ensures in
     let cells = ap length c.cells.ensures ∙ ap (λ (f : Flat). length f.cells) c.flat-flat.ensures in
     let count = ap₂ (λ (i k : ℕ). i + k) inputs cells in
-    subst (All (λ (fault : Open). fault.net < nets)) (sym (c.in_ok-faults.ensures ∙ ap (gather net_faults) count)) (faults_within nets)
+    subst (All (λ (fault : Open). fault.net < nets)) (sym (c.deref-2.ensures.value ∙ c.in_ok-faults.ensures ∙ ap (gather net_faults) count)) (faults_within nets)

@@ -1,4 +1,4 @@
-use Rattle.std.proofs.Common.{◌<◌, All, not, ap, subst, sym, ◌∙◌, rules}
+use Rattle.std.proofs.Common.{◌≡◌, List, ◌<◌, All, not, subst, sym, rules}
 use Rattle.std.proofs.lemmas.List.Elements.{All-filter}
 use Rattle.vw_fault.specs.declared.open.Open.{Open}
 use Rattle.vw_fault.specs.Steps.Groups.{is_seen, net_count, open_of}
@@ -12,7 +12,7 @@ loop-count-preserved g c =
     let first = c.first_rows.result in
     let fits = λ (fault : Open). fault.net < net_count grading in
     let left = c.loop-count.left.items in
-    let are = c.in_ok-left.ensures ∙ ap (open_of first) c.deref.ensures.value in
+    let are : c.in_ok-left.left.items ≡ open_of first left = subst (λ (list : List Open). c.in_ok-left.left.items ≡ open_of first list) c.deref.ensures.value c.in_ok-left.ensures in
     record {
       some = search rules;
       within = subst (All fits) (sym are) (All-filter (λ (fault : Open). not (is_seen first fault)) fits left c.loop-count.invariant.within);
