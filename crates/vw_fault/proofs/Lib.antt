@@ -11,3 +11,4 @@ pub mod Masks
 pub mod Groups
 pub mod Rounds
 pub mod Marks
+pub mod Texts

@@ -2,3 +2,4 @@ pub mod Found
 pub mod Stuck
 pub mod Reached
 pub mod Steps
+pub mod Text

@@ -13,6 +13,7 @@ mod passes;
 mod reached;
 mod stuck;
 mod table;
+mod text;
 mod words;
 mod workers;
 
@@ -22,3 +23,4 @@ pub use laws::{
 };
 pub use open::Open;
 pub use passes::grade;
+pub use text::grading_text;
