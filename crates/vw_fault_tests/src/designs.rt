@@ -1,5 +1,5 @@
-use crate::grading::{graded, number_of};
-use crate::netlists::{Netlist, Part, gate, made, ordered, stimulus};
+use crate::grading::{graded, graded_text, number_of};
+use crate::netlists::{Netlist, Part, gate, made, name, ordered, stimulus};
 use crate::plainly::plainly_open;
 use std::alloc::Global;
 use std::marker::Sync;
@@ -52,6 +52,40 @@ fn a_toggle_that_always_turns_is_open(rt: HostRuntime) -> Result<(), Fail> {
 fn no_row_reveals_anything(rt: HostRuntime) -> Result<(), Fail> {
     let alloc = rt.alloc();
     are_open(&rt, alloc, &made(alloc, &TOGGLE)?, &[], &[0, 1, 2, 3, 4, 5])
+}
+
+/// Asserts the text of the toggle's grading, with 1, 2 and 64 workers.
+fn is_text<R: Threads + Abort + Sync>(
+    rt: &R,
+    alloc: Global,
+    rows: &[&str],
+    wanted: &str,
+) -> Result<(), Fail> {
+    let ordered = made(alloc, &TOGGLE)?;
+    let rows = stimulus(alloc, rows)?;
+    let names = vec![in alloc; name(alloc, b"en")?, name(alloc, b"d")?, name(alloc, b"q")?]?;
+    for workers in &[1, 2, 64] {
+        let text = graded_text(rt, alloc, &ordered, &names, &rows, *workers)?;
+        assert!(rt; text.as_slice() == wanted.as_bytes());
+    }
+    Ok(())
+}
+
+#[test]
+fn the_text_has_counts_and_open_faults(rt: HostRuntime) -> Result<(), Fail> {
+    let alloc = rt.alloc();
+    is_text(
+        &rt,
+        alloc,
+        &["1", "1", "0"],
+        "grade 1 6 5\nopen en 1\nend\n",
+    )?;
+    is_text(
+        &rt,
+        alloc,
+        &[],
+        "grade 1 6 0\nopen en 0\nopen en 1\nopen d 0\nopen d 1\nopen q 0\nopen q 1\nend\n",
+    )
 }
 
 #[test]

@@ -7,8 +7,9 @@ use std::alloc::{AllocError, Global};
 use std::marker::Sync;
 use std::test::Fail;
 use std::thread::Threads;
-use vw_fault::{Open, grade};
+use vw_fault::{Open, grade, grading_text};
 use vw_net::{Bits, Ordered, Rows};
+use vw_outside::Name;
 
 /// Whether each row is so wide.
 fn are_wide(rows: &[Bits], width: usize) -> bool
@@ -53,4 +54,27 @@ pub fn graded<R: Threads + Sync>(
     let start = flat.start(alloc, false)?;
     let faults = grade(rt, alloc, ordered, &start, rows, workers)?;
     Ok(numbers_of(alloc, &faults)?)
+}
+
+/// The text of a grading, of a netlist whose nets are printed so.
+pub fn graded_text<R: Threads + Sync>(
+    rt: &R,
+    alloc: Global,
+    ordered: &Ordered,
+    names: &[Name],
+    rows: &Rows,
+    workers: u32,
+) -> Result<Vec<u8>, Fail> {
+    if workers < 1 || workers > 64 {
+        return Err("no workers".into());
+    }
+    let flat = ordered.flat();
+    if names.len() != flat.inputs() as usize + flat.cells().len() {
+        return Err("no names".into());
+    }
+    if !are_wide(rows.as_slice(), flat.inputs() as usize) {
+        return Err("no rows".into());
+    }
+    let start = flat.start(alloc, false)?;
+    Ok(grading_text(rt, alloc, ordered, names, &start, rows, workers)?)
 }

@@ -3,6 +3,7 @@ use std::alloc::{AllocError, Global};
 use std::test::Fail;
 use vw_net::{Bits, Cell, Flat, Init, Mark, Ordered, Row, Rows, Sequence};
 use vw_order::order;
+use vw_outside::Name;
 
 /// A cell of a test.
 #[derive(Clone, Copy)]
@@ -103,4 +104,9 @@ pub fn stimulus(alloc: Global, rows: &[&str]) -> Result<Rows, AllocError> {
         list.push(bits_of(alloc, row)?)?;
     }
     Ok(Rows::of(list))
+}
+
+/// A name with these bytes.
+pub fn name(alloc: Global, bytes: &[u8]) -> Result<Name, AllocError> {
+    Ok(Name::of(bytes.to_vec(alloc)?))
 }
