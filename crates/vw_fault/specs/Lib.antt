@@ -1,0 +1,5 @@
+pub mod Found
+pub mod Stuck
+pub mod Reached
+pub mod Steps
+pub mod Text

@@ -1,0 +1,4 @@
+-- What functions of this crate compute, step by step. No public clause cites it.
+pub mod Lanes
+pub mod Groups
+pub mod Reaching

@@ -1,0 +1,26 @@
+//! Stuck-at faults that rows reveal.
+#![tactic(auto)]
+
+mod clock;
+mod gate;
+mod grading;
+mod group;
+mod laws;
+mod merged;
+mod open;
+mod outputs;
+mod passes;
+mod reached;
+mod stuck;
+mod table;
+mod text;
+mod words;
+mod workers;
+
+pub use laws::{
+    first_rows_reveal, nothing_is_stuck, open_faults_change_no_output, unreached_nets_are_open,
+    unread_nets_are_open,
+};
+pub use open::Open;
+pub use passes::grade;
+pub use text::grading_text;

@@ -1,0 +1,7 @@
+-- each so far has
+use Rattle.std.proofs.Common.{◌≡◌, length}
+use Rattle.std.specs.List.{AllWithin}
+use Rattle.vw_fault_tests.proofs.grading.are_wide.Given as goal
+
+abbrev pub invariant-loop-row : goal.invariant-loop-row
+invariant-loop-row l = AllWithin (λ row. length row ≡ l.width) l.rows 0 l.row-index
