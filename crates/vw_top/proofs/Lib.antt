@@ -2,6 +2,7 @@ pub mod FoundVerbs
 pub mod OnBoards
 pub mod FlatTraces
 pub mod StreamedTraces
+pub mod GradedRows
 pub mod ReadyLaws
 pub mod TracedLaws
 pub mod LinkTraffic

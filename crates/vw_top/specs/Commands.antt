@@ -2,7 +2,9 @@
 use Rattle.std.specs.Prelude.{◌≡◌, ◌++◌, ℕ, Bool, false, List, [], ◌∷◌, length, codes, Option, Some, None}
 use Rattle.std.specs.List.{All}
 use Rattle.std.specs.Fmt.{decimal}
+use Rattle.vw_net.specs.declared.flat.Flat.{Flat}
 use Rattle.vw_net.specs.declared.ordered.Ordered.{Ordered}
+use Rattle.vw_net.specs.Cells.{start_values}
 use Rattle.vw_design.specs.Paths.{Word as ProbeWord}
 use Rattle.vw_design.specs.Preorder.{latches}
 use Rattle.vw_design.specs.NetReads.{root_outputs}
@@ -10,6 +12,8 @@ use Rattle.vw_design.specs.Clocks.{columns}
 use Rattle.vw_design.specs.PathHistory.{path_history}
 use Rattle.vw_front.specs.Designs.{WatchedDesign}
 use Rattle.vw_front.specs.Names.{signal_names}
+use Rattle.vw_front.specs.declared.named.NamedNetlist.{NamedNetlist}
+use Rattle.vw_fault.specs.Text.{grading_text}
 use Rattle.vw_course.specs.Course.{again, Course, works, refuses, writes, judges, made, stage}
 use Rattle.vw_course.specs.OnTexts.{on_texts}
 use Rattle.vw_plan.specs.declared.board.Board.{Board}
@@ -33,7 +37,7 @@ use Rattle.vw_top.specs.Help.{help_text, version_text}
 use Rattle.vw_top.specs.Demo.{board_name, design_name, generated, stimulus_name}
 use Rattle.vw_gen.specs.Summary.{summary}
 use Rattle.vw_top.specs.Messages.{vocabulary, CallWork}
-use Rattle.vw_top.specs.Kinds.{design_kind, netlist_kind, rows_kind, IsBadAgain, board_kind, plan_kind, soundness, planning, emission}
+use Rattle.vw_top.specs.Kinds.{design_kind, netlist_kind, named_kind, rows_kind, IsBadAgain, board_kind, plan_kind, soundness, planning, emission}
 
 -- ---- traces
 
@@ -107,6 +111,24 @@ netlist_wave names unknown ordered = flat_wave names unknown ordered.flat
 
 abbrev pub wave_course : List ProbeWord → List ℕ → List ℕ → Bool → Course vocabulary
 wave_course probes design stimulus unknown = over_design_course probes design stimulus (wave_of probes unknown)
+
+-- ---- grade
+
+-- the grading of a netlist whose nets are printed so over rows, where free latches start at `unknown`
+abbrev pub flat_grading : List ProbeWord → Bool → Flat → List (List Bool) → List ℕ
+flat_grading names unknown flat rows = grading_text names flat (start_values unknown flat.cells) rows
+
+-- that of the netlist of a design, with its names. It knows nothing of workers
+abbrev pub grading_of : Bool → TextOver NamedNetlist
+grading_of unknown named = flat_grading named.nets unknown named.ordered.flat
+
+-- it is written over the rows of the stimulus
+abbrev pub grading_course : List ℕ → Bool → NamedNetlist → Course vocabulary
+grading_course stimulus unknown named = rows_course stimulus named.ordered.flat.inputs (grading_of unknown named) no_links
+
+-- the design first; no net is watched
+abbrev pub grade_course : List ℕ → List ℕ → Bool → Course vocabulary
+grade_course design stimulus unknown = stage (named_kind []) design (grading_course stimulus unknown)
 
 -- ---- what comes behind a planned board
 
@@ -211,6 +233,7 @@ course_of (words.run design board stimulus given workers unknown probes) =
     run_course probes design board given stimulus workers unknown
 course_of (words.demo cells workers) = demo_course cells workers
 course_of (words.wave design stimulus unknown probes) = wave_course probes design stimulus unknown
+course_of (words.grade design stimulus workers unknown) = grade_course design stimulus unknown
 course_of (words.emit design board given) = emit_course design board given
 course_of words.help = writes help_text
 course_of words.version = writes version_text

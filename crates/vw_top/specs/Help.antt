@@ -12,6 +12,8 @@ help_text = lines_text (
     codes "      [unknown=0|1] [probe=NET].." ∷
     codes "  wave DESIGN STIM            runs a design, and writes its waveform (VCD)" ∷
     codes "      [unknown=0|1] [probe=NET].." ∷
+    codes "  grade DESIGN STIM           writes which stuck nets a stimulus does not reveal" ∷
+    codes "      [workers=N] [unknown=0|1]" ∷
     codes "  check DESIGN BOARD PLAN     checks a plan, and writes its size" ∷
     codes "      [probe=NET].." ∷
     codes "  plan DESIGN BOARD           makes a plan, and writes it" ∷
@@ -33,7 +35,7 @@ help_text = lines_text (
     codes "  unknown=0|1    the value that latches start at which have none (0)" ∷
     codes "  probe=NET      a net that is watched beside the outputs, up to 64 times" ∷
     codes "  plan=FILE      the plan to run by (one is made)" ∷
-    codes "  workers=N      how many threads run the chips, 1 to 64 (4)" ∷
+    codes "  workers=N      how many threads run the chips or grade, 1 to 64 (4)" ∷
     codes "" ∷
     codes "The exit status is 0 where the command was carried out. A design (1), words" ∷
     codes "(2), a board (3), a plan (4) or a stimulus (5) was refused; the cells have no" ∷
@@ -42,7 +44,7 @@ help_text = lines_text (
     codes "standard error has one line that says why." ∷
     codes "" ∷
     codes "docs/formats.md has the formats of all files, and each message." ∷ []
-    )
+  )
 
 abbrev pub version_text : List ℕ
 version_text = lines_text (codes "vwires 1.0.0" ∷ [])

@@ -8,6 +8,8 @@ use Rattle.vw_design.specs.Paths.{Word}
 use Rattle.vw_course.specs.Course.{Judged, Kind, Making}
 use Rattle.vw_front.specs.declared.fault.NetlistFault.{NetlistFault}
 use Rattle.vw_front.specs.Designs.{WatchedDesign, IsWatchedDesignOf, IsNetlistOf, RefusesDesign, design_apart, netlist_apart}
+use Rattle.vw_front.specs.declared.named.NamedNetlist.{NamedNetlist}
+use Rattle.vw_front.specs.NamedNetlists.{IsNamedNetlistOf, without_names}
 use Rattle.vw_plan.specs.declared.board.Board.{Board}
 use Rattle.vw_plan.specs.declared.plan.Plan.{Plan}
 use Rattle.vw_plan.specs.Good.{IsGood}
@@ -41,31 +43,35 @@ use Rattle.vw_top.specs.Messages.{reason_status, vocabulary}
 abbrev pub IsBadDesign : List Word → List ℕ → Reason → Type 0
 IsBadDesign probes text reason = (fault : NetlistFault) × (reason ≡ reasons.Design fault) × RefusesDesign probes text fault
 
--- the design that a text spells, with the nets that the probes find
-abbrev pub design_kind : List Word → Kind vocabulary WatchedDesign
-design_kind probes = record {
+-- what a design text gives: no text that is refused gives any
+abbrev pub given_kind : {Thing : Type 0} (probes : List Word) (Spells : List ℕ → Thing → Type 0)
+    → ((text : List ℕ) (its : Thing) (why : NetlistFault) → Spells text its → RefusesDesign probes text why → ⊥) → Kind vocabulary Thing
+given_kind probes Spells apart = record {
   file = files.Design;
   number = 1;
   judged = λ text. record {
-    Good = IsWatchedDesignOf probes text;
+    Good = Spells text;
     Bad = IsBadDesign probes text;
-    apart = λ watched reason is bad. design_apart probes text watched bad.0 is bad.2;
+    apart = λ its reason is bad. apart text its bad.0 is bad.2;
     its_status = λ reason bad. ap reason_status bad.1;
   };
 }
 
+-- the design that a text spells, with the nets that the probes find
+abbrev pub design_kind : List Word → Kind vocabulary WatchedDesign
+design_kind probes = given_kind probes (IsWatchedDesignOf probes) (design_apart probes)
+
 -- its netlist, with an order of its gates
 abbrev pub netlist_kind : List Word → Kind vocabulary Ordered
-netlist_kind probes = record {
-  file = files.Design;
-  number = 1;
-  judged = λ text. record {
-    Good = IsNetlistOf probes text;
-    Bad = IsBadDesign probes text;
-    apart = λ ordered reason is bad. netlist_apart probes text ordered bad.0 is bad.2;
-    its_status = λ reason bad. ap reason_status bad.1;
-  };
-}
+netlist_kind probes = given_kind probes (IsNetlistOf probes) (netlist_apart probes)
+
+-- this netlist with the names of its nets
+abbrev pub named_apart : (probes : List Word) (text : List ℕ) (named : NamedNetlist) (why : NetlistFault) → IsNamedNetlistOf probes text named
+    → RefusesDesign probes text why → ⊥
+named_apart probes text named why is = netlist_apart probes text named.ordered why (without_names probes text named is)
+
+abbrev pub named_kind : List Word → Kind vocabulary NamedNetlist
+named_kind probes = given_kind probes (IsNamedNetlistOf probes) (named_apart probes)
 
 -- ---- the stimulus
 

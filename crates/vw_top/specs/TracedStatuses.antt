@@ -21,15 +21,22 @@ pub record Subject : Type 1 where
   pub Spells : Texts → Thing → Type 0
   pub width : Thing → ℕ
 
--- a design, with the nets that probes find in it
-abbrev pub designs : List Word → List ℕ → Subject
-designs probes design = record {
+-- what the text of a design gives
+abbrev pub of_design : {Thing : Type 0} → (List ℕ → Thing → Type 0) → (Thing → ℕ) → List ℕ → Subject
+of_design {Thing = Thing} Spells width design = record {
   Texts = List ℕ;
-  Thing = WatchedDesign;
+  Thing = Thing;
   Hold = λ call d. Holds call design d;
-  Spells = IsWatchedDesignOf probes;
-  width = λ watched. length (columns watched.design);
+  Spells = Spells;
+  width = width;
 }
+
+-- a design, with the nets that probes find in it
+abbrev pub design_width : WatchedDesign → ℕ
+design_width watched = length (columns watched.design)
+
+abbrev pub designs : List Word → List ℕ → Subject
+designs probes design = of_design (IsWatchedDesignOf probes) design_width design
 
 module _ (subject : Subject) where
   -- a stimulus text has this fault for the rows of such a thing

@@ -1,5 +1,5 @@
 -- What the words of a command line spell: a keyword, names of files, and then settings.
-use Rattle.std.specs.Prelude.{ℕ, max, min, ltb, Bool, false, List, [], ◌∷◌, map, take, codes, Option, Some, None, option_map, option_and_then, unwrap_or}
+use Rattle.std.specs.Prelude.{ℕ, max, min, ltb, Bool, true, false, List, [], ◌∷◌, map, take, codes, Option, Some, None, option_map, option_and_then, unwrap_or}
 use Rattle.std.specs.List.{find}
 use Rattle.vw_words.specs.Forms.{Place, keyword, any, name, bit, number, Setting, Form}
 use Rattle.vw_words.specs.Matched.{has_form, first_wrong}
@@ -12,6 +12,7 @@ use Rattle.vw_top.specs.declared.forms.Verb.TheVariants as verbs
 pub data Spelled : Type 0 where
   sim : (design stimulus : List ℕ) (unknown : Bool) (probes : List (List ℕ)) → Spelled
   wave : (design stimulus : List ℕ) (unknown : Bool) (probes : List (List ℕ)) → Spelled
+  grade : (design stimulus : List ℕ) (workers : ℕ) (unknown : Bool) → Spelled
   check : (design board plan : List ℕ) (probes : List (List ℕ)) → Spelled
   plan : (design board : List ℕ) (probes : List (List ℕ)) → Spelled
   run : (design board stimulus : List ℕ) (given : Option (List ℕ)) (workers : ℕ) (unknown : Bool) (probes : List (List ℕ)) → Spelled
@@ -35,7 +36,7 @@ probe_setting = record { name = codes "probe"; value = name; times = MOST_PROBES
 abbrev pub plan_setting : Setting
 plan_setting = record { name = codes "plan"; value = name; times = 1 }
 
--- how many workers run the nodes of a board
+-- how many workers run the nodes of a board, or grade a design
 abbrev pub workers_setting : Setting
 workers_setting = record { name = codes "workers"; value = number 1 64; times = 1 }
 
@@ -63,6 +64,10 @@ abbrev pub wave_of : List (List ℕ) → Option Spelled
 wave_of (verb ∷ design ∷ stimulus ∷ settings) = Some (wave design stimulus (unknown_given settings) (probes_given settings))
 wave_of words = None
 
+abbrev pub grade_of : List (List ℕ) → Option Spelled
+grade_of (verb ∷ design ∷ stimulus ∷ settings) = Some (grade design stimulus (workers_given settings) (unknown_given settings))
+grade_of words = None
+
 abbrev pub check_of : List (List ℕ) → Option Spelled
 check_of (verb ∷ design ∷ board ∷ its_plan ∷ settings) = Some (check design board its_plan (probes_given settings))
 check_of words = None
@@ -88,6 +93,7 @@ demo_of words = None
 abbrev pub spelled_as : Verb → List (List ℕ) → Option Spelled
 spelled_as verbs.Sim words = sim_of words
 spelled_as verbs.Wave words = wave_of words
+spelled_as verbs.Grade words = grade_of words
 spelled_as verbs.Check words = check_of words
 spelled_as verbs.Plan words = plan_of words
 spelled_as verbs.Run words = run_of words
@@ -113,6 +119,7 @@ abbrev pub commands : List CommandForm
 commands =
     record { verb = verbs.Sim; form = form_with (codes "sim") (file ∷ file ∷ []) (unknown_setting ∷ probe_setting ∷ []) }
     ∷ record { verb = verbs.Wave; form = form_with (codes "wave") (file ∷ file ∷ []) (unknown_setting ∷ probe_setting ∷ []) }
+    ∷ record { verb = verbs.Grade; form = form_with (codes "grade") (file ∷ file ∷ []) (workers_setting ∷ unknown_setting ∷ []) }
     ∷ record { verb = verbs.Check; form = form_with (codes "check") (file ∷ file ∷ file ∷ []) (probe_setting ∷ []) }
     ∷ record { verb = verbs.Plan; form = form_with (codes "plan") (file ∷ file ∷ []) (probe_setting ∷ []) }
     ∷ record {
@@ -134,10 +141,11 @@ abbrev pub spelled_by : List (List ℕ) → Spelled
 spelled_by words =
     unwrap_or (option_and_then (λ verb. spelled_as verb words) (found_verb words commands)) (nothing (first_wrong (map (λ command. command.form) commands) words))
 
--- whether a command needs a runtime: only what runs a board with several workers does
+-- whether a command needs a runtime: what runs a board with several workers does, and each grading
 abbrev pub needs_runtime : Spelled → Bool
 needs_runtime (sim design stimulus unknown probes) = false
 needs_runtime (wave design stimulus unknown probes) = false
+needs_runtime (grade design stimulus workers unknown) = true
 needs_runtime (check design board its_plan probes) = false
 needs_runtime (plan design board probes) = false
 needs_runtime (run design board stimulus given workers unknown probes) = ltb 1 workers

@@ -11,6 +11,7 @@ use crate::board_files::BoardFiles;
 use crate::check::check;
 use crate::demo::{demo_by_one, demo_by_several};
 use crate::emit::emit;
+use crate::grade::grade;
 use crate::help::{help, version};
 use crate::plan::plan;
 use crate::probes::Probes;
@@ -59,6 +60,7 @@ fn carry_out<S: Shelf, O: Sink>(
             let probes = Probes { nets: &probes };
             wave(alloc, design, probes, stimulus, unknown, outside)
         }
+        Command::Grade { .. } => unreachable!(),
         Command::Check {
             design,
             board,
@@ -161,6 +163,12 @@ fn carry_out_together<R: Threads + Wait + Sync, S: Shelf, F: Fabric, G: BurstGat
                 rt, alloc, &files, stimulus, workers, unknown, fabric, gate, outside,
             )
         }
+        Command::Grade {
+            design,
+            stimulus,
+            workers,
+            unknown,
+        } => grade(rt, alloc, design, stimulus, workers, unknown, outside),
         Command::Demo { size, workers } => {
             demo_by_several(rt, alloc, size, workers, fabric, gate, outside)
         }
@@ -247,7 +255,7 @@ fn together<R: Threads + Wait + Sync, S: Shelf, F: Fabric, G: BurstGate, O: Sink
 
 /// Carries out the command that the words after the program's name spell, in this thread and without a runtime, and gives
 /// the exit status. So it returns, whatever is outside. It answers nothing exactly where the command needs a runtime, as
-/// one with several workers does; then nothing was read or written. Of all else it says what `virtual_wires` says.
+/// a grading and one with several workers do; then nothing was read or written. Of all else it says what `virtual_wires` says.
 pub fn alone<S: Shelf, O: Sink, E: Sink>(
     alloc: Global,
     words: &[Name],
@@ -273,12 +281,13 @@ pub fn alone<S: Shelf, O: Sink, E: Sink>(
 
 /// Carries out the command that the words after the program's name spell, and gives the exit status. After each
 /// status but 0 one message line goes to `err`. What each status means, when it comes and what it leaves, the laws
-/// `headline`, `call_statuses`, `sim_statuses`, `wave_statuses`, `check_statuses`, `plan_statuses`, `run_statuses`, `emit_statuses`,
-/// `demo_statuses`, `help_statuses`, `version_statuses` and `usage_statuses` say.
+/// `headline`, `call_statuses`, `sim_statuses`, `wave_statuses`, `grade_statuses`, `check_statuses`, `plan_statuses`,
+/// `run_statuses`, `emit_statuses`, `demo_statuses`, `help_statuses`, `version_statuses` and `usage_statuses` say.
 ///
 /// A run with several workers has the nodes of the board in groups on threads of the runtime. The words between them go
 /// over links of the fabric, and each group passes the gate before each of its bursts. That such a run ends isn't
-/// promised; where it ends, all that is said here holds. Every other call is one of `alone`.
+/// promised; where it ends, all that is said here holds. A grading shares its faults among threads of the runtime, and moves
+/// no link. Every other call is one of `alone`.
 pub fn virtual_wires<R: Threads + Wait + Sync, S: Shelf, F: Fabric, G: BurstGate, O: Sink, E: Sink>(
     rt: &R,
     alloc: Global,

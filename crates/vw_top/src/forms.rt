@@ -6,6 +6,7 @@ use vw_words::{Entry, Form, Place, Setting, Value};
 pub enum Verb {
     Sim,
     Wave,
+    Grade,
     Check,
     Plan,
     Run,
@@ -42,7 +43,7 @@ pub const PLAN: Setting = Setting {
     times: 1,
 };
 
-/// How many workers run the nodes of a board.
+/// How many workers run the nodes of a board, or grade a design.
 pub const WORKERS: Setting = Setting {
     name: b"workers",
     value: Value::Number { least: 1, most: 64 },
@@ -65,6 +66,12 @@ const SIM: Form = Form {
 const WAVE: Form = Form {
     places: &[Place::Keyword(b"wave"), FILE, FILE],
     settings: &[UNKNOWN, PROBE],
+};
+
+/// grade DESIGN STIM [workers=N] [unknown=0|1]
+const GRADE: Form = Form {
+    places: &[Place::Keyword(b"grade"), FILE, FILE],
+    settings: &[WORKERS, UNKNOWN],
 };
 
 /// check DESIGN BOARD PLAN [probe=NET]..
@@ -116,7 +123,7 @@ const VERSION: Form = Form {
 };
 
 /// Each command with the form of its words.
-pub const COMMANDS: [Entry<Verb>; 9] = [
+pub const COMMANDS: [Entry<Verb>; 10] = [
     Entry {
         command: Verb::Sim,
         form: SIM,
@@ -124,6 +131,10 @@ pub const COMMANDS: [Entry<Verb>; 9] = [
     Entry {
         command: Verb::Wave,
         form: WAVE,
+    },
+    Entry {
+        command: Verb::Grade,
+        form: GRADE,
     },
     Entry {
         command: Verb::Check,

@@ -9,6 +9,7 @@ mod demo;
 mod emit;
 mod files;
 mod forms;
+mod grade;
 mod help;
 mod plan;
 mod probes;
@@ -23,7 +24,7 @@ mod words;
 
 pub use commands::{alone, virtual_wires};
 pub use statuses::{
-    call_statuses, check_statuses, demo_statuses, emit_statuses, headline, help_statuses,
+    call_statuses, check_statuses, demo_statuses, emit_statuses, grade_statuses, headline, help_statuses,
     plan_statuses, run_statuses, sim_statuses, usage_statuses, version_statuses, wave_statuses,
     waves_show_designs,
 };

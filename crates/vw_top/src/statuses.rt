@@ -4,12 +4,12 @@ ghost use Rattle.vw_design.specs.Paths.{Word};
 ghost use Rattle.vw_course.specs.Endings.{IsCallOf};
 ghost use Rattle.vw_course.specs.Statuses.{Holds, Statuses};
 ghost use Rattle.vw_top.specs.Words.{Spelled, help, version};
-ghost use Rattle.vw_top.specs.Commands.{check_course, course_of, demo_course, emit_course, plan_course, run_course, sim_course, trace_of, usage_course, wave_course, wave_of};
+ghost use Rattle.vw_top.specs.Commands.{check_course, course_of, demo_course, emit_course, grade_course, plan_course, run_course, sim_course, trace_of, usage_course, wave_course, wave_of};
 ghost use Rattle.vw_top.specs.Messages.{Call};
 ghost use Rattle.vw_top.specs.Headline.{WritesTrace};
 ghost use Rattle.vw_top.specs.WaveLaw.{WavesReplay};
 ghost use Rattle.vw_top.specs.UsageStatuses.{UsageStatuses};
-ghost use Rattle.vw_top.specs.SimStatuses.{SimStatuses};
+ghost use Rattle.vw_top.specs.SimStatuses.{GradeStatuses, SimStatuses};
 ghost use Rattle.vw_top.specs.CheckStatuses.{CheckStatuses};
 ghost use Rattle.vw_top.specs.EmitStatuses.{EmitStatuses};
 ghost use Rattle.vw_top.specs.PlanStatuses.{PlanStatuses};
@@ -58,6 +58,14 @@ pub fn waves_show_designs()
 {
     waves_of_runs_replay();
 }
+
+/// What each status of `grade` says of its files, whatever the number of workers: after status 0, out has the grading of the
+/// netlist of the design.
+pub fn grade_statuses()
+    ensures { (design stimulus : List ℕ) (unknown : Bool) (call : Call)
+        → IsCallOf (grade_course design stimulus unknown) call
+        → GradeStatuses unknown design stimulus call }
+{}
 
 /// What each status of `check` says of its files, with 64 probes at most.
 pub fn check_statuses()

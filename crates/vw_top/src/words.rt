@@ -1,5 +1,5 @@
 ghost use Rattle.std.specs.Prelude.{◌≡◌, ◌≤◌, IfOk, length, map, option_and_then, option_map, take};
-ghost use Rattle.vw_top.specs.Words.{spelled_as, spelled_by, found_verb, sim_of, wave_of, check_of, plan_of, run_of, emit_of, demo_of, cells_given};
+ghost use Rattle.vw_top.specs.Words.{spelled_as, spelled_by, found_verb, sim_of, wave_of, grade_of, check_of, plan_of, run_of, emit_of, demo_of, cells_given};
 ghost use Rattle.vw_top.specs.declared.forms.TheConstants.{MOST_PROBES};
 ghost use Rattle.vw_top.specs.Steps.Commands.{command_form, command_view};
 
@@ -31,6 +31,15 @@ pub enum Command<'a> {
         unknown: bool,
         /// The nets that are watched.
         probes: Names<'a>,
+    },
+    /// Grades a stimulus: writes which stuck nets of a design it doesn't reveal.
+    Grade {
+        design: &'a Name,
+        stimulus: &'a Name,
+        /// How many workers grade.
+        workers: u64,
+        /// The value that free latches start at.
+        unknown: bool,
     },
     /// Checks a plan of a design on a board, and writes its size.
     Check {
@@ -87,12 +96,13 @@ impl<'a> Command<'a> {
     ghost use Rattle.vw_top.specs.Steps.Commands.{command_view};
     ghost use Rattle.vw_top.specs.Words.{needs_runtime};
 
-    /// Whether it needs a runtime: only what runs a board with several workers does.
+    /// Whether it needs a runtime: what runs a board with several workers does, and each grading.
     pub fn needs_runtime(&self) -> bool
         ensures { result ≡ needs_runtime (command_view self.now) }
     {
         match self {
             Command::Run { workers, .. } | Command::Demo { workers, .. } => *workers > 1,
+            Command::Grade { .. } => true,
             Command::Sim { .. }
             | Command::Wave { .. }
             | Command::Check { .. }
@@ -130,6 +140,21 @@ fn wave_of(words: &[Name]) -> Option<Command<'_>>
             stimulus,
             unknown: UNKNOWN.bit(settings, false),
             probes: PROBE.names(settings),
+        }),
+        _ => None,
+    }
+}
+
+/// The command that words of the form of `grade` spell.
+fn grade_of(words: &[Name]) -> Option<Command<'_>>
+    ensures { option_map command_view result ≡ grade_of words.now }
+{
+    match words {
+        [_, design, stimulus, settings @ ..] => Some(Command::Grade {
+            design,
+            stimulus,
+            workers: WORKERS.number(settings, DEFAULT_WORKERS),
+            unknown: UNKNOWN.bit(settings, false),
         }),
         _ => None,
     }
@@ -225,6 +250,7 @@ fn spelled_as(verb: Verb, words: &[Name]) -> Option<Command<'_>>
     match verb {
         Verb::Sim => sim_of(words),
         Verb::Wave => wave_of(words),
+        Verb::Grade => grade_of(words),
         Verb::Check => check_of(words),
         Verb::Plan => plan_of(words),
         Verb::Run => run_of(words),

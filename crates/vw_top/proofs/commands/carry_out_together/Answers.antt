@@ -16,6 +16,15 @@ returns-in-Demo g c =
     subst (λ (spelled : Spelled). GoesOver g.S.Shelf.seen g.O.Sink.seen vocabulary (MovedFrom (g.F.Fabric.carried c.args.fabric.now) (g.F.Fabric.carried c.demo_by_several.new.fabric)) (course_of spelled) c.args.outside.now c.demo_by_several.new.outside c.demo_by_several.result) (sym is)
     c.demo_by_several.ensures
 
+-- and this grading, which moves no link
+pub returns-in-Grade : goal.returns-in-Grade
+returns-in-Grade g c =
+    let graded = c.in-Grade in
+    let is : command_view c.args.command ≡ words.grade graded.design.now graded.stimulus.now graded.workers graded.unknown = ap command_view graded.is in
+    let goes = c.grade.ensures in
+    subst (λ (spelled : Spelled). GoesOver g.S.Shelf.seen g.O.Sink.seen vocabulary (MovedFrom (g.F.Fabric.carried c.args.fabric.now) (g.F.Fabric.carried c.args.fabric.now)) (course_of spelled) c.args.outside.now c.grade.new.outside c.grade.result) (sym is)
+    (record { same = goes.same; leads = record { follows = λ links links_after moved. goes.leads.follows links links_after (moved.1 ∙ sym moved.0) } })
+
 -- and this run, with the nets that the words watch
 pub returns-in_ok-probes-in-Run : goal.returns-in_ok-probes-in-Run
 returns-in_ok-probes-in-Run g c =
