@@ -1,6 +1,6 @@
-//! Tests of the commands `sim`, `wave` and `grade`, of `--help` and `--version`, and of the example of a caller: words and texts in memory, and the status, the trace and the
-//! message that they come to. Designs of all kinds are run and refused here. They stand in a crate of their own, since a
-//! crate with tests is proved twice.
+//! Tests of the commands `sim`, `wave` and `grade`, of `--help` and `--version`, and of the example of a caller: words and texts
+//! in memory, and the status, the text and the message that they come to. Designs of all kinds are run and refused here. They
+//! stand in a crate of their own, since a crate with tests is proved twice.
 #![tactic(auto)]
 
 #[cfg(test)]

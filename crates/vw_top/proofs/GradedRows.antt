@@ -1,11 +1,11 @@
 -- A text that is made of all rows of a checked stimulus, which are read at once, and then written.
-use Rattle.std.proofs.Common.{◌≡◌, ◌≢◌, ◌≤◌, ℕ, Bool, false, List, length, take, drop, Result, Ok, Err, refl, sym, ◌∙◌, ap, arith}
+use Rattle.std.proofs.Common.{◌≡◌, ◌≢◌, ◌≤◌, ℕ, Bool, false, List, length, take, drop, Ok, Err, sym, ◌∙◌, ap, arith}
 use Rattle.std.specs.List.{All}
 use Rattle.std.proofs.lemmas.List.{take_all}
 use Rattle.vw_outside.specs.declared.unwritten.Unwritten.{Unwritten}
 use Rattle.vw_outside.specs.Told.{held}
 use Rattle.vw_outside.specs.Reads.{SeenShelf, CountsFault}
-use Rattle.vw_outside.specs.Writes.{SeenSink, appended, WritesOut}
+use Rattle.vw_outside.specs.Writes.{SeenSink, WritesOut}
 use Rattle.vw_outside.proofs.PiecesWritten.{appended-nil}
 use Rattle.vw_rows.specs.declared.fault.StimFault.{StimFault}
 use Rattle.vw_rows.specs.declared.fault.StimFault.TheVariants as rows_faults

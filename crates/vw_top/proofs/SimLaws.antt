@@ -1,7 +1,6 @@
 -- What each status says of a command that reads a design and a stimulus, and writes a text of both.
 use Rattle.std.proofs.Common.{◌≡◌, ◌≢◌, ◌<◌, ℕ, Bool, List, [], ◌∷◌, refl, sym, ◌∙◌, ap, subst, inl, inr, ⊎_elim, lit<, arith}
 use Rattle.vw_design.specs.Paths.{Word}
-use Rattle.vw_net.specs.declared.flat.Flat.{Flat}
 use Rattle.vw_outside.specs.Told.{Told, held}
 use Rattle.vw_course.specs.Vocabulary.{IsNoStop}
 use Rattle.vw_course.specs.Course.{Course, Kind, stage}

@@ -44,7 +44,7 @@ help_text = lines_text (
     codes "standard error has one line that says why." ∷
     codes "" ∷
     codes "docs/formats.md has the formats of all files, and each message." ∷ []
-  )
+    )
 
 abbrev pub version_text : List ℕ
 version_text = lines_text (codes "vwires 1.0.0" ∷ [])

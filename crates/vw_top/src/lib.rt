@@ -24,8 +24,8 @@ mod words;
 
 pub use commands::{alone, virtual_wires};
 pub use statuses::{
-    call_statuses, check_statuses, demo_statuses, emit_statuses, grade_statuses, headline, help_statuses,
-    plan_statuses, run_statuses, sim_statuses, usage_statuses, version_statuses, wave_statuses,
-    waves_show_designs,
+    call_statuses, check_statuses, demo_statuses, emit_statuses, grade_statuses, headline,
+    help_statuses, plan_statuses, run_statuses, sim_statuses, usage_statuses, version_statuses,
+    wave_statuses, waves_show_designs,
 };
 pub use vocabulary::{File, Reason, Unfinished};

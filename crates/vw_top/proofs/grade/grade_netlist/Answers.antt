@@ -12,7 +12,7 @@ returns g c =
     let flat = c.args.named.ordered.flat in
     let rows = c.in_ok-rows.rows in
     let graded = subst (λ (names : List Word). Streams rows.name rows.width (flat_grading names c.args.unknown flat) (λ some. Unit {0}) (g.S.Shelf.seen c.check_rows.new.shelf) (g.O.Sink.seen c.args.outside.now.out.now)
-        (g.S.Shelf.seen c.grade_rows-graded.new.shelf) (g.O.Sink.seen c.grade_rows-graded.new.out) c.grade_rows-graded.result) c.as_slice.ensures c.grade_rows-graded.ensures in
+    (g.S.Shelf.seen c.grade_rows-graded.new.shelf) (g.O.Sink.seen c.grade_rows-graded.new.out) c.grade_rows-graded.result) c.as_slice.ensures c.grade_rows-graded.ensures in
     rw c.run_answer.ensures
     (goes_streaming g.S.Shelf.seen g.O.Sink.seen Unmoved c.args.stimulus.now flat.inputs (grading_of c.args.unknown c.args.named) no_links c.args.outside.now mid (record { shelf = refl; out = refl }) refl
     no_parts _ rows c.grade_rows-graded.result (record { shelf = refl; out = refl }) c.in_ok-rows.ensures.judges c.in_ok-rows.ensures.starts (without_links graded))
