@@ -1,0 +1,5 @@
+pub mod CutAtSpace
+pub mod ReadBack
+pub mod TraceAsLines
+pub mod JoinedTraces
+pub mod Ran

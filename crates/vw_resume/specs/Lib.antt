@@ -1,0 +1,6 @@
+pub mod States
+pub mod Messages
+pub mod Resumed
+pub mod Saved
+pub mod Joined
+pub mod Steps

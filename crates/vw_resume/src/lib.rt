@@ -1,0 +1,26 @@
+//! States of runs, and runs that go on from them: on another board, by another plan, with another number of workers. The
+//! traces of such runs, joined line by line, are the trace of the whole.
+#![tactic(auto)]
+
+mod fault;
+mod laws;
+mod limits;
+mod reading;
+mod recorder;
+mod resuming;
+mod saving;
+mod state;
+
+pub use fault::StateFault;
+pub use laws::{
+    saved_texts_spell_states, spelled_short, state_faults_are_single, states_spell_once,
+    traces_join,
+};
+pub use limits::LONGEST_STATE;
+pub use resuming::run_from;
+pub use saving::save;
+pub use state::State;
+pub use vw_trace::RunFault as ResumeFault;
+
+#[cfg(test)]
+mod tests;
