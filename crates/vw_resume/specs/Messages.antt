@@ -6,6 +6,7 @@ use Rattle.vw_resume.specs.declared.fault.StateFault.TheVariants.{BadText, Wrong
 
 abbrev pub fault_text : StateFault → List ℕ
 fault_text BadText = codes "state 1: bad text" ++ 10 ∷ []
-fault_text (WrongLatches found wanted) = codes "state 2: " ++ (decimal found ++ (codes " latches, wanted " ++ (decimal wanted ++ 10 ∷ [])))
+fault_text (WrongLatches found wanted) =
+    codes "state 2: " ++ (decimal found ++ (codes " latches, wanted " ++ (decimal wanted ++ 10 ∷ [])))
 fault_text (TooManyClocks clocks) = codes "state 3: " ++ (decimal clocks ++ (codes " clocks" ++ 10 ∷ []))
 fault_text NoMemory = codes "out of memory" ++ 10 ∷ []

@@ -15,10 +15,12 @@ resumed_trace flat clock latches rows = trace_from 0 clock latches flat rows
 
 -- the links have carried the words of some rows, from a clock and latch values on; and after a success the answer is the
 -- state after these rows
-abbrev pub HaveResumed : ℕ → PlannedBoard → ℕ → List Bool → Carried → Carried → Result State RunFault → List (List Bool) → Type 0
+abbrev pub HaveResumed : ℕ → PlannedBoard → ℕ → List Bool → Carried → Carried → Result State RunFault → List (List Bool)
+    → Type 0
 HaveResumed workers planned clock latches before after answer rows =
     HaveCarried workers planned clock latches before after rows
-    × IfOk answer (λ state. (state.clock ≡ clock + length rows) × (state.latches ≡ state_after planned.ordered.flat latches rows))
+    × IfOk answer (λ state.
+    (state.clock ≡ clock + length rows) × (state.latches ≡ state_after planned.ordered.flat latches rows))
 
 -- an answer, whatever the state
 abbrev pub without_state : Result State RunFault → Result (Unit {0}) RunFault
