@@ -1,5 +1,5 @@
 -- A text that is cut at its first space, or has none.
-use Rattle.std.proofs.Common.{◌≡◌, ◌+◌, ◌-◌, ◌<◌, ◌≤◌, ◌==◌, ℕ, true, List, [], length, take, drop, slice_index, sym, ◌∙◌, ap, arith}
+use Rattle.std.proofs.Common.{◌≡◌, ◌+◌, ◌-◌, ◌<◌, ◌≤◌, ◌==◌, ℕ, true, List, length, take, drop, slice_index, sym, ◌∙◌, ap, arith}
 use Rattle.std.specs.List.{position_or_len}
 use Rattle.std.proofs.lemmas.List.{take_all, take_rest, drop_all}
 use Rattle.vw_text.proofs.FoundBytes.{cut_at_found, none_found}

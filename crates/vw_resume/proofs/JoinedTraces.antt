@@ -2,7 +2,7 @@
 use Rattle.std.proofs.Common.{◌≡◌, ◌+◌, ◌-◌, ℕ, Bool, List, [], ◌∷◌, ◌++◌, length, sym, ◌∙◌, ap, ap₂, subst, append_assoc, arith, length-append}
 use Rattle.vw_net.specs.declared.flat.Flat.{Flat}
 use Rattle.vw_net.specs.Cells.{latch_count, start_values}
-use Rattle.vw_net.specs.History.{History, flat_history, joined, outputs_of, states_of, state_after}
+use Rattle.vw_net.specs.History.{History, flat_history, joined, state_after}
 use Rattle.vw_net.proofs.Counts.{length-outputs_of, length-states_of}
 use Rattle.vw_rows.specs.Trace.{trace_text_from}
 use Rattle.vw_trace.specs.FlatTrace.{flat_trace}

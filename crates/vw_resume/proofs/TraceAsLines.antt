@@ -1,5 +1,5 @@
 -- A trace as lines.
-use Rattle.std.proofs.Common.{◌≡◌, ◌+◌, ◌==◌, ℕ, Bool, true, false, List, [], ◌∷◌, ◌++◌, length, refl, sym, ◌∙◌, ap, ap₂, append_assoc, append-nil, arith}
+use Rattle.std.proofs.Common.{◌≡◌, ◌+◌, ℕ, Bool, false, List, [], ◌∷◌, ◌++◌, length, refl, sym, ◌∙◌, ap, ap₂, append_assoc, append-nil, arith}
 use Rattle.std.specs.Prelude.{codes}
 use Rattle.std.specs.Fmt.{decimal}
 use Rattle.std.specs.List.{AllByRecursion, list_any}
@@ -12,7 +12,7 @@ use Rattle.vw_text.proofs.DecimalDigits.{decimal_without}
 use Rattle.vw_text.proofs.FirstLine.{ends_line, line_first}
 use Rattle.vw_text.proofs.FoundBytes.{HasNo}
 use Rattle.vw_text.proofs.LineTexts.{lines_text-append}
-use Rattle.vw_rows.specs.Trace.{bits_text, rows_text, end_text, lines_from, trace_text_from}
+use Rattle.vw_rows.specs.Trace.{bits_text, rows_text, lines_from, trace_text_from}
 use Rattle.vw_resume.specs.Joined.{HasLines}
 
 -- ---- the lines

@@ -1,4 +1,4 @@
-use Rattle.std.proofs.Common.{◌≡◌, ◌∙◌, ◌+◌, ℕ, List, Bool, length, Ok, Err, refl, ap, subst, arith}
+use Rattle.std.proofs.Common.{◌≡◌, ◌∙◌, ◌+◌, ℕ, Ok, Err, refl, ap, subst, arith}
 use Rattle.std.proofs.lemmas.Result.{err_from_is_err_and}
 use Rattle.vw_net.specs.Cells.{latch_count}
 use Rattle.vw_net.proofs.Counts.{latch_count-le}
@@ -7,7 +7,6 @@ use Rattle.vw_plan.specs.PlannedBoard.{planned_board}
 use Rattle.vw_prog.specs.Scripts.{planned_of}
 use Rattle.vw_trace.specs.Streamed.{Streams}
 use Rattle.vw_trace.proofs.StreamedTexts.{nothing_streamed}
-use Rattle.vw_batches.specs.Runs.{HaveRun}
 use Rattle.vw_batches.specs.Traffic.{HaveCarried}
 use Rattle.vw_batches.proofs.JoinedTraffic.{after_no_rows}
 use Rattle.vw_resume.specs.declared.state.State.{State}

@@ -1,4 +1,4 @@
-use Rattle.std.proofs.Common.{◌≡◌, ◌+◌, ◌++◌, ◌∙◌, ℕ, List, Bool, [], length, sym, ap, arith, length-append}
+use Rattle.std.proofs.Common.{◌≡◌, ◌+◌, ◌++◌, ◌∙◌, ℕ, List, length, sym, ap, arith, length-append}
 use Rattle.vw_resume.specs.States.{state_text}
 use Rattle.vw_resume.proofs.recorder.StateRecorderRecorder.lines.Goals as goal
 

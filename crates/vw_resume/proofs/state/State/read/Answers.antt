@@ -1,4 +1,4 @@
-use Rattle.std.proofs.Common.{◌≡◌, ◌≤◌, ◌∙◌, length, sym, subst, true≢false, arith}
+use Rattle.std.proofs.Common.{◌≤◌, ◌∙◌, length, sym, subst, true≢false, arith}
 use Rattle.vw_resume.specs.States.{Spells}
 use Rattle.vw_resume.proofs.ReadBack.{read_is, spelled_is_short}
 use Rattle.vw_resume.proofs.state.State.read.Goals as goal
