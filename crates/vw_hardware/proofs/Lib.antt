@@ -1,0 +1,11 @@
+pub mod TableValues
+pub mod Members
+pub mod Equations
+pub mod Users
+pub mod Firsts
+pub mod Clocks
+pub mod Nets
+pub mod Hops
+pub mod LastMicroclocks
+pub mod HeldRows
+pub mod AllRows
