@@ -1,7 +1,7 @@
 -- All rows: at the last microclock of each clock an emitted board shows its design.
 use Rattle.std.proofs.Common.{◌≡◌, ◌<◌, ◌≤◌, ◌+◌, ◌*◌, ◌∙◌, ℕ, zero, suc, Bool, false, List, [], ◌∷◌, length, map, take, slice_get, slice_index, slice_index_or, Some, ap, ap₂, refl, sym, subst, ne_eqb, eqb, add-one, suc-mul, arith}
 use Rattle.std.specs.List.{range_with_len}
-use Rattle.std.proofs.lemmas.Option.{slice_get_within}
+use Rattle.std.proofs.lemmas.Option.{none-some, same_Some, slice_get_within}
 use Rattle.vw_net.specs.Cells.{latch_count, start_values}
 use Rattle.vw_net.specs.History.{next_state, outputs_at, outputs_of, states_of}
 use Rattle.vw_net.specs.Value.{net_value}
@@ -11,7 +11,7 @@ use Rattle.vw_plan.specs.PlannedBoard.{PlannedBoard}
 use Rattle.vw_plan.specs.Sound.{IsSound}
 use Rattle.vw_hardware.specs.Locals.{kept, moment, result}
 use Rattle.vw_hardware.specs.Run.{IsRun, Values}
-use Rattle.vw_hardware.specs.Shown.{at_each_clock, held_rows, last_microclock, shown_latches, shown_outputs}
+use Rattle.vw_hardware.specs.Shown.{IsClockOf, at_each_clock, held_rows, last_microclock, shown_latches, shown_outputs}
 use Rattle.vw_hardware.proofs.Clocks.{IsAtStart, IsClock, cell_chip, latch_is}
 use Rattle.vw_hardware.proofs.Equations.{first_stage, latch_start, other_stage}
 use Rattle.vw_hardware.proofs.HeldRows.{listed_latches, listed_values, next_long, row_held, start_bit, start_long}
@@ -73,6 +73,21 @@ module _ (planned : PlannedBoard) (sound : IsSound planned) (unknown : Bool) (ro
         subst (λ (time : ℕ). IsAtStart planned value time (next_state planned.ordered.flat row state)) (sym next)
         (next_start planned sound unknown board_rows value run (first_microclock number) row state (first_clock number state row left is) (subst (λ (time : ℕ). time < length board_rows) next inside))
 
+  -- so each clock of the history is a clock of the run
+  clock_at : (number : ℕ) (state : List Bool) (left : List (List Bool)) → IsLeft number state left → (place : ℕ) (row own : List Bool) → slice_get left place ≡ Some row → slice_get (states_of planned.ordered.flat state left) place ≡ Some own
+      → IsClock planned board_rows value (first_microclock (number + place)) row own
+  clock_at number state [] is place row own at stands = absurd (none-some row at)
+  clock_at number state (first ∷ left) is zero row own at stands =
+      let none : number ≡ number + 0 = omega arith in
+      let here = first_clock number state first left is in
+      subst (λ (k : ℕ). IsClock planned board_rows value (first_microclock k) row own) none
+      (subst (λ (one : List Bool). IsClock planned board_rows value (first_microclock number) row one) (same_Some state own stands)
+      (subst (λ (one : List Bool). IsClock planned board_rows value (first_microclock number) one state) (same_Some first row at) here))
+  clock_at number state (first ∷ left) is (suc place) row own at stands =
+      let next : suc number + place ≡ number + suc place = omega arith in
+      subst (λ (k : ℕ). IsClock planned board_rows value (first_microclock k) row own) next
+      (clock_at (suc number) (next_state planned.ordered.flat first state) left (next_left number state first left is) place row own at stands)
+
   all_outputs : (number : ℕ) (state : List Bool) (left : List (List Bool)) → IsLeft number state left → map (λ clock. shown_outputs planned value (last_microclock planned clock)) (range_with_len number (length left)) ≡ outputs_of planned.ordered.flat state left
   all_outputs number state [] is = refl
   all_outputs number state (row ∷ left) is =
@@ -116,3 +131,9 @@ module _ (planned : PlannedBoard) (sound : IsSound planned) (unknown : Bool) (ro
 
   pub shows_latches : at_each_clock planned (shown_latches planned value) (length rows) ≡ states_of planned.ordered.flat (start_values unknown planned.ordered.flat.cells) rows
   shows_latches = all_latches 0 (start_values unknown planned.ordered.flat.cells) rows all_left
+
+  pub clock_of : (clock : ℕ) (row state : List Bool) → IsClockOf planned unknown rows clock row state → IsClock planned board_rows value (clock * (planned.plan.period + 1)) row state
+  clock_of clock row state is =
+      let none : 0 + clock ≡ clock = omega arith in
+      subst (λ (k : ℕ). IsClock planned board_rows value (first_microclock k) row state) none
+      (clock_at 0 (start_values unknown planned.ordered.flat.cells) rows all_left clock row state is.row_is is.state_is)

@@ -118,12 +118,11 @@ module _ (planned : PlannedBoard) (unknown : Bool) (rows : List (List Bool)) (va
           ∙ run.steps (later + time) node (late_name at pin (length others) later) (delayed at pin later) StartsAtZero (omega (arith, inside)) (has_delay planned node among at pin link linked leaves within user others used later (omega (arith, below)))
           ∙ late_bit time later (omega (arith, below)) (omega (arith, inside))
 
-      -- the pin's port has it behind the delay of the link, but for one microclock
-      pub out_bit : (time : ℕ) → link.delay - 1 + time < length rows → value (link.delay - 1 + time) node (pin_out at pin) ≡ list_any (goes time) (user ∷ others)
+      -- the pin's port has what has come through all of them
+      pub out_bit : (time : ℕ) → time < length rows → value time node (pin_out at pin) ≡ value time node (late_name at pin (length others) (link.delay - 1))
       out_bit time inside =
           let late = late_name at pin (length others) (link.delay - 1) in
-          run.tables (link.delay - 1 + time) node (late ∷ []) (pin_out at pin) true pass inside (has_out planned node among at pin link linked leaves within user others used)
-          ∙ pass_value (value (link.delay - 1 + time) node late) ∙ late_bit time (link.delay - 1) (omega arith) inside ∙ sent_bit time (omega (arith, inside))
+          run.tables time node (late ∷ []) (pin_out at pin) true pass inside (has_out planned node among at pin link linked leaves within user others used) ∙ pass_value (value time node late)
 
   -- ---- an output of the host
 

@@ -13,20 +13,20 @@ use Rattle.vw_plan.proofs.HopLinks.{HopFacts, hop_facts}
 use Rattle.vw_plan.proofs.HopsOfWires.{at_place, begins}
 use Rattle.vw_plan.proofs.NeededWires.{wires_fine}
 use Rattle.vw_plan.proofs.WireEnds.{hop_before}
-use Rattle.vw_hardware.specs.Items.{User, leaves_by, users}
-use Rattle.vw_hardware.specs.Locals.{held, moment, pin_in, pin_out}
+use Rattle.vw_hardware.specs.Items.{User, late_name, leaves_by, users}
+use Rattle.vw_hardware.specs.Locals.{held, moment, pin_in}
 use Rattle.vw_hardware.specs.Names.{sent_name}
 use Rattle.vw_hardware.specs.Run.{IsRun, Values}
 use Rattle.vw_hardware.proofs.Clocks.{IsClock, stage_is, within}
-use Rattle.vw_hardware.proofs.Equations.{hop_bit, out_bit}
+use Rattle.vw_hardware.proofs.Equations.{hop_bit, late_bit, out_bit, sent_bit}
 use Rattle.vw_hardware.proofs.Nets.{AreHeld, bit, net_count, net_is}
 use Rattle.vw_hardware.proofs.Users.{decided, has_users, is_user, one_sends, user_hop, user_of}
 
 -- a list that isn't empty
-record HasFirst {X : Type 0} (xs : List X) : Type 0 where
-  first : X
-  others : List X
-  is : xs ≡ first ∷ others
+pub record HasFirst {X : Type 0} (xs : List X) : Type 0 where
+  pub first : X
+  pub others : List X
+  pub is : xs ≡ first ∷ others
 
 has_first : {X : Type 0} (xs : List X) → 0 < length xs → HasFirst xs
 has_first [] some = absurd (omega (arith, some))
@@ -46,7 +46,7 @@ module _ (planned : PlannedBoard) (sound : IsSound planned) (unknown : Bool) (ro
   HaveCome = AreHeld planned sound unknown rows value run start row state clock
 
   module _ (wire place : ℕ) (is : Wire) (hop : Hop) (there : slice_get planned.plan.wires wire ≡ Some is) (stands : slice_get is.hops place ≡ Some hop) where
-    facts : HopFacts planned hop
+    pub facts : HopFacts planned hop
     facts = hop_facts planned sound wire place is hop there stands
 
     -- a hop sends the value of its wire's net, if what has arrived before it has been kept
@@ -67,45 +67,82 @@ module _ (planned : PlannedBoard) (sound : IsSound planned) (unknown : Bool) (ro
           ap (λ (node : ℕ). value (start + hop.at) node (held wire before)) earlier.goes_on.from
           ∙ come wire before is earlier.hop there earlier.at earlier.goes_on.later
 
+    -- the link over which it goes, and the pin's users
+    abbrev pub link : Link
+    link = facts.over.link
+
+    abbrev pub all_users : List User
+    all_users = users planned link hop.pin
+
+    leaves : leaves_by link hop.pin hop.at hop ≡ true
+    leaves = leaves_own hop link facts.over.carried
+
+    some : 0 < length all_users
+    some = has_users planned link hop.pin wire place is hop there stands facts.sent leaves
+
+    pub split : HasFirst all_users
+    split = has_first all_users some
+
+    ends_are_nodes : (link.from ≤ planned.board.chips) × (link.to ≤ planned.board.chips)
+    ends_are_nodes = at_place (λ (one : Link). (one.from ≤ planned.board.chips) × (one.to ≤ planned.board.chips)) planned.board.links facts.over.number link planned.board.linked.separate.ends facts.over.there
+
+    -- in its microcycle its stage alone is 1 among those of the users
+    goes : User → Bool
+    goes user = value (start + hop.at) link.from (moment user.at) && value (start + hop.at) link.from user.name
+
+    user_stage : (at : ℕ) → at < planned.plan.period → value (start + hop.at) link.from (moment at) ≡ eqb hop.at at
+    user_stage at below = let sent_in = facts.sent in stage_is planned sound unknown rows value run start row state clock hop.at link.from at (omega (arith, sent_in)) ends_are_nodes.0 (omega (arith, below))
+
+    own_value : HaveCome hop.at → value (start + hop.at) link.from (sent_name planned wire is place hop) ≡ own_bit is.net
+    own_value come = ap (λ (node : ℕ). value (start + hop.at) node (sent_name planned wire is place hop)) facts.over.from ∙ sends come
+
+    own_goes : HaveCome hop.at → goes (user_of planned link hop.pin wire is place hop.at hop) ≡ own_bit is.net
+    unfolding goes
+    own_goes come = ap₂ (λ (x y : Bool). x && y) (user_stage hop.at facts.sent ∙ eq-eqb hop.at hop.at refl) (own_value come)
+
+    -- so no other user's bit goes out
+    goes_alone : HaveCome hop.at → (user : User) → StandsIn user all_users → goes user ≡ true → own_bit is.net ≡ true
+    unfolding goes
+    goes_alone come user standing passes =
+        let its = user_hop planned link hop.pin user standing in
+        let parts = and_parts (value (start + hop.at) link.from (moment user.at)) (value (start + hop.at) link.from user.name) passes in
+        let slot = and_parts (its.hop.pin == hop.pin) (its.hop.at == user.at) (and_parts (carries its.hop link) (its.hop.pin == hop.pin && its.hop.at == user.at) its.leaves).1 in
+        let its_time : its.hop.at ≡ user.at = eqb-true its.hop.at user.at slot.1 in
+        let its_sent = (hop_facts planned sound its.wire its.place its.is its.hop its.there its.stands).sent in
+        let same : hop.at ≡ user.at = eqb-true hop.at user.at (sym (user_stage user.at (omega (arith, its_sent, its_time))) ∙ parts.0) in
+        let name = one_sends planned link hop.pin sound wire place is hop there stands leaves user standing (sym same) in
+        sym (own_value come) ∙ ap (value (start + hop.at) link.from) (sym name) ∙ parts.1
+
+    -- and the hop's goes out
+    chosen : HaveCome hop.at → list_any goes (split.first ∷ split.others) ≡ own_bit is.net
+    chosen come =
+        ap (list_any goes) (sym split.is)
+        ∙ decided goes all_users (user_of planned link hop.pin wire is place hop.at hop) (own_bit is.net) (is_user planned link hop.pin wire place is hop there stands facts.sent leaves) (own_goes come) (goes_alone come)
+
+    -- while it is under way it is in the registers of its pin
+    pub under_way : HaveCome hop.at → (later : ℕ) → later ≤ link.delay - 1 → value (start + (hop.at + later)) link.from (late_name facts.over.number hop.pin (length split.others) later) ≡ own_bit is.net
+    unfolding goes
+    under_way come later below =
+        let sent_in = facts.sent in
+        let arrived_in = facts.within in
+        let inside = within planned sound unknown rows value run start row state clock (hop.at + later) (omega (arith, below, arrived_in, facts.over.lags)) in
+        let time : later + (start + hop.at) ≡ start + (hop.at + later) = omega arith in
+        let pin = late_bit planned unknown rows value run link.from ends_are_nodes.0 facts.over.number hop.pin link facts.over.there refl facts.over.pin split.first split.others split.is (start + hop.at) later below (subst (λ (when : ℕ). when < length rows) (sym time) inside) in
+        let goes_out = sent_bit planned unknown rows value run link.from ends_are_nodes.0 facts.over.number hop.pin link facts.over.there refl facts.over.pin split.first split.others split.is (start + hop.at) (within planned sound unknown rows value run start row state clock hop.at (omega (arith, sent_in))) in
+        ap (λ (when : ℕ). value when link.from (late_name facts.over.number hop.pin (length split.others) later)) (sym time) ∙ pin ∙ goes_out ∙ chosen come
+
     -- the pin by which it arrives has that value in the microcycle of its arrival
     arrives : HaveCome hop.at → value (start + arrival planned.board.links hop) hop.to (pin_in facts.over.number hop.pin) ≡ own_bit is.net
     arrives come =
-        let over = facts.over in
-        let link = over.link in
-        let pin = hop.pin in
-        let leaves = leaves_own hop link over.carried in
-        let sent_in = facts.sent in
         let arrived_in = facts.within in
-        let some = has_users planned link pin wire place is hop there stands facts.sent leaves in
-        let split = has_first (users planned link pin) some in
-        let among : link.from ≤ planned.board.chips = (at_place (λ (one : Link). (one.from ≤ planned.board.chips) × (one.to ≤ planned.board.chips)) planned.board.links over.number link planned.board.linked.separate.ends over.there).0 in
         let now = start + arrival planned.board.links hop in
-        let sent_at = start + hop.at in
         let inside : now < length rows = within planned sound unknown rows value run start row state clock (arrival planned.board.links hop) (omega (arith, arrived_in)) in
-        let late : link.delay - 1 + sent_at ≡ now = omega (arith, over.lags) in
-        let goes = λ (user : User). value sent_at link.from (moment user.at) && value sent_at link.from user.name in
-        let user = user_of planned link pin wire is place hop.at hop in
-        let standing = is_user planned link pin wire place is hop there stands facts.sent leaves in
-        let own_stage : value sent_at link.from (moment hop.at) ≡ true = stage_is planned sound unknown rows value run start row state clock hop.at link.from hop.at (omega (arith, sent_in)) among (omega (arith, sent_in)) ∙ eq-eqb hop.at hop.at refl in
-        let own_name : value sent_at link.from user.name ≡ own_bit is.net = ap (λ (node : ℕ). value sent_at node user.name) over.from ∙ sends come in
-        let own : goes user ≡ own_bit is.net = ap₂ (λ (x y : Bool). x && y) own_stage own_name in
-        let alone : (y : User) → StandsIn y (users planned link pin) → goes y ≡ true → own_bit is.net ≡ true = λ y stands_y passes.
-        let its = user_hop planned link pin y stands_y in
-        let parts = and_parts (value sent_at link.from (moment y.at)) (value sent_at link.from y.name) passes in
-        let its_slot = and_parts (its.hop.pin == pin) (its.hop.at == y.at) (and_parts (carries its.hop link) (its.hop.pin == pin && its.hop.at == y.at) its.leaves).1 in
-        let its_time : its.hop.at ≡ y.at = eqb-true its.hop.at y.at its_slot.1 in
-        let its_sent = (hop_facts planned sound its.wire its.place its.is its.hop its.there its.stands).sent in
-        let stage : value sent_at link.from (moment y.at) ≡ eqb hop.at y.at = stage_is planned sound unknown rows value run start row state clock hop.at link.from y.at (omega (arith, sent_in)) among (omega (arith, its_sent, its_time)) in
-        let same : hop.at ≡ y.at = eqb-true hop.at y.at (sym stage ∙ parts.0) in
-        let name = one_sends planned link pin sound wire place is hop there stands leaves y stands_y (sym same) in
-        sym own_name ∙ ap (value sent_at link.from) (sym name) ∙ parts.1 in
-        let chosen : list_any goes (users planned link pin) ≡ own_bit is.net = decided goes (users planned link pin) user (own_bit is.net) standing own alone in
-        let far : value now link.from (pin_out over.number pin) ≡ list_any goes (split.first ∷ split.others) =
-        ap (λ (time : ℕ). value time link.from (pin_out over.number pin)) (sym late)
-        ∙ out_bit planned unknown rows value run link.from among over.number pin link over.there refl over.pin split.first split.others split.is sent_at (subst (λ (time : ℕ). time < length rows) (sym late) inside) in
-        ap (λ (node : ℕ). value now node (pin_in over.number pin)) (sym over.to)
-        ∙ run.pins now over.number pin link inside over.there (record { within = over.pin; some = some })
-        ∙ far ∙ ap (list_any goes) (sym split.is) ∙ chosen
+        let late : hop.at + (link.delay - 1) ≡ arrival planned.board.links hop = omega (arith, facts.over.lags) in
+        let out = out_bit planned unknown rows value run link.from ends_are_nodes.0 facts.over.number hop.pin link facts.over.there refl facts.over.pin split.first split.others split.is now inside in
+        ap (λ (node : ℕ). value now node (pin_in facts.over.number hop.pin)) (sym facts.over.to)
+        ∙ run.pins now facts.over.number hop.pin link inside facts.over.there (record { within = facts.over.pin; some = some })
+        ∙ out ∙ ap (λ (microcycle : ℕ). value (start + microcycle) link.from (late_name facts.over.number hop.pin (length split.others) (link.delay - 1))) (sym late)
+        ∙ under_way come (link.delay - 1) (omega arith)
 
     -- so its register has that value in the next microcycle, and keeps it
     next_held : (microcycle : ℕ) → suc microcycle ≤ planned.plan.period → ((earlier : ℕ) → earlier ≤ microcycle → HaveCome earlier) → arrival planned.board.links hop ≤ microcycle

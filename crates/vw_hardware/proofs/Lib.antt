@@ -9,3 +9,4 @@ pub mod Hops
 pub mod LastMicroclocks
 pub mod HeldRows
 pub mod AllRows
+pub mod Microclocks

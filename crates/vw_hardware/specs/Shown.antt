@@ -1,10 +1,13 @@
 -- What an emitted board shows of its design: at the last microclock of each clock. Source: this project.
-use Rattle.std.specs.Prelude.{◌+◌, ◌*◌, ℕ, Bool, List, [], ◌∷◌, map, replicate, slice_index}
+use Rattle.std.specs.Prelude.{◌≡◌, ◌+◌, ◌*◌, ◌⊎◌, ℕ, Bool, List, IsTrue, Some, slice_get, [], ◌∷◌, map, replicate, slice_index}
 use Rattle.std.specs.List.{flat_map, range_with_len}
 use Rattle.vw_net.specs.Gathered.{listed}
 use Rattle.vw_net.specs.declared.cell.Cell.{Cell}
 use Rattle.vw_net.specs.declared.cell.Cell.TheVariants.{Gate, Latch}
-use Rattle.vw_plan.specs.PlannedBoard.{PlannedBoard}
+use Rattle.vw_net.specs.Cells.{start_values}
+use Rattle.vw_net.specs.History.{flat_history}
+use Rattle.vw_plan.specs.Nets.{is_needed}
+use Rattle.vw_plan.specs.PlannedBoard.{PlannedBoard, home}
 use Rattle.vw_hardware.specs.Locals.{kept, result}
 use Rattle.vw_hardware.specs.Run.{Values}
 
@@ -12,9 +15,12 @@ use Rattle.vw_hardware.specs.Run.{Values}
 abbrev pub held_rows : PlannedBoard → List (List Bool) → List (List Bool)
 held_rows planned rows = flat_map (λ row. replicate (planned.plan.period + 1) row) rows
 
--- the last microclock of a clock
+-- the microclock of a microcycle of a clock, and the last one of a clock
+abbrev pub microclock : PlannedBoard → ℕ → ℕ → ℕ
+microclock planned clock microcycle = clock * (planned.plan.period + 1) + microcycle
+
 abbrev pub last_microclock : PlannedBoard → ℕ → ℕ
-last_microclock planned clock = clock * (planned.plan.period + 1) + planned.plan.period
+last_microclock planned clock = microclock planned clock planned.plan.period
 
 -- the outputs that the host shows at a microclock
 abbrev pub shown_outputs : PlannedBoard → Values → ℕ → List Bool
@@ -31,3 +37,12 @@ shown_latches planned value time = listed (shown_latch planned value time) 0 pla
 -- what is shown at the last microclock of each of so many clocks
 abbrev pub at_each_clock : PlannedBoard → (ℕ → List Bool) → ℕ → List (List Bool)
 at_each_clock planned shown clocks = map (λ clock. shown (last_microclock planned clock)) (range_with_len 0 clocks)
+
+-- a clock of the design over some rows: its row, and the latch values before its step
+pub record IsClockOf (planned : PlannedBoard) (unknown : Bool) (rows : List (List Bool)) (clock : ℕ) (row state : List Bool) : Type 0 where
+  pub row_is : slice_get rows clock ≡ Some row
+  pub state_is : slice_get (flat_history planned.ordered.flat (start_values unknown planned.ordered.flat.cells) rows).states clock ≡ Some state
+
+-- a net is of a node, or needed there
+abbrev pub IsThere : PlannedBoard → ℕ → ℕ → Type 0
+IsThere planned net node = (home planned net ≡ node) ⊎ IsTrue (is_needed planned.ordered.flat planned.plan.chip_of net node)

@@ -3,4 +3,6 @@
 
 mod laws;
 
-pub use laws::emitted_boards_show_their_designs;
+pub use laws::{
+    emitted_boards_show_their_designs, hops_carry_their_nets, microclocks_follow_leads,
+};
