@@ -10,3 +10,4 @@ pub mod LastMicroclocks
 pub mod HeldRows
 pub mod AllRows
 pub mod Microclocks
+pub mod WorkedToggle
