@@ -11,3 +11,5 @@ pub mod HeldRows
 pub mod AllRows
 pub mod Microclocks
 pub mod WorkedToggle
+pub mod Origins
+pub mod FewUsers

@@ -81,7 +81,7 @@ module _ (planned : PlannedBoard) (link : Link) (pin : ℕ) where
       has_gather user (users_at planned link pin) planned.plan.period hop.at below (has_listed user (wire_users planned link pin hop.at) 0 planned.plan.wires wire is there of_wire)
 
   -- hops that leave by the pin in one microcycle share it
-  shares : (one other : Hop) (at : ℕ) → leaves_by link pin at one ≡ true → leaves_by link pin at other ≡ true → share_pin one other ≡ true
+  pub shares : (one other : Hop) (at : ℕ) → leaves_by link pin at one ≡ true → leaves_by link pin at other ≡ true → share_pin one other ≡ true
   shares one other at first second =
       let p = and_parts (carries one link) (one.pin == pin && one.at == at) first in
       let q = and_parts (carries other link) (other.pin == pin && other.at == at) second in
