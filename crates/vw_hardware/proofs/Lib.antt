@@ -13,3 +13,5 @@ pub mod Microclocks
 pub mod WorkedToggle
 pub mod Origins
 pub mod FewUsers
+pub mod DrivenNets
+pub mod WellRead

@@ -5,3 +5,4 @@ pub mod Items
 pub mod Ports
 pub mod Run
 pub mod Shown
+pub mod Driven

@@ -1,6 +1,6 @@
 -- The nets in the model of a node of an emitted board, and its items, which drive them. Source: this project; tables and
 -- registers are the `.names` and `.latch` of the Berkeley description of BLIF.
-use Rattle.std.specs.Prelude.{ℕ, Bool, List}
+use Rattle.std.specs.Prelude.{ℕ, Bool, List, [], ◌∷◌}
 use Rattle.vw_net.specs.declared.cell.Init.{Init}
 use Rattle.vw_net.specs.declared.cover.Mark.{Mark}
 
@@ -31,3 +31,12 @@ pub data Local : Type 0 where
 pub data LocalItem : Type 0 where
   table : (ins : List Local) (out : Local) (on : Bool) (rows : List (List Mark)) → LocalItem
   register : (next own : Local) (init : Init) → LocalItem
+
+-- what an item drives, and what it reads
+abbrev pub drives : LocalItem → Local
+drives (table ins out on rows) = out
+drives (register next own init) = own
+
+abbrev pub reads : LocalItem → List Local
+reads (table ins out on rows) = ins
+reads (register next own init) = next ∷ []
