@@ -94,7 +94,7 @@ module _ (planned : PlannedBoard) (sound : IsSound planned) where
       let among : hop.to ≤ planned.board.chips = subst (λ (node : ℕ). node ≤ planned.board.chips) (ap (λ l. l.to) link ∙ over.to) ends.1 in
       (among, by_item (register (caught wire place) (held wire place) StartsAtZero) (has_catch_register planned hop.to among wire place is hop there stands refl over.number over.link over.there over.carried) refl)
 
-  drives_gate : (ins : List Local) (out : Local) (cover : Cover) → drives (cover_table ins out cover) ≡ out
+  pub drives_gate : (ins : List Local) (out : Local) (cover : Cover) → drives (cover_table ins out cover) ≡ out
   drives_gate ins out cover = by cover.on cover.inputs cover.rows where
     by : (on : Bool) (inputs : ℕ) (rows : List Row) → drives (cond on (table ins out true (marks_of rows)) (off_table ins out inputs rows)) ≡ out
     by true inputs rows = refl

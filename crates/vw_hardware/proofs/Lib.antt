@@ -15,3 +15,4 @@ pub mod Origins
 pub mod FewUsers
 pub mod DrivenNets
 pub mod WellRead
+pub mod PortOrigins
