@@ -24,7 +24,7 @@ module _ {X : Type 0} where
   only_at one x zero is = same_Some one x is
   only_at one x (suc place) is = absurd (none-some x is)
 
-  only : (one x : X) → StandsIn x (one ∷ []) → one ≡ x
+  pub only : (one x : X) → StandsIn x (one ∷ []) → one ≡ x
   only one x stands = only_at one x stands.0 stands.1
 
   either_at : (one other x : X) (place : ℕ) → slice_get (one ∷ other ∷ []) place ≡ Some x → (one ≡ x) ⊎ (other ≡ x)
@@ -32,7 +32,7 @@ module _ {X : Type 0} where
   either_at one other x (suc zero) is = inr (same_Some other x is)
   either_at one other x (suc (suc place)) is = absurd (none-some x is)
 
-  either : (one other x : X) → StandsIn x (one ∷ other ∷ []) → (one ≡ x) ⊎ (other ≡ x)
+  pub either : (one other x : X) → StandsIn x (one ∷ other ∷ []) → (one ≡ x) ⊎ (other ≡ x)
   either one other x stands = either_at one other x stands.0 stands.1
 
 module _ (planned : PlannedBoard) (node : ℕ) where
@@ -181,7 +181,7 @@ module _ (planned : PlannedBoard) (node : ℕ) where
     pub used : users planned link pin ≡ user ∷ others
     pub item_is : OfPin at pin (link.delay - 1) user others item
 
-  of_pin : (at pin lag : ℕ) (user : User) (others : List User) (item : LocalItem) → StandsIn item (pin_items at pin lag (user ∷ others)) → OfPin at pin lag user others item
+  pub of_pin : (at pin lag : ℕ) (user : User) (others : List User) (item : LocalItem) → StandsIn item (pin_items at pin lag (user ∷ others)) → OfPin at pin lag user others item
   of_pin at pin lag user others item stands =
       let sent = listed (λ number one. send_item at pin number one ∷ []) 0 (user ∷ others) in
       let late = gather (λ later. delay_item at pin (length others) later ∷ []) lag in
