@@ -9,3 +9,4 @@ pub mod RootNames
 pub mod PlacedFaults
 pub mod Drivers
 pub mod NetFaults
+pub mod History

@@ -232,14 +232,14 @@ module _ (planned : PlannedBoard) (sound : IsSound planned) (board : Design) (is
 
     all_driven : undriven board ≡ None
     all_driven = find_nothing (λ (net : Net). is_none (driver board net.path net.name)) (net_reads board) (λ net has.
-      ⊎_elim (λ front.
-      let from = from-flat_map (λ (site : Site). nets_at site (data_of site.item ++ controls_of site.item)) (sites board) net front in
-      let of = site_of from.0 from.1 in
-      let name = from-map (net_at from.0.path) net (data_of from.0.item ++ controls_of from.0.item) from.2 in
-      let data_name = subst (λ (list : List Word). Has name.0 list) (ap (λ (more : List Word). data_of from.0.item ++ more) (no_controls from.0.path from.0.number from.0.item of) ∙ append-nil (data_of from.0.item)) name.1 in
-      subst (λ (n : Net). is_none (driver board n.path n.name) ≡ false) name.2 (data_driven from.0.path from.0.number from.0.item of name.0 data_name))
-      (λ back. let name = from-map (net_at []) net (model_outputs (model_at board [])) back in subst (λ (n : Net). is_none (driver board n.path n.name) ≡ false) name.2 (root_driven name.0 name.1))
-      (Has-append net (flat_map (λ (site : Site). nets_at site (data_of site.item ++ controls_of site.item)) (sites board)) (root_outputs board) has))
+        ⊎_elim (λ front.
+        let from = from-flat_map (λ (site : Site). nets_at site (data_of site.item ++ controls_of site.item)) (sites board) net front in
+        let of = site_of from.0 from.1 in
+        let name = from-map (net_at from.0.path) net (data_of from.0.item ++ controls_of from.0.item) from.2 in
+        let data_name = subst (λ (list : List Word). Has name.0 list) (ap (λ (more : List Word). data_of from.0.item ++ more) (no_controls from.0.path from.0.number from.0.item of) ∙ append-nil (data_of from.0.item)) name.1 in
+        subst (λ (n : Net). is_none (driver board n.path n.name) ≡ false) name.2 (data_driven from.0.path from.0.number from.0.item of name.0 data_name))
+        (λ back. let name = from-map (net_at []) net (model_outputs (model_at board [])) back in subst (λ (n : Net). is_none (driver board n.path n.name) ≡ false) name.2 (root_driven name.0 name.1))
+        (Has-append net (flat_map (λ (site : Site). nets_at site (data_of site.item ++ controls_of site.item)) (sites board)) (root_outputs board) has))
 
     -- ---- there is no clock
 
@@ -255,7 +255,7 @@ module _ (planned : PlannedBoard) (sound : IsSound planned) (board : Design) (is
 
     edges_none : several_edges board ≡ None
     edges_none = ap (λ (list : List Edged). first_unlike (λ one other. same_edge one.edge other.edge) list) (filter_nothing (λ (site : Site). edge_at site.path site.item) (latches board) (λ site has.
-      no_edge site.path site.number site.item (site_of site (from-filter (λ (one : Site). is_latch_item one.item) site (sites board) has).0)))
+        no_edge site.path site.number site.item (site_of site (from-filter (λ (one : Site). is_latch_item one.item) site (sites board) has).0)))
 
     no_clock : (source : Option Source) → is_clock_source board source ≡ false
     no_clock None = refl

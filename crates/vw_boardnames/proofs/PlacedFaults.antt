@@ -134,37 +134,37 @@ module _ (planned : PlannedBoard) (sound : IsSound planned) (board : Design) (is
 
   no_unknown_formal : unknown_formal board ≡ None
   no_unknown_formal = none_placed (λ line name binds. option_map (λ formal. record { line = line; name = formal }) (at_model board (λ model. unknown_formal_in model binds) name)) (λ line node binds among are.
-    let own = named node among in
-    let nothing : find (λ (bind : Bind). not (is_formal_of own.0 bind.formal)) binds ≡ None = find_nothing (λ (bind : Bind). not (is_formal_of own.0 bind.formal)) binds (λ bind has. ap not (known node own.0 own.1 bind (formal_is node binds are bind has))) in
-    ap (λ (found : Option Model). option_map (λ formal. record { line = line; name = formal }) (option_and_then (λ model. unknown_formal_in model binds) found)) own.2
-    ∙ ap (λ (found : Option Bind). option_map (λ formal. record { line = line; name = formal }) (option_map (λ (bind : Bind). bind.formal) found)) nothing) where
-    known : (node : ℕ) (model : Model) → IsNodeModel planned board is_board node model → (bind : Bind) → (net : Local) × Has net (node_ports planned node) × (spelled net ≡ bind.formal) → is_formal_of model bind.formal ≡ true
-    known node model is bind net =
-        let outputs : model.outputs ≡ map spelled (node_outputs planned node) = ap (λ (m : PlainModel). m.outputs) is.same in
-        ap (is_formal_of model) (sym net.2)
-        ∙ ap₂ (λ (a b : Bool). a || b) (port_is node model is (spelled net.0)) (ap (λ (list : List Word). has_name list (spelled net.0)) outputs)
-        ∙ ⊎_elim (λ input. or_left (has_name (map spelled (node_inputs planned node)) (spelled net.0)) (has_name (map spelled (node_outputs planned node)) (spelled net.0)) (has_name-Has (map spelled (node_inputs planned node)) (spelled net.0) (Has-map spelled net.0 (node_inputs planned node) input)))
-        (λ output. or_right (has_name (map spelled (node_inputs planned node)) (spelled net.0)) (has_name (map spelled (node_outputs planned node)) (spelled net.0)) (has_name-Has (map spelled (node_outputs planned node)) (spelled net.0) (Has-map spelled net.0 (node_outputs planned node) output)))
-        (Has-append net.0 (node_inputs planned node) (node_outputs planned node) net.1)
+      let own = named node among in
+      let nothing : find (λ (bind : Bind). not (is_formal_of own.0 bind.formal)) binds ≡ None = find_nothing (λ (bind : Bind). not (is_formal_of own.0 bind.formal)) binds (λ bind has. ap not (known node own.0 own.1 bind (formal_is node binds are bind has))) in
+      ap (λ (found : Option Model). option_map (λ formal. record { line = line; name = formal }) (option_and_then (λ model. unknown_formal_in model binds) found)) own.2
+      ∙ ap (λ (found : Option Bind). option_map (λ formal. record { line = line; name = formal }) (option_map (λ (bind : Bind). bind.formal) found)) nothing) where
+        known : (node : ℕ) (model : Model) → IsNodeModel planned board is_board node model → (bind : Bind) → (net : Local) × Has net (node_ports planned node) × (spelled net ≡ bind.formal) → is_formal_of model bind.formal ≡ true
+        known node model is bind net =
+            let outputs : model.outputs ≡ map spelled (node_outputs planned node) = ap (λ (m : PlainModel). m.outputs) is.same in
+            ap (is_formal_of model) (sym net.2)
+            ∙ ap₂ (λ (a b : Bool). a || b) (port_is node model is (spelled net.0)) (ap (λ (list : List Word). has_name list (spelled net.0)) outputs)
+            ∙ ⊎_elim (λ input. or_left (has_name (map spelled (node_inputs planned node)) (spelled net.0)) (has_name (map spelled (node_outputs planned node)) (spelled net.0)) (has_name-Has (map spelled (node_inputs planned node)) (spelled net.0) (Has-map spelled net.0 (node_inputs planned node) input)))
+            (λ output. or_right (has_name (map spelled (node_inputs planned node)) (spelled net.0)) (has_name (map spelled (node_outputs planned node)) (spelled net.0)) (has_name-Has (map spelled (node_outputs planned node)) (spelled net.0) (Has-map spelled net.0 (node_outputs planned node) output)))
+            (Has-append net.0 (node_inputs planned node) (node_outputs planned node) net.1)
 
   no_unbound_input : unbound_input board ≡ None
   no_unbound_input = none_placed (λ line name binds. option_map (λ formal. record { line = line; name = formal }) (at_model board (λ model. unbound_input_in model binds) name)) (λ line node binds among are.
-    let own = named node among in
-    let formals : map (λ (bind : Bind). bind.formal) binds ≡ map spelled (node_ports planned node) = sym (map-map (λ (joined : Joined). joined.formal) plain_bind binds) ∙ ap (map (λ (joined : Joined). joined.formal)) are ∙ map-map (λ (joined : Joined). joined.formal) (port_joined planned) (node_ports planned node) in
-    let nothing : find (λ formal. not (has_name (map (λ (bind : Bind). bind.formal) binds) formal)) (own.0.inputs ++ own.0.clocks) ≡ None =
-    ap₂ (λ (names list : List Word). find (λ formal. not (has_name names formal)) list) formals (inputs_are node own.0 own.1) ∙ find_nothing (λ formal. not (has_name (map spelled (node_ports planned node)) formal)) (map spelled (node_inputs planned node)) (λ formal has.
-    let from = from-map spelled formal (node_inputs planned node) has in
-    ap not (has_name-Has (map spelled (node_ports planned node)) formal (subst (λ (w : Word). Has w (map spelled (node_ports planned node))) from.2 (Has-map spelled from.0 (node_ports planned node) (Has-left from.0 (node_inputs planned node) (node_outputs planned node) from.1))))) in
-    ap (λ (found : Option Model). option_map (λ formal. record { line = line; name = formal }) (option_and_then (λ model. unbound_input_in model binds) found)) own.2
-    ∙ ap (λ (found : Option Word). option_map (λ formal. record { line = line; name = formal }) found) nothing)
+      let own = named node among in
+      let formals : map (λ (bind : Bind). bind.formal) binds ≡ map spelled (node_ports planned node) = sym (map-map (λ (joined : Joined). joined.formal) plain_bind binds) ∙ ap (map (λ (joined : Joined). joined.formal)) are ∙ map-map (λ (joined : Joined). joined.formal) (port_joined planned) (node_ports planned node) in
+      let nothing : find (λ formal. not (has_name (map (λ (bind : Bind). bind.formal) binds) formal)) (own.0.inputs ++ own.0.clocks) ≡ None =
+      ap₂ (λ (names list : List Word). find (λ formal. not (has_name names formal)) list) formals (inputs_are node own.0 own.1) ∙ find_nothing (λ formal. not (has_name (map spelled (node_ports planned node)) formal)) (map spelled (node_inputs planned node)) (λ formal has.
+      let from = from-map spelled formal (node_inputs planned node) has in
+      ap not (has_name-Has (map spelled (node_ports planned node)) formal (subst (λ (w : Word). Has w (map spelled (node_ports planned node))) from.2 (Has-map spelled from.0 (node_ports planned node) (Has-left from.0 (node_inputs planned node) (node_outputs planned node) from.1))))) in
+      ap (λ (found : Option Model). option_map (λ formal. record { line = line; name = formal }) (option_and_then (λ model. unbound_input_in model binds) found)) own.2
+      ∙ ap (λ (found : Option Word). option_map (λ formal. record { line = line; name = formal }) found) nothing)
 
   no_both_ways : both_ways board ≡ None
   no_both_ways = none_placed (λ line name binds. option_map (λ output. record { model = name; name = output }) (at_model board (λ model. find (is_port model) model.outputs) name)) (λ line node binds among are.
-    let own = named node among in
-    let nothing : find (is_port own.0) own.0.outputs ≡ None = ap (find (is_port own.0)) (ap (λ (m : PlainModel). m.outputs) own.1.same) ∙ find_nothing (is_port own.0) (map spelled (node_outputs planned node)) (λ output has.
-    port_is node own.0 own.1 output ∙ output_no_input planned sound node output has) in
-    ap (λ (found : Option Model). option_map (λ output. record { model = node_name node; name = output }) (option_and_then (λ model. find (is_port model) model.outputs) found)) own.2
-    ∙ ap (λ (found : Option Word). option_map (λ output. record { model = node_name node; name = output }) found) nothing)
+      let own = named node among in
+      let nothing : find (is_port own.0) own.0.outputs ≡ None = ap (find (is_port own.0)) (ap (λ (m : PlainModel). m.outputs) own.1.same) ∙ find_nothing (is_port own.0) (map spelled (node_outputs planned node)) (λ output has.
+      port_is node own.0 own.1 output ∙ output_no_input planned sound node output has) in
+      ap (λ (found : Option Model). option_map (λ output. record { model = node_name node; name = output }) (option_and_then (λ model. find (is_port model) model.outputs) found)) own.2
+      ∙ ap (λ (found : Option Word). option_map (λ output. record { model = node_name node; name = output }) found) nothing)
 
   -- ---- no circle
 

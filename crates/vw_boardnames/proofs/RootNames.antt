@@ -67,9 +67,9 @@ module _ (planned : PlannedBoard) (sound : IsSound planned) where
 
   pub input_no_output : (node : ℕ) (net : Local) → StandsIn net (node_inputs planned node) → has_name (map spelled (node_outputs planned node)) (spelled net) ≡ false
   input_no_output node net input = none_named (map spelled (node_outputs planned node)) (spelled net) (λ has.
-    let from = from-map spelled (spelled net) (node_outputs planned node) has in
-    let output = at-Has from.0 (node_outputs planned node) from.1 in
-    ports_apart node net from.0 input output (spelled_once net from.0 (small_input planned sound node net input) (small_output node from.0 (from_outputs planned node from.0 output)) (sym from.2)))
+      let from = from-map spelled (spelled net) (node_outputs planned node) has in
+      let output = at-Has from.0 (node_outputs planned node) from.1 in
+      ports_apart node net from.0 input output (spelled_once net from.0 (small_input planned sound node net input) (small_output node from.0 (from_outputs planned node from.0 output)) (sym from.2)))
 
   pub output_no_input : (node : ℕ) (name : Word) → Has name (map spelled (node_outputs planned node)) → has_name (map spelled (node_inputs planned node)) name ≡ false
   output_no_input node name has =

@@ -202,7 +202,11 @@ module _ (planned : PlannedBoard) (sound : IsSound planned) where
       let few = planned.ordered.flat.few_cells in
       let counted = count_few cells is.cell in
       subst HasCode is.same (record {
-        sign = 115; one = latch_count (take is.cell cells); more = []; small = (omega (arith, few, counted), tt); name = refl;
+        sign = 115;
+        one = latch_count (take is.cell cells);
+        more = [];
+        small = (omega (arith, few, counted), tt);
+        name = refl;
         back = ap (λ (cell : ℕ). kept cell) (latch_cell_is cells is.cell is.d is.init is.at);
       })
 

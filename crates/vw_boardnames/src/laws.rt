@@ -1,5 +1,5 @@
 //! Laws of the definitions, as contracts of functions that do nothing.
-ghost use Rattle.std.specs.Prelude.{◌≡◌, ◌≤◌, ℕ, None};
+ghost use Rattle.std.specs.Prelude.{◌≡◌, Bool, List, None};
 ghost use Rattle.vw_design.specs.Accepted.{IsAccepted};
 ghost use Rattle.vw_design.specs.Limits.{IsSmall};
 ghost use Rattle.vw_design.specs.Loops.{IsLoopFree};
@@ -8,6 +8,7 @@ ghost use Rattle.vw_design.specs.declared.design.Design.{Design};
 ghost use Rattle.vw_plan.specs.PlannedBoard.{PlannedBoard};
 ghost use Rattle.vw_plan.specs.Sound.{IsSound};
 ghost use Rattle.vw_boardnames.specs.Boards.{IsBoardOf};
+ghost use Rattle.vw_boardnames.specs.Shows.{ActsAs};
 
 /// A design that is the emitted board of a sound plan has no fault, if no quantity of it is above its limit, and its gates
 /// don't read each other in a circle. However large it is, no net of it has two drivers.
@@ -18,4 +19,12 @@ pub fn emitted_boards_are_accepted()
         → IsBoardOf planned board → IsSmall board → IsAccepted board }
     ensures loop_free { (planned : PlannedBoard) (board : Design) → IsSound planned
         → IsBoardOf planned board → IsSmall board → IsLoopFree board }
+{}
+
+/// It shows, at the last microclock of each clock, the outputs and then the latch values of the design that was planned, for
+/// all rows, each held for as many microclocks as a clock has.
+pub fn emitted_boards_act_as_their_designs()
+    ensures { (planned : PlannedBoard) (board : Design) → IsSound planned → IsBoardOf planned board
+        → IsSmall board → (unknown : Bool) (rows : List (List Bool))
+        → ActsAs planned board unknown rows }
 {}

@@ -3,4 +3,4 @@
 
 mod laws;
 
-pub use laws::emitted_boards_are_accepted;
+pub use laws::{emitted_boards_act_as_their_designs, emitted_boards_are_accepted};
