@@ -1,6 +1,6 @@
 -- Nets of nodes as a letter and numbers: nets that are spelled alike are the same, where their numbers are small.
-use Rattle.std.proofs.Common.{◌≡◌, ◌<◌, ◌^◌, ◌==◌, ◌∙◌, ℕ, Bool, List, [], ◌∷◌, ap, ap₂, refl, sym, if◌then◌else◌, cond}
-use Rattle.vw_design.proofs.NumberedNames.{AreSmall, joined_numbers, numbered_name, numbers_same}
+use Rattle.std.proofs.Common.{◌≡◌, ◌==◌, ◌∙◌, ℕ, List, [], ◌∷◌, refl, sym, if◌then◌else◌}
+use Rattle.vw_design.proofs.NumberedNames.{AreSmall, numbered_name, numbers_same}
 use Rattle.vw_hardware.specs.Locals.{Local, caught, column, coming, delayed, gate, held, kept, moment, pin_in, pin_out, result, sent}
 use Rattle.vw_boardnames.specs.Spelled.{spelled}
 

@@ -1,8 +1,8 @@
 -- The driver of each net of an emitted board: of what an item drives, of ports, of columns, and of all that items read.
-use Rattle.std.proofs.Common.{◌≡◌, ◌<◌, ◌≤◌, ◌+◌, ◌-◌, ◌++◌, ◌||◌, ◌∙◌, ◌⊎◌, inl, inr, ℕ, zero, suc, Bool, true, false, List, [], ◌∷◌, length, map, slice_get, Option, Some, None, option_map, ap, ap₂, refl, sym, subst, ⊎_elim, true≢false, arith}
+use Rattle.std.proofs.Common.{◌≡◌, ◌<◌, ◌≤◌, ◌+◌, ◌-◌, ◌∙◌, ◌⊎◌, inl, inr, ℕ, zero, suc, true, List, [], ◌∷◌, length, map, slice_get, Option, Some, option_map, ap, ap₂, refl, sym, ⊎_elim, arith}
 use Rattle.std.specs.List.{list_all, range_with_len}
 use Rattle.std.proofs.lemmas.Bool.{and_parts, cases_eq, or_left}
-use Rattle.std.proofs.lemmas.Option.{none-some, same_Some, slice_get-map, slice_get_within}
+use Rattle.std.proofs.lemmas.Option.{none-some, same_Some, slice_get-map}
 use Rattle.vw_net.proofs.ListedLists.{StandsIn}
 use Rattle.vw_plan.specs.PlannedBoard.{PlannedBoard}
 use Rattle.vw_plan.specs.Sound.{IsSound}
@@ -10,9 +10,8 @@ use Rattle.vw_plan.specs.declared.link.Link.{Link}
 use Rattle.vw_plan.proofs.HopsOfWires.{at_place}
 use Rattle.vw_design.specs.Accepted.{HasNoModelFault}
 use Rattle.vw_design.specs.Distinct.{are_distinct, has_name}
-use Rattle.vw_design.specs.Drivers.{Source, at_cell, at_port, driver}
-use Rattle.vw_design.specs.NetReads.{driven_name}
-use Rattle.vw_design.specs.Paths.{Path, Placing, Word, is_port, items_of, model_at, model_named, model_outputs, placings}
+use Rattle.vw_design.specs.Drivers.{at_cell, at_port, driver}
+use Rattle.vw_design.specs.Paths.{Placing, Word, is_port, items_of, model_named, model_outputs, placings}
 use Rattle.vw_design.specs.PathValue.{item_at}
 use Rattle.vw_design.specs.Shape.{IsWellMade, has_its_shape}
 use Rattle.vw_design.specs.declared.design.Design.{Design}
@@ -27,12 +26,11 @@ use Rattle.vw_hardware.specs.Driven.{IsDriven, by_column, by_item, by_pin}
 use Rattle.vw_hardware.specs.Items.{User, late_name, node_items, users}
 use Rattle.vw_hardware.specs.Locals.{Local, LocalItem, column, drives, pin_in, pin_out, table}
 use Rattle.vw_hardware.specs.Ports.{IsUsed, node_inputs, node_outputs}
-use Rattle.vw_hardware.specs.Run.{IsItem}
 use Rattle.vw_hardware.specs.Tables.{pass}
 use Rattle.vw_hardware.proofs.Members.{has_out}
 use Rattle.vw_hardware.proofs.PortOrigins.{has_column, has_pin_in, has_pin_out}
-use Rattle.vw_boardnames.specs.Boards.{IsBoardOf, Joined, PlainItem, PlainModel, node_model, node_ports, plain_bind, plain_item, plain_model, port_joined, spelled_item}
-use Rattle.vw_boardnames.specs.Spelled.{net_of_port, pin_net, spelled}
+use Rattle.vw_boardnames.specs.Boards.{IsBoardOf, Joined, PlainModel, node_ports, plain_bind, plain_item, port_joined, spelled_item}
+use Rattle.vw_boardnames.specs.Spelled.{net_of_port, spelled}
 use Rattle.vw_boardnames.proofs.Models.{driven_one, mapped_at, node_model_at, node_model_of, node_named, placing_of_node, root, root_at}
 use Rattle.vw_boardnames.proofs.NodeNames.{node_alone, node_leaf}
 use Rattle.vw_boardnames.proofs.RootNames.{root_distinct}

@@ -1,15 +1,14 @@
 -- An emitted board, as a design, is a run of its nodes; so it shows its design.
-use Rattle.std.proofs.Common.{◌≡◌, ◌<◌, ◌≤◌, ◌+◌, ◌*◌, ◌^◌, ◌++◌, ◌||◌, ◌∙◌, ℕ, zero, suc, Bool, true, false, not, cond, List, [], ◌∷◌, length, map, take, get_or, slice_get, slice_index, slice_index_or, Option, Some, None, option_map, filter, ap, ap₂, refl, sym, subst, append-nil, add-one, arith}
+use Rattle.std.proofs.Common.{◌≡◌, ◌<◌, ◌≤◌, ◌+◌, ◌^◌, ◌++◌, ◌||◌, ◌∙◌, ℕ, zero, suc, Bool, true, false, not, cond, List, [], ◌∷◌, length, map, take, get_or, slice_get, slice_index, slice_index_or, Option, Some, option_map, filter, ap, ap₂, refl, sym, append-nil, add-one, arith}
 use Rattle.std.specs.List.{list_any, range_with_len}
 use Rattle.std.specs.Str.{bytes_eq}
 use Rattle.std.proofs.lemmas.Bool.{false_from_ne_true}
 use Rattle.std.proofs.lemmas.List.{map-append}
 use Rattle.std.proofs.lemmas.List.FromFn.{get_or-range_with_len, length-range_with_len}
-use Rattle.std.proofs.lemmas.Option.{get_or_from_slice_get, none-some, same_Some, slice_get_within}
+use Rattle.std.proofs.lemmas.Option.{get_or_from_slice_get, slice_get_within}
 use Rattle.std.proofs.lemmas.Simd.{map-map}
 use Rattle.vw_net.specs.Cells.{latch_count, start_value}
 use Rattle.vw_net.specs.Cover.{cover_value}
-use Rattle.vw_net.specs.FirstFound.{first_place}
 use Rattle.vw_net.specs.Gathered.{listed}
 use Rattle.vw_net.specs.Mark.{row_matches}
 use Rattle.vw_net.specs.declared.cell.Cell.{Cell}
@@ -22,25 +21,23 @@ use Rattle.vw_net.proofs.ListedLists.{stands_below}
 use Rattle.vw_plan.specs.PlannedBoard.{PlannedBoard}
 use Rattle.vw_plan.specs.Sound.{IsSound}
 use Rattle.vw_plan.specs.declared.link.Link.{Link}
-use Rattle.vw_design.specs.Clocks.{clock_ports, columns, inputs_of}
+use Rattle.vw_design.specs.Clocks.{columns, inputs_of}
 use Rattle.vw_design.specs.Distinct.{has_name}
 use Rattle.vw_design.specs.Drivers.{at_cell, driver}
 use Rattle.vw_design.specs.Limits.{IsSmall}
 use Rattle.vw_design.specs.NetReads.{net_at, root_outputs}
 use Rattle.vw_design.specs.PathHistory.{path_next, path_outputs, path_outputs_from, path_start, path_state_after}
 use Rattle.vw_design.specs.PathValue.{bit_at, item_at, path_value, place_of_name}
-use Rattle.vw_design.specs.Paths.{Net, Path, Word, model_at, model_outputs}
+use Rattle.vw_design.specs.Paths.{Net, Word, model_at, model_outputs}
 use Rattle.vw_design.specs.declared.design.Design.{Design}
 use Rattle.vw_design.specs.declared.item.Edge.{Edge}
 use Rattle.vw_design.specs.declared.item.Item.{Item}
 use Rattle.vw_design.specs.declared.item.Item.TheVariants.{Latch, Names, Sub}
-use Rattle.vw_design.specs.declared.model.Model.{Model}
 use Rattle.vw_design.proofs.LatchPlaces.{latch_place}
 use Rattle.vw_design.proofs.LoopFree.{gate_value}
 use Rattle.vw_design.proofs.Names.{name_same, same_name}
 use Rattle.vw_design.proofs.NetValues.{column_value, first_value, same_value, value_after}
-use Rattle.vw_hardware.specs.Items.{node_items}
-use Rattle.vw_hardware.specs.Locals.{Local, LocalItem, column, drives, kept, pin_in, pin_out, register, result, table as local_table}
+use Rattle.vw_hardware.specs.Locals.{Local, column, kept, pin_in, pin_out, register, result, table as local_table}
 use Rattle.vw_hardware.specs.Ports.{IsUsed}
 use Rattle.vw_hardware.specs.Run.{IsItem, IsRun, Values}
 use Rattle.vw_hardware.specs.Shown.{held_rows, last_microclock, shown_latch, shown_latches, shown_outputs}
@@ -51,7 +48,7 @@ use Rattle.vw_boardnames.specs.Boards.{IsBoardOf, PlainItem, PlainModel, latch, 
 use Rattle.vw_boardnames.specs.Shows.{ActsAs, own_history}
 use Rattle.vw_boardnames.specs.Spelled.{shown_net, spelled}
 use Rattle.vw_boardnames.proofs.Codes.{spelled_once}
-use Rattle.vw_boardnames.proofs.Drivers.{HasItem, column_driver, has_item, item_driver, pin_driver}
+use Rattle.vw_boardnames.proofs.Drivers.{column_driver, has_item, item_driver, pin_driver}
 use Rattle.vw_boardnames.proofs.Models.{mapped_at, root, root_at}
 use Rattle.vw_boardnames.proofs.NetFaults.{accepted, clocks_none, latch_net, loop_free, result_net}
 use Rattle.vw_boardnames.proofs.PlacedFaults.{faultless}

@@ -1,26 +1,22 @@
 -- The models of an emitted board, and the paths at which they are placed: the board itself, and each node once.
-use Rattle.std.proofs.Common.{◌≡◌, ◌<◌, ◌≤◌, ◌+◌, ◌&&◌, ◌∙◌, ◌⊎◌, inl, inr, not, ℕ, zero, suc, Bool, true, false, List, [], ◌∷◌, ◌++◌, length, map, slice_get, Option, Some, None, option_map, option_and_then, filter_map, flat_map, ap, refl, sym, subst, ⊎_elim, true≢false, codes, arith}
-use Rattle.std.specs.List.{list_all, range_with_len}
+use Rattle.std.proofs.Common.{◌≡◌, ◌≤◌, ◌+◌, ◌&&◌, ◌∙◌, not, ℕ, zero, suc, Bool, true, false, List, [], ◌∷◌, length, map, slice_get, Option, Some, None, option_map, option_and_then, ap, refl, sym, subst, true≢false, arith}
+use Rattle.std.specs.List.{list_all}
 use Rattle.std.proofs.lemmas.List.{length-map}
 use Rattle.std.proofs.lemmas.List.FromFn.{get_or-range_with_len, length-range_with_len}
 use Rattle.std.proofs.lemmas.Option.{none-some, same_Some, slice_get-get_or, slice_get-map, slice_get_within}
 use Rattle.std.proofs.lemmas.Simd.{map-map}
-use Rattle.vw_net.specs.Cells.{latch_count}
 use Rattle.vw_plan.specs.PlannedBoard.{PlannedBoard}
 use Rattle.vw_design.specs.declared.design.Design.{Design}
-use Rattle.vw_design.specs.declared.item.Bind.{Bind}
 use Rattle.vw_design.specs.declared.item.Item.{Item}
 use Rattle.vw_design.specs.declared.item.Item.TheVariants.{Latch, Names, Sub}
 use Rattle.vw_design.specs.declared.model.Model.{Model}
 use Rattle.vw_design.specs.NetReads.{driven_name}
-use Rattle.vw_design.specs.Paths.{Path, Placing, Word, items_of, model_at, model_named, model_placed, placing_at, placing_of, placings}
-use Rattle.vw_design.specs.PathValue.{item_at}
+use Rattle.vw_design.specs.Paths.{Path, Placing, Word, model_at, model_named, model_placed, placings}
 use Rattle.vw_design.specs.Preorder.{is_cell}
 use Rattle.vw_design.proofs.ListedInstances.{placer, placing_of_placed}
 use Rattle.vw_design.proofs.ModelNumbers.{named_at}
 use Rattle.vw_hardware.specs.Items.{node_items}
-use Rattle.vw_hardware.specs.Locals.{Local, LocalItem, drives, register, table as local_table}
-use Rattle.vw_hardware.specs.Ports.{node_inputs, node_outputs}
+use Rattle.vw_hardware.specs.Locals.{LocalItem, drives, register, table as local_table}
 use Rattle.vw_boardnames.specs.Boards.{IsBoardOf, Joined, PlainItem, PlainModel, all_nodes, board_model, board_models, latch, node_model, node_ports, place, placed_node, plain_bind, plain_item, plain_model, port_joined, spelled_item, table}
 use Rattle.vw_boardnames.specs.Spelled.{node_name, spelled}
 

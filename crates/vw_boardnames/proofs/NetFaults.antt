@@ -1,5 +1,5 @@
 -- An emitted board has no fault of nets, and its gates don't read each other in a circle.
-use Rattle.std.proofs.Common.{◌≡◌, ◌<◌, ◌≤◌, ◌+◌, ◌++◌, ◌∙◌, ◌⊎◌, inl, inr, not, ℕ, zero, suc, Bool, true, false, cond, List, [], ◌∷◌, length, map, take, slice_get, slice_index, Option, Some, None, find, option_map, filter_map, flat_map, is_none, ap, ap₂, refl, sym, subst, ⊎_elim, append-nil, true≢false, arith}
+use Rattle.std.proofs.Common.{◌≡◌, ◌<◌, ◌≤◌, ◌++◌, ◌∙◌, inl, inr, ℕ, zero, suc, true, false, List, [], ◌∷◌, length, map, take, slice_get, slice_index, Option, Some, None, find, option_map, filter_map, flat_map, is_none, ap, ap₂, refl, sym, subst, ⊎_elim, append-nil, true≢false, arith}
 use Rattle.std.specs.List.{AllByRecursion, cons_option, range_with_len}
 use Rattle.std.specs.Prelude.{option_to_list}
 use Rattle.std.specs.Str.{bytes_eq}
@@ -18,7 +18,7 @@ use Rattle.vw_design.specs.Distinct.{has_name}
 use Rattle.vw_design.specs.Drivers.{Source, at_cell, at_port, driver}
 use Rattle.vw_design.specs.Limits.{IsSmall}
 use Rattle.vw_design.specs.Loops.{Gate, IsLoopFree, gate_reads}
-use Rattle.vw_design.specs.NetFaults.{Edged, Unlike, clock_as_data, edge_at, first_unlike, gated_clock, is_cell_source, is_clock_source, same_edge, several_clocks, several_edges, undriven, written_edge}
+use Rattle.vw_design.specs.NetFaults.{Edged, edge_at, first_unlike, is_cell_source, is_clock_source, same_edge, several_edges, undriven, written_edge}
 use Rattle.vw_design.specs.NetReads.{controls, controls_of, data_of, data_reads, net_at, net_reads, nets_at, root_outputs}
 use Rattle.vw_design.specs.PathValue.{item_at}
 use Rattle.vw_design.specs.Paths.{Net, Path, Word, items_of, model_at, model_outputs}
@@ -30,12 +30,12 @@ use Rattle.vw_design.specs.declared.item.Item.{Item}
 use Rattle.vw_design.specs.declared.item.Item.TheVariants.{Latch, Names, Sub}
 use Rattle.vw_design.specs.declared.model.Model.{Model}
 use Rattle.vw_design.proofs.DistinctNames.{in_range}
-use Rattle.vw_design.proofs.ListElements.{Has, Has-append, at-Has, from-filter, from-flat_map, from-map}
-use Rattle.vw_design.proofs.RankedGates.{IsGateRanking, is_gate_item, ranked_loop_free, read_by, reader}
+use Rattle.vw_design.proofs.ListElements.{Has, Has-append, from-filter, from-flat_map, from-map}
+use Rattle.vw_design.proofs.RankedGates.{is_gate_item, ranked_loop_free, read_by, reader}
 use Rattle.vw_design.proofs.Sites.{site_item}
-use Rattle.vw_hardware.specs.Driven.{IsDriven, rank}
+use Rattle.vw_hardware.specs.Driven.{rank}
 use Rattle.vw_hardware.specs.Items.{node_items}
-use Rattle.vw_hardware.specs.Locals.{Local, LocalItem, column, coming, drives, kept, pin_in, pin_out, reads, register, result, table as local_table}
+use Rattle.vw_hardware.specs.Locals.{Local, LocalItem, column, coming, drives, kept, reads, register, result, table as local_table}
 use Rattle.vw_hardware.specs.Names.{name_at}
 use Rattle.vw_hardware.specs.Tables.{pass}
 use Rattle.vw_hardware.proofs.Clocks.{cell_chip}
@@ -43,8 +43,8 @@ use Rattle.vw_hardware.proofs.Members.{has_latch_register, has_result}
 use Rattle.vw_hardware.proofs.Origins.{origin}
 use Rattle.vw_hardware.proofs.PortOrigins.{has_latch_port, has_result_port}
 use Rattle.vw_hardware.proofs.WellRead.{ReadsWell, well_read}
-use Rattle.vw_boardnames.specs.Boards.{IsBoardOf, PlainItem, PlainModel, all_nodes, latch, node_model, place, placed_node, plain_item, plain_model, spelled_item, table}
-use Rattle.vw_boardnames.specs.Spelled.{net_of_port, shown_net, spelled}
+use Rattle.vw_boardnames.specs.Boards.{IsBoardOf, PlainItem, PlainModel, all_nodes, latch, place, placed_node, plain_item, spelled_item, table}
+use Rattle.vw_boardnames.specs.Spelled.{shown_net, spelled}
 use Rattle.vw_boardnames.proofs.Drivers.{DrivenBy, driven_by, from_column, from_item, item_driver, output_net}
 use Rattle.vw_boardnames.proofs.Models.{PlaceOf, at_node, at_root, mapped_at, place_of, root, root_at}
 use Rattle.vw_boardnames.proofs.PlacedFaults.{faultless, find_nothing}

@@ -1,5 +1,5 @@
 -- The names that a node's model claims are all different.
-use Rattle.std.proofs.Common.{◌≡◌, ◌≤◌, ◌++◌, ◌∙◌, ◌⊎◌, inl, inr, ℕ, true, List, [], ◌∷◌, map, ap, ap₂, refl, sym, subst, ⊎_elim, append-nil}
+use Rattle.std.proofs.Common.{◌≡◌, ◌++◌, ◌∙◌, ℕ, true, List, [], map, ap, ap₂, sym, subst, ⊎_elim, append-nil}
 use Rattle.std.proofs.lemmas.List.{map-append}
 use Rattle.vw_plan.specs.PlannedBoard.{PlannedBoard}
 use Rattle.vw_plan.specs.Sound.{IsSound}

@@ -1,5 +1,5 @@
 -- The nets that the inputs and the items of a node claim are all different.
-use Rattle.std.proofs.Common.{◌≡◌, ◌≢◌, ◌<◌, ◌≤◌, ◌+◌, ◌-◌, ◌++◌, ◌==◌, ◌∙◌, ◌⊎◌, inl, inr, ℕ, zero, suc, Bool, true, false, cond, List, [], ◌∷◌, length, map, slice_get, slice_index, Some, if◌then◌else◌, ap, refl, sym, subst, ⊎_elim, arith}
+use Rattle.std.proofs.Common.{◌≡◌, ◌≢◌, ◌<◌, ◌+◌, ◌-◌, ◌++◌, ◌==◌, ◌∙◌, ℕ, zero, suc, true, cond, List, [], ◌∷◌, length, map, slice_index, if◌then◌else◌, ap, refl, sym, subst, ⊎_elim, arith}
 use Rattle.std.proofs.lemmas.List.{map-id}
 use Rattle.std.proofs.lemmas.Option.{none-some}
 use Rattle.vw_net.specs.Gathered.{gather, listed}
@@ -12,7 +12,6 @@ use Rattle.vw_plan.specs.PlannedBoard.{PlannedBoard}
 use Rattle.vw_plan.specs.Sound.{IsSound}
 use Rattle.vw_plan.specs.declared.link.Link.{Link}
 use Rattle.vw_plan.specs.declared.wire.Hop.{Hop}
-use Rattle.vw_plan.specs.declared.wire.Wire.{Wire}
 use Rattle.vw_plan.proofs.LinkDelays.{one_number, same_ends}
 use Rattle.vw_design.proofs.DistinctNames.{AreOnce, once_append}
 use Rattle.vw_design.proofs.ListElements.{Has, at-Has}
@@ -22,7 +21,7 @@ use Rattle.vw_hardware.specs.Names.{name_at}
 use Rattle.vw_hardware.specs.Ports.{node_inputs, pin_ports, used_port}
 use Rattle.vw_hardware.specs.Tables.{cover_table, pass}
 use Rattle.vw_hardware.proofs.DrivenNets.{drives_gate}
-use Rattle.vw_hardware.proofs.Origins.{IsPin, OfPin, catch_table, either, from_gates, from_hops, from_latches, from_pins, from_results, from_stages, latch_table, leaves, of_pin, only, sends, waits}
+use Rattle.vw_hardware.proofs.Origins.{OfPin, catch_table, either, from_gates, from_hops, from_latches, from_pins, from_results, from_stages, latch_table, leaves, of_pin, only, sends, waits}
 use Rattle.vw_boardnames.proofs.Codes.{first_number, head_number, letter, other_numbers, second_of}
 use Rattle.vw_boardnames.proofs.OnceListed.{from_values, once_alone, once_both, once_gather, once_listed, once_when}
 

@@ -1,10 +1,10 @@
 -- An emitted board has none of the faults of models that place each other.
-use Rattle.std.proofs.Common.{◌≡◌, ◌<◌, ◌≤◌, ◌+◌, ◌&&◌, ◌||◌, ◌++◌, ◌∙◌, ◌⊎◌, inl, inr, not, ℕ, zero, suc, Bool, true, false, cond, List, [], ◌∷◌, length, map, slice_get, Option, Some, None, option_map, option_and_then, find, is_none, is_some, if◌then◌else◌, codes, nat_lt, ap, ap₂, refl, sym, subst, ⊎_elim, append-nil, true≢false, arith}
+use Rattle.std.proofs.Common.{◌≡◌, ◌≤◌, ◌&&◌, ◌||◌, ◌++◌, ◌∙◌, inl, inr, not, ℕ, zero, suc, Bool, true, false, cond, List, [], ◌∷◌, map, slice_get, Option, Some, None, option_map, option_and_then, find, is_none, is_some, if◌then◌else◌, codes, nat_lt, ap, ap₂, refl, sym, subst, ⊎_elim, append-nil, true≢false, arith}
 use Rattle.std.specs.List.{list_all}
 use Rattle.std.specs.Str.{bytes_eq}
 use Rattle.std.proofs.Math.Bool.{or-false}
 use Rattle.std.proofs.lemmas.Bool.{or_left, or_right}
-use Rattle.std.proofs.lemmas.Option.{none-some, same_Some, slice_get-map, slice_get_within}
+use Rattle.std.proofs.lemmas.Option.{same_Some, slice_get-map}
 use Rattle.std.proofs.lemmas.Simd.{map-map}
 use Rattle.vw_net.specs.FirstFound.{first_found}
 use Rattle.vw_net.proofs.FirstFound.{found_nowhere}
@@ -14,8 +14,8 @@ use Rattle.vw_design.specs.Accepted.{HasNoModelFault}
 use Rattle.vw_design.specs.Counts.{IsRanking, is_below}
 use Rattle.vw_design.specs.Distinct.{has_name}
 use Rattle.vw_design.specs.Limits.{IsSmall}
-use Rattle.vw_design.specs.ModelFaults.{IsModelCircle, at_model, both_ways, by_placing, first_placing, is_formal_of, is_reached, model_places, names_model, reached, unbound_input, unbound_input_in, unknown_formal, unknown_formal_in, unknown_model}
-use Rattle.vw_design.specs.Paths.{Word, items_of, is_port, model_at, model_named}
+use Rattle.vw_design.specs.ModelFaults.{at_model, both_ways, by_placing, first_placing, is_formal_of, is_reached, model_places, names_model, reached, unbound_input, unbound_input_in, unknown_formal, unknown_formal_in, unknown_model}
+use Rattle.vw_design.specs.Paths.{Word, items_of, is_port, model_named}
 use Rattle.vw_design.specs.Preorder.{is_cell}
 use Rattle.vw_design.specs.declared.design.Design.{Design}
 use Rattle.vw_design.specs.declared.item.Bind.{Bind}

@@ -1,5 +1,5 @@
 -- The names that the board's own model claims are all different, so no net of an emitted board has two drivers.
-use Rattle.std.proofs.Common.{◌≡◌, ◌≢◌, ◌≤◌, ◌+◌, ◌++◌, ◌∙◌, ◌⊎◌, inl, inr, ℕ, zero, suc, Bool, true, false, List, [], ◌∷◌, length, map, slice_get, Option, Some, None, if◌then◌else◌, filter_map, flat_map, ap, ap₂, refl, sym, subst, ⊎_elim, append-nil, arith}
+use Rattle.std.proofs.Common.{◌≡◌, ◌≢◌, ◌≤◌, ◌+◌, ◌++◌, ◌∙◌, inl, inr, ℕ, Bool, true, false, List, [], ◌∷◌, map, slice_get, Option, Some, None, if◌then◌else◌, filter_map, flat_map, ap, ap₂, refl, sym, subst, ⊎_elim, append-nil, arith}
 use Rattle.std.specs.List.{cons_option, range_with_len}
 use Rattle.std.proofs.lemmas.List.{map-append}
 use Rattle.std.proofs.lemmas.Option.{same_Some, slice_get_within}
@@ -16,16 +16,16 @@ use Rattle.vw_design.specs.declared.item.Item.{Item}
 use Rattle.vw_design.specs.declared.item.Item.TheVariants.{Latch, Names, Sub}
 use Rattle.vw_design.specs.declared.model.Model.{Model}
 use Rattle.vw_design.proofs.DistinctNames.{in_range, none_named}
-use Rattle.vw_design.proofs.ListElements.{Has, Has-at, Has-map, at-Has, from-map}
+use Rattle.vw_design.proofs.ListElements.{Has, Has-map, at-Has, from-map}
 use Rattle.vw_design.proofs.Names.{has_name-Has}
 use Rattle.vw_design.proofs.OneDriver.{claimed_names, one_driver_each}
 use Rattle.vw_hardware.specs.Locals.{Local, column, pin_in}
 use Rattle.vw_hardware.specs.Ports.{node_inputs, node_outputs}
 use Rattle.vw_hardware.proofs.PortOrigins.{IsColumnPort, IsPinPort, OutputOrigin, a_latch, a_pin, a_result, from_inputs, from_outputs}
 use Rattle.vw_boardnames.specs.Boards.{IsBoardOf, Joined, PlainItem, PlainModel, all_nodes, latch, node_ports, place, placed_node, plain_bind, plain_item, port_joined, table}
-use Rattle.vw_boardnames.specs.Spelled.{net_of_port, node_name, spelled}
+use Rattle.vw_boardnames.specs.Spelled.{net_of_port, spelled}
 use Rattle.vw_boardnames.proofs.Codes.{IsSmallNet, letter, spelled_once}
-use Rattle.vw_boardnames.proofs.Models.{IsNodeModel, PlaceOf, at_node, at_root, node_model_of, node_named, place_of, root, root_at}
+use Rattle.vw_boardnames.proofs.Models.{PlaceOf, at_node, at_root, node_model_of, node_named, place_of, root}
 use Rattle.vw_boardnames.proofs.NodeNames.{node_distinct}
 use Rattle.vw_boardnames.proofs.RootOnce.{all_outputs, board_names_distinct, board_nets}
 use Rattle.vw_boardnames.proofs.SmallNets.{small_cell, small_input, small_pin}

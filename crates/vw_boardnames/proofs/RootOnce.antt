@@ -1,20 +1,19 @@
 -- The nets of a board, as the ports of its nodes and its columns, are all different, and so are their names.
-use Rattle.std.proofs.Common.{◌≡◌, ◌<◌, ◌≤◌, ◌+◌, ◌^◌, ◌++◌, ◌==◌, ◌∙◌, ◌⊎◌, inl, inr, ℕ, zero, suc, Bool, true, false, cond, List, [], ◌∷◌, length, map, take, slice_get, slice_index, Option, Some, None, if◌then◌else◌, flat_map, ap, ap₂, refl, sym, subst, ⊎_elim, arith}
+use Rattle.std.proofs.Common.{◌≡◌, ◌<◌, ◌≤◌, ◌+◌, ◌++◌, ◌==◌, ◌∙◌, ℕ, zero, suc, Bool, true, false, cond, List, [], ◌∷◌, length, map, take, slice_get, slice_index, Option, Some, if◌then◌else◌, flat_map, ap, refl, sym, subst, ⊎_elim, arith}
 use Rattle.std.specs.List.{range_with_len}
 use Rattle.std.specs.Option.{option_map_or}
 use Rattle.std.proofs.lemmas.List.{map-id}
-use Rattle.std.proofs.lemmas.Option.{none-some, same_Some, slice_get_within}
+use Rattle.std.proofs.lemmas.Option.{none-some}
 use Rattle.vw_net.specs.Cells.{latch_count}
 use Rattle.vw_net.specs.Gathered.{gather, listed}
 use Rattle.vw_net.specs.declared.cell.Cell.{Cell}
 use Rattle.vw_net.specs.declared.cell.Cell.TheVariants.{Gate, Latch}
 use Rattle.vw_net.specs.declared.cell.Init.{Init}
-use Rattle.vw_net.proofs.ListedLists.{StandsIn, from_append, from_gather, from_listed, from_when}
+use Rattle.vw_net.proofs.ListedLists.{StandsIn, from_gather, from_listed, from_when}
 use Rattle.vw_plan.specs.PlannedBoard.{PlannedBoard}
 use Rattle.vw_plan.specs.Sound.{IsSound}
 use Rattle.vw_plan.specs.declared.link.Link.{Link}
 use Rattle.vw_design.specs.Distinct.{are_distinct}
-use Rattle.vw_design.specs.Paths.{Word}
 use Rattle.vw_design.proofs.DistinctNames.{AreOnce, distinct_map, in_range, once_append, once_flat_map, once_map, once_range}
 use Rattle.vw_design.proofs.ListElements.{Has, Has-append, at-Has, from-flat_map, from-map}
 use Rattle.vw_design.proofs.NumberedNames.{AreSmall, numbered_name, numbers_same}
@@ -22,7 +21,7 @@ use Rattle.vw_hardware.specs.Items.{User, users}
 use Rattle.vw_hardware.specs.Locals.{Local, column, kept, pin_out, result}
 use Rattle.vw_hardware.specs.Ports.{latch_port, node_outputs, pin_ports, used_port}
 use Rattle.vw_hardware.proofs.Origins.{only}
-use Rattle.vw_hardware.proofs.PortOrigins.{IsLatchPort, IsPinPort, IsResultPort, OutputOrigin, a_latch, a_pin, a_result, from_outputs}
+use Rattle.vw_hardware.proofs.PortOrigins.{OutputOrigin, a_latch, a_pin, a_result, from_outputs}
 use Rattle.vw_boardnames.specs.Boards.{all_nodes}
 use Rattle.vw_boardnames.specs.Spelled.{net_of_port}
 use Rattle.vw_boardnames.proofs.Codes.{first_number, head_number, letter, other_numbers}

@@ -1,6 +1,5 @@
 -- The numbers of the nets of an emitted board are small.
-use Rattle.std.proofs.Common.{◌≡◌, ◌<◌, ◌≤◌, ◌+◌, ◌-◌, ◌^◌, ◌∙◌, ◌⊎◌, ℕ, zero, suc, List, [], ◌∷◌, length, slice_get, Some, cond, Bool, true, false, ap, refl, sym, subst, ⊎_elim, arith}
-use Rattle.std.specs.Prelude.{sum_by}
+use Rattle.std.proofs.Common.{◌≡◌, ◌<◌, ◌≤◌, ◌-◌, ◌^◌, ℕ, zero, suc, List, [], ◌∷◌, length, slice_get, Some, ap, sym, subst, ⊎_elim, arith}
 use Rattle.std.proofs.lemmas.List.Sums.{sum_by-cons}
 use Rattle.std.proofs.lemmas.Option.{none-some, same_Some, slice_get_within}
 use Rattle.vw_net.proofs.ListedLists.{StandsIn}
@@ -11,12 +10,12 @@ use Rattle.vw_plan.specs.declared.link.Link.{Link}
 use Rattle.vw_plan.specs.declared.wire.Wire.{Wire}
 use Rattle.vw_plan.proofs.FewLinks.{few_links_on}
 use Rattle.vw_plan.proofs.HopsOfWires.{at_place}
-use Rattle.vw_hardware.specs.Items.{User, delay_item, send_item, stage, users}
+use Rattle.vw_hardware.specs.Items.{User, send_item}
 use Rattle.vw_hardware.specs.Locals.{Local, LocalItem, drives, pin_in}
 use Rattle.vw_hardware.specs.Ports.{node_inputs}
 use Rattle.vw_hardware.proofs.DrivenNets.{drives_gate}
 use Rattle.vw_hardware.proofs.FewUsers.{few_users}
-use Rattle.vw_hardware.proofs.Origins.{IsCatch, IsGate, IsLatch, IsPin, IsResult, IsStage, OfPin, Origin, leaves, of_first, of_gate, of_hop, of_latch, of_pins, of_result, of_stage, sends, waits}
+use Rattle.vw_hardware.proofs.Origins.{IsCatch, IsPin, OfPin, Origin, leaves, of_first, of_gate, of_hop, of_latch, of_pins, of_result, of_stage, sends, waits}
 use Rattle.vw_hardware.proofs.PortOrigins.{IsColumnPort, IsPinPort, from_inputs}
 use Rattle.vw_boardnames.proofs.Codes.{IsSmallNet}
 

@@ -1,5 +1,5 @@
 -- How the nets of an emitted board are spelled: a letter and numbers, with `_` between numbers. Source: this project.
-use Rattle.std.specs.Prelude.{ℕ, List, ◌++◌, codes, length, take}
+use Rattle.std.specs.Prelude.{ℕ, ◌++◌, codes, take}
 use Rattle.std.specs.Fmt.{decimal}
 use Rattle.vw_net.specs.Cells.{latch_count}
 use Rattle.vw_design.specs.Paths.{Word}
