@@ -3,7 +3,7 @@ use Rattle.std.proofs.Common.{◌≡◌, ◌<◌, ◌≤◌, ◌+◌, ◌-◌, �
 use Rattle.std.specs.List.{AllByRecursion}
 use Rattle.std.proofs.lemmas.Bool.{and_from, and_parts}
 use Rattle.std.proofs.lemmas.List.Folds.{list_any_at}
-use Rattle.std.proofs.lemmas.Option.{get_or_from_slice_get, same_Some, slice_get_within}
+use Rattle.std.proofs.lemmas.Option.{get_or_from_slice_get, none-some, same_Some, slice_get_within}
 use Rattle.vw_net.specs.Order.{is_among}
 use Rattle.vw_net.specs.declared.cell.Cell.TheVariants.{Gate, Latch}
 use Rattle.vw_net.specs.declared.cell.Init.TheVariants.{Zero as StartsAtZero}
@@ -25,13 +25,14 @@ use Rattle.vw_plan.proofs.WireEnds.{hop_before}
 use Rattle.vw_hardware.specs.Driven.{IsDriven, by_item, by_pin, rank}
 use Rattle.vw_hardware.specs.Items.{User, delay_item, late_name, leaves_by, send_item, users}
 use Rattle.vw_hardware.specs.Locals.{Local, LocalItem, caught, coming, drives, gate, held, kept, reads, register, sent, table}
+use Rattle.vw_hardware.specs.Run.{IsItem}
 use Rattle.vw_hardware.specs.Names.{name_at, sent_name}
 use Rattle.vw_hardware.specs.Tables.{cover_table, marks_of, off_table}
 use Rattle.vw_hardware.proofs.DrivenNets.{gate_rank, held_driven, name_driven, name_rank, stage_driven}
 use Rattle.vw_hardware.proofs.FewUsers.{few_users}
 use Rattle.vw_hardware.proofs.Members.{has_catch_table, has_delay, has_latch_register, has_latch_table, has_send}
 use Rattle.vw_hardware.proofs.Nets.{IsThere, net_count, read_is_there}
-use Rattle.vw_hardware.proofs.Origins.{IsCatch, IsGate, IsLatch, IsPin, IsResult, OfPin, Origin, catch_table, latch_table, leaves, of_first, of_gate, of_hop, of_latch, of_pins, of_result, of_stage, sends, waits}
+use Rattle.vw_hardware.proofs.Origins.{IsCatch, IsGate, IsLatch, IsPin, IsResult, OfPin, Origin, catch_table, latch_table, leaves, of_first, of_gate, of_hop, of_latch, of_pins, of_result, of_stage, sends, waits, origin}
 use Rattle.vw_hardware.proofs.Users.{has_users, user_hop}
 
 -- ---- tables of gates are tables
@@ -188,3 +189,21 @@ module _ (planned : PlannedBoard) (sound : IsSound planned) (node : ℕ) (among 
   well_read item (of_hop is) = of_a_hop item is
   well_read item (of_pins is) = of_a_pin item is
   well_read item (of_result is) = of_a_result item is
+
+-- ---- item by item
+
+all_at : {A : Type 0} (P : A → Type 0) (xs : List A) → AllByRecursion P xs → (place : ℕ) (x : A) → slice_get xs place ≡ Some x → P x
+all_at P [] all place x at = absurd (none-some x at)
+all_at P (y ∷ xs) all zero x at = subst P (same_Some y x at) all.0
+all_at P (y ∷ xs) all (suc place) x at = all_at P xs all.1 place x at
+
+module _ (planned : PlannedBoard) (node place : ℕ) (item : LocalItem) (read : Local) (sound : IsSound planned) (is : IsItem planned node item) (at : slice_get (reads item) place ≡ Some read) where
+  reads_well : ReadsWell planned sound node is.among item read
+  reads_well = all_at (ReadsWell planned sound node is.among item) (reads item) (well_read planned sound node is.among item (origin planned node item (is.place, is.stands))) place read at
+
+  pub read_driven : IsDriven planned node read
+  read_driven = reads_well.0
+
+pub read_rises : (planned : PlannedBoard) (node place : ℕ) (ins : List Local) (out : Local) (on : Bool) (rows : List (List Mark)) (read : Local) → IsSound planned → IsItem planned node (table ins out on rows) → slice_get ins place ≡ Some read
+    → rank planned read < rank planned out
+read_rises planned node place ins out on rows read sound is at = (reads_well planned node place (table ins out on rows) read sound is at).1

@@ -3,15 +3,17 @@ ghost use Rattle.std.specs.Prelude.{◌≡◌, ◌≤◌, ◌<◌, ◌+◌, ◌=
 ghost use Rattle.vw_net.specs.Cells.{start_values};
 ghost use Rattle.vw_net.specs.History.{flat_history};
 ghost use Rattle.vw_net.specs.Value.{net_value};
+ghost use Rattle.vw_net.specs.declared.cover.Mark.{Mark};
 ghost use Rattle.vw_plan.specs.Lead.{arrival, carries, lead};
 ghost use Rattle.vw_plan.specs.PlannedBoard.{PlannedBoard};
 ghost use Rattle.vw_plan.specs.Sound.{IsSound};
 ghost use Rattle.vw_plan.specs.declared.link.Link.{Link};
 ghost use Rattle.vw_plan.specs.declared.wire.Hop.{Hop};
 ghost use Rattle.vw_plan.specs.declared.wire.Wire.{Wire};
-ghost use Rattle.vw_hardware.specs.Locals.{delayed, held, moment};
+ghost use Rattle.vw_hardware.specs.Driven.{IsDriven, rank};
+ghost use Rattle.vw_hardware.specs.Locals.{Local, LocalItem, delayed, held, moment, reads, table};
 ghost use Rattle.vw_hardware.specs.Names.{name_at};
-ghost use Rattle.vw_hardware.specs.Run.{IsRun, Values};
+ghost use Rattle.vw_hardware.specs.Run.{IsItem, IsRun, Values};
 ghost use Rattle.vw_hardware.specs.Shown.{IsClockOf, IsThere, at_each_clock, held_rows, microclock, shown_latches, shown_outputs};
 
 /// Whoever runs an emitted board, holding each row of its design for as many microclocks as a clock has, sees at the last
@@ -67,4 +69,16 @@ pub fn hops_carry_their_nets()
         → arrival planned.board.links hop < microcycle
         → value (microclock planned clock microcycle) hop.to (held wire place)
         ≡ net_value planned.ordered.flat row state is.net }
+{}
+
+/// What an item of a sound plan's board reads is driven at its node: by an item of the node, a used pin or a column. And what a
+/// table reads has a smaller rank than what it drives, so that no table rests on itself within a microclock.
+pub fn items_read_what_is_driven()
+    ensures driven { (planned : PlannedBoard) (node place : ℕ) (item : LocalItem) (read : Local)
+        → IsSound planned → IsItem planned node item → slice_get (reads item) place ≡ Some read
+        → IsDriven planned node read }
+    ensures rises { (planned : PlannedBoard) (node place : ℕ) (ins : List Local) (out : Local)
+        (on : Bool) (rows : List (List Mark)) (read : Local) → IsSound planned
+        → IsItem planned node (table ins out on rows) → slice_get ins place ≡ Some read
+        → rank planned read < rank planned out }
 {}

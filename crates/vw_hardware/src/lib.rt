@@ -4,5 +4,6 @@
 mod laws;
 
 pub use laws::{
-    emitted_boards_show_their_designs, hops_carry_their_nets, microclocks_follow_leads,
+    emitted_boards_show_their_designs, hops_carry_their_nets, items_read_what_is_driven,
+    microclocks_follow_leads,
 };
