@@ -301,3 +301,7 @@ acts_as planned sound board is_board small unknown rows = record { at_last = at_
       let inside = slice_get_within held (last_microclock planned clock) row.0 (row_held planned rows clock row.0 planned.plan.period row.1 (omega arith)) in
       outputs_at_time board held (path_start unknown board) (last_microclock planned clock) inside
       ∙ ap (λ (all : List Bool). Some all) (shown planned sound board is_board small unknown held (last_microclock planned clock) ∙ ap₂ (λ (a b : List Bool). a ++ b) first.1 second.1)
+
+-- there is a run
+pub has_run : (planned : PlannedBoard) (board : Design) → IsSound planned → IsBoardOf planned board → IsSmall board → (unknown : Bool) (rows : List (List Bool)) → (bits : Values) × IsRun planned unknown rows bits
+has_run planned board sound is_board small unknown rows = (value planned sound board is_board small unknown rows, is_run planned sound board is_board small unknown rows)

@@ -10,3 +10,4 @@ pub mod PlacedFaults
 pub mod Drivers
 pub mod NetFaults
 pub mod History
+pub mod WorkedBoard

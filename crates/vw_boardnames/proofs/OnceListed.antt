@@ -1,5 +1,5 @@
--- Values of lists that are gathered from numbers and from numbered elements, of which none stands twice: each number or element
--- has its own.
+-- Values of lists that are gathered from numbers and from numbered elements, of which none stands twice: each number or
+-- element has its own.
 use Rattle.std.proofs.Common.{◌≡◌, ◌<◌, ◌+◌, ◌++◌, ◌∙◌, ℕ, zero, suc, Bool, true, false, cond, List, [], ◌∷◌, map, slice_get, Some, ap, refl, sym, subst, arith}
 use Rattle.std.proofs.lemmas.List.{map-append}
 use Rattle.vw_net.specs.Gathered.{gather, listed}

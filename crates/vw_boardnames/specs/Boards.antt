@@ -92,7 +92,9 @@ board_model planned =
     record {
       name = codes "board";
       inputs = map (λ number. spelled (column number)) (range_with_len 0 flat.inputs);
-      outputs = map (λ number. spelled (result number)) (range_with_len 0 (length flat.outputs)) ++ map shown_net (range_with_len 0 (latch_count flat.cells));
+      outputs =
+          map (λ number. spelled (result number)) (range_with_len 0 (length flat.outputs))
+          ++ map shown_net (range_with_len 0 (latch_count flat.cells));
       clocks = [];
       items = map (placed_node planned) (all_nodes planned);
     }

@@ -16,6 +16,8 @@ board_history planned board unknown rows = path_history board [] unknown (held_r
 
 -- at the last microclock of each clock the board has the outputs of the clock, and then the latch values before its step
 pub record ActsAs (planned : PlannedBoard) (board : Design) (unknown : Bool) (rows : List (List Bool)) : Type 0 where
-  pub at_last : (clock : ℕ) (outputs state : List Bool) → slice_get (own_history planned unknown rows).outputs clock ≡ Some outputs
+  pub at_last : (clock : ℕ) (outputs state : List Bool)
+      → slice_get (own_history planned unknown rows).outputs clock ≡ Some outputs
       → slice_get (own_history planned unknown rows).states clock ≡ Some state
-      → slice_get (board_history planned board unknown rows).outputs (last_microclock planned clock) ≡ Some (outputs ++ state)
+      → slice_get (board_history planned board unknown rows).outputs (last_microclock planned clock)
+      ≡ Some (outputs ++ state)

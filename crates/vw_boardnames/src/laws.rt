@@ -7,6 +7,7 @@ ghost use Rattle.vw_design.specs.NetFaults.{two_drivers};
 ghost use Rattle.vw_design.specs.declared.design.Design.{Design};
 ghost use Rattle.vw_plan.specs.PlannedBoard.{PlannedBoard};
 ghost use Rattle.vw_plan.specs.Sound.{IsSound};
+ghost use Rattle.vw_hardware.specs.Run.{IsRun, Values};
 ghost use Rattle.vw_boardnames.specs.Boards.{IsBoardOf};
 ghost use Rattle.vw_boardnames.specs.Shows.{ActsAs};
 
@@ -22,9 +23,13 @@ pub fn emitted_boards_are_accepted()
 {}
 
 /// It shows, at the last microclock of each clock, the outputs and then the latch values of the design that was planned, for
-/// all rows, each held for as many microclocks as a clock has.
+/// all rows, each held for as many microclocks as a clock has. And over any rows its nets have the bits of a run of the
+/// board's nodes, so that there is such a run.
 pub fn emitted_boards_act_as_their_designs()
-    ensures { (planned : PlannedBoard) (board : Design) → IsSound planned → IsBoardOf planned board
-        → IsSmall board → (unknown : Bool) (rows : List (List Bool))
+    ensures acts { (planned : PlannedBoard) (board : Design) → IsSound planned
+        → IsBoardOf planned board → IsSmall board → (unknown : Bool) (rows : List (List Bool))
         → ActsAs planned board unknown rows }
+    ensures runs { (planned : PlannedBoard) (board : Design) → IsSound planned
+        → IsBoardOf planned board → IsSmall board → (unknown : Bool) (rows : List (List Bool))
+        → (value : Values) × IsRun planned unknown rows value }
 {}

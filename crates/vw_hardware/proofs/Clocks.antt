@@ -13,7 +13,8 @@ use Rattle.vw_hardware.specs.Names.{name_at}
 use Rattle.vw_hardware.specs.Run.{IsRun, Values}
 use Rattle.vw_hardware.proofs.Equations.{latch_bit, stage_moves, stage_wraps}
 
--- a microclock at which a clock begins: at each node the first stage of the sequencer alone is 1, and the latches have a state
+-- a microclock at which a clock begins: at each node the first stage of the sequencer alone is 1, and the latches have a
+-- state
 pub record IsAtStart (planned : PlannedBoard) (value : Values) (time : ℕ) (state : List Bool) : Type 0 where
   pub stages : (node microcycle : ℕ) → node ≤ planned.board.chips → microcycle ≤ planned.plan.period → value time node (moment microcycle) ≡ eqb 0 microcycle
   pub latches : (cell d : ℕ) (init : Init) → slice_get planned.ordered.flat.cells cell ≡ Some (Latch d init)

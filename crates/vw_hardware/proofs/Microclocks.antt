@@ -1,5 +1,5 @@
--- What each microclock of a run of an emitted board has: the stages, the nets from their leads on, the registers of hops that
--- have arrived, and the bits that are under way.
+-- What each microclock of a run of an emitted board has: the stages, the nets from their leads on, the registers of hops
+-- that have arrived, and the bits that are under way.
 use Rattle.std.proofs.Common.{◌≡◌, ◌<◌, ◌≤◌, ◌+◌, ◌*◌, ◌∙◌, inl, inr, ℕ, suc, Bool, true, List, slice_get, Some, eqb, ap, ap₂, sym, ⊎_elim, arith}
 use Rattle.std.proofs.lemmas.Option.{same_Some}
 use Rattle.vw_net.specs.Value.{net_value}

@@ -1,6 +1,5 @@
 -- Which ports each node of an emitted board has.
-use Rattle.std.proofs.Common.{◌≡◌, ◌≢◌, ◌<◌, ◌≤◌, ◌+◌, ◌++◌, ◌==◌, ◌∙◌, ◌⊎◌, inl, inr, ℕ, zero, suc, Bool, true, false, cond, List, [], ◌∷◌, length, slice_get, slice_index, Some, if◌then◌else◌, eqb, ap, refl, sym, subst, ⊎_elim, true≢false, eqb-true, eq-eqb, ne_eqb, arith}
-use Rattle.std.proofs.lemmas.Bool.{cases_Bool}
+use Rattle.std.proofs.Common.{◌≡◌, ◌<◌, ◌≤◌, ◌+◌, ◌==◌, ◌∙◌, ◌⊎◌, inl, inr, ℕ, zero, suc, Bool, true, false, cond, List, [], ◌∷◌, length, slice_get, slice_index, Some, if◌then◌else◌, eqb, ap, refl, sym, subst, ⊎_elim, eqb-true, eq-eqb, ne_eqb, arith}
 use Rattle.std.proofs.lemmas.Option.{none-some, same_Some}
 use Rattle.vw_net.specs.Gathered.{gather, listed}
 use Rattle.vw_net.specs.declared.cell.Cell.{Cell}

@@ -10,8 +10,10 @@ use Rattle.vw_hardware.specs.Run.{IsItem}
 -- a net of a node is driven: by an item of the node, by a used pin that reaches it, or, at the host, by a column
 pub data IsDriven (planned : PlannedBoard) (node : ℕ) (net : Local) : Type 0 where
   by_item : (item : LocalItem) → IsItem planned node item → drives item ≡ net → IsDriven planned node net
-  by_pin : (number pin : ℕ) (link : Link) → slice_get planned.board.links number ≡ Some link → link.to ≡ node → IsUsed planned link pin → pin_in number pin ≡ net → IsDriven planned node net
-  by_column : (number : ℕ) → node ≡ 0 → number < planned.ordered.flat.inputs → column number ≡ net → IsDriven planned node net
+  by_pin : (number pin : ℕ) (link : Link) → slice_get planned.board.links number ≡ Some link → link.to ≡ node
+      → IsUsed planned link pin → pin_in number pin ≡ net → IsDriven planned node net
+  by_column : (number : ℕ) → node ≡ 0 → number < planned.ordered.flat.inputs → column number ≡ net
+      → IsDriven planned node net
 
 -- ---- ranks
 
@@ -20,8 +22,9 @@ abbrev pub count_before : List ℕ → ℕ → ℕ
 count_before [] number = 0
 count_before (first ∷ numbers) number = if first == number then 0 else suc (count_before numbers number)
 
--- the rank of a net, which rises from what a table reads to what it drives, and not from one end of a pin to the other: 0 for
--- what a register or a column drives; a gate's by its place in the order; and then what leaves by pins, and what comes in
+-- the rank of a net, which rises from what a table reads to what it drives, and not from one end of a pin to the other: 0
+-- for what a register or a column drives; a gate's by its place in the order; and then what leaves by pins, and what comes
+-- in by them
 abbrev pub rank : PlannedBoard → Local → ℕ
 rank planned (column number) = 0
 rank planned (moment microcycle) = 0

@@ -32,11 +32,14 @@ gate_items planned node cell (Latch d init) = []
 abbrev pub latch_items : PlannedBoard → ℕ → ℕ → Cell → List LocalItem
 latch_items planned node cell (Gate ins cover) = []
 latch_items planned node cell (Latch d init) =
-    table (moment planned.plan.period ∷ name_at planned node d ∷ kept cell ∷ []) (coming cell) true choice ∷ register (coming cell) (kept cell) init ∷ []
+    table (moment planned.plan.period ∷ name_at planned node d ∷ kept cell ∷ []) (coming cell) true choice
+    ∷ register (coming cell) (kept cell) init ∷ []
 
 -- those of the cells of a node
 abbrev pub cell_items : (ℕ → ℕ → Cell → List LocalItem) → PlannedBoard → ℕ → List LocalItem
-cell_items items planned node = listed (λ cell is. if slice_index planned.plan.chip_of cell == node then items node cell is else []) 0 planned.ordered.flat.cells
+cell_items items planned node =
+    listed (λ cell is. if slice_index planned.plan.chip_of cell == node then items node cell is else []) 0
+    planned.ordered.flat.cells
 
 -- ---- hops that reach a node
 
@@ -44,7 +47,9 @@ cell_items items planned node = listed (λ cell is. if slice_index planned.plan.
 abbrev pub catch_items : PlannedBoard → ℕ → ℕ → Hop → ℕ → Link → List LocalItem
 catch_items planned wire number hop at link =
     if carries hop link then
-    table (moment (arrival planned.board.links hop) ∷ pin_in at hop.pin ∷ held wire number ∷ []) (caught wire number) true choice ∷ register (caught wire number) (held wire number) StartsAtZero ∷ []
+    table
+    (moment (arrival planned.board.links hop) ∷ pin_in at hop.pin ∷ held wire number ∷ []) (caught wire number) true choice
+    ∷ register (caught wire number) (held wire number) StartsAtZero ∷ []
     else []
 
 -- over the link that carries the hop
@@ -53,7 +58,8 @@ hop_items planned wire number hop = listed (catch_items planned wire number hop)
 
 -- those of a wire, and of all wires
 abbrev pub wire_items : PlannedBoard → ℕ → ℕ → Wire → List LocalItem
-wire_items planned node wire is = listed (λ number hop. if hop.to == node then hop_items planned wire number hop else []) 0 is.hops
+wire_items planned node wire is =
+    listed (λ number hop. if hop.to == node then hop_items planned wire number hop else []) 0 is.hops
 
 abbrev pub hops_to : PlannedBoard → ℕ → List LocalItem
 hops_to planned node = listed (wire_items planned node) 0 planned.plan.wires
@@ -72,7 +78,8 @@ leaves_by link pin at hop = carries hop link && (hop.pin == pin && hop.at == at)
 -- the hops of a wire that use a pin in a microcycle, and those of all wires; a sound plan has one of them at most
 abbrev pub wire_users : PlannedBoard → Link → ℕ → ℕ → ℕ → Wire → List User
 wire_users planned link pin at wire is =
-    listed (λ number hop. if leaves_by link pin at hop then record { at = at; name = sent_name planned wire is number hop } ∷ [] else []) 0 is.hops
+    listed (λ number hop.
+    if leaves_by link pin at hop then record { at = at; name = sent_name planned wire is number hop } ∷ [] else []) 0 is.hops
 
 abbrev pub users_at : PlannedBoard → Link → ℕ → ℕ → List User
 users_at planned link pin at = listed (wire_users planned link pin at) 0 planned.plan.wires
@@ -84,7 +91,8 @@ users planned link pin = gather (users_at planned link pin) planned.plan.period
 -- in the microcycle of a user its bit goes out, else what the users before it give, which is 0 where there is none
 abbrev pub send_item : ℕ → ℕ → ℕ → User → LocalItem
 send_item at pin zero user = table (moment user.at ∷ user.name ∷ []) (sent at pin 0) true both
-send_item at pin (suc before) user = table (moment user.at ∷ user.name ∷ sent at pin before ∷ []) (sent at pin (suc before)) true both_or
+send_item at pin (suc before) user =
+    table (moment user.at ∷ user.name ∷ sent at pin before ∷ []) (sent at pin (suc before)) true both_or
 
 -- what the last user of a pin gives, so many microcycles later
 abbrev pub late_name : ℕ → ℕ → ℕ → ℕ → Local
@@ -105,7 +113,8 @@ pin_items at pin lag (user ∷ others) =
 
 -- those of the pins of a link, and of the links that leave a node
 abbrev pub link_items : PlannedBoard → ℕ → ℕ → Link → List LocalItem
-link_items planned node at link = if link.from == node then gather (λ pin. pin_items at pin (link.delay - 1) (users planned link pin)) link.width else []
+link_items planned node at link =
+    if link.from == node then gather (λ pin. pin_items at pin (link.delay - 1) (users planned link pin)) link.width else []
 
 abbrev pub pins_from : PlannedBoard → ℕ → List LocalItem
 pins_from planned node = listed (link_items planned node) 0 planned.board.links
@@ -113,7 +122,10 @@ pins_from planned node = listed (link_items planned node) 0 planned.board.links
 -- ---- outputs, at the host
 
 abbrev pub results : PlannedBoard → ℕ → List LocalItem
-results planned node = if node == 0 then listed (λ output net. table (name_at planned 0 net ∷ []) (result output) true pass ∷ []) 0 planned.ordered.flat.outputs else []
+results planned node =
+    if node == 0 then
+    listed (λ output net. table (name_at planned 0 net ∷ []) (result output) true pass ∷ []) 0 planned.ordered.flat.outputs
+    else []
 
 -- ---- all of them
 

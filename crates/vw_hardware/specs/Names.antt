@@ -20,13 +20,14 @@ own_name flat net =
 abbrev pub brought_by : ℕ → ℕ → ℕ → Wire → Option Local
 brought_by net node number wire = found_if (brings net node wire) (held number (length wire.hops - 1))
 
--- at another node: the register of the first wire that brings it. Of a sound plan there is one wherever the net is read; else
--- this is any name
+-- at another node: the register of the first wire that brings it. Of a sound plan there is one wherever the net is read;
+-- else this is any name
 abbrev pub brought_name : PlannedBoard → ℕ → ℕ → Local
 brought_name planned node net = unwrap_or (first_at (brought_by net node) 0 planned.plan.wires) (held 0 0)
 
 abbrev pub name_at : PlannedBoard → ℕ → ℕ → Local
-name_at planned node net = if home planned net == node then own_name planned.ordered.flat net else brought_name planned node net
+name_at planned node net =
+    if home planned net == node then own_name planned.ordered.flat net else brought_name planned node net
 
 -- what a hop sends, by its number and that of its wire: the wire's net, or what the hop before it has brought
 abbrev pub sent_name : PlannedBoard → ℕ → Wire → ℕ → Hop → Local

@@ -38,4 +38,5 @@ abbrev pub node_outputs : PlannedBoard → ℕ → List Local
 node_outputs planned node =
     listed (λ at link. if link.from == node then pin_ports (pin_out at) planned link else []) 0 planned.board.links
     ++ (if node == 0 then gather (λ output. result output ∷ []) (length planned.ordered.flat.outputs)
-    else listed (λ cell is. if slice_index planned.plan.chip_of cell == node then latch_port cell is else []) 0 planned.ordered.flat.cells)
+    else listed (λ cell is. if slice_index planned.plan.chip_of cell == node then latch_port cell is else []) 0
+    planned.ordered.flat.cells)

@@ -37,5 +37,6 @@ pub record IsRun (planned : PlannedBoard) (unknown : Bool) (rows : List (List Bo
   pub steps : (time node : ℕ) (next own : Local) (init : Init) → suc time < length rows
       → IsItem planned node (register next own init) → value (suc time) node own ≡ value time node next
   -- a pin has one bit at both ends of its link
-  pub pins : (time number pin : ℕ) (link : Link) → time < length rows → slice_get planned.board.links number ≡ Some link → IsUsed planned link pin
+  pub pins : (time number pin : ℕ) (link : Link) → time < length rows
+      → slice_get planned.board.links number ≡ Some link → IsUsed planned link pin
       → value time link.to (pin_in number pin) ≡ value time link.from (pin_out number pin)

@@ -39,9 +39,11 @@ abbrev pub at_each_clock : PlannedBoard → (ℕ → List Bool) → ℕ → List
 at_each_clock planned shown clocks = map (λ clock. shown (last_microclock planned clock)) (range_with_len 0 clocks)
 
 -- a clock of the design over some rows: its row, and the latch values before its step
-pub record IsClockOf (planned : PlannedBoard) (unknown : Bool) (rows : List (List Bool)) (clock : ℕ) (row state : List Bool) : Type 0 where
+pub record IsClockOf (planned : PlannedBoard) (unknown : Bool) (rows : List (List Bool)) (clock : ℕ)
+    (row state : List Bool) : Type 0 where
   pub row_is : slice_get rows clock ≡ Some row
-  pub state_is : slice_get (flat_history planned.ordered.flat (start_values unknown planned.ordered.flat.cells) rows).states clock ≡ Some state
+  pub state_is : slice_get
+      (flat_history planned.ordered.flat (start_values unknown planned.ordered.flat.cells) rows).states clock ≡ Some state
 
 -- a net is of a node, or needed there
 abbrev pub IsThere : PlannedBoard → ℕ → ℕ → Type 0

@@ -42,4 +42,5 @@ off_table ins out inputs (row ∷ rows) = table ins out false (marks_of (row ∷
 
 -- over these nets, by a cover
 abbrev pub cover_table : List Local → Local → Cover → LocalItem
-cover_table ins out cover = if cover.on then table ins out true (marks_of cover.rows) else off_table ins out cover.inputs cover.rows
+cover_table ins out cover =
+    if cover.on then table ins out true (marks_of cover.rows) else off_table ins out cover.inputs cover.rows

@@ -14,7 +14,8 @@ ghost use Rattle.vw_hardware.specs.Driven.{IsDriven, rank};
 ghost use Rattle.vw_hardware.specs.Locals.{Local, LocalItem, delayed, held, moment, reads, table};
 ghost use Rattle.vw_hardware.specs.Names.{name_at};
 ghost use Rattle.vw_hardware.specs.Run.{IsItem, IsRun, Values};
-ghost use Rattle.vw_hardware.specs.Shown.{IsClockOf, IsThere, at_each_clock, held_rows, microclock, shown_latches, shown_outputs};
+ghost use Rattle.vw_hardware.specs.Shown.{IsClockOf, IsThere, at_each_clock, held_rows, microclock};
+ghost use Rattle.vw_hardware.specs.Shown.{shown_latches, shown_outputs};
 
 /// Whoever runs an emitted board, holding each row of its design for as many microclocks as a clock has, sees at the last
 /// one of each clock the outputs of the design, and its latch values before the step of that clock.
@@ -30,8 +31,8 @@ pub fn emitted_boards_show_their_designs()
 {}
 
 /// In each microclock of such a run, of a clock with its row and the latch values before its step: of the stages of a node's
-/// sequencer the one of the microcycle alone is 1. A net has its value under its name at its own node, and at each node where
-/// it is needed, from its lead there on.
+/// sequencer the one of the microcycle alone is 1. A net has its value under its name at its own node, and at each node
+/// where it is needed, from its lead there on.
 pub fn microclocks_follow_leads()
     ensures stages { (planned : PlannedBoard) (unknown : Bool) (rows : List (List Bool)) (value : Values)
         → IsSound planned → IsRun planned unknown (held_rows planned rows) value
@@ -71,8 +72,8 @@ pub fn hops_carry_their_nets()
         ≡ net_value planned.ordered.flat row state is.net }
 {}
 
-/// What an item of a sound plan's board reads is driven at its node: by an item of the node, a used pin or a column. And what a
-/// table reads has a smaller rank than what it drives, so that no table rests on itself within a microclock.
+/// What an item of a sound plan's board reads is driven at its node: by an item of the node, a used pin or a column. And
+/// what a table reads has a smaller rank than what it drives, so that no table rests on itself within a microclock.
 pub fn items_read_what_is_driven()
     ensures driven { (planned : PlannedBoard) (node place : ℕ) (item : LocalItem) (read : Local)
         → IsSound planned → IsItem planned node item → slice_get (reads item) place ≡ Some read
