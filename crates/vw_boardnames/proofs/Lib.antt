@@ -1,0 +1,13 @@
+pub mod Codes
+pub mod SmallNets
+pub mod OnceListed
+pub mod NodeOnce
+pub mod Models
+pub mod NodeNames
+pub mod RootOnce
+pub mod RootNames
+pub mod PlacedFaults
+pub mod Drivers
+pub mod NetFaults
+pub mod History
+pub mod WorkedBoard
