@@ -12,6 +12,7 @@ use crate::check::check;
 use crate::demo::{demo_by_one, demo_by_several};
 use crate::emit::emit;
 use crate::grade::grade;
+use crate::hands::Hands;
 use crate::help::{help, version};
 use crate::plan::plan;
 use crate::probes::Probes;
@@ -130,16 +131,15 @@ fn carry_out<S: Shelf, O: Sink>(
 
 /// Carries out a command that needs a runtime, up to its message.
 fn carry_out_together<R: Threads + Wait + Sync, S: Shelf, F: Fabric, G: BurstGate, O: Sink>(
-    rt: &R,
     alloc: Global,
     command: Command<'_>,
-    fabric: &mut F,
-    gate: &G,
+    hands: &mut Hands<'_, '_, '_, R, F, G>,
     outside: &mut Outside<'_, '_, S, O>,
 ) -> Result<(), Unfinished>
     requires { needs_runtime (command_view command) ≡ true }
-    ensures { GoesOver S.seen O.seen vocabulary
-        (MovedFrom (F.carried fabric.old) (F.carried fabric.new))
+    ensures fabric { hands.new.fabric.ghost_name ≡ hands.old.fabric.ghost_name }
+    ensures goes { GoesOver S.seen O.seen vocabulary
+        (MovedFrom (F.carried hands.old.fabric.now) (F.carried hands.new.fabric.now))
         (course_of (command_view command.entry)) outside.old outside.new result }
 {
     match command {
@@ -159,19 +159,15 @@ fn carry_out_together<R: Threads + Wait + Sync, S: Shelf, F: Fabric, G: BurstGat
                 board,
                 plan,
             };
-            run_by_several(
-                rt, alloc, &files, stimulus, workers, unknown, fabric, gate, outside,
-            )
+            run_by_several(alloc, &files, stimulus, workers, unknown, hands, outside)
         }
         Command::Grade {
             design,
             stimulus,
             workers,
             unknown,
-        } => grade(rt, alloc, design, stimulus, workers, unknown, outside),
-        Command::Demo { size, workers } => {
-            demo_by_several(rt, alloc, size, workers, fabric, gate, outside)
-        }
+        } => grade(hands.rt, alloc, design, stimulus, workers, unknown, outside),
+        Command::Demo { size, workers } => demo_by_several(alloc, size, workers, hands, outside),
         _ => unreachable!(),
     }
 }
@@ -193,21 +189,21 @@ fn follow<S: Shelf, O: Sink>(
 
 /// The same for one that needs a runtime.
 fn follow_together<R: Threads + Wait + Sync, S: Shelf, F: Fabric, G: BurstGate, O: Sink>(
-    rt: &R,
     alloc: Global,
     command: Command<'_>,
+    hands: &mut Hands<'_, '_, '_, R, F, G>,
     shelf: &mut S,
-    fabric: &mut F,
-    gate: &G,
     out: &mut O,
 ) -> Result<(), Unfinished>
     requires { needs_runtime (command_view command) ≡ true }
-    ensures { IsFollowed vocabulary (MovedFrom (F.carried fabric.old) (F.carried fabric.new))
+    ensures fabric { hands.new.fabric.ghost_name ≡ hands.old.fabric.ghost_name }
+    ensures goes { IsFollowed vocabulary
+        (MovedFrom (F.carried hands.old.fabric.now) (F.carried hands.new.fabric.now))
         (course_of (command_view command.entry)) (S.seen shelf.old) (O.seen out.old)
         (S.seen shelf.new) (O.seen out.new) result }
 {
     let mut outside = Outside { shelf, out };
-    carry_out_together(rt, alloc, command, fabric, gate, &mut outside)
+    carry_out_together(alloc, command, hands, &mut outside)
 }
 
 /// Carries out a command that needs no runtime, and gives the exit status.
@@ -232,22 +228,23 @@ fn without_runtime<S: Shelf, O: Sink, E: Sink>(
 
 /// Carries out a command that needs a runtime, and gives the exit status.
 fn together<R: Threads + Wait + Sync, S: Shelf, F: Fabric, G: BurstGate, O: Sink, E: Sink>(
-    rt: &R,
     alloc: Global,
     command: Command<'_>,
+    hands: &mut Hands<'_, '_, '_, R, F, G>,
     shelf: &mut S,
-    fabric: &mut F,
-    gate: &G,
     out: &mut O,
     err: &mut E,
 ) -> u8
     requires { needs_runtime (command_view command) ≡ true }
-    ensures { IsCallOf (course_of (command_view command.entry)) (seen_call
-        (seen_outside (S.seen shelf.old) (O.seen out.old) (F.carried fabric.old)) (E.seen err.old)
-        (seen_outside (S.seen shelf.new) (O.seen out.new) (F.carried fabric.new)) (E.seen err.new)
+    ensures fabric { hands.new.fabric.ghost_name ≡ hands.old.fabric.ghost_name }
+    ensures called { IsCallOf (course_of (command_view command.entry)) (seen_call
+        (seen_outside (S.seen shelf.old) (O.seen out.old) (F.carried hands.old.fabric.now))
+        (E.seen err.old)
+        (seen_outside (S.seen shelf.new) (O.seen out.new) (F.carried hands.new.fabric.now))
+        (E.seen err.new)
         result) }
 {
-    match follow_together(rt, alloc, command, shelf, fabric, gate, out) {
+    match follow_together(alloc, command, hands, shelf, out) {
         Ok(()) => 0,
         Err(unfinished) => report(alloc, &unfinished, err),
     }
@@ -306,7 +303,8 @@ pub fn virtual_wires<R: Threads + Wait + Sync, S: Shelf, F: Fabric, G: BurstGate
 {
     let command = command_of(words);
     if command.needs_runtime() {
-        return together(rt, alloc, command, shelf, fabric, gate, out, err);
+        let mut hands = Hands { rt, fabric, gate };
+        return together(alloc, command, &mut hands, shelf, out, err);
     }
     without_runtime(alloc, command, shelf, out, err)
 }

@@ -10,6 +10,7 @@ mod emit;
 mod files;
 mod forms;
 mod grade;
+mod hands;
 mod help;
 mod plan;
 mod probes;

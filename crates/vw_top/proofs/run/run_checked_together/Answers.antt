@@ -14,24 +14,24 @@ run-ran-requires-clause-stands g c = λ κs alive.
     let judged = c.in_ok-rows.ensures.judges in
     stands_held (g.S.Shelf.seen c.args.outside.now.shelf.now) (g.S.Shelf.seen c.check_rows.new.shelf) c.args.stimulus.now judged.1 c.in_ok-rows.rows judged.0 c.in_ok-rows.ensures.starts.its_name judged.2 judged.3
 
-pub returns-in_err-rows : goal.returns-in_err-rows
-returns-in_err-rows g c =
+pub returns-in_err-rows-clause-goes : goal.returns-in_err-rows-clause-goes
+returns-in_err-rows-clause-goes g c =
     let p = err_from_is_err_and c.from_residual.result c.from_residual.ensures.1 in
     let checked = c.args.checked in
     let ordered = checked.ordered in
-    let links = g.F.Fabric.carried c.args.fabric.now in
+    let links = g.F.Fabric.carried c.args.hands.now.fabric.now in
     rw (p.1, p.2)
     (goes_unchecked g.S.Shelf.seen g.O.Sink.seen (MovedFrom links links) c.args.stimulus.now ordered.flat.inputs (flat_trace c.args.probes c.args.unknown ordered.flat) (board_scripts c.args.workers c.args.unknown (planned_board ordered checked.board checked.plan))
     c.args.outside.now _ (record { shelf = refl; out = refl }) refl (λ before after moved. moved.1 ∙ sym moved.0) c.in_err-rows.field-0.0 c.in_err-rows.ensures.judges)
 
-pub returns : goal.returns
-returns g c =
+pub returns-clause-goes : goal.returns-clause-goes
+returns-clause-goes g c =
     let checked = c.args.checked in
     let ordered = checked.ordered in
     let planned = planned_board ordered checked.board checked.plan in
     let workers = c.min-workers.result in
     let mid = record c.args.outside.now { shelf = record c.args.outside.now.shelf { now = c.check_rows.new.shelf } } in
-    let Moved = MovedFrom (g.F.Fabric.carried c.args.fabric.now) (g.F.Fabric.carried c.run-ran.new.fabric) in
+    let Moved = MovedFrom (g.F.Fabric.carried c.args.hands.now.fabric.now) (g.F.Fabric.carried c.run-ran.new.fabric) in
     rw c.clocks_answer.ensures
     (goes_together g.S.Shelf.seen g.O.Sink.seen Moved c.args.stimulus.now c.args.unknown ordered checked.board checked.plan (netlist_trace c.args.probes c.args.unknown) workers c.args.workers (omega (arith, c.min-workers.ensures, c.requires.several)) c.requires.several
     (goes_streaming g.S.Shelf.seen g.O.Sink.seen Moved c.args.stimulus.now ordered.flat.inputs (flat_trace c.args.probes c.args.unknown ordered.flat) (board_scripts workers c.args.unknown planned) c.args.outside.now mid (record { shelf = refl; out = refl }) refl
