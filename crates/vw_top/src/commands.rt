@@ -16,7 +16,9 @@ use crate::hands::Hands;
 use crate::help::{help, version};
 use crate::plan::plan;
 use crate::probes::Probes;
+use crate::resume::resume;
 use crate::run::{run_by_one, run_by_several};
+use crate::save::save;
 use crate::sim::sim;
 use crate::vocabulary::{Reason, Unfinished};
 use crate::wave::wave;
@@ -61,7 +63,7 @@ fn carry_out<S: Shelf, O: Sink>(
             let probes = Probes { nets: &probes };
             wave(alloc, design, probes, stimulus, unknown, outside)
         }
-        Command::Grade { .. } => unreachable!(),
+        Command::Grade { .. } | Command::Save { .. } | Command::Resume { .. } => unreachable!(),
         Command::Check {
             design,
             board,
@@ -161,6 +163,38 @@ fn carry_out_together<R: Threads + Wait + Sync, S: Shelf, F: Fabric, G: BurstGat
             };
             run_by_several(alloc, &files, stimulus, workers, unknown, hands, outside)
         }
+        Command::Save {
+            design,
+            board,
+            stimulus,
+            plan,
+            workers,
+            unknown,
+        } => {
+            let files = BoardFiles {
+                design,
+                probes: Probes { nets: &[] },
+                board,
+                plan,
+            };
+            save(alloc, &files, stimulus, workers, unknown, hands, outside)
+        }
+        Command::Resume {
+            design,
+            board,
+            state,
+            stimulus,
+            plan,
+            workers,
+        } => {
+            let files = BoardFiles {
+                design,
+                probes: Probes { nets: &[] },
+                board,
+                plan,
+            };
+            resume(alloc, &files, state, stimulus, workers, hands, outside)
+        }
         Command::Grade {
             design,
             stimulus,
@@ -252,7 +286,8 @@ fn together<R: Threads + Wait + Sync, S: Shelf, F: Fabric, G: BurstGate, O: Sink
 
 /// Carries out the command that the words after the program's name spell, in this thread and without a runtime, and gives
 /// the exit status. So it returns, whatever is outside. It answers nothing exactly where the command needs a runtime, as
-/// a grading and one with several workers do; then nothing was read or written. Of all else it says what `virtual_wires` says.
+/// a grading, a saving, a resumption and one with several workers do; then nothing was read or written. Of all else it says
+/// what `virtual_wires` says.
 pub fn alone<S: Shelf, O: Sink, E: Sink>(
     alloc: Global,
     words: &[Name],
@@ -279,11 +314,12 @@ pub fn alone<S: Shelf, O: Sink, E: Sink>(
 /// Carries out the command that the words after the program's name spell, and gives the exit status. After each
 /// status but 0 one message line goes to `err`. What each status means, when it comes and what it leaves, the laws
 /// `headline`, `call_statuses`, `sim_statuses`, `wave_statuses`, `grade_statuses`, `check_statuses`, `plan_statuses`,
-/// `run_statuses`, `emit_statuses`, `demo_statuses`, `help_statuses`, `version_statuses` and `usage_statuses` say.
+/// `run_statuses`, `save_statuses`, `resume_statuses`, `emit_statuses`, `demo_statuses`, `help_statuses`, `version_statuses`
+/// and `usage_statuses` say.
 ///
-/// A run with several workers has the nodes of the board in groups on threads of the runtime. The words between them go
+/// A run, a saving and a resumption with several workers have the nodes of the board in groups on threads of the runtime. The words between them go
 /// over links of the fabric, and each group passes the gate before each of its bursts. That such a run ends isn't
-/// promised; where it ends, all that is said here holds. A grading shares its faults among threads of the runtime, and moves
+/// promised; where it ends, all that is said here holds. With one worker they use no links. A grading shares its faults among threads of the runtime, and moves
 /// no link. Every other call is one of `alone`.
 pub fn virtual_wires<R: Threads + Wait + Sync, S: Shelf, F: Fabric, G: BurstGate, O: Sink, E: Sink>(
     rt: &R,

@@ -34,3 +34,19 @@ returns-in_ok-probes-in-Run-clause-goes g c =
     let is : command_view c.args.command ≡ spells (take MOST_PROBES run.probes) = ap command_view run.is in
     subst (λ (spelled : Spelled). GoesOver g.S.Shelf.seen g.O.Sink.seen vocabulary (MovedFrom (g.F.Fabric.carried c.args.hands.now.fabric.now) (g.F.Fabric.carried c.run_by_several.new.hands.fabric.now)) (course_of spelled) c.args.outside.now c.run_by_several.new.outside c.run_by_several.result) (sym (is ∙ ap spells (sym probes)))
     c.run_by_several.ensures.goes
+
+-- and this saving
+pub returns-in-Save-clause-goes : goal.returns-in-Save-clause-goes
+returns-in-Save-clause-goes g c =
+    let its = c.in-Save in
+    let is : command_view c.args.command ≡ words.save its.design.now its.board.now its.stimulus.now (option_copied its.plan) its.workers its.unknown = ap command_view its.is in
+    subst (λ (spelled : Spelled). GoesOver g.S.Shelf.seen g.O.Sink.seen vocabulary (MovedFrom (g.F.Fabric.carried c.args.hands.now.fabric.now) (g.F.Fabric.carried c.save.new.hands.fabric.now)) (course_of spelled) c.args.outside.now c.save.new.outside c.save.result) (sym is)
+    c.save.ensures.goes
+
+-- and this resumption
+pub returns-in-Resume-clause-goes : goal.returns-in-Resume-clause-goes
+returns-in-Resume-clause-goes g c =
+    let its = c.in-Resume in
+    let is : command_view c.args.command ≡ words.resume its.design.now its.board.now its.state.now its.stimulus.now (option_copied its.plan) its.workers = ap command_view its.is in
+    subst (λ (spelled : Spelled). GoesOver g.S.Shelf.seen g.O.Sink.seen vocabulary (MovedFrom (g.F.Fabric.carried c.args.hands.now.fabric.now) (g.F.Fabric.carried c.resume.new.hands.fabric.now)) (course_of spelled) c.args.outside.now c.resume.new.outside c.resume.result) (sym is)
+    c.resume.ensures.goes

@@ -1,12 +1,13 @@
 use Rattle.std.proofs.Common.{refl, sym, ◌∙◌, arith}
 use Rattle.std.proofs.lemmas.Result.{err_from_is_err_and}
 use Rattle.vw_course.specs.Goes.{MovedFrom}
+use Rattle.vw_net.specs.Cells.{start_values}
 use Rattle.vw_plan.specs.PlannedBoard.{planned_board}
 use Rattle.vw_run.specs.Runs.{without_count}
 use Rattle.vw_trace.specs.FlatTrace.{flat_trace}
-use Rattle.vw_top.specs.Commands.{netlist_trace, board_scripts}
+use Rattle.vw_top.specs.Commands.{netlist_trace, board_scripts, no_check}
 use Rattle.vw_top.proofs.StreamedTraces.{goes_unchecked, goes_streaming, stands_held, over_links}
-use Rattle.vw_top.proofs.LinkTraffic.{board_parts, goes_together}
+use Rattle.vw_top.proofs.LinkTraffic.{parts_from, goes_together}
 use Rattle.vw_top.proofs.run.run_checked_together.Goals as goal
 
 pub run-ran-requires-clause-stands : goal.run-ran-requires-clause-stands
@@ -21,7 +22,7 @@ returns-in_err-rows-clause-goes g c =
     let ordered = checked.ordered in
     let links = g.F.Fabric.carried c.args.hands.now.fabric.now in
     rw (p.1, p.2)
-    (goes_unchecked g.S.Shelf.seen g.O.Sink.seen (MovedFrom links links) c.args.stimulus.now ordered.flat.inputs (flat_trace c.args.probes c.args.unknown ordered.flat) (board_scripts c.args.workers c.args.unknown (planned_board ordered checked.board checked.plan))
+    (goes_unchecked g.S.Shelf.seen g.O.Sink.seen (MovedFrom links links) c.args.stimulus.now ordered.flat.inputs no_check (flat_trace c.args.probes c.args.unknown ordered.flat) (board_scripts c.args.workers c.args.unknown (planned_board ordered checked.board checked.plan))
     c.args.outside.now _ (record { shelf = refl; out = refl }) refl (λ before after moved. moved.1 ∙ sym moved.0) c.in_err-rows.field-0.0 c.in_err-rows.ensures.judges)
 
 pub returns-clause-goes : goal.returns-clause-goes
@@ -33,7 +34,7 @@ returns-clause-goes g c =
     let mid = record c.args.outside.now { shelf = record c.args.outside.now.shelf { now = c.check_rows.new.shelf } } in
     let Moved = MovedFrom (g.F.Fabric.carried c.args.hands.now.fabric.now) (g.F.Fabric.carried c.run-ran.new.fabric) in
     rw c.clocks_answer.ensures
-    (goes_together g.S.Shelf.seen g.O.Sink.seen Moved c.args.stimulus.now c.args.unknown ordered checked.board checked.plan (netlist_trace c.args.probes c.args.unknown) workers c.args.workers (omega (arith, c.min-workers.ensures, c.requires.several)) c.requires.several
-    (goes_streaming g.S.Shelf.seen g.O.Sink.seen Moved c.args.stimulus.now ordered.flat.inputs (flat_trace c.args.probes c.args.unknown ordered.flat) (board_scripts workers c.args.unknown planned) c.args.outside.now mid (record { shelf = refl; out = refl }) refl
-    (board_parts c.args.unknown planned workers) _ c.in_ok-rows.rows (without_count c.run-ran.result) (record { shelf = refl; out = refl }) c.in_ok-rows.ensures.judges c.in_ok-rows.ensures.starts
+    (goes_together g.S.Shelf.seen g.O.Sink.seen Moved c.args.stimulus.now c.args.unknown ordered checked.board checked.plan (netlist_trace c.args.probes c.args.unknown) workers c.args.workers (λ several. c.requires.several) (λ several. omega (arith, c.min-workers.ensures, c.requires.several))
+    (goes_streaming g.S.Shelf.seen g.O.Sink.seen Moved c.args.stimulus.now ordered.flat.inputs no_check (flat_trace c.args.probes c.args.unknown ordered.flat) (board_scripts workers c.args.unknown planned) c.args.outside.now mid (record { shelf = refl; out = refl }) refl
+    (parts_from planned 0 (start_values c.args.unknown ordered.flat.cells) workers) _ c.in_ok-rows.rows (without_count c.run-ran.result) (record { shelf = refl; out = refl }) c.in_ok-rows.ensures.judges c.in_ok-rows.ensures.starts (λ all counted. tt)
     (λ links links_after moved. over_links (board_scripts workers c.args.unknown planned) links links_after moved c.run-ran.ensures.streams)))
