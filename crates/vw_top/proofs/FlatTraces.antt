@@ -16,7 +16,8 @@ use Rattle.vw_design.proofs.FlatHistories.{histories_agree}
 use Rattle.vw_front.specs.Designs.{WatchedDesign, IsWatchedDesignOf, IsNetlistOf}
 use Rattle.vw_design.proofs.PairedLists.{AllZip-length}
 use Rattle.vw_rows.specs.Trace.{trace_text}
-use Rattle.vw_top.specs.Commands.{trace_of, wave_of, netlist_wave}
+use Rattle.vw_resume.specs.States.{state_text}
+use Rattle.vw_top.specs.Commands.{trace_of, wave_of, netlist_wave, saved_of, netlist_state}
 use Rattle.vw_trace.specs.FlatTrace.{flat_trace}
 use Rattle.vw_vcd.specs.Lines.{wave_text}
 use Rattle.vw_wave.specs.FlatWave.{signal_rows}
@@ -43,6 +44,11 @@ trace_same unknown count watched flat is counted rows = λ i. trace_text (output
 pub wave_same : (probes : List Word) (unknown : Bool) (watched : WatchedDesign) (ordered : Ordered) → IsFlatOf watched.design watched.nets ordered.flat
     → (rows : List (List Bool)) → netlist_wave (signal_names probes watched.design) unknown ordered rows ≡ wave_of probes unknown watched rows
 wave_same probes unknown watched ordered is rows = ap (λ (history : History). wave_text (signal_names probes watched.design) (signal_rows history)) (histories_agree watched.design watched.nets ordered.flat is unknown rows)
+
+-- and so is the state after the rows
+pub saved_same : (unknown : Bool) (watched : WatchedDesign) (ordered : Ordered) → IsFlatOf watched.design watched.nets ordered.flat
+    → (rows : List (List Bool)) → netlist_state unknown ordered rows ≡ saved_of unknown watched rows
+saved_same unknown watched ordered is rows = ap (λ (history : History). state_text (length rows) history.last) (histories_agree watched.design watched.nets ordered.flat is unknown rows)
 
 -- each probe has its net, so that the probes are among the outputs
 pub probes_counted : (probes : List Word) (d : List ℕ) (watched : WatchedDesign) → IsWatchedDesignOf probes d watched → length probes ≡ length watched.nets

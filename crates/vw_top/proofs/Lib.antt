@@ -15,6 +15,8 @@ pub mod PlanLaws
 pub mod CheckLaws
 pub mod EmitLaws
 pub mod RunLaws
+pub mod ResumeLaws
+pub mod PieceLaws
 pub mod UsageLaws
 pub mod ConstantLaws
 pub mod HeadlineLaw

@@ -91,10 +91,10 @@ pub plan_few : (given : Option (List ℕ)) → (plan_status given ≢ 2) × (pla
 plan_few None = (λ is. omega (arith, is), λ is. omega (arith, is), λ is. omega (arith, is))
 plan_few (Some name) = (λ is. omega (arith, is), λ is. omega (arith, is), λ is. omega (arith, is))
 
--- and the other status is none of what comes before, nor 5 or 10
-pub other_differs : (given : Option (List ℕ)) → (plan_status given ≢ other_status given) × (0 < other_status given) × IsNoStop (other_status given) × (1 ≢ other_status given) × (3 ≢ other_status given) × (5 ≢ other_status given) × (10 ≢ other_status given)
-other_differs None = (λ is. omega (arith, is), lit< tt, inl (lit< tt), λ is. omega (arith, is), λ is. omega (arith, is), λ is. omega (arith, is), λ is. omega (arith, is))
-other_differs (Some name) = (λ is. omega (arith, is), lit< tt, inl (lit< tt), λ is. omega (arith, is), λ is. omega (arith, is), λ is. omega (arith, is), λ is. omega (arith, is))
+-- and the other status is none of what comes before, nor 5, 10 or 11
+pub other_differs : (given : Option (List ℕ)) → (plan_status given ≢ other_status given) × (0 < other_status given) × IsNoStop (other_status given) × (1 ≢ other_status given) × (3 ≢ other_status given) × (5 ≢ other_status given) × (10 ≢ other_status given) × (11 ≢ other_status given)
+other_differs None = (λ is. omega (arith, is), lit< tt, inl (lit< tt), λ is. omega (arith, is), λ is. omega (arith, is), λ is. omega (arith, is), λ is. omega (arith, is), λ is. omega (arith, is))
+other_differs (Some name) = (λ is. omega (arith, is), lit< tt, inl (lit< tt), λ is. omega (arith, is), λ is. omega (arith, is), λ is. omega (arith, is), λ is. omega (arith, is), λ is. omega (arith, is))
 
 -- a reason why there is no plan of this netlist on this board
 abbrev pub IsPlanReason : Option (List ℕ) → List ℕ → Ordered → Board → Reason → Type 0

@@ -18,7 +18,7 @@ use Rattle.vw_plan.specs.declared.plan.Plan.{Plan}
 use Rattle.vw_plan.specs.PlannedBoard.{planned_board}
 use Rattle.vw_top.specs.declared.vocabulary.File.TheVariants as kinds
 use Rattle.vw_top.specs.Messages.{vocabulary, Call}
-use Rattle.vw_top.specs.Commands.{TextOver, Scripts, over_rows_course, board_course, board_scripts}
+use Rattle.vw_top.specs.Commands.{TextOver, Scripts, no_check, over_rows_course, board_course, board_scripts}
 use Rattle.vw_top.specs.PlannedStatuses.{IsPlanBy, IsPlanOf, AreSpelled, plan_status, other_status, with_given, HoldsGiven, MaySpell}
 use Rattle.vw_top.specs.RunStatuses.{its_files, IsReady, RunStatuses}
 use Rattle.vw_top.specs.TracedStatuses.{designs, TracedStatuses}
@@ -31,7 +31,7 @@ use Rattle.vw_top.proofs.TracedLaws.{ComesToRows, reads_rows, unbroken_rows, nev
 use Rattle.vw_top.proofs.PlannedLaws.{IsAmong, IsBehindPlan, among_more, given_among, behind_given, plan_differs, plan_few, other_differs, every_planned, never_planned, barred_planned, behind_planned, held_spelled, work_planned, to_rest, planned_table}
 
 -- the plan of a held text is one that its name may have
-plan_by : (call : Call) (given : Option (List ℕ)) (p : List ℕ) → HoldsGiven call given p → (ordered : Ordered) (board : Board) (plan : Plan) → IsPlanOf given p ordered board plan → IsPlanBy call.before.shelf.told given ordered board plan
+pub plan_by : (call : Call) (given : Option (List ℕ)) (p : List ℕ) → HoldsGiven call given p → (ordered : Ordered) (board : Board) (plan : Plan) → IsPlanOf given p ordered board plan → IsPlanBy call.before.shelf.told given ordered board plan
 plan_by call None p holds ordered board plan is = is
 plan_by call (Some name) p holds ordered board plan is = (p, of_held (call.before.shelf.told name) p holds, is.0, is.1)
 
@@ -67,10 +67,10 @@ module _ (probes : List Word) (text : TextOver WatchedDesign) (flat_text : TextO
   at_stimulus = inr (inr (behind_given given ((kinds.Stimulus, stimulus) ∷ []) (kinds.Stimulus, stimulus) (inl refl)))
 
   whole : (number : ℕ) → 5 ≢ number → (ordered : Ordered) (on : Board) (its : Plan) → Every (IsUnbroken number) (rest ordered on its)
-  whole number no_five ordered on its = unbroken_rows stimulus ordered.flat.inputs (flat_text ordered) (words ordered on its) number no_five
+  whole number no_five ordered on its = unbroken_rows stimulus ordered.flat.inputs no_check (flat_text ordered) (words ordered on its) number no_five
 
   never : (number : ℕ) → 5 ≢ number → (ordered : Ordered) (on : Board) (its : Plan) → Every (IsNever number) (rest ordered on its)
-  never number no_five ordered on its = never_rows stimulus ordered.flat.inputs (flat_text ordered) (words ordered on its) number no_five
+  never number no_five ordered on its = never_rows stimulus ordered.flat.inputs no_check (flat_text ordered) (words ordered on its) number no_five tt
 
   not_five : (number : ℕ) → IsOneOf (1 ∷ 3 ∷ plan_status given ∷ []) number → 5 ≢ number
   not_five number (inl is) five = omega (arith, is, five)
@@ -90,10 +90,10 @@ module _ (probes : List Word) (text : TextOver WatchedDesign) (flat_text : TextO
   uses ordered on its is = record { ordered = ordered; board = on; plan = its; is = is; are = refl }
 
   -- the rows of the stimulus come behind the plan
-  to_rows : ComesToRows (designs probes design) text stimulus course call all Ready Uses
+  to_rows : ComesToRows (designs probes design) (λ its. no_check) text stimulus course call all Ready Uses
   to_rows = record {
-    reads = every_planned probes design board given rest all (ReadsOnly all) (passes_reads vocabulary all) (inl refl) (inr (inl refl)) at_plan (λ ordered on its. reads_rows stimulus ordered.flat.inputs (flat_text ordered) (words ordered on its) all at_stimulus);
-    held_again = λ s held_s. every_planned probes design board given rest all (IsHeldThere told) (passes_held vocabulary all told) (inl refl) (inr (inl refl)) at_plan (λ ordered on its. held_rows stimulus ordered.flat.inputs (flat_text ordered) (words ordered on its) told s held_s);
+    reads = every_planned probes design board given rest all (ReadsOnly all) (passes_reads vocabulary all) (inl refl) (inr (inl refl)) at_plan (λ ordered on its. reads_rows stimulus ordered.flat.inputs no_check (flat_text ordered) (words ordered on its) all at_stimulus);
+    held_again = λ s held_s. every_planned probes design board given rest all (IsHeldThere told) (passes_held vocabulary all told) (inl refl) (inr (inl refl)) at_plan (λ ordered on its. held_rows stimulus ordered.flat.inputs no_check (flat_text ordered) (words ordered on its) told s held_s);
     behind = λ P passes may.
         let later = behind_planned probes design board given rest call 5 P passes (λ is. omega (arith, is)) (λ is. omega (arith, is)) (plan_differs given).3 may in
         let netlist = later.3.on.netlist in (
@@ -118,11 +118,12 @@ module _ (probes : List Word) (text : TextOver WatchedDesign) (flat_text : TextO
           plan_is = plan_by call given ready.p hold.plan_held ordered on plan are.plan_is;
         }))));
     ready_held = λ d s ready. ready.stimulus_held;
+    passes = λ texts s ready its rows are. tt;
     one = at_stimulus;
   }
 
   pub run_traced : IsCallOf course call → TracedStatuses (designs probes design) text stimulus all Ready Uses call
-  run_traced = traced_table (designs probes design) text stimulus course call all Ready Uses to_rows
+  run_traced = traced_table (designs probes design) (λ its. no_check) text stimulus course call all Ready Uses to_rows
 
   pub run_table : length probes ≤ 64 → IsCallOf course call → RunStatuses probes text design board given stimulus workers unknown call
   run_table few is =
@@ -145,5 +146,5 @@ module _ (probes : List Word) (text : TextOver WatchedDesign) (flat_text : TextO
         );
         absent_stimulus = λ gone. call_barred (1 ∷ 3 ∷ plan_status given ∷ []) course call is
             (barred_planned probes design board given rest call (1 ∷ 3 ∷ plan_status given ∷ []) (inl refl) (inr (inl refl)) (inr (inr (inl refl)))
-            (λ ordered on its. barred_rows stimulus ordered.flat.inputs (flat_text ordered) (words ordered on its) told (1 ∷ 3 ∷ plan_status given ∷ []) gone));
+            (λ ordered on its. barred_rows stimulus ordered.flat.inputs no_check (flat_text ordered) (words ordered on its) told (1 ∷ 3 ∷ plan_status given ∷ []) gone));
       }

@@ -21,7 +21,7 @@ use Rattle.vw_top.specs.declared.vocabulary.Reason.{Reason}
 use Rattle.vw_top.specs.declared.vocabulary.Reason.TheVariants as reasons
 use Rattle.vw_top.specs.Messages.{reason_status, vocabulary, Call}
 use Rattle.vw_top.specs.Kinds.{given_kind, named_apart, IsBadDesign}
-use Rattle.vw_top.specs.Commands.{TextOver, no_links, rows_course, design_course, over_design_course, flat_grading, grading_of, grading_course, grade_course}
+use Rattle.vw_top.specs.Commands.{TextOver, no_links, no_check, rows_course, design_course, over_design_course, flat_grading, grading_of, grading_course, grade_course}
 use Rattle.vw_top.specs.TracedStatuses.{Subject, of_design, design_width, HoldTexts}
 use Rattle.vw_top.specs.SimStatuses.{UsesNone, its_design, its_files, netlist_width, OverDesignStatuses, SimStatuses, GradeStatuses}
 use Rattle.vw_top.proofs.OnBoards.{watched_once, netlist_same}
@@ -56,10 +56,10 @@ module _ (probes : List Word) {Thing : Type 0} (Spells : List ℕ → Thing → 
   Hold = HoldTexts subject text stimulus
 
   whole : (number : ℕ) → 5 ≢ number → Every (IsUnbroken number) course
-  whole number no_five = every_stage both (IsUnbroken number) (passes_unbroken vocabulary both number) kind design next (inl refl) (λ its. unbroken_rows stimulus (width_of its) (text its) no_links number no_five)
+  whole number no_five = every_stage both (IsUnbroken number) (passes_unbroken vocabulary both number) kind design next (inl refl) (λ its. unbroken_rows stimulus (width_of its) no_check (text its) no_links number no_five)
 
   never_behind : (number : ℕ) → 5 ≢ number → (its : Thing) → Every (IsNever number) (next its)
-  never_behind number no_five its = never_rows stimulus (width_of its) (text its) no_links number no_five
+  never_behind number no_five its = never_rows stimulus (width_of its) no_check (text its) no_links number no_five tt
 
   not_status : IsCallOf course call → (number : ℕ) → 0 < number → IsNoStop number → 1 ≢ number → 5 ≢ number → call.status ≢ number
   not_status is number some few no_one no_five =
@@ -74,16 +74,17 @@ module _ (probes : List Word) {Thing : Type 0} (Spells : List ℕ → Thing → 
       (refused_past told kind design next d held_d reason may)
 
   -- the rows of the stimulus come behind the design
-  to_rows : ComesToRows subject text stimulus course call both Hold UsesNone
+  to_rows : ComesToRows subject (λ its. no_check) text stimulus course call both Hold UsesNone
   to_rows = record {
-    reads = every_stage both (ReadsOnly both) (passes_reads vocabulary both) kind design next (inl refl) (λ its. reads_rows stimulus (width_of its) (text its) no_links both (inr (inl refl)));
-    held_again = λ s held_s. every_stage both (IsHeldThere told) (passes_held vocabulary both told) kind design next (inl refl) (λ its. held_rows stimulus (width_of its) (text its) no_links told s held_s);
+    reads = every_stage both (ReadsOnly both) (passes_reads vocabulary both) kind design next (inl refl) (λ its. reads_rows stimulus (width_of its) no_check (text its) no_links both (inr (inl refl)));
+    held_again = λ s held_s. every_stage both (IsHeldThere told) (passes_held vocabulary both told) kind design next (inl refl) (λ its. held_rows stimulus (width_of its) no_check (text its) no_links told s held_s);
     behind = λ P behind may.
         let later = stage_behind told 5 P behind kind design next (λ is. omega (arith, is)) may in
         (later.2, λ d held_d. subst (λ (t : List ℕ). Spells t later.2) (its_text (told design) later.0 d held_d later.1) later.3, no_links, refl, later.4);
     comes = λ P d s hold its is stands. past told both P kind design next d (inl refl) hold.its_held (its, is)
         (λ other so. subst (λ (one : Course vocabulary). StandsAt told both P one) (once d its other is so) (stands no_links refl));
     ready_held = λ d s hold. hold.stimulus_held;
+    passes = λ texts s ready its rows are. tt;
     one = inr (inl refl);
   }
 
@@ -93,7 +94,7 @@ module _ (probes : List Word) {Thing : Type 0} (Spells : List ℕ → Thing → 
     no_design_comes = λ d held_d none.
         call_refused vocabulary first call (IsBadDesign probes d) course is
         (at_bad told first kind design next d (IsBadDesign probes d) (inl refl) held_d (λ reason bad. bad) (reasons.Design none.0, (none.0, refl, none.1)));
-    traced = traced_table subject text stimulus course call both Hold UsesNone to_rows is;
+    traced = traced_table subject (λ its. no_check) text stimulus course call both Hold UsesNone to_rows is;
     others = (
       not_status is 2 (lit< tt) (inl (lit< tt)) (λ is. omega (arith, is)) (λ is. omega (arith, is)),
       not_status is 3 (lit< tt) (inl (lit< tt)) (λ is. omega (arith, is)) (λ is. omega (arith, is)),
@@ -104,7 +105,7 @@ module _ (probes : List Word) {Thing : Type 0} (Spells : List ℕ → Thing → 
     );
     absent_design = λ gone. call_misses vocabulary first call course is (at_absent told first kind design next (inl refl) gone);
     absent_stimulus = λ gone. call_barred (1 ∷ []) course call is
-        (barred_later told (1 ∷ []) kind design next (inl refl) (λ its. barred_rows stimulus (width_of its) (text its) no_links told (1 ∷ []) gone));
+        (barred_later told (1 ∷ []) kind design next (inl refl) (λ its. barred_rows stimulus (width_of its) no_check (text its) no_links told (1 ∷ []) gone));
   }
 
 -- a text of the run of a design, which is one

@@ -10,13 +10,15 @@ use Rattle.vw_outside.specs.Reads.{SeenShelf}
 use Rattle.vw_outside.specs.Writes.{SeenSink}
 use Rattle.vw_course.specs.declared.outside.Outside.{Outside}
 use Rattle.vw_course.specs.declared.unfinished.Unfinished.{Unfinished}
+use Rattle.vw_course.specs.declared.unfinished.Unfinished.TheVariants.{Refused}
 use Rattle.vw_course.specs.Outside.{Carried, carried, fronts, CarriedPart}
 use Rattle.vw_course.specs.Course.{Course, again}
 use Rattle.vw_course.specs.Follows.{Answer, IsDoneBy, EndsWorking}
 use Rattle.vw_course.specs.Goes.{seen_outside, IsSame, Goes, GoesOver, MovedFrom}
 use Rattle.vw_course.specs.Stages.{EndsStage}
 use Rattle.vw_course.proofs.Inductions.{its_text}
-use Rattle.vw_course.proofs.GoesLaws.{IsStill, with_text, goes_past, goes_not_past, goes_works}
+use Rattle.vw_course.specs.Stages.{EndsJudging}
+use Rattle.vw_course.proofs.GoesLaws.{IsStill, with_text, goes_past, goes_not_past, goes_judged, goes_unjudged, goes_works}
 use Rattle.vw_prog.specs.declared.word.Word.{Word}
 use Rattle.vw_rows.specs.declared.stimulus.Stimulus.{Stimulus}
 use Rattle.vw_rows.specs.Standing.{StandsIn, IsAtStart}
@@ -29,9 +31,9 @@ use Rattle.vw_top.specs.declared.vocabulary.File.TheVariants as files
 use Rattle.vw_top.specs.declared.vocabulary.Reason.{Reason}
 use Rattle.vw_top.specs.Messages.{vocabulary, CallWork}
 use Rattle.vw_top.specs.Kinds.{rows_kind, IsBadStimulus, IsBadAgain}
-use Rattle.vw_top.specs.Commands.{trace_of, netlist_trace, TextOver, Scripts, no_links, tracing, IsSomeTrace, trace_course, rows_course, design_course, netlist_course}
+use Rattle.vw_top.specs.Commands.{trace_of, netlist_trace, saved_of, netlist_state, TextOver, Scripts, no_links, tracing, IsSomeTrace, trace_course, RowCheck, no_check, check_by, with_check, checked_rows_course, rows_course, design_course, netlist_course}
 use Rattle.vw_top.specs.Steps.Stages.{run_answer}
-use Rattle.vw_top.proofs.FlatTraces.{trace_same}
+use Rattle.vw_top.proofs.FlatTraces.{trace_same, saved_same}
 
 -- ---- from a netlist to its design
 
@@ -43,6 +45,10 @@ IsTextOfDesigns probes text flat_text = (watched : WatchedDesign) (ordered : Ord
 -- so are traces
 pub traces_agree : (probes : List ProbeWord) (unknown : Bool) → IsTextOfDesigns probes (trace_of unknown) (netlist_trace (length probes) unknown)
 traces_agree probes unknown watched ordered is counted rows = trace_same unknown (length probes) watched ordered.flat is counted rows
+
+-- and so are saved states
+pub saved_agree : (probes : List ProbeWord) (unknown : Bool) → IsTextOfDesigns probes (saved_of unknown) (netlist_state unknown)
+saved_agree probes unknown watched ordered is counted rows = saved_same unknown watched ordered is rows
 
 module _ (F : Course vocabulary → Type 0) (stimulus : List ℕ) (text : TextOver WatchedDesign) (flat_text : TextOver Ordered) (scripts : Scripts) (watched : WatchedDesign) (ordered : Ordered) (is : IsFlatOf watched.design watched.nets ordered.flat)
     (same : (rows : List (List Bool)) → flat_text ordered rows ≡ text watched rows) where
@@ -137,37 +143,69 @@ stands_held before after name text stimulus same named of stands other holds =
 abbrev Stands : List ℕ → Stimulus → Type 0
 Stands text stimulus = StandsIn stimulus text
 
-module _ {S O : Type 0} (seen_shelf : S → SeenShelf) (seen_out : O → SeenSink) (Moved : Carried vocabulary.Word → Carried vocabulary.Word → Type 0) (name : List ℕ) (width : ℕ) (trace : List (List Bool) → List ℕ) (scripts : Scripts) (before mid : Outside S O)
+-- what rows have to be that pass the check, and how it ends for others
+abbrev pub PassCheck : RowCheck → List (List Bool) → Type 0
+PassCheck no_check rows = Unit {0}
+PassCheck (check_by judged) rows = (judged rows).Good tt
+
+abbrev pub FailCheck : RowCheck → List (List Bool) → Reason → Type 0
+FailCheck no_check rows reason = ⊥
+FailCheck (check_by judged) rows reason = (judged rows).Bad reason
+
+module _ {S O : Type 0} (seen_shelf : S → SeenShelf) (seen_out : O → SeenSink) (Moved : Carried vocabulary.Word → Carried vocabulary.Word → Type 0) (next : List (List Bool) → Course vocabulary) (rows : List (List Bool)) where
+  goes_past_check : (check : RowCheck) (before after : Outside S O) (answer : Answer vocabulary) → PassCheck check rows → GoesOver seen_shelf seen_out vocabulary Moved (next rows) before after answer → GoesOver seen_shelf seen_out vocabulary Moved (with_check check next rows) before after answer
+  goes_past_check no_check before after answer pass goes = goes
+  goes_past_check (check_by judged) before after answer pass goes = goes_judged seen_shelf seen_out vocabulary Moved (judged rows) (λ done. next rows) tt pass goes
+
+  goes_unfit : IsStill vocabulary Moved → (check : RowCheck) (before : Outside S O) (reason : Reason) → FailCheck check rows reason → GoesOver seen_shelf seen_out vocabulary Moved (with_check check next rows) before before (Err (Refused reason))
+  goes_unfit still no_check before reason bad = absurd bad
+  goes_unfit still (check_by judged) before reason bad = goes_unjudged seen_shelf seen_out vocabulary Moved (judged rows) (λ done. next rows) still (λ (done : Unit {0}). Unit {0}) before (Refused reason) bad
+
+module _ {S O : Type 0} (seen_shelf : S → SeenShelf) (seen_out : O → SeenSink) (Moved : Carried vocabulary.Word → Carried vocabulary.Word → Type 0) (name : List ℕ) (width : ℕ) (check : RowCheck) (trace : List (List Bool) → List ℕ) (scripts : Scripts) (before mid : Outside S O)
     (same : IsSame seen_shelf seen_out before mid) (out : mid.out.now ≡ before.out.now) where
   abbrev Checked : Result Stimulus (Unfinished File Reason) → Type 0
   Checked result = EndsStage files.Stimulus name Stands (IsBadStimulus width) (seen_shelf before.shelf.now) (seen_shelf mid.shelf.now) result
 
   -- it is refused, or its check is stopped
-  pub goes_unchecked : IsStill vocabulary Moved → (unfinished : Unfinished File Reason) → Checked (Err unfinished) → GoesOver seen_shelf seen_out vocabulary Moved (rows_course name width trace scripts) before mid (Err unfinished)
+  pub goes_unchecked : IsStill vocabulary Moved → (unfinished : Unfinished File Reason) → Checked (Err unfinished) → GoesOver seen_shelf seen_out vocabulary Moved (checked_rows_course name width check trace scripts) before mid (Err unfinished)
   goes_unchecked still unfinished ends =
-      goes_not_past seen_shelf seen_out vocabulary Moved (rows_kind width) name Stands (trace_course name width trace scripts) before mid same out still unfinished ends
+      goes_not_past seen_shelf seen_out vocabulary Moved (rows_kind width) name Stands (with_check check (trace_course name width trace scripts)) before mid same out still unfinished ends
 
-  -- a run over it follows the course
+  -- its rows are known, and they don't pass the check
+  pub goes_failing : IsStill vocabulary Moved → (rows : Stimulus) (reason : Reason) → Checked (Ok rows) → IsAtStart name width rows
+      → ((all : List (List Bool)) → length all ≡ rows.clocks → FailCheck check all reason)
+      → GoesOver seen_shelf seen_out vocabulary Moved (checked_rows_course name width check trace scripts) before mid (Err (Refused reason))
+  goes_failing still rows reason ends starts fails =
+      goes_past seen_shelf seen_out vocabulary Moved (rows_kind width) name Stands (with_check check (trace_course name width trace scripts)) before mid same out mid (Err (Refused reason)) rows ends
+      (λ text made. (
+        made.rows,
+        ap (λ (n : ℕ). stimulus_rows n text) (sym starts.its_width) ∙ made.accepted,
+        goes_unfit seen_shelf seen_out Moved (trace_course name width trace scripts) made.rows still check mid reason (fails made.rows made.clocks),
+      ))
+
+  -- a run over it follows the course, where they pass it
   pub goes_streaming : HaveParts scripts → (after : Outside S O) (rows : Stimulus) (answer : Result (Unit {0}) RunFault) → IsSame seen_shelf seen_out mid after → Checked (Ok rows) → IsAtStart name width rows
+      → ((all : List (List Bool)) → length all ≡ rows.clocks → PassCheck check all)
       → ((links links_after : Carried vocabulary.Word) → Moved links links_after
       → Streams rows.name rows.width trace (λ some. links_after ≡ carried (scripts some) links) (seen_shelf mid.shelf.now) (seen_out mid.out.now) (seen_shelf after.shelf.now) (seen_out after.out.now) answer)
-      → GoesOver seen_shelf seen_out vocabulary Moved (rows_course name width trace scripts) before after (run_answer answer)
-  goes_streaming parts after rows answer still checked starts streams =
+      → GoesOver seen_shelf seen_out vocabulary Moved (checked_rows_course name width check trace scripts) before after (run_answer answer)
+  goes_streaming parts after rows answer still ends starts pass streams =
       let shelf = seen_shelf before.shelf.now in
-      goes_past seen_shelf seen_out vocabulary Moved (rows_kind width) name (λ text one. IsTextOf (shelf.told name) text × Stands text one) (trace_course name width trace scripts) before mid same out
-      after (run_answer answer) rows (with_text files.Stimulus name Stands (IsBadStimulus width) shelf (seen_shelf mid.shelf.now) rows checked)
+      goes_past seen_shelf seen_out vocabulary Moved (rows_kind width) name (λ text one. IsTextOf (shelf.told name) text × Stands text one) (with_check check (trace_course name width trace scripts)) before mid same out
+      after (run_answer answer) rows (with_text files.Stimulus name Stands (IsBadStimulus width) shelf (seen_shelf mid.shelf.now) rows ends)
       (λ text made.
       let accepted : stimulus_rows width text ≡ Ok made.1.rows = ap (λ (n : ℕ). stimulus_rows n text) (sym starts.its_width) ∙ made.1.accepted in
-      let of : IsTextOf ((seen_shelf mid.shelf.now).told name) text = subst (λ (s : SeenShelf). IsTextOf (s.told name) text) (sym checked.0) made.0 in (
+      let of : IsTextOf ((seen_shelf mid.shelf.now).told name) text = subst (λ (s : SeenShelf). IsTextOf (s.told name) text) (sym ends.0) made.0 in (
         made.1.rows,
         accepted,
-        goes_works seen_shelf seen_out vocabulary Moved (again files.Stimulus name IsBadAgain (IsSomeTrace width trace scripts)) (tracing trace scripts made.1.rows) mid after (run_answer answer) still
+        goes_past_check seen_shelf seen_out Moved (trace_course name width trace scripts) made.1.rows check mid after (run_answer answer) (pass made.1.rows made.1.clocks)
+            (goes_works seen_shelf seen_out vocabulary Moved (again files.Stimulus name IsBadAgain (IsSomeTrace width trace scripts)) (tracing trace scripts made.1.rows) mid after (run_answer answer) still
             (λ links links_after moved.
             let Carries : List (List Bool) → Type 0 = λ some. links_after ≡ carried (scripts some) links in
             let its : Streams name width trace Carries (seen_shelf mid.shelf.now) (seen_out mid.out.now) (seen_shelf after.shelf.now) (seen_out after.out.now) answer =
             subst (λ (n : ℕ). Streams name n trace Carries (seen_shelf mid.shelf.now) (seen_out mid.out.now) (seen_shelf after.shelf.now) (seen_out after.out.now) answer) starts.its_width
             (subst (λ (n : List ℕ). Streams n rows.width trace Carries (seen_shelf mid.shelf.now) (seen_out mid.out.now) (seen_shelf after.shelf.now) (seen_out after.out.now) answer) starts.its_name (streams links links_after moved)) in
-            streamed width trace scripts parts name text made.1.rows (seen_shelf mid.shelf.now) of accepted (seen_out mid.out.now) (seen_shelf after.shelf.now) (seen_out after.out.now) answer links links_after its),
+            streamed width trace scripts parts name text made.1.rows (seen_shelf mid.shelf.now) of accepted (seen_out mid.out.now) (seen_shelf after.shelf.now) (seen_out after.out.now) answer links links_after its)),
       ))
 
 -- ---- no links

@@ -4,7 +4,7 @@ use Rattle.std.specs.List.{All}
 use Rattle.std.specs.Fmt.{decimal}
 use Rattle.vw_net.specs.declared.flat.Flat.{Flat}
 use Rattle.vw_net.specs.declared.ordered.Ordered.{Ordered}
-use Rattle.vw_net.specs.Cells.{start_values}
+use Rattle.vw_net.specs.Cells.{latch_count, start_values}
 use Rattle.vw_design.specs.Paths.{Word as ProbeWord}
 use Rattle.vw_design.specs.Preorder.{latches}
 use Rattle.vw_design.specs.NetReads.{root_outputs}
@@ -14,7 +14,7 @@ use Rattle.vw_front.specs.Designs.{WatchedDesign}
 use Rattle.vw_front.specs.Names.{signal_names}
 use Rattle.vw_front.specs.declared.named.NamedNetlist.{NamedNetlist}
 use Rattle.vw_fault.specs.Text.{grading_text}
-use Rattle.vw_course.specs.Course.{again, Course, works, refuses, writes, judges, made, stage}
+use Rattle.vw_course.specs.Course.{again, Course, works, refuses, writes, Judged, judges, made, stage}
 use Rattle.vw_course.specs.OnTexts.{on_texts}
 use Rattle.vw_plan.specs.declared.board.Board.{Board}
 use Rattle.vw_plan.specs.declared.plan.Plan.{Plan}
@@ -24,8 +24,12 @@ use Rattle.vw_plantext.specs.Content.{content_of}
 use Rattle.vw_plantext.specs.Grammar.{spelling}
 use Rattle.vw_prog.specs.declared.word.Word.{Word}
 use Rattle.vw_emit.specs.Emitted.{emitted_text}
+use Rattle.vw_resume.specs.declared.state.State.{State}
+use Rattle.vw_resume.specs.States.{state_text}
+use Rattle.vw_resume.specs.Resumed.{resumed_trace}
+use Rattle.vw_resume.specs.Saved.{saved_text}
 use Rattle.vw_rows.specs.Trace.{trace_text}
-use Rattle.vw_batches.specs.Traffic.{scripts_of, traffic}
+use Rattle.vw_batches.specs.Traffic.{scripts_of, words_from}
 use Rattle.vw_trace.specs.FlatTrace.{flat_trace}
 use Rattle.vw_vcd.specs.Lines.{wave_text}
 use Rattle.vw_wave.specs.FlatWave.{flat_wave, signal_rows}
@@ -37,7 +41,7 @@ use Rattle.vw_top.specs.Help.{help_text, version_text}
 use Rattle.vw_top.specs.Demo.{board_name, design_name, generated, stimulus_name}
 use Rattle.vw_gen.specs.Summary.{summary}
 use Rattle.vw_top.specs.Messages.{vocabulary, CallWork}
-use Rattle.vw_top.specs.Kinds.{design_kind, netlist_kind, named_kind, rows_kind, IsBadAgain, board_kind, plan_kind, soundness, planning, emission}
+use Rattle.vw_top.specs.Kinds.{design_kind, netlist_kind, named_kind, rows_kind, IsBadAgain, board_kind, plan_kind, soundness, planning, emission, state_kind, clocks_fit}
 
 -- ---- traces
 
@@ -68,10 +72,23 @@ abbrev pub trace_course : List ℕ → ℕ → (List (List Bool) → List ℕ) �
 trace_course stimulus width trace scripts rows =
     works (again files.Stimulus stimulus IsBadAgain (IsSomeTrace width trace scripts)) (tracing trace scripts rows)
 
+-- what the rows of a stimulus have to be, once they are known, before a text of them is written: anything, or what is judged
+-- so
+pub data RowCheck : Type 1 where
+  no_check : RowCheck
+  check_by : (List (List Bool) → Judged vocabulary (Unit {0}) 11) → RowCheck
+
+abbrev pub with_check : RowCheck → (List (List Bool) → Course vocabulary) → List (List Bool) → Course vocabulary
+with_check no_check next = next
+with_check (check_by judged) next = λ rows. judges (judged rows) (λ done. next rows)
+
 -- the stimulus is read before, which has rows of this width
+abbrev pub checked_rows_course : List ℕ → ℕ → RowCheck → (List (List Bool) → List ℕ) → Scripts → Course vocabulary
+checked_rows_course stimulus width check trace scripts =
+    stage (rows_kind width) stimulus (with_check check (trace_course stimulus width trace scripts))
+
 abbrev pub rows_course : List ℕ → ℕ → (List (List Bool) → List ℕ) → Scripts → Course vocabulary
-rows_course stimulus width trace scripts =
-    stage (rows_kind width) stimulus (trace_course stimulus width trace scripts)
+rows_course stimulus width trace scripts = checked_rows_course stimulus width no_check trace scripts
 
 -- a text of each thing that is run over rows
 abbrev pub TextOver : Type 0 → Type 0
@@ -191,9 +208,14 @@ emit_course design board given = ready_course [] design board given emit_rest
 
 -- ---- run
 
--- the words that the links of a planned board carry: none with one worker, which uses no link
+-- the words that the links of a planned board carry from a clock and latch values on: none with one worker, which uses no
+-- link
+abbrev pub scripts_from : ℕ → PlannedBoard → ℕ → List Bool → Scripts
+scripts_from workers planned first state rows = scripts_of workers (λ link. words_from planned link first state rows)
+
+-- the same from the beginning
 abbrev pub board_scripts : ℕ → Bool → PlannedBoard → Scripts
-board_scripts workers unknown planned rows = scripts_of workers (traffic planned unknown rows)
+board_scripts workers unknown planned = scripts_from workers planned 0 (start_values unknown planned.ordered.flat.cells)
 
 -- a planned board runs: what is written is a text of its netlist, which knows no plan
 abbrev pub board_course : List ℕ → TextOver Ordered → ℕ → Bool → Rest
@@ -208,6 +230,36 @@ over_rows_course probes design board given stimulus text workers unknown =
 abbrev pub run_course : List ProbeWord → List ℕ → List ℕ → Option (List ℕ) → List ℕ → ℕ → Bool → Course vocabulary
 run_course probes design board given stimulus workers unknown =
     over_rows_course probes design board given stimulus (netlist_trace (length probes) unknown) workers unknown
+
+-- ---- save
+
+-- the state after the rows, from the start values on, where free latches start at `unknown`
+abbrev pub saved_of : Bool → TextOver WatchedDesign
+saved_of unknown watched rows = state_text (length rows) (path_history watched.design watched.nets unknown rows).last
+
+-- the same of a netlist
+abbrev pub netlist_state : Bool → TextOver Ordered
+netlist_state unknown ordered = saved_text unknown ordered.flat
+
+abbrev pub save_course : List ℕ → List ℕ → Option (List ℕ) → List ℕ → ℕ → Bool → Course vocabulary
+save_course design board given stimulus workers unknown =
+    over_rows_course [] design board given stimulus (netlist_state unknown) workers unknown
+
+-- ---- resume
+
+-- a planned board goes on from a state, where the clocks of the state and of the rows aren't too many together
+abbrev pub state_course : List ℕ → ℕ → PlannedBoard → State → Course vocabulary
+state_course stimulus workers planned state =
+    checked_rows_course stimulus planned.ordered.flat.inputs (check_by (clocks_fit state.clock))
+    (resumed_trace planned.ordered.flat state.clock state.latches) (scripts_from workers planned state.clock state.latches)
+
+-- the state of the design is read before
+abbrev pub resume_rest : List ℕ → List ℕ → ℕ → Rest
+resume_rest state stimulus workers ordered board plan =
+    stage (state_kind (latch_count ordered.flat.cells)) state (state_course stimulus workers (planned_board ordered board plan))
+
+abbrev pub resume_course : List ℕ → List ℕ → Option (List ℕ) → List ℕ → List ℕ → ℕ → Course vocabulary
+resume_course design board given state stimulus workers = ready_course [] design board given (resume_rest state stimulus workers)
 
 -- ---- demo
 
@@ -234,6 +286,8 @@ course_of (words.run design board stimulus given workers unknown probes) =
 course_of (words.demo cells workers) = demo_course cells workers
 course_of (words.wave design stimulus unknown probes) = wave_course probes design stimulus unknown
 course_of (words.grade design stimulus workers unknown) = grade_course design stimulus unknown
+course_of (words.save design board stimulus given workers unknown) = save_course design board given stimulus workers unknown
+course_of (words.resume design board state stimulus given workers) = resume_course design board given state stimulus workers
 course_of (words.emit design board given) = emit_course design board given
 course_of words.help = writes help_text
 course_of words.version = writes version_text

@@ -20,6 +20,10 @@ help_text = lines_text (
     codes "      [probe=NET].." ∷
     codes "  run DESIGN BOARD STIM       runs a design on a board, and writes its trace" ∷
     codes "      [plan=FILE] [workers=N] [unknown=0|1] [probe=NET].." ∷
+    codes "  save DESIGN BOARD STIM      runs a design on a board, and writes its state" ∷
+    codes "      [plan=FILE] [workers=N] [unknown=0|1]" ∷
+    codes "  resume DESIGN BOARD STATE STIM" ∷
+    codes "      [plan=FILE] [workers=N] goes on from a state, and writes the trace" ∷
     codes "  emit DESIGN BOARD           writes a planned board as a design in BLIF" ∷
     codes "      [plan=FILE]" ∷
     codes "  demo CELLS                  runs a generated design of 1 to 20000 cells on" ∷
@@ -31,6 +35,7 @@ help_text = lines_text (
     codes "  BOARD          chips, and the links between them and the host" ∷
     codes "  STIM           the bits of the inputs, a line for each clock" ∷
     codes "  PLAN           the chip of each cell, and when each wire has which pin" ∷
+    codes "  STATE          a clock and the bits of the latches, as save writes it" ∷
     codes "" ∷
     codes "  unknown=0|1    the value that latches start at which have none (0)" ∷
     codes "  probe=NET      a net that is watched beside the outputs, up to 64 times" ∷
@@ -40,8 +45,8 @@ help_text = lines_text (
     codes "The exit status is 0 where the command was carried out. A design (1), words" ∷
     codes "(2), a board (3), a plan (4) or a stimulus (5) was refused; the cells have no" ∷
     codes "room on the board (6); a read (7) or a write (8) failed; memory ran out (9);" ∷
-    codes "an emitted board is too large for a design (10). After each status but 0," ∷
-    codes "standard error has one line that says why." ∷
+    codes "an emitted board is too large for a design (10); a state was refused (11)." ∷
+    codes "After each status but 0, standard error has one line that says why." ∷
     codes "" ∷
     codes "docs/formats.md has the formats of all files, and each message." ∷ []
     )

@@ -1,5 +1,5 @@
 -- What is good and bad of the files of commands, and of what is made of them.
-use Rattle.std.specs.Prelude.{◌≡◌, ◌<◌, ◌≤◌, ◌*◌, ℕ, Bool, true, List, length, Some, IsTrue, Result, Ok, Err}
+use Rattle.std.specs.Prelude.{◌≡◌, ◌<◌, ◌≤◌, ◌+◌, ◌*◌, ℕ, Bool, true, List, length, Some, IsTrue, Result, Ok, Err}
 use Rattle.std.proofs.Common.{sym, ap, subst, ◌∙◌}
 use Rattle.std.proofs.Math.Nat.{not-le_of_lt}
 use Rattle.std.proofs.lemmas.Option.{none-some}
@@ -30,6 +30,12 @@ use Rattle.vw_emit.specs.declared.fault.EmitFault.{EmitFault}
 use Rattle.vw_emit.specs.Emitted.{FitsDesigns, IsEmitFault}
 use Rattle.vw_emit.specs.Messages.{is_emit_fault}
 use Rattle.vw_emit.proofs.Limits.{fits_apart}
+use Rattle.vw_resume.specs.declared.fault.StateFault.{StateFault}
+use Rattle.vw_resume.specs.declared.fault.StateFault.TheVariants.{TooManyClocks}
+use Rattle.vw_resume.specs.declared.state.State.{State}
+use Rattle.vw_resume.specs.States.{Spells as SpellsState, IsBadState as IsBadStateText}
+use Rattle.vw_resume.proofs.ReadBack.{spelled_unrefused}
+use Rattle.vw_rows.specs.declared.limits.TheConstants.{MOST_CLOCKS}
 use Rattle.vw_run.specs.declared.fault.CompileFault.TheVariants.{TooManyCells}
 use Rattle.vw_run.proofs.Fits.{sound_plans_fit}
 use Rattle.vw_top.specs.declared.vocabulary.File.TheVariants as files
@@ -202,4 +208,44 @@ emission planned = record {
   Bad = IsBadEmission planned;
   apart = λ done reason fits bad. fits_apart planned bad.0 fits bad.2 bad.3;
   its_status = λ reason bad. ap reason_status bad.1;
+}
+
+-- ---- the state
+
+-- a text spells a state of a design with so many latches
+pub record IsStateOf (latches : ℕ) (text : List ℕ) (state : State) : Type 0 where
+  pub spells : SpellsState text state
+  pub its_latches : length state.latches ≡ latches
+
+-- why it spells none
+abbrev pub IsBadState : ℕ → List ℕ → Reason → Type 0
+IsBadState latches text reason =
+    (fault : StateFault) × (reason ≡ reasons.State fault) × IsBadStateText latches text fault
+
+abbrev pub state_apart : (latches : ℕ) (text : List ℕ) (state : State) (reason : Reason) → IsStateOf latches text state → IsBadState latches text reason → ⊥
+state_apart latches text state reason is (fault, same, bad) = spelled_unrefused text latches state fault is.spells is.its_latches bad
+
+abbrev pub state_kind : ℕ → Kind vocabulary State
+state_kind latches = record {
+  file = files.State;
+  number = 11;
+  judged = λ text. record {
+    Good = IsStateOf latches text;
+    Bad = IsBadState latches text;
+    apart = state_apart latches text;
+    its_status = λ reason bad. ap reason_status bad.1;
+  };
+}
+
+-- why rows can't follow a state with this clock: these are more clocks together than a trace has
+abbrev pub AreTooManyClocks : ℕ → List (List Bool) → Reason → Type 0
+AreTooManyClocks clock rows reason = (reason ≡ reasons.State (TooManyClocks (clock + length rows))) × (MOST_CLOCKS < clock + length rows)
+
+-- they can, or can't
+abbrev pub clocks_fit : ℕ → List (List Bool) → Judged vocabulary (Unit {0}) 11
+clocks_fit clock rows = record {
+  Good = λ done. clock + length rows ≤ MOST_CLOCKS;
+  Bad = AreTooManyClocks clock rows;
+  apart = λ done reason fits bad. not-le_of_lt bad.1 fits;
+  its_status = λ reason bad. ap reason_status bad.0;
 }

@@ -18,5 +18,7 @@ pub mod ConstantStatuses
 pub mod CheckStatuses
 pub mod EmitStatuses
 pub mod RunStatuses
+pub mod ResumeStatuses
+pub mod Pieces
 pub mod DemoStatuses
 pub mod Steps

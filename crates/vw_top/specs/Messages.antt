@@ -11,17 +11,19 @@ use Rattle.vw_plantext.specs.Messages.{fault_text as plan_text_fault_text}
 use Rattle.vw_check.specs.Messages.{fault_text as plan_fault_text}
 use Rattle.vw_prog.specs.declared.word.Word.{Word}
 use Rattle.vw_emit.specs.Messages.{fault_text as emit_fault_text}
+use Rattle.vw_resume.specs.Messages.{fault_text as state_fault_text}
 use Rattle.vw_run.specs.Messages.{fault_text as compile_fault_text}
 use Rattle.vw_rows.specs.Messages.{fault_text as stimulus_fault_text}
 use Rattle.vw_top.specs.declared.vocabulary.File.{File}
 use Rattle.vw_top.specs.declared.vocabulary.File.TheVariants as files
 use Rattle.vw_top.specs.declared.vocabulary.Reason.{Reason}
-use Rattle.vw_top.specs.declared.vocabulary.Reason.TheVariants.{Design, Usage, Board, PlanText, Plan, Stimulus, Fit, Emit}
+use Rattle.vw_top.specs.declared.vocabulary.Reason.TheVariants.{Design, Usage, Board, PlanText, Plan, Stimulus, Fit, Emit, State}
 
 abbrev pub file_text : File → List ℕ
 file_text files.Design = codes "design"
 file_text files.Board = codes "board"
 file_text files.Plan = codes "plan"
+file_text files.State = codes "state"
 file_text files.Stimulus = codes "stimulus"
 
 -- each line with the byte that ends it
@@ -37,6 +39,7 @@ reason_status (Plan fault) = 4
 reason_status (Stimulus fault) = 5
 reason_status (Fit fault) = 6
 reason_status (Emit fault) = 10
+reason_status (State fault) = 11
 
 abbrev pub reason_line : Reason → List ℕ
 reason_line (Design fault) = design_fault_text fault
@@ -47,8 +50,9 @@ reason_line (Plan fault) = plan_fault_text fault
 reason_line (Stimulus fault) = stimulus_fault_text fault
 reason_line (Fit fault) = compile_fault_text fault
 reason_line (Emit fault) = emit_fault_text fault
+reason_line (State fault) = state_fault_text fault
 
--- the statuses are those from 1 to 6, and 10
+-- the statuses are those from 1 to 6, 10 and 11
 abbrev pub reason_some : (reason : Reason) → 0 < reason_status reason
 reason_some (Design fault) = lit< tt
 reason_some (Usage place) = lit< tt
@@ -58,6 +62,7 @@ reason_some (Plan fault) = lit< tt
 reason_some (Stimulus fault) = lit< tt
 reason_some (Fit fault) = lit< tt
 reason_some (Emit fault) = lit< tt
+reason_some (State fault) = lit< tt
 
 abbrev pub reason_few : (reason : Reason) → IsNoStop (reason_status reason)
 reason_few (Design fault) = inl (lit< tt)
@@ -68,6 +73,7 @@ reason_few (Plan fault) = inl (lit< tt)
 reason_few (Stimulus fault) = inl (lit< tt)
 reason_few (Fit fault) = inl (lit< tt)
 reason_few (Emit fault) = inr (lit< tt, lit< tt)
+reason_few (State fault) = inr (lit< tt, lit< tt)
 
 -- what the courses of commands speak of
 abbrev pub vocabulary : Vocabulary

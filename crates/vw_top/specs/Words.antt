@@ -17,6 +17,8 @@ pub data Spelled : Type 0 where
   plan : (design board : List ℕ) (probes : List (List ℕ)) → Spelled
   run : (design board stimulus : List ℕ) (given : Option (List ℕ)) (workers : ℕ) (unknown : Bool) (probes : List (List ℕ)) → Spelled
   demo : (cells workers : ℕ) → Spelled
+  save : (design board stimulus : List ℕ) (given : Option (List ℕ)) (workers : ℕ) (unknown : Bool) → Spelled
+  resume : (design board state stimulus : List ℕ) (given : Option (List ℕ)) (workers : ℕ) → Spelled
   emit : (design board : List ℕ) (given : Option (List ℕ)) → Spelled
   help : Spelled
   version : Spelled
@@ -81,6 +83,17 @@ run_of (verb ∷ design ∷ board ∷ stimulus ∷ settings) =
     Some (run design board stimulus (name_given plan_setting settings) (workers_given settings) (unknown_given settings) (probes_given settings))
 run_of words = None
 
+abbrev pub save_of : List (List ℕ) → Option Spelled
+save_of (verb ∷ design ∷ board ∷ stimulus ∷ settings) =
+    Some (save design board stimulus (name_given plan_setting settings) (workers_given settings) (unknown_given settings))
+save_of words = None
+
+-- each latch starts as the state has it, so the setting of free latches has no effect
+abbrev pub resume_of : List (List ℕ) → Option Spelled
+resume_of (verb ∷ design ∷ board ∷ state ∷ stimulus ∷ settings) =
+    Some (resume design board state stimulus (name_given plan_setting settings) (workers_given settings))
+resume_of words = None
+
 abbrev pub emit_of : List (List ℕ) → Option Spelled
 emit_of (verb ∷ design ∷ board ∷ settings) = Some (emit design board (name_given plan_setting settings))
 emit_of words = None
@@ -97,6 +110,8 @@ spelled_as verbs.Grade words = grade_of words
 spelled_as verbs.Check words = check_of words
 spelled_as verbs.Plan words = plan_of words
 spelled_as verbs.Run words = run_of words
+spelled_as verbs.Save words = save_of words
+spelled_as verbs.Resume words = resume_of words
 spelled_as verbs.Emit words = emit_of words
 spelled_as verbs.Demo words = demo_of words
 spelled_as verbs.Help words = Some help
@@ -126,6 +141,8 @@ commands =
       verb = verbs.Run;
       form = form_with (codes "run") (file ∷ file ∷ file ∷ []) (plan_setting ∷ workers_setting ∷ unknown_setting ∷ probe_setting ∷ []);
     }
+    ∷ record { verb = verbs.Save; form = form_with (codes "save") (file ∷ file ∷ file ∷ []) (plan_setting ∷ workers_setting ∷ unknown_setting ∷ []) }
+    ∷ record { verb = verbs.Resume; form = form_with (codes "resume") (file ∷ file ∷ file ∷ file ∷ []) (plan_setting ∷ workers_setting ∷ unknown_setting ∷ []) }
     ∷ record { verb = verbs.Emit; form = form_with (codes "emit") (file ∷ file ∷ []) (plan_setting ∷ []) }
     ∷ record { verb = verbs.Demo; form = form_with (codes "demo") (any (number 1 MOST_CELLS) ∷ []) (workers_setting ∷ []) }
     ∷ record { verb = verbs.Help; form = form_with (codes "--help") [] [] }
@@ -141,7 +158,7 @@ abbrev pub spelled_by : List (List ℕ) → Spelled
 spelled_by words =
     unwrap_or (option_and_then (λ verb. spelled_as verb words) (found_verb words commands)) (nothing (first_wrong (map (λ command. command.form) commands) words))
 
--- whether a command needs a runtime: what runs a board with several workers does, and each grading
+-- whether a command needs a runtime: what runs a board with several workers does, and each grading, saving and resumption
 abbrev pub needs_runtime : Spelled → Bool
 needs_runtime (sim design stimulus unknown probes) = false
 needs_runtime (wave design stimulus unknown probes) = false
@@ -150,6 +167,8 @@ needs_runtime (check design board its_plan probes) = false
 needs_runtime (plan design board probes) = false
 needs_runtime (run design board stimulus given workers unknown probes) = ltb 1 workers
 needs_runtime (demo cells workers) = ltb 1 workers
+needs_runtime (save design board stimulus given workers unknown) = true
+needs_runtime (resume design board state stimulus given workers) = true
 needs_runtime (emit design board given) = false
 needs_runtime help = false
 needs_runtime version = false

@@ -12,10 +12,13 @@ use crate::check::check;
 use crate::demo::{demo_by_one, demo_by_several};
 use crate::emit::emit;
 use crate::grade::grade;
+use crate::hands::Hands;
 use crate::help::{help, version};
 use crate::plan::plan;
 use crate::probes::Probes;
+use crate::resume::resume;
 use crate::run::{run_by_one, run_by_several};
+use crate::save::save;
 use crate::sim::sim;
 use crate::vocabulary::{Reason, Unfinished};
 use crate::wave::wave;
@@ -60,7 +63,7 @@ fn carry_out<S: Shelf, O: Sink>(
             let probes = Probes { nets: &probes };
             wave(alloc, design, probes, stimulus, unknown, outside)
         }
-        Command::Grade { .. } => unreachable!(),
+        Command::Grade { .. } | Command::Save { .. } | Command::Resume { .. } => unreachable!(),
         Command::Check {
             design,
             board,
@@ -130,16 +133,15 @@ fn carry_out<S: Shelf, O: Sink>(
 
 /// Carries out a command that needs a runtime, up to its message.
 fn carry_out_together<R: Threads + Wait + Sync, S: Shelf, F: Fabric, G: BurstGate, O: Sink>(
-    rt: &R,
     alloc: Global,
     command: Command<'_>,
-    fabric: &mut F,
-    gate: &G,
+    hands: &mut Hands<'_, '_, '_, R, F, G>,
     outside: &mut Outside<'_, '_, S, O>,
 ) -> Result<(), Unfinished>
     requires { needs_runtime (command_view command) ≡ true }
-    ensures { GoesOver S.seen O.seen vocabulary
-        (MovedFrom (F.carried fabric.old) (F.carried fabric.new))
+    ensures fabric { hands.new.fabric.ghost_name ≡ hands.old.fabric.ghost_name }
+    ensures goes { GoesOver S.seen O.seen vocabulary
+        (MovedFrom (F.carried hands.old.fabric.now) (F.carried hands.new.fabric.now))
         (course_of (command_view command.entry)) outside.old outside.new result }
 {
     match command {
@@ -159,19 +161,47 @@ fn carry_out_together<R: Threads + Wait + Sync, S: Shelf, F: Fabric, G: BurstGat
                 board,
                 plan,
             };
-            run_by_several(
-                rt, alloc, &files, stimulus, workers, unknown, fabric, gate, outside,
-            )
+            run_by_several(alloc, &files, stimulus, workers, unknown, hands, outside)
+        }
+        Command::Save {
+            design,
+            board,
+            stimulus,
+            plan,
+            workers,
+            unknown,
+        } => {
+            let files = BoardFiles {
+                design,
+                probes: Probes { nets: &[] },
+                board,
+                plan,
+            };
+            save(alloc, &files, stimulus, workers, unknown, hands, outside)
+        }
+        Command::Resume {
+            design,
+            board,
+            state,
+            stimulus,
+            plan,
+            workers,
+        } => {
+            let files = BoardFiles {
+                design,
+                probes: Probes { nets: &[] },
+                board,
+                plan,
+            };
+            resume(alloc, &files, state, stimulus, workers, hands, outside)
         }
         Command::Grade {
             design,
             stimulus,
             workers,
             unknown,
-        } => grade(rt, alloc, design, stimulus, workers, unknown, outside),
-        Command::Demo { size, workers } => {
-            demo_by_several(rt, alloc, size, workers, fabric, gate, outside)
-        }
+        } => grade(hands.rt, alloc, design, stimulus, workers, unknown, outside),
+        Command::Demo { size, workers } => demo_by_several(alloc, size, workers, hands, outside),
         _ => unreachable!(),
     }
 }
@@ -193,21 +223,21 @@ fn follow<S: Shelf, O: Sink>(
 
 /// The same for one that needs a runtime.
 fn follow_together<R: Threads + Wait + Sync, S: Shelf, F: Fabric, G: BurstGate, O: Sink>(
-    rt: &R,
     alloc: Global,
     command: Command<'_>,
+    hands: &mut Hands<'_, '_, '_, R, F, G>,
     shelf: &mut S,
-    fabric: &mut F,
-    gate: &G,
     out: &mut O,
 ) -> Result<(), Unfinished>
     requires { needs_runtime (command_view command) ≡ true }
-    ensures { IsFollowed vocabulary (MovedFrom (F.carried fabric.old) (F.carried fabric.new))
+    ensures fabric { hands.new.fabric.ghost_name ≡ hands.old.fabric.ghost_name }
+    ensures goes { IsFollowed vocabulary
+        (MovedFrom (F.carried hands.old.fabric.now) (F.carried hands.new.fabric.now))
         (course_of (command_view command.entry)) (S.seen shelf.old) (O.seen out.old)
         (S.seen shelf.new) (O.seen out.new) result }
 {
     let mut outside = Outside { shelf, out };
-    carry_out_together(rt, alloc, command, fabric, gate, &mut outside)
+    carry_out_together(alloc, command, hands, &mut outside)
 }
 
 /// Carries out a command that needs no runtime, and gives the exit status.
@@ -232,22 +262,23 @@ fn without_runtime<S: Shelf, O: Sink, E: Sink>(
 
 /// Carries out a command that needs a runtime, and gives the exit status.
 fn together<R: Threads + Wait + Sync, S: Shelf, F: Fabric, G: BurstGate, O: Sink, E: Sink>(
-    rt: &R,
     alloc: Global,
     command: Command<'_>,
+    hands: &mut Hands<'_, '_, '_, R, F, G>,
     shelf: &mut S,
-    fabric: &mut F,
-    gate: &G,
     out: &mut O,
     err: &mut E,
 ) -> u8
     requires { needs_runtime (command_view command) ≡ true }
-    ensures { IsCallOf (course_of (command_view command.entry)) (seen_call
-        (seen_outside (S.seen shelf.old) (O.seen out.old) (F.carried fabric.old)) (E.seen err.old)
-        (seen_outside (S.seen shelf.new) (O.seen out.new) (F.carried fabric.new)) (E.seen err.new)
+    ensures fabric { hands.new.fabric.ghost_name ≡ hands.old.fabric.ghost_name }
+    ensures called { IsCallOf (course_of (command_view command.entry)) (seen_call
+        (seen_outside (S.seen shelf.old) (O.seen out.old) (F.carried hands.old.fabric.now))
+        (E.seen err.old)
+        (seen_outside (S.seen shelf.new) (O.seen out.new) (F.carried hands.new.fabric.now))
+        (E.seen err.new)
         result) }
 {
-    match follow_together(rt, alloc, command, shelf, fabric, gate, out) {
+    match follow_together(alloc, command, hands, shelf, out) {
         Ok(()) => 0,
         Err(unfinished) => report(alloc, &unfinished, err),
     }
@@ -255,7 +286,8 @@ fn together<R: Threads + Wait + Sync, S: Shelf, F: Fabric, G: BurstGate, O: Sink
 
 /// Carries out the command that the words after the program's name spell, in this thread and without a runtime, and gives
 /// the exit status. So it returns, whatever is outside. It answers nothing exactly where the command needs a runtime, as
-/// a grading and one with several workers do; then nothing was read or written. Of all else it says what `virtual_wires` says.
+/// a grading, a saving, a resumption and one with several workers do; then nothing was read or written. Of all else it says
+/// what `virtual_wires` says.
 pub fn alone<S: Shelf, O: Sink, E: Sink>(
     alloc: Global,
     words: &[Name],
@@ -282,11 +314,12 @@ pub fn alone<S: Shelf, O: Sink, E: Sink>(
 /// Carries out the command that the words after the program's name spell, and gives the exit status. After each
 /// status but 0 one message line goes to `err`. What each status means, when it comes and what it leaves, the laws
 /// `headline`, `call_statuses`, `sim_statuses`, `wave_statuses`, `grade_statuses`, `check_statuses`, `plan_statuses`,
-/// `run_statuses`, `emit_statuses`, `demo_statuses`, `help_statuses`, `version_statuses` and `usage_statuses` say.
+/// `run_statuses`, `save_statuses`, `resume_statuses`, `emit_statuses`, `demo_statuses`, `help_statuses`, `version_statuses`
+/// and `usage_statuses` say.
 ///
-/// A run with several workers has the nodes of the board in groups on threads of the runtime. The words between them go
+/// A run, a saving and a resumption with several workers have the nodes of the board in groups on threads of the runtime. The words between them go
 /// over links of the fabric, and each group passes the gate before each of its bursts. That such a run ends isn't
-/// promised; where it ends, all that is said here holds. A grading shares its faults among threads of the runtime, and moves
+/// promised; where it ends, all that is said here holds. With one worker they use no links. A grading shares its faults among threads of the runtime, and moves
 /// no link. Every other call is one of `alone`.
 pub fn virtual_wires<R: Threads + Wait + Sync, S: Shelf, F: Fabric, G: BurstGate, O: Sink, E: Sink>(
     rt: &R,
@@ -306,7 +339,8 @@ pub fn virtual_wires<R: Threads + Wait + Sync, S: Shelf, F: Fabric, G: BurstGate
 {
     let command = command_of(words);
     if command.needs_runtime() {
-        return together(rt, alloc, command, shelf, fabric, gate, out, err);
+        let mut hands = Hands { rt, fabric, gate };
+        return together(alloc, command, &mut hands, shelf, out, err);
     }
     without_runtime(alloc, command, shelf, out, err)
 }

@@ -10,6 +10,7 @@ ghost use Rattle.vw_gen.specs.Summary.{summary};
 ghost use Rattle.vw_top.specs.Messages.{vocabulary};
 
 use crate::board_files::BoardFiles;
+use crate::hands::Hands;
 use crate::probes::Probes;
 use crate::run::{run_by_one, run_by_several};
 use crate::size::Size;
@@ -124,21 +125,21 @@ fn run_named_by_one(
     run_alone(alloc, design, board, stimulus, &mut inside)
 }
 
-/// The same with several workers, on threads of this runtime.
+/// The same with several workers, on threads of the runtime in hand.
 fn run_named_by_several<R: Threads + Wait + Sync, F: Fabric, G: BurstGate>(
-    rt: &R,
     alloc: Global,
     design: &Name,
     board: &Name,
     stimulus: &Name,
     workers: u64,
+    hands: &mut Hands<'_, '_, '_, R, F, G>,
     shelf: &mut SureShelf,
-    fabric: &mut F,
-    gate: &G,
     trace: &mut MemSink,
 ) -> Result<(), Unfinished>
     requires { 1 < workers }
-    ensures { IsFollowed vocabulary (MovedFrom (F.carried fabric.old) (F.carried fabric.new))
+    ensures fabric { hands.new.fabric.ghost_name ≡ hands.old.fabric.ghost_name }
+    ensures goes { IsFollowed vocabulary
+        (MovedFrom (F.carried hands.old.fabric.now) (F.carried hands.new.fabric.now))
         (run_course [] design.now board.now None stimulus.now workers false)
         (seen_sure shelf.old.files.items) (seen_sink trace.old)
         (seen_sure shelf.new.files.items) (seen_sink trace.new) result }
@@ -150,17 +151,7 @@ fn run_named_by_several<R: Threads + Wait + Sync, F: Fabric, G: BurstGate>(
         plan: None,
     };
     let mut inside = Outside { shelf, out: trace };
-    run_by_several(
-        rt,
-        alloc,
-        &files,
-        stimulus,
-        workers,
-        false,
-        fabric,
-        gate,
-        &mut inside,
-    )
+    run_by_several(alloc, &files, stimulus, workers, false, hands, &mut inside)
 }
 
 /// Runs the texts of a demo in this thread.
@@ -179,18 +170,18 @@ fn run_texts_by_one(
     run_named_by_one(alloc, &design, &board, &stimulus, shelf, trace)
 }
 
-/// The same with several workers, on threads of this runtime.
+/// The same with several workers, on threads of the runtime in hand.
 fn run_texts_by_several<R: Threads + Wait + Sync, F: Fabric, G: BurstGate>(
-    rt: &R,
     alloc: Global,
     workers: u64,
+    hands: &mut Hands<'_, '_, '_, R, F, G>,
     shelf: &mut SureShelf,
-    fabric: &mut F,
-    gate: &G,
     trace: &mut MemSink,
 ) -> Result<(), Unfinished>
     requires { 1 < workers }
-    ensures { IsFollowed vocabulary (MovedFrom (F.carried fabric.old) (F.carried fabric.new))
+    ensures fabric { hands.new.fabric.ghost_name ≡ hands.old.fabric.ghost_name }
+    ensures goes { IsFollowed vocabulary
+        (MovedFrom (F.carried hands.old.fabric.now) (F.carried hands.new.fabric.now))
         (demo_run workers) (seen_sure shelf.old.files.items) (seen_sink trace.old)
         (seen_sure shelf.new.files.items) (seen_sink trace.new) result }
 {
@@ -198,7 +189,7 @@ fn run_texts_by_several<R: Threads + Wait + Sync, F: Fabric, G: BurstGate>(
     let board = board_name(alloc)?;
     let stimulus = stimulus_name(alloc)?;
     run_named_by_several(
-        rt, alloc, &design, &board, &stimulus, workers, shelf, fabric, gate, trace,
+        alloc, &design, &board, &stimulus, workers, hands, shelf, trace,
     )
 }
 
@@ -219,24 +210,23 @@ pub fn demo_by_one<S: Shelf, O: Sink>(
     write_summary(alloc, size, ran, &trace, outside.out)
 }
 
-/// The same with several workers, on threads of this runtime.
+/// The same with several workers, on threads of the runtime in hand.
 pub fn demo_by_several<R: Threads + Wait + Sync, S: Shelf, F: Fabric, G: BurstGate, O: Sink>(
-    rt: &R,
     alloc: Global,
     size: Size,
     workers: u64,
-    fabric: &mut F,
-    gate: &G,
+    hands: &mut Hands<'_, '_, '_, R, F, G>,
     outside: &mut Outside<'_, '_, S, O>,
 ) -> Result<(), Unfinished>
     requires { 1 < workers }
-    ensures { GoesOver S.seen O.seen vocabulary
-        (MovedFrom (F.carried fabric.old) (F.carried fabric.new))
+    ensures fabric { hands.new.fabric.ghost_name ≡ hands.old.fabric.ghost_name }
+    ensures goes { GoesOver S.seen O.seen vocabulary
+        (MovedFrom (F.carried hands.old.fabric.now) (F.carried hands.new.fabric.now))
         (demo_course size.cells workers) outside.old outside.new result }
 {
     no_read_fault_over_a_sure_shelf();
     let mut shelf = texts(alloc, size)?;
     let mut trace = room(alloc, size)?;
-    let ran = run_texts_by_several(rt, alloc, workers, &mut shelf, fabric, gate, &mut trace);
+    let ran = run_texts_by_several(alloc, workers, hands, &mut shelf, &mut trace);
     write_summary(alloc, size, ran, &trace, outside.out)
 }

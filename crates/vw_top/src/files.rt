@@ -6,7 +6,7 @@ ghost use Rattle.vw_front.specs.Designs.{IsNetlistOf};
 ghost use Rattle.vw_front.specs.NamedNetlists.{IsNamedNetlistOf};
 ghost use Rattle.vw_plantext.specs.PlanText.{Spells as SpellsPlan};
 ghost use Rattle.vw_rows.specs.Standing.{IsAtStart, StandsIn};
-ghost use Rattle.vw_top.specs.Kinds.{IsBadDesign, IsBadBoard, IsBadPlanText, IsBadStimulus};
+ghost use Rattle.vw_top.specs.Kinds.{IsBadDesign, IsBadBoard, IsBadPlanText, IsBadState, IsBadStimulus, IsStateOf};
 ghost use Rattle.vw_top.specs.Steps.Stages.{run_answer};
 
 use crate::probes::Probes;
@@ -19,6 +19,7 @@ use vw_net::Ordered;
 use vw_outside::{Name, Shelf, TextRefused, read_text};
 use vw_plan::{Board, Plan};
 use vw_plantext::PlanTextFault;
+use vw_resume::{LONGEST_STATE, State, StateFault, spelled_short};
 use vw_rows::{StimFault, Stimulus};
 use vw_trace::RunFault;
 
@@ -170,6 +171,37 @@ pub fn read_given_plan<S: Shelf>(
     match name.to_vec(alloc) {
         Ok(bytes) => read_plan(alloc, shelf, &Name::of(bytes)),
         Err(_) => Err(Unfinished::NoMemory),
+    }
+}
+
+/// The state that a text spells, of a design with so many latches.
+fn state_of_text(alloc: Global, text: &[u8], latches: u32) -> Result<State, Unfinished>
+    ensures { EndsJudging (IsStateOf latches text.now) (IsBadState latches text.now) result }
+{
+    match State::read(alloc, text, latches) {
+        Ok(state) => Ok(state),
+        Err(StateFault::NoMemory) => Err(Unfinished::NoMemory),
+        Err(fault) => Err(Unfinished::Refused(Reason::State(fault))),
+    }
+}
+
+/// Reads the state of a design with so many latches.
+pub fn read_state<S: Shelf>(
+    alloc: Global,
+    shelf: &mut S,
+    name: &Name,
+    latches: u32,
+) -> Result<State, Unfinished>
+    ensures { EndsStage File.State name.now
+        (IsStateOf latches) (IsBadState latches)
+        (S.seen shelf.old) (S.seen shelf.new) result }
+{
+    spelled_short();
+    match read_text(alloc, shelf, name, LONGEST_STATE as u64) {
+        Ok(text) => state_of_text(alloc, &text, latches),
+        Err(TextRefused::TooLarge) => Err(Unfinished::Refused(Reason::State(StateFault::BadText))),
+        Err(TextRefused::ReadFault) => Err(Unfinished::ReadFault(File::State)),
+        Err(TextRefused::NoMemory) => Err(Unfinished::NoMemory),
     }
 }
 

@@ -10,6 +10,8 @@ pub enum Verb {
     Check,
     Plan,
     Run,
+    Save,
+    Resume,
     Emit,
     Demo,
     Help,
@@ -92,6 +94,18 @@ const RUN: Form = Form {
     settings: &[PLAN, WORKERS, UNKNOWN, PROBE],
 };
 
+/// save DESIGN BOARD STIM [plan=FILE] [workers=N] [unknown=0|1]
+const SAVE: Form = Form {
+    places: &[Place::Keyword(b"save"), FILE, FILE, FILE],
+    settings: &[PLAN, WORKERS, UNKNOWN],
+};
+
+/// resume DESIGN BOARD STATE STIM [plan=FILE] [workers=N] [unknown=0|1]
+const RESUME: Form = Form {
+    places: &[Place::Keyword(b"resume"), FILE, FILE, FILE, FILE],
+    settings: &[PLAN, WORKERS, UNKNOWN],
+};
+
 /// emit DESIGN BOARD [plan=FILE]
 const EMIT: Form = Form {
     places: &[Place::Keyword(b"emit"), FILE, FILE],
@@ -123,7 +137,7 @@ const VERSION: Form = Form {
 };
 
 /// Each command with the form of its words.
-pub const COMMANDS: [Entry<Verb>; 10] = [
+pub const COMMANDS: [Entry<Verb>; 12] = [
     Entry {
         command: Verb::Sim,
         form: SIM,
@@ -147,6 +161,14 @@ pub const COMMANDS: [Entry<Verb>; 10] = [
     Entry {
         command: Verb::Run,
         form: RUN,
+    },
+    Entry {
+        command: Verb::Save,
+        form: SAVE,
+    },
+    Entry {
+        command: Verb::Resume,
+        form: RESUME,
     },
     Entry {
         command: Verb::Emit,

@@ -31,6 +31,10 @@ usage: vwires COMMAND FILE.. [SETTING..]\n\
 \x20     [probe=NET]..\n\
 \x20 run DESIGN BOARD STIM       runs a design on a board, and writes its trace\n\
 \x20     [plan=FILE] [workers=N] [unknown=0|1] [probe=NET]..\n\
+\x20 save DESIGN BOARD STIM      runs a design on a board, and writes its state\n\
+\x20     [plan=FILE] [workers=N] [unknown=0|1]\n\
+\x20 resume DESIGN BOARD STATE STIM\n\
+\x20     [plan=FILE] [workers=N] goes on from a state, and writes the trace\n\
 \x20 emit DESIGN BOARD           writes a planned board as a design in BLIF\n\
 \x20     [plan=FILE]\n\
 \x20 demo CELLS                  runs a generated design of 1 to 20000 cells on\n\
@@ -42,6 +46,7 @@ usage: vwires COMMAND FILE.. [SETTING..]\n\
 \x20 BOARD          chips, and the links between them and the host\n\
 \x20 STIM           the bits of the inputs, a line for each clock\n\
 \x20 PLAN           the chip of each cell, and when each wire has which pin\n\
+\x20 STATE          a clock and the bits of the latches, as save writes it\n\
 \n\
 \x20 unknown=0|1    the value that latches start at which have none (0)\n\
 \x20 probe=NET      a net that is watched beside the outputs, up to 64 times\n\
@@ -51,8 +56,8 @@ usage: vwires COMMAND FILE.. [SETTING..]\n\
 The exit status is 0 where the command was carried out. A design (1), words\n\
 (2), a board (3), a plan (4) or a stimulus (5) was refused; the cells have no\n\
 room on the board (6); a read (7) or a write (8) failed; memory ran out (9);\n\
-an emitted board is too large for a design (10). After each status but 0,\n\
-standard error has one line that says why.\n\
+an emitted board is too large for a design (10); a state was refused (11).\n\
+After each status but 0, standard error has one line that says why.\n\
 \n\
 docs/formats.md has the formats of all files, and each message.\n"
 }

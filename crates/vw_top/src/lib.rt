@@ -10,11 +10,14 @@ mod emit;
 mod files;
 mod forms;
 mod grade;
+mod hands;
 mod help;
 mod plan;
 mod probes;
 mod ready;
+mod resume;
 mod run;
+mod save;
 mod sim;
 mod size;
 mod statuses;
@@ -25,7 +28,7 @@ mod words;
 pub use commands::{alone, virtual_wires};
 pub use statuses::{
     call_statuses, check_statuses, demo_statuses, emit_statuses, grade_statuses, headline,
-    help_statuses, plan_statuses, run_statuses, sim_statuses, usage_statuses, version_statuses,
-    wave_statuses, waves_show_designs,
+    help_statuses, pieces_join, plan_statuses, resume_statuses, run_statuses, save_statuses,
+    sim_statuses, usage_statuses, version_statuses, wave_statuses, waves_show_designs,
 };
 pub use vocabulary::{File, Reason, Unfinished};

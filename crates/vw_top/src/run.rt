@@ -9,6 +9,7 @@ ghost use Rattle.vw_top.specs.Steps.Stages.{run_answer};
 
 use crate::board_files::BoardFiles;
 use crate::files::{check_rows, run_answer};
+use crate::hands::Hands;
 use crate::ready::ready_board;
 use crate::vocabulary::Unfinished;
 use std::alloc::Global;
@@ -62,21 +63,20 @@ fn run_checked<S: Shelf, O: Sink>(
 
 /// The same with several workers.
 fn run_checked_together<R: Threads + Wait + Sync, S: Shelf, F: Fabric, G: BurstGate, O: Sink>(
-    rt: &R,
     alloc: Global,
     checked: Checked,
     probes: u32,
     stimulus: &Name,
     workers: u64,
     unknown: bool,
-    fabric: &mut F,
-    gate: &G,
+    hands: &mut Hands<'_, '_, '_, R, F, G>,
     outside: &mut Outside<'_, '_, S, O>,
 ) -> Result<(), Unfinished>
     requires several { 1 < workers }
     requires probes { probes ≤ length checked.ordered.flat.outputs }
-    ensures { GoesOver S.seen O.seen vocabulary
-        (MovedFrom (F.carried fabric.old) (F.carried fabric.new))
+    ensures fabric { hands.new.fabric.ghost_name ≡ hands.old.fabric.ghost_name }
+    ensures goes { GoesOver S.seen O.seen vocabulary
+        (MovedFrom (F.carried hands.old.fabric.now) (F.carried hands.new.fabric.now))
         (board_course stimulus.now (netlist_trace probes unknown) workers unknown checked.ordered
         checked.board checked.plan)
         outside.old outside.new result }
@@ -85,7 +85,7 @@ fn run_checked_together<R: Threads + Wait + Sync, S: Shelf, F: Fabric, G: BurstG
     // the form of the words lets no greater number through
     let workers = workers.min(64) as u32;
     let ran = run(
-        rt,
+        hands.rt,
         alloc,
         checked,
         probes,
@@ -93,8 +93,8 @@ fn run_checked_together<R: Threads + Wait + Sync, S: Shelf, F: Fabric, G: BurstG
         workers,
         &mut rows,
         outside.shelf,
-        fabric,
-        gate,
+        hands.fabric,
+        hands.gate,
         outside.out,
     );
     clocks_answer(ran)
@@ -119,21 +119,20 @@ pub fn run_by_one<S: Shelf, O: Sink>(
     run_checked(alloc, checked, probes, stimulus, unknown, outside)
 }
 
-/// The same with several workers, on threads of this runtime.
+/// The same with several workers, on threads of the runtime in hand.
 pub fn run_by_several<R: Threads + Wait + Sync, S: Shelf, F: Fabric, G: BurstGate, O: Sink>(
-    rt: &R,
     alloc: Global,
     files: &BoardFiles<'_, '_, '_, '_>,
     stimulus: &Name,
     workers: u64,
     unknown: bool,
-    fabric: &mut F,
-    gate: &G,
+    hands: &mut Hands<'_, '_, '_, R, F, G>,
     outside: &mut Outside<'_, '_, S, O>,
 ) -> Result<(), Unfinished>
     requires { 1 < workers }
-    ensures { GoesOver S.seen O.seen vocabulary
-        (MovedFrom (F.carried fabric.old) (F.carried fabric.new))
+    ensures fabric { hands.new.fabric.ghost_name ≡ hands.old.fabric.ghost_name }
+    ensures goes { GoesOver S.seen O.seen vocabulary
+        (MovedFrom (F.carried hands.old.fabric.now) (F.carried hands.new.fabric.now))
         (run_course files.now.probes.nets.now files.now.design.now files.now.board.now
         (option_copied files.now.plan) stimulus.now workers unknown)
         outside.old outside.new result }
@@ -141,6 +140,6 @@ pub fn run_by_several<R: Threads + Wait + Sync, S: Shelf, F: Fabric, G: BurstGat
     let checked = ready_board(alloc, files, outside.shelf)?;
     let probes = files.probes.nets.len() as u32;
     run_checked_together(
-        rt, alloc, checked, probes, stimulus, workers, unknown, fabric, gate, outside,
+        alloc, checked, probes, stimulus, workers, unknown, hands, outside,
     )
 }

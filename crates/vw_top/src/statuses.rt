@@ -1,10 +1,10 @@
 //! Laws of the commands, as contracts of functions that do nothing.
-ghost use Rattle.std.specs.Prelude.{◌≡◌, ◌≤◌, ℕ, Bool, List, Option, length};
+ghost use Rattle.std.specs.Prelude.{◌≡◌, ◌≤◌, ℕ, Bool, List, [], Option, length};
 ghost use Rattle.vw_design.specs.Paths.{Word};
 ghost use Rattle.vw_course.specs.Endings.{IsCallOf};
 ghost use Rattle.vw_course.specs.Statuses.{Holds, Statuses};
 ghost use Rattle.vw_top.specs.Words.{Spelled, help, version};
-ghost use Rattle.vw_top.specs.Commands.{check_course, course_of, demo_course, emit_course, grade_course, plan_course, run_course, sim_course, trace_of, usage_course, wave_course, wave_of};
+ghost use Rattle.vw_top.specs.Commands.{check_course, course_of, demo_course, emit_course, grade_course, plan_course, resume_course, run_course, save_course, saved_of, sim_course, trace_of, usage_course, wave_course, wave_of};
 ghost use Rattle.vw_top.specs.Messages.{Call};
 ghost use Rattle.vw_top.specs.Headline.{WritesTrace};
 ghost use Rattle.vw_top.specs.WaveLaw.{WavesReplay};
@@ -14,10 +14,13 @@ ghost use Rattle.vw_top.specs.CheckStatuses.{CheckStatuses};
 ghost use Rattle.vw_top.specs.EmitStatuses.{EmitStatuses};
 ghost use Rattle.vw_top.specs.PlanStatuses.{PlanStatuses};
 ghost use Rattle.vw_top.specs.RunStatuses.{RunStatuses};
+ghost use Rattle.vw_top.specs.Pieces.{PiecesJoin};
+ghost use Rattle.vw_top.specs.ResumeStatuses.{ResumeStatuses};
 ghost use Rattle.vw_top.specs.ConstantStatuses.{ConstantStatuses};
 ghost use Rattle.vw_top.specs.Help.{help_text, version_text};
 ghost use Rattle.vw_top.specs.DemoStatuses.{DemoStatuses};
 
+use vw_resume::traces_join;
 use vw_wave::waves_of_runs_replay;
 
 /// The headline. Whatever the board, the plan and the number of workers, and in whatever order the workers have run: where
@@ -90,6 +93,32 @@ pub fn run_statuses()
         (call : Call) → IsCallOf (run_course probes design board given stimulus workers unknown) call
         → RunStatuses probes (trace_of unknown) design board given stimulus workers unknown call }
 {}
+
+/// What each status of `save` says of its files, where it is given a plan and where it makes one: after status 0, out has the
+/// state of the unpartitioned design after all rows; with several workers each link has carried exactly its words.
+pub fn save_statuses()
+    ensures { (design board stimulus : List ℕ) (given : Option (List ℕ)) (workers : ℕ)
+        (unknown : Bool) (call : Call)
+        → IsCallOf (save_course design board given stimulus workers unknown) call
+        → RunStatuses [] (saved_of unknown) design board given stimulus workers unknown call }
+{}
+
+/// What each status of `resume` says of its files, where it is given a plan and where it makes one: after status 0, out has the
+/// trace of the unpartitioned design from the state on; with several workers each link has carried exactly its words.
+pub fn resume_statuses()
+    ensures { (design board state stimulus : List ℕ) (given : Option (List ℕ)) (workers : ℕ)
+        (call : Call)
+        → IsCallOf (resume_course design board given state stimulus workers) call
+        → ResumeStatuses design board given state stimulus workers call }
+{}
+
+/// A run that is cut in pieces: what `run` writes of the first rows, joined line by line with what `resume` writes of the others
+/// from the state that `save` writes of the first, is what `run` writes of all. No board, plan or number of workers counts.
+pub fn pieces_join()
+    ensures { PiecesJoin }
+{
+    traces_join();
+}
 
 /// What each status of `emit` says of its files, where it is given a plan and where it makes one.
 pub fn emit_statuses()

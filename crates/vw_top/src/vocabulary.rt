@@ -10,6 +10,7 @@ use vw_course::{CommandFile, RefusalReason};
 use vw_emit::EmitFault;
 use vw_front::NetlistFault;
 use vw_plantext::PlanTextFault;
+use vw_resume::StateFault;
 use vw_rows::StimFault;
 use vw_run::CompileFault;
 
@@ -19,6 +20,7 @@ pub enum File {
     Design,
     Board,
     Plan,
+    State,
     Stimulus,
 }
 
@@ -32,6 +34,7 @@ impl CommandFile for File {
             File::Design => b"read fault: design\n",
             File::Board => b"read fault: board\n",
             File::Plan => b"read fault: plan\n",
+            File::State => b"read fault: state\n",
             File::Stimulus => b"read fault: stimulus\n",
         }
     }
@@ -57,6 +60,8 @@ pub enum Reason {
     Fit(CompileFault),
     /// The planned board isn't written, since it or its text is too large.
     Emit(EmitFault),
+    /// The state can't be gone on from, for this fault.
+    State(StateFault),
 }
 
 /// The message line for words that spell no command, the word at this place being the first wrong one.
@@ -87,6 +92,7 @@ impl RefusalReason for Reason {
             Reason::Stimulus(_) => 5,
             Reason::Fit(_) => 6,
             Reason::Emit(_) => 10,
+            Reason::State(_) => 11,
         }
     }
 
@@ -100,6 +106,7 @@ impl RefusalReason for Reason {
             Reason::Stimulus(fault) => fault.text(alloc),
             Reason::Fit(fault) => fault.text(alloc),
             Reason::Emit(fault) => fault.text(alloc),
+            Reason::State(fault) => fault.text(alloc),
         }
     }
 }

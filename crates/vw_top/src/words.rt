@@ -1,5 +1,5 @@
 ghost use Rattle.std.specs.Prelude.{◌≡◌, ◌≤◌, IfOk, length, map, option_and_then, option_map, take};
-ghost use Rattle.vw_top.specs.Words.{spelled_as, spelled_by, found_verb, sim_of, wave_of, grade_of, check_of, plan_of, run_of, emit_of, demo_of, cells_given};
+ghost use Rattle.vw_top.specs.Words.{spelled_as, spelled_by, found_verb, sim_of, wave_of, grade_of, check_of, plan_of, run_of, save_of, resume_of, emit_of, demo_of, cells_given};
 ghost use Rattle.vw_top.specs.declared.forms.TheConstants.{MOST_PROBES};
 ghost use Rattle.vw_top.specs.Steps.Commands.{command_form, command_view};
 
@@ -71,6 +71,30 @@ pub enum Command<'a> {
         /// The nets that are watched.
         probes: Names<'a>,
     },
+    /// Runs a design on a board over a stimulus, and writes the state that it comes to.
+    Save {
+        design: &'a Name,
+        board: &'a Name,
+        stimulus: &'a Name,
+        /// The name of the plan, where one is given.
+        plan: Option<&'a [u8]>,
+        /// How many workers run the nodes of the board.
+        workers: u64,
+        /// The value that free latches start at.
+        unknown: bool,
+    },
+    /// Runs a design on a board over a stimulus from a state on, and writes its trace. Each latch starts as the state has
+    /// it.
+    Resume {
+        design: &'a Name,
+        board: &'a Name,
+        state: &'a Name,
+        stimulus: &'a Name,
+        /// The name of the plan, where one is given.
+        plan: Option<&'a [u8]>,
+        /// How many workers run the nodes of the board.
+        workers: u64,
+    },
     /// Writes a planned board as a design.
     Emit {
         design: &'a Name,
@@ -96,13 +120,13 @@ impl<'a> Command<'a> {
     ghost use Rattle.vw_top.specs.Steps.Commands.{command_view};
     ghost use Rattle.vw_top.specs.Words.{needs_runtime};
 
-    /// Whether it needs a runtime: what runs a board with several workers does, and each grading.
+    /// Whether it needs a runtime: what runs a board with several workers does, and each grading, saving and resumption.
     pub fn needs_runtime(&self) -> bool
         ensures { result ≡ needs_runtime (command_view self.now) }
     {
         match self {
             Command::Run { workers, .. } | Command::Demo { workers, .. } => *workers > 1,
-            Command::Grade { .. } => true,
+            Command::Grade { .. } | Command::Save { .. } | Command::Resume { .. } => true,
             Command::Sim { .. }
             | Command::Wave { .. }
             | Command::Check { .. }
@@ -207,6 +231,40 @@ fn run_of(words: &[Name]) -> Option<Command<'_>>
     }
 }
 
+/// The command that words of the form of `save` spell.
+fn save_of(words: &[Name]) -> Option<Command<'_>>
+    ensures { option_map command_view result ≡ save_of words.now }
+{
+    match words {
+        [_, design, board, stimulus, settings @ ..] => Some(Command::Save {
+            design,
+            board,
+            stimulus,
+            plan: PLAN.name(settings),
+            workers: WORKERS.number(settings, DEFAULT_WORKERS),
+            unknown: UNKNOWN.bit(settings, false),
+        }),
+        _ => None,
+    }
+}
+
+/// The command that words of the form of `resume` spell. The setting `unknown` has no effect.
+fn resume_of(words: &[Name]) -> Option<Command<'_>>
+    ensures { option_map command_view result ≡ resume_of words.now }
+{
+    match words {
+        [_, design, board, state, stimulus, settings @ ..] => Some(Command::Resume {
+            design,
+            board,
+            state,
+            stimulus,
+            plan: PLAN.name(settings),
+            workers: WORKERS.number(settings, DEFAULT_WORKERS),
+        }),
+        _ => None,
+    }
+}
+
 /// The command that words of the form of `emit` spell.
 fn emit_of(words: &[Name]) -> Option<Command<'_>>
     ensures { option_map command_view result ≡ emit_of words.now }
@@ -254,6 +312,8 @@ fn spelled_as(verb: Verb, words: &[Name]) -> Option<Command<'_>>
         Verb::Check => check_of(words),
         Verb::Plan => plan_of(words),
         Verb::Run => run_of(words),
+        Verb::Save => save_of(words),
+        Verb::Resume => resume_of(words),
         Verb::Emit => emit_of(words),
         Verb::Demo => demo_of(words),
         Verb::Help => Some(Command::Help),

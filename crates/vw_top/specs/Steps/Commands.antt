@@ -2,7 +2,7 @@
 use Rattle.std.specs.Prelude.{take}
 use Rattle.std.specs.Option.{option_copied}
 use Rattle.vw_top.specs.declared.words.Command.{Command}
-use Rattle.vw_top.specs.declared.words.Command.TheVariants.{Sim, Wave, Grade, Check, Plan, Run, Emit, Demo, Help, Version, Nothing}
+use Rattle.vw_top.specs.declared.words.Command.TheVariants.{Sim, Wave, Grade, Check, Plan, Run, Save, Resume, Emit, Demo, Help, Version, Nothing}
 use Rattle.vw_top.specs.declared.forms.TheConstants.{MOST_PROBES}
 use Rattle.vw_words.specs.declared.forms.Entry.{Entry}
 use Rattle.vw_words.specs.Views.{form_view}
@@ -19,6 +19,10 @@ command_view (Plan design board probes) = words.plan design.now board.now (take 
 command_view (Run design board stimulus plan workers unknown probes) =
     words.run design.now board.now stimulus.now (option_copied plan) workers unknown (take MOST_PROBES probes)
 command_view (Demo size workers) = words.demo size.cells workers
+command_view (Save design board stimulus plan workers unknown) =
+    words.save design.now board.now stimulus.now (option_copied plan) workers unknown
+command_view (Resume design board state stimulus plan workers) =
+    words.resume design.now board.now state.now stimulus.now (option_copied plan) workers
 command_view (Emit design board plan) = words.emit design.now board.now (option_copied plan)
 command_view Help = words.help
 command_view Version = words.version

@@ -1,5 +1,5 @@
 -- What the stages of commands make.
-use Rattle.std.specs.Prelude.{◌≡◌, ℕ, List, Option, IsTrue, Result, Ok, Err}
+use Rattle.std.specs.Prelude.{◌≡◌, ◌+◌, ◌≤◌, ◌<◌, ℕ, List, Option, IsTrue, Result, Ok, Err}
 use Rattle.vw_net.specs.declared.ordered.Ordered.{Ordered}
 use Rattle.vw_design.specs.Paths.{Word}
 use Rattle.vw_outside.specs.Told.{Told, IsTextOf}
@@ -15,6 +15,8 @@ use Rattle.vw_plan.specs.PlannedBoard.{PlannedBoard}
 use Rattle.vw_plan.specs.Sound.{IsSound}
 use Rattle.std.specs.Global.{Vec}
 use Rattle.vw_emit.specs.Emitted.{FitsDesigns, emitted_text}
+use Rattle.vw_resume.specs.declared.fault.StateFault.TheVariants.{TooManyClocks}
+use Rattle.vw_rows.specs.declared.limits.TheConstants.{MOST_CLOCKS}
 use Rattle.vw_trace.specs.declared.fault.RunFault.{RunFault}
 use Rattle.vw_trace.specs.declared.fault.RunFault.TheVariants as runs
 use Rattle.vw_top.specs.declared.vocabulary.File.{File}
@@ -50,6 +52,12 @@ run_answer (Err runs.ReadFault) = Err (ReadFault files.Stimulus)
 run_answer (Err runs.WriteFault) = Err WriteFault
 run_answer (Err (runs.Stimulus fault)) = Err (Refused (reasons.Stimulus fault))
 run_answer (Err runs.NoMemory) = Err NoMemory
+
+-- so many clocks can follow those before a state, or they are too many together
+abbrev pub EndsClocks : ℕ → ℕ → Result (Unit {0}) (Unfinished File Reason) → Type 0
+EndsClocks before clocks (Ok done) = before + clocks ≤ MOST_CLOCKS
+EndsClocks before clocks (Err unfinished) =
+    (unfinished ≡ Refused (reasons.State (TooManyClocks (before + clocks)))) × (MOST_CLOCKS < before + clocks)
 
 -- ---- a planned board that is ready to run
 

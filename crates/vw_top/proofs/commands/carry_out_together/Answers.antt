@@ -10,27 +10,43 @@ use Rattle.vw_top.specs.Words as words
 use Rattle.vw_top.proofs.commands.carry_out_together.Goals as goal
 
 -- the words spell this demo
-pub returns-in-Demo : goal.returns-in-Demo
-returns-in-Demo g c =
+pub returns-in-Demo-clause-goes : goal.returns-in-Demo-clause-goes
+returns-in-Demo-clause-goes g c =
     let is : command_view c.args.command ≡ words.demo c.in-Demo.size.cells c.in-Demo.workers = ap command_view c.in-Demo.is in
-    subst (λ (spelled : Spelled). GoesOver g.S.Shelf.seen g.O.Sink.seen vocabulary (MovedFrom (g.F.Fabric.carried c.args.fabric.now) (g.F.Fabric.carried c.demo_by_several.new.fabric)) (course_of spelled) c.args.outside.now c.demo_by_several.new.outside c.demo_by_several.result) (sym is)
-    c.demo_by_several.ensures
+    subst (λ (spelled : Spelled). GoesOver g.S.Shelf.seen g.O.Sink.seen vocabulary (MovedFrom (g.F.Fabric.carried c.args.hands.now.fabric.now) (g.F.Fabric.carried c.demo_by_several.new.hands.fabric.now)) (course_of spelled) c.args.outside.now c.demo_by_several.new.outside c.demo_by_several.result) (sym is)
+    c.demo_by_several.ensures.goes
 
 -- and this grading, which moves no link
-pub returns-in-Grade : goal.returns-in-Grade
-returns-in-Grade g c =
+pub returns-in-Grade-clause-goes : goal.returns-in-Grade-clause-goes
+returns-in-Grade-clause-goes g c =
     let graded = c.in-Grade in
     let is : command_view c.args.command ≡ words.grade graded.design.now graded.stimulus.now graded.workers graded.unknown = ap command_view graded.is in
     let goes = c.grade.ensures in
-    subst (λ (spelled : Spelled). GoesOver g.S.Shelf.seen g.O.Sink.seen vocabulary (MovedFrom (g.F.Fabric.carried c.args.fabric.now) (g.F.Fabric.carried c.args.fabric.now)) (course_of spelled) c.args.outside.now c.grade.new.outside c.grade.result) (sym is)
+    subst (λ (spelled : Spelled). GoesOver g.S.Shelf.seen g.O.Sink.seen vocabulary (MovedFrom (g.F.Fabric.carried c.args.hands.now.fabric.now) (g.F.Fabric.carried c.args.hands.now.fabric.now)) (course_of spelled) c.args.outside.now c.grade.new.outside c.grade.result) (sym is)
     (record { same = goes.same; leads = record { follows = λ links links_after moved. goes.leads.follows links links_after (moved.1 ∙ sym moved.0) } })
 
 -- and this run, with the nets that the words watch
-pub returns-in_ok-probes-in-Run : goal.returns-in_ok-probes-in-Run
-returns-in_ok-probes-in-Run g c =
+pub returns-in_ok-probes-in-Run-clause-goes : goal.returns-in_ok-probes-in-Run-clause-goes
+returns-in_ok-probes-in-Run-clause-goes g c =
     let run = c.in-Run in
     let probes : c.deref.result.now ≡ take MOST_PROBES run.probes = c.deref.ensures.value ∙ c.in_ok-probes-in-Run.ensures.values in
     let spells = λ (watched : List (List ℕ)). words.run run.design.now run.board.now run.stimulus.now (option_copied run.plan) run.workers run.unknown watched in
     let is : command_view c.args.command ≡ spells (take MOST_PROBES run.probes) = ap command_view run.is in
-    subst (λ (spelled : Spelled). GoesOver g.S.Shelf.seen g.O.Sink.seen vocabulary (MovedFrom (g.F.Fabric.carried c.args.fabric.now) (g.F.Fabric.carried c.run_by_several.new.fabric)) (course_of spelled) c.args.outside.now c.run_by_several.new.outside c.run_by_several.result) (sym (is ∙ ap spells (sym probes)))
-    c.run_by_several.ensures
+    subst (λ (spelled : Spelled). GoesOver g.S.Shelf.seen g.O.Sink.seen vocabulary (MovedFrom (g.F.Fabric.carried c.args.hands.now.fabric.now) (g.F.Fabric.carried c.run_by_several.new.hands.fabric.now)) (course_of spelled) c.args.outside.now c.run_by_several.new.outside c.run_by_several.result) (sym (is ∙ ap spells (sym probes)))
+    c.run_by_several.ensures.goes
+
+-- and this saving
+pub returns-in-Save-clause-goes : goal.returns-in-Save-clause-goes
+returns-in-Save-clause-goes g c =
+    let its = c.in-Save in
+    let is : command_view c.args.command ≡ words.save its.design.now its.board.now its.stimulus.now (option_copied its.plan) its.workers its.unknown = ap command_view its.is in
+    subst (λ (spelled : Spelled). GoesOver g.S.Shelf.seen g.O.Sink.seen vocabulary (MovedFrom (g.F.Fabric.carried c.args.hands.now.fabric.now) (g.F.Fabric.carried c.save.new.hands.fabric.now)) (course_of spelled) c.args.outside.now c.save.new.outside c.save.result) (sym is)
+    c.save.ensures.goes
+
+-- and this resumption
+pub returns-in-Resume-clause-goes : goal.returns-in-Resume-clause-goes
+returns-in-Resume-clause-goes g c =
+    let its = c.in-Resume in
+    let is : command_view c.args.command ≡ words.resume its.design.now its.board.now its.state.now its.stimulus.now (option_copied its.plan) its.workers = ap command_view its.is in
+    subst (λ (spelled : Spelled). GoesOver g.S.Shelf.seen g.O.Sink.seen vocabulary (MovedFrom (g.F.Fabric.carried c.args.hands.now.fabric.now) (g.F.Fabric.carried c.resume.new.hands.fabric.now)) (course_of spelled) c.args.outside.now c.resume.new.outside c.resume.result) (sym is)
+    c.resume.ensures.goes

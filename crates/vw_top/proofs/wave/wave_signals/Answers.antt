@@ -5,7 +5,7 @@ use Rattle.vw_course.proofs.GoesLaws.{unmoved_still}
 use Rattle.vw_design.specs.Paths.{Word}
 use Rattle.vw_front.specs.Names.{signal_names}
 use Rattle.vw_top.specs.Messages.{vocabulary}
-use Rattle.vw_top.specs.Commands.{netlist_course, netlist_wave, no_links, wave_of}
+use Rattle.vw_top.specs.Commands.{netlist_course, netlist_wave, no_links, wave_of, no_check}
 use Rattle.vw_top.proofs.FlatTraces.{wave_same}
 use Rattle.vw_top.proofs.StreamedTraces.{goes_unchecked, goes_of_design}
 use Rattle.vw_top.proofs.wave.wave_signals.Goals as goal
@@ -19,7 +19,7 @@ pub returns-in_err-names : goal.returns-in_err-names
 returns-in_err-names g c = λ text is.
     let p = err_from_is_err_and c.from_residual.result c.from_residual.ensures.1 in
     rw (p.1, p.2)
-    (goes_unchecked g.S.Shelf.seen g.O.Sink.seen Unmoved c.args.stimulus.now _ (wave_of c.args.probes.nets.now c.args.unknown is.watched) no_links c.args.outside.now _ (record { shelf = refl; out = refl }) refl
+    (goes_unchecked g.S.Shelf.seen g.O.Sink.seen Unmoved c.args.stimulus.now _ no_check (wave_of c.args.probes.nets.now c.args.unknown is.watched) no_links c.args.outside.now _ (record { shelf = refl; out = refl }) refl
     (unmoved_still vocabulary) _ refl)
 
 pub returns : goal.returns

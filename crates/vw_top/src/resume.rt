@@ -1,0 +1,147 @@
+//! The command `resume`.
+ghost use Rattle.std.specs.Option.{option_copied};
+ghost use Rattle.std.specs.Prelude.{◌≡◌, ◌≤◌, length};
+ghost use Rattle.vw_course.specs.Goes.{GoesOver, MovedFrom};
+ghost use Rattle.vw_course.specs.Stages.{EndsJudging};
+ghost use Rattle.vw_net.specs.Cells.{latch_count};
+ghost use Rattle.vw_plan.specs.PlannedBoard.{planned_board};
+ghost use Rattle.vw_resume.specs.Resumed.{without_state};
+ghost use Rattle.vw_rows.specs.declared.limits.TheConstants.{MOST_CLOCKS};
+ghost use Rattle.vw_top.specs.Commands.{ready_course, resume_rest, state_course};
+ghost use Rattle.vw_top.specs.Messages.{vocabulary};
+ghost use Rattle.vw_top.specs.Steps.Stages.{EndsClocks, run_answer};
+
+use crate::board_files::BoardFiles;
+use crate::files::{check_rows, read_state, run_answer};
+use crate::hands::Hands;
+use crate::ready::ready_board;
+use crate::vocabulary::{Reason, Unfinished};
+use std::alloc::Global;
+use std::marker::Sync;
+use std::sync::Wait;
+use std::thread::Threads;
+use vw_course::Outside;
+use vw_net::Cell;
+use vw_outside::{BurstGate, Name, Shelf, Sink};
+use vw_plan::Checked;
+use vw_prog::Fabric;
+use vw_resume::{ResumeFault, State, StateFault, run_from};
+use vw_rows::MOST_CLOCKS;
+
+/// The number of latches among cells.
+fn latch_count(cells: &[Cell]) -> u32
+    requires { length cells.now ≤ 65536 }
+    ensures { result ≡ latch_count cells.now }
+{
+    let mut count = 0;
+    for cell in cells {
+        if let Cell::Latch { .. } = cell {
+            count += 1;
+        }
+    }
+    count
+}
+
+/// Whether so many clocks can follow those before a state: a trace numbers no more than 4,294,967,295.
+fn clocks_fit(before: u64, clocks: u64) -> Result<(), Unfinished>
+    requires before { before ≤ MOST_CLOCKS }
+    requires clocks { clocks ≤ MOST_CLOCKS }
+    ensures { EndsClocks before clocks result }
+{
+    let all = before + clocks;
+    if all > MOST_CLOCKS {
+        return Err(Unfinished::Refused(Reason::State(StateFault::TooManyClocks(all))));
+    }
+    Ok(())
+}
+
+/// The answer of a command that ran on to a state, or that stopped while it did.
+fn state_answer(ran: Result<State, ResumeFault>) -> Result<(), Unfinished>
+    ensures { result ≡ run_answer (without_state ran) }
+{
+    match ran {
+        Ok(_) => Ok(()),
+        Err(fault) => run_answer(Err(fault)),
+    }
+}
+
+/// Checks the stimulus, and that its clocks can follow those of the state. Then it runs a planned design over it from the
+/// state on, as it is read again, and writes the trace. At most 64 workers run it, and at least one does.
+fn resume_state<R: Threads + Wait + Sync, S: Shelf, F: Fabric, G: BurstGate, O: Sink>(
+    alloc: Global,
+    checked: Checked,
+    state: State,
+    stimulus: &Name,
+    workers: u64,
+    hands: &mut Hands<'_, '_, '_, R, F, G>,
+    outside: &mut Outside<'_, '_, S, O>,
+) -> Result<(), Unfinished>
+    requires few { state.clock ≤ MOST_CLOCKS }
+    requires latches { length state.latches ≡ latch_count checked.ordered.flat.cells }
+    ensures fabric { hands.new.fabric.ghost_name ≡ hands.old.fabric.ghost_name }
+    ensures goes { GoesOver S.seen O.seen vocabulary
+        (MovedFrom (F.carried hands.old.fabric.now) (F.carried hands.new.fabric.now))
+        (state_course stimulus.now workers
+        (planned_board checked.ordered checked.board checked.plan) state)
+        outside.old outside.new result }
+{
+    let mut rows = check_rows(alloc, outside.shelf, stimulus, &checked.ordered)?;
+    clocks_fit(state.clock, rows.clocks())?;
+    let workers = workers.min(64).max(1) as u32;
+    let ran = run_from(
+        hands.rt,
+        alloc,
+        checked,
+        state,
+        workers,
+        &mut rows,
+        outside.shelf,
+        hands.fabric,
+        hands.gate,
+        outside.out,
+    );
+    state_answer(ran)
+}
+
+/// Reads the state of a planned design, and goes on from it.
+fn resume_checked<R: Threads + Wait + Sync, S: Shelf, F: Fabric, G: BurstGate, O: Sink>(
+    alloc: Global,
+    checked: Checked,
+    state: &Name,
+    stimulus: &Name,
+    workers: u64,
+    hands: &mut Hands<'_, '_, '_, R, F, G>,
+    outside: &mut Outside<'_, '_, S, O>,
+) -> Result<(), Unfinished>
+    ensures fabric { hands.new.fabric.ghost_name ≡ hands.old.fabric.ghost_name }
+    ensures goes { GoesOver S.seen O.seen vocabulary
+        (MovedFrom (F.carried hands.old.fabric.now) (F.carried hands.new.fabric.now))
+        (resume_rest state.now stimulus.now workers checked.ordered checked.board checked.plan)
+        outside.old outside.new result }
+{
+    let latches = latch_count(checked.ordered().flat().cells());
+    let state = read_state(alloc, outside.shelf, state, latches)?;
+    resume_state(alloc, checked, state, stimulus, workers, hands, outside)
+}
+
+/// Runs a design on a board over a stimulus from a state on, by the plan that is given or by one that is made, and writes
+/// its trace, whose clocks are numbered from the state's clock on.
+pub fn resume<R: Threads + Wait + Sync, S: Shelf, F: Fabric, G: BurstGate, O: Sink>(
+    alloc: Global,
+    files: &BoardFiles<'_, '_, '_, '_>,
+    state: &Name,
+    stimulus: &Name,
+    workers: u64,
+    hands: &mut Hands<'_, '_, '_, R, F, G>,
+    outside: &mut Outside<'_, '_, S, O>,
+) -> Result<(), Unfinished>
+    ensures fabric { hands.new.fabric.ghost_name ≡ hands.old.fabric.ghost_name }
+    ensures goes { GoesOver S.seen O.seen vocabulary
+        (MovedFrom (F.carried hands.old.fabric.now) (F.carried hands.new.fabric.now))
+        (ready_course files.now.probes.nets.now files.now.design.now files.now.board.now
+        (option_copied files.now.plan) (resume_rest state.now stimulus.now workers))
+        outside.old outside.new result }
+{
+    let checked = ready_board(alloc, files, outside.shelf)?;
+    resume_checked(alloc, checked, state, stimulus, workers, hands, outside)
+}
