@@ -1,5 +1,5 @@
 -- Truth tables by halves, over the last input.
-use Rattle.std.proofs.Common.{◌≡◌, ◌≤◌, ◌+◌, ◌*◌, ◌/◌, ◌%◌, ◌^◌, ◌==◌, ◌++◌, ◌∙◌, ℕ, zero, suc, Bool, true, false, List, [], ◌∷◌, length, map, drop, get_or, bit_and, if◌then◌else◌, ap, ap₂, sym, refl, arith}
+use Rattle.std.proofs.Common.{◌≡◌, ◌≤◌, ◌+◌, ◌*◌, ◌/◌, ◌%◌, ◌^◌, ◌==◌, ◌++◌, ◌∙◌, ℕ, zero, suc, Bool, true, false, List, [], ◌∷◌, length, map, drop, get_or, bit_and, bit_xor, not, ◌-◌, ◌<◌, if◌then◌else◌, ap, ap₂, sym, refl, eq-eqb, ne_eqb, arith}
 use Rattle.std.proofs.Math.Nat.{pow-suc}
 use Rattle.std.proofs.lemmas.Nat.{shr-shr}
 use Rattle.std.proofs.lemmas.Nat.Bits.{bit_at_lowest, shr_and_one}
@@ -8,6 +8,7 @@ use Rattle.vw_net.specs.Table.{Table}
 use Rattle.vw_net.specs.Cover.{cover_value}
 use Rattle.vw_net.specs.TruthTable.{bit_of, place_of, truth_table}
 use Rattle.vw_net.proofs.TruthTables.{truth_table_agrees}
+use Rattle.vw_fault.proofs.Lanes.{lane_none, lane_not, lane_ones}
 
 -- bits from one on
 bit_of-further : (table from place : ℕ) → bit_of (table / 2 ^ from) place ≡ bit_of table (from + place)
@@ -34,6 +35,42 @@ one_more_input table bits last chosen high low is is_high is_low = is ∙ ap₂ 
 -- its lowest bit
 pub lowest : (table : ℕ) → bit_of table 0 ≡ (table % 2 == 1)
 lowest table = ap (λ (n : ℕ). n == 1) (shr_and_one table 0 ∙ bit_at_lowest table)
+
+-- a choice between two that are known
+chosen_as : (by high low one other chosen : Bool) → high ≡ one → low ≡ other → chosen ≡ (if by then one else other) → chosen ≡ (if by then high else low)
+chosen_as by high low one other chosen is_high is_low is = is ∙ sym (ap₂ (λ (x y : Bool). if by then x else y) is_high is_low)
+
+always : (by value : Bool) → value ≡ (if by then value else value)
+always true value = refl
+always false value = refl
+
+turned : (by : Bool) → not by ≡ (if by then false else true)
+turned true = refl
+turned false = refl
+
+itself : (by : Bool) → by ≡ (if by then true else false)
+itself true = refl
+itself false = refl
+
+-- the four tables of one input, by their numbers
+abbrev pub tables_over : ℕ → List ℕ
+tables_over word = 0 ∷ bit_xor word (2 ^ 64 - 1) ∷ word ∷ (2 ^ 64 - 1) ∷ []
+
+-- so the two lowest bits of a table say which of them it is of its first input
+pub one_input : (table word result default lane : ℕ) → lane < 64 → result ≡ get_or (tables_over word) (table % 4) default → bit_of result lane ≡ bit_of table (place_of (bit_of word lane ∷ []))
+one_input table word result default lane low is = one_more_input table [] (bit_of word lane) (bit_of result lane) high_bit low_bit (ap (λ (n : ℕ). bit_of n lane) is ∙ by (table % 4) refl) (sym (lowest (table / 2 ^ 2 ^ 0))) (sym (lowest table)) where
+  high_bit : Bool
+  high_bit = (table / 2 ^ 2 ^ 0) % 2 == 1
+
+  low_bit : Bool
+  low_bit = table % 2 == 1
+
+  by : (rest : ℕ) → table % 4 ≡ rest → bit_of (get_or (tables_over word) rest default) lane ≡ (if bit_of word lane then high_bit else low_bit)
+  by zero four = chosen_as (bit_of word lane) high_bit low_bit false false _ (ne_eqb _ _ (omega (arith, four))) (ne_eqb _ _ (omega (arith, four))) (lane_none lane ∙ always (bit_of word lane) false)
+  by (suc zero) four = chosen_as (bit_of word lane) high_bit low_bit false true _ (ne_eqb _ _ (omega (arith, four))) (eq-eqb _ _ (omega (arith, four))) (lane_not word lane low ∙ turned (bit_of word lane))
+  by (suc (suc zero)) four = chosen_as (bit_of word lane) high_bit low_bit true false _ (eq-eqb _ _ (omega (arith, four))) (ne_eqb _ _ (omega (arith, four))) (itself (bit_of word lane))
+  by (suc (suc (suc zero))) four = chosen_as (bit_of word lane) high_bit low_bit true true _ (eq-eqb _ _ (omega (arith, four))) (eq-eqb _ _ (omega (arith, four))) (lane_ones lane low ∙ always (bit_of word lane) true)
+  by (suc (suc (suc (suc rest)))) four = absurd (omega (arith, four))
 
 -- so many elements of a list, from a place on
 abbrev pub elements : ℕ → ℕ → List ℕ → List ℕ

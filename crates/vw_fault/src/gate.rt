@@ -7,7 +7,7 @@ ghost use Rattle.vw_net.specs.Mark.{mark_matches, row_matches};
 ghost use Rattle.vw_net.specs.TruthTable.{bit_of};
 ghost use Rattle.vw_fault.specs.Steps.Lanes.{bits_at};
 
-use crate::table::{of_five, of_four, of_none, of_one, of_six, of_three, of_two};
+use crate::table::{First, of_five, of_four, of_none, of_six, of_three, of_two};
 use crate::words::Words;
 use vw_net::{Cover, Mark};
 
@@ -21,24 +21,28 @@ pub fn gate_word(cover: &Cover, ins: &[u32], words: &Words) -> u64
     let table = cover.truth_table();
     match ins {
         [] => of_none(table),
-        [a] => of_one(table, words.get(*a as usize)),
-        [a, b] => of_two(table, words.get(*a as usize), words.get(*b as usize)),
+        [a] => First::of(words.get(*a as usize)).value(table),
+        [a, b] => of_two(
+            table,
+            &First::of(words.get(*a as usize)),
+            words.get(*b as usize),
+        ),
         [a, b, c] => of_three(
             table,
-            words.get(*a as usize),
+            &First::of(words.get(*a as usize)),
             words.get(*b as usize),
             words.get(*c as usize),
         ),
         [a, b, c, d] => of_four(
             table,
-            words.get(*a as usize),
+            &First::of(words.get(*a as usize)),
             words.get(*b as usize),
             words.get(*c as usize),
             words.get(*d as usize),
         ),
         [a, b, c, d, e] => of_five(
             table,
-            words.get(*a as usize),
+            &First::of(words.get(*a as usize)),
             words.get(*b as usize),
             words.get(*c as usize),
             words.get(*d as usize),
@@ -46,7 +50,7 @@ pub fn gate_word(cover: &Cover, ins: &[u32], words: &Words) -> u64
         ),
         [a, b, c, d, e, f] => of_six(
             table,
-            words.get(*a as usize),
+            &First::of(words.get(*a as usize)),
             words.get(*b as usize),
             words.get(*c as usize),
             words.get(*d as usize),

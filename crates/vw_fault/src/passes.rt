@@ -17,11 +17,13 @@ use std::marker::Sync;
 use std::thread::Threads;
 use vw_net::{Bits, Ordered, Rows};
 
-/// So many rows are run first, and each time four times as many for the faults that are left.
+/// So many rows are run first, and each time four times as many for the faults that are left, up to a quarter of all
+/// rows. So a fault that no row reveals costs at most 4/3 of a run of all rows.
 const FIRST_ROWS: usize = 16;
 
-/// The stuck nets that the rows don't reveal, by net and then bit 0 before bit 1. Faults are run 64 at a time, by so many workers
-/// at most. It takes 24 bytes a net and 8 a latch for each worker, 8 bytes a fault, and a byte for each output of each clock.
+/// The stuck nets that the rows don't reveal, by net and then bit 0 before bit 1. Faults are run 64 at a time, by so many
+/// workers at most. It takes 24 bytes a net and 8 a latch for each worker, 8 bytes a fault, and a byte for each output of
+/// each clock.
 pub fn grade<R: Threads + Sync>(
     rt: &R,
     alloc: Global,
@@ -92,7 +94,7 @@ fn open_in_passes<R: Threads + Sync>(
 {
     let mut left = faults;
     let mut count = FIRST_ROWS;
-    while count < grading.rows.len() {
+    while count <= grading.rows.len() / 4 {
         left = open_among(rt, alloc, &first_rows(grading, count), &left, workers)?;
         count = count.saturating_mul(4);
     }

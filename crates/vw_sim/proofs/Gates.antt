@@ -1,17 +1,15 @@
 -- Values of nets as gates are worked out, one after the other.
-use Rattle.std.proofs.Common.{◌≡◌, ◌≤◌, ◌<◌, ◌+◌, ℕ, Bool, true, false, List, length, take, map, get_or, set, slice_get, slice_index_or, Option, Some, ap, ap₂, sym, refl, ◌∙◌, ⊎_elim, All, arith}
+use Rattle.std.proofs.Common.{◌≡◌, ◌≤◌, ◌<◌, ◌+◌, ℕ, Bool, true, false, List, length, take, map, get_or, set, slice_get, slice_index_or, Some, ap, sym, ◌∙◌, ⊎_elim, All, arith}
 use Rattle.std.proofs.lemmas.Bool.{cases_eq}
-use Rattle.std.specs.List.{list_all}
 use Rattle.std.proofs.lemmas.Grind.{get_or-set_at}
 use Rattle.std.proofs.lemmas.List.{get_or-set_other}
 use Rattle.std.proofs.lemmas.List.Elements.{All-weaker}
-use Rattle.std.proofs.lemmas.List.Sums.{AllPass-from_list_all}
-use Rattle.std.proofs.lemmas.Option.{slice_get_within, slice_get_read}
+use Rattle.std.proofs.lemmas.Option.{slice_get_within}
 use Rattle.vw_net.specs.declared.cell.Cell.{Cell}
 use Rattle.vw_net.specs.declared.cell.Cell.TheVariants.{Gate}
 use Rattle.vw_net.specs.declared.cover.Cover.{Cover}
 use Rattle.vw_net.specs.Cover.{cover_value}
-use Rattle.vw_net.specs.Order.{IsOrder, is_ready, read_nets_at}
+use Rattle.vw_net.specs.Order.{IsOrder, is_ready}
 use Rattle.vw_net.proofs.ReadyNets.{ready_before, reads_ready}
 use Rattle.vw_net.proofs.DrivenValues.{map_agree}
 

@@ -1,6 +1,8 @@
 pub mod Latches
 pub mod Gates
 pub mod Values
-pub mod Simulators
+pub mod KeptGates
+pub mod WideGates
+pub mod Runs
 pub mod LatchNets
 pub mod Starts

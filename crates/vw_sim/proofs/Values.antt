@@ -1,15 +1,11 @@
 -- Values of nets that no gate drives.
-use Rattle.std.proofs.Common.{◌≡◌, ◌<◌, ◌+◌, ◌-◌, ◌||◌, not, ℕ, suc, Bool, true, false, List, [], ◌∷◌, length, take, map, slice_get, slice_index_or, nat_lt, Option, Some, None, ap, sym, refl, ◌∙◌, ⊎_elim, true≢false, le-ltb, add-one, All, arith}
+use Rattle.std.proofs.Common.{◌≡◌, ◌<◌, ◌+◌, ◌-◌, ◌||◌, not, ℕ, Bool, true, false, List, [], length, take, slice_get, slice_index_or, nat_lt, ap, sym, ◌∙◌, ⊎_elim, arith}
 use Rattle.std.proofs.Math.Bool.{or-false}
 use Rattle.std.proofs.lemmas.Bool.{cases_Bool, or_left, ltb-true, ltb-false}
-use Rattle.std.proofs.lemmas.List.Elements.{All-cons, All-head, All-nil, All-tail, All-weaker}
-use Rattle.vw_net.specs.declared.cell.Cell.{Cell}
-use Rattle.vw_net.specs.declared.cell.Cell.TheVariants.{Gate, Latch}
 use Rattle.vw_net.specs.declared.flat.Flat.{Flat}
-use Rattle.vw_net.specs.Cells.{IsWellFormed, latch_count, latch_inputs}
-use Rattle.vw_net.specs.History.{next_state}
+use Rattle.vw_net.specs.Cells.{latch_count}
 use Rattle.vw_net.specs.Order.{is_latch, is_ready}
-use Rattle.vw_net.specs.Value.{driven_value, level_value, net_value}
+use Rattle.vw_net.specs.Value.{net_value}
 use Rattle.vw_net.proofs.Levels.{net_value-input, net_value-latch}
 
 module _ (flat : Flat) (row state : List Bool) where

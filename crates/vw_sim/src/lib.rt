@@ -2,7 +2,9 @@
 #![tactic(auto)]
 
 mod clock;
+mod kept;
 mod simulator;
+mod tables;
 
 pub use clock::step;
 pub use simulator::Simulator;

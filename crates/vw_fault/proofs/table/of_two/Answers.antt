@@ -5,4 +5,4 @@ use Rattle.vw_fault.proofs.table.of_two.Goals as goal
 
 -- the upper half of the table where the last input is 1, and the lower half where it is 0
 pub returns : goal.returns
-returns c = λ lane low. one_more_input c.args.table (bit_of c.args.a lane ∷ []) (bit_of c.args.b lane) _ _ _ (c.chosen.ensures lane) (c.of_one.ensures lane low) (c.of_one-2.ensures lane low)
+returns c = λ lane low. one_more_input c.args.table (bit_of c.args.a.now.word lane ∷ []) (bit_of c.args.b lane) _ _ _ (c.chosen.ensures lane) (c.value.ensures lane low) (c.value-2.ensures lane low)

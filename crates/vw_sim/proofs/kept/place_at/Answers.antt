@@ -1,7 +1,7 @@
 use Rattle.std.proofs.Common.{ℕ, false, get_or, arith}
 use Rattle.vw_net.proofs.Places.{byte-le}
-use Rattle.vw_sim.proofs.Simulators.{rest_place-below}
-use Rattle.vw_sim.proofs.simulator.place_at.Goals as goal
+use Rattle.vw_sim.proofs.KeptGates.{rest_place-below}
+use Rattle.vw_sim.proofs.kept.place_at.Goals as goal
 
 -- a place is below 64
 pub overflow_mul-place : goal.overflow_mul-place

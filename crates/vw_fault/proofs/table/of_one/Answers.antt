@@ -1,8 +1,0 @@
-use Rattle.std.proofs.Common.{[]}
-use Rattle.vw_net.specs.TruthTable.{bit_of}
-use Rattle.vw_fault.proofs.Tables.{one_more_input}
-use Rattle.vw_fault.proofs.table.of_one.Goals as goal
-
--- the upper half of the table where the last input is 1, and the lower half where it is 0
-pub returns : goal.returns
-returns c = λ lane low. one_more_input c.args.table ([]) (bit_of c.args.a lane) _ _ _ (c.chosen.ensures lane) (c.of_none.ensures lane low) (c.of_none-2.ensures lane low)
