@@ -1,7 +1,9 @@
 ghost use Rattle.std.specs.Prelude.{◌≡◌, ◌≤◌, IfOk, length, map, option_and_then, option_map, take};
 ghost use Rattle.vw_top.specs.Words.{spelled_as, spelled_by, found_verb, sim_of, wave_of, grade_of, check_of, plan_of, run_of, save_of, resume_of, emit_of, demo_of, cells_given};
+ghost use Rattle.vw_top.specs.Words.{plan_setting, probes_given, run as spelled_run, unknown_given, workers_given};
 ghost use Rattle.vw_top.specs.declared.forms.TheConstants.{MOST_PROBES};
 ghost use Rattle.vw_top.specs.Steps.Commands.{command_form, command_view};
+ghost use Rattle.vw_words.specs.Values.{name_given};
 
 use crate::forms::{
     COMMANDS, DEFAULT_WORKERS, MOST_CELLS, MOST_PROBES, PLAN, PROBE, UNKNOWN, Verb, WORKERS,
@@ -213,20 +215,36 @@ fn plan_of(words: &[Name]) -> Option<Command<'_>>
     }
 }
 
+/// A run over these files, with these settings.
+fn run_with<'a>(
+    design: &'a Name,
+    board: &'a Name,
+    stimulus: &'a Name,
+    settings: &'a [Name],
+) -> Command<'a>
+    ensures { command_view result ≡ spelled_run design.now board.now stimulus.now
+        (name_given plan_setting settings.now) (workers_given settings.now)
+        (unknown_given settings.now) (probes_given settings.now) }
+{
+    Command::Run {
+        design,
+        board,
+        stimulus,
+        plan: PLAN.name(settings),
+        workers: WORKERS.number(settings, DEFAULT_WORKERS),
+        unknown: UNKNOWN.bit(settings, false),
+        probes: PROBE.names(settings),
+    }
+}
+
 /// The command that words of the form of `run` spell.
 fn run_of(words: &[Name]) -> Option<Command<'_>>
     ensures { option_map command_view result ≡ run_of words.now }
 {
     match words {
-        [_, design, board, stimulus, settings @ ..] => Some(Command::Run {
-            design,
-            board,
-            stimulus,
-            plan: PLAN.name(settings),
-            workers: WORKERS.number(settings, DEFAULT_WORKERS),
-            unknown: UNKNOWN.bit(settings, false),
-            probes: PROBE.names(settings),
-        }),
+        [_, design, board, stimulus, settings @ ..] => {
+            Some(run_with(design, board, stimulus, settings))
+        }
         _ => None,
     }
 }
