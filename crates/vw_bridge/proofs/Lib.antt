@@ -1,0 +1,11 @@
+pub mod JoinedWords
+pub mod SameNames
+pub mod SameCells
+pub mod PlainModels
+pub mod Lists
+pub mod Blocks
+pub mod PinUsers
+pub mod ByPins
+pub mod SamePins
+pub mod SameNodes
+pub mod SameText

@@ -1,0 +1,20 @@
+//! Laws of the definitions, as contracts of functions that do nothing.
+ghost use Rattle.std.specs.Prelude.{◌≡◌, List, map};
+ghost use Rattle.vw_design.specs.declared.design.Design.{Design};
+ghost use Rattle.vw_blif.specs.Printed.{printed_by};
+ghost use Rattle.vw_blif.specs.Spelled.{spelled_model};
+ghost use Rattle.vw_plan.specs.PlannedBoard.{PlannedBoard};
+ghost use Rattle.vw_plan.specs.Sound.{IsSound};
+ghost use Rattle.vw_emit.specs.Emitted.{emitted_text};
+ghost use Rattle.vw_boardnames.specs.Boards.{IsBoardOf, board_models};
+ghost use Rattle.vw_bridge.specs.Numbered.{emitting, spelled_board, without_lines};
+
+/// The text of the emitted board of a sound plan is the board's models in print, each item on its line. These are the
+/// models of the board, whatever their lines; so a design that spells them is the emitted board.
+pub fn emitted_texts_are_printed()
+    ensures printed { (planned : PlannedBoard) → IsSound planned
+        → emitted_text planned ≡ printed_by emitting (spelled_board planned) }
+    ensures models { (planned : PlannedBoard) → map without_lines (spelled_board planned) ≡ board_models planned }
+    ensures boards { (planned : PlannedBoard) (board : Design)
+        → map spelled_model board.models ≡ spelled_board planned → IsBoardOf planned board }
+{}

@@ -1,0 +1,6 @@
+//! The text of an emitted board, as the models of the board in print.
+#![tactic(auto)]
+
+mod laws;
+
+pub use laws::emitted_texts_are_printed;
