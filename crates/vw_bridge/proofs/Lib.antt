@@ -9,3 +9,7 @@ pub mod ByPins
 pub mod SamePins
 pub mod SameNodes
 pub mod SameText
+pub mod PlainWords
+pub mod PlainItems
+pub mod PlainBoards
+pub mod Totals

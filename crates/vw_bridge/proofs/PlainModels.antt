@@ -1,11 +1,12 @@
 -- The models of a board, whatever the lines on which their items stand.
-use Rattle.std.proofs.Common.{◌≡◌, ◌∙◌, ◌+◌, ℕ, List, [], ◌∷◌, length, map, ap, ap₂, refl, sym}
+use Rattle.std.proofs.Common.{◌≡◌, ◌∙◌, ◌+◌, ℕ, List, [], ◌∷◌, Result, Ok, Err, length, map, ap, ap₂, refl, sym}
 use Rattle.vw_design.specs.Paths.{Word}
 use Rattle.vw_design.specs.declared.design.Design.{Design}
 use Rattle.vw_design.specs.declared.item.Bind.{Bind}
 use Rattle.vw_design.specs.declared.item.Item.{Item}
 use Rattle.vw_design.specs.declared.item.Item.TheVariants.{Latch, Names, Sub}
 use Rattle.vw_design.specs.declared.model.Model.{Model}
+use Rattle.vw_blif.specs.declared.fault.TextFault.{TextFault}
 use Rattle.vw_blif.specs.Printed.{head_lines, item_lines, model_lines}
 use Rattle.vw_blif.specs.Spelled.{SpelledItem, SpelledModel, spelled_bind, spelled_item, spelled_model}
 use Rattle.vw_plan.specs.PlannedBoard.{PlannedBoard}
@@ -59,3 +60,18 @@ pub spells_board : (planned : PlannedBoard) (board : Design) → map spelled_mod
 spells_board planned board is =
     map_twice spelled_model without_lines plain_model own_model board.models
     ∙ ap (λ (models : List SpelledModel). map without_lines models) is ∙ models_back 1 (board_models planned)
+
+-- ---- what a text spells
+
+models_in : Result (List SpelledModel) TextFault → List SpelledModel
+models_in (Ok models) = models
+models_in (Err fault) = []
+
+-- a reader that finds no fault
+abbrev found : List SpelledModel → Result (List SpelledModel) TextFault
+found models = Ok models
+
+-- finds the models of one design alone
+pub same_models : (one other : List SpelledModel) → found one ≡ found other → one ≡ other
+unfolding models_in
+same_models one other same = ap models_in same

@@ -43,7 +43,7 @@ use Rattle.vw_bridge.proofs.SamePins.{port_of, ports_in_same, ports_out_same, se
 
 module _ (planned : PlannedBoard) where
   -- the two items of a hop, which goes over a link of this number
-  abbrev caught_items : ℕ → ℕ → Hop → ℕ → List LocalItem
+  abbrev pub caught_items : ℕ → ℕ → Hop → ℕ → List LocalItem
   caught_items wire number hop at =
       table (moment (arrival planned.board.links hop) ∷ pin_in at hop.pin ∷ held wire number ∷ []) (caught wire number) true choice
       ∷ register (caught wire number) (held wire number) StartsAtZero ∷ []
@@ -63,7 +63,7 @@ module _ (planned : PlannedBoard) where
 
   module _ (sound : IsSound planned) where
     -- its items stand for its one link
-    hop_items_are : (wire number : ℕ) (hop : Hop) (own : HopLink planned.board hop) → items.hop_items planned wire number hop ≡ caught_items wire number hop own.number
+    pub hop_items_are : (wire number : ℕ) (hop : Hop) (own : HopLink planned.board hop) → items.hop_items planned wire number hop ≡ caught_items wire number hop own.number
     hop_items_are wire number hop own =
         let none : 0 + own.number ≡ own.number = omega arith in
         listed_one (items.catch_items planned wire number hop) 0 planned.board.links own.number own.link own.there others

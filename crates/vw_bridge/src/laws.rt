@@ -1,13 +1,16 @@
 //! Laws of the definitions, as contracts of functions that do nothing.
-ghost use Rattle.std.specs.Prelude.{◌≡◌, List, map};
+ghost use Rattle.std.specs.Prelude.{◌≡◌, List, Ok, map};
 ghost use Rattle.vw_design.specs.declared.design.Design.{Design};
 ghost use Rattle.vw_blif.specs.Printed.{printed_by};
+ghost use Rattle.vw_blif.specs.Read.{design_of};
 ghost use Rattle.vw_blif.specs.Spelled.{spelled_model};
 ghost use Rattle.vw_plan.specs.PlannedBoard.{PlannedBoard};
 ghost use Rattle.vw_plan.specs.Sound.{IsSound};
-ghost use Rattle.vw_emit.specs.Emitted.{emitted_text};
+ghost use Rattle.vw_emit.specs.Emitted.{FitsDesigns, emitted_text};
 ghost use Rattle.vw_boardnames.specs.Boards.{IsBoardOf, board_models};
 ghost use Rattle.vw_bridge.specs.Numbered.{emitting, spelled_board, without_lines};
+
+use vw_blif::printed_designs_read;
 
 /// The text of the emitted board of a sound plan is the board's models in print, each item on its line. These are the
 /// models of the board, whatever their lines; so a design that spells them is the emitted board.
@@ -18,3 +21,14 @@ pub fn emitted_texts_are_printed()
     ensures boards { (planned : PlannedBoard) (board : Design)
         → map spelled_model board.models ≡ spelled_board planned → IsBoardOf planned board }
 {}
+
+/// So the reader finds no fault in the text, if it is within the limits of designs, and the design that it spells is the
+/// emitted board.
+pub fn emitted_texts_spell_boards()
+    ensures spells { (planned : PlannedBoard) → IsSound planned → FitsDesigns planned
+        → design_of (emitted_text planned) ≡ Ok (spelled_board planned) }
+    ensures boards { (planned : PlannedBoard) (board : Design) → IsSound planned → FitsDesigns planned
+        → design_of (emitted_text planned) ≡ Ok (map spelled_model board.models) → IsBoardOf planned board }
+{
+    printed_designs_read();
+}

@@ -3,4 +3,4 @@
 
 mod laws;
 
-pub use laws::emitted_texts_are_printed;
+pub use laws::{emitted_texts_are_printed, emitted_texts_spell_boards};
