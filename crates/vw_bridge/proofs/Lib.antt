@@ -13,3 +13,6 @@ pub mod PlainWords
 pub mod PlainItems
 pub mod PlainBoards
 pub mod Totals
+pub mod CellTotals
+pub mod PortTotals
+pub mod SmallBoards

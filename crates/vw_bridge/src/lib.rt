@@ -3,4 +3,6 @@
 
 mod laws;
 
-pub use laws::{emitted_texts_are_printed, emitted_texts_spell_boards};
+pub use laws::{
+    emitted_texts_act_as_their_designs, emitted_texts_are_printed, emitted_texts_spell_boards,
+};
