@@ -46,7 +46,7 @@ module _ (planned : PlannedBoard) (sound : IsSound planned) where
   -- ---- ports of a node
 
   -- the numbers of an output are small
-  small_output : (node : ℕ) (net : Local) → OutputOrigin planned node net → IsSmallNet net
+  pub small_output : (node : ℕ) (net : Local) → OutputOrigin planned node net → IsSmallNet net
   small_output node net (a_pin is from) = let small = small_pin planned sound is.at is.pin is.link is.linked is.used.within in subst IsSmallNet is.same (small.0, (small.1, tt))
   small_output node net (a_result is) = let few = planned.ordered.flat.few_outputs in let within = is.within in subst IsSmallNet is.same (omega (arith, few, within), tt)
   small_output node net (a_latch is) = subst IsSmallNet is.same (small_cell planned sound is.cell (slice_get_within planned.ordered.flat.cells is.cell _ is.at), tt)

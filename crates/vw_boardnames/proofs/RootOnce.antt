@@ -116,7 +116,7 @@ module _ (planned : PlannedBoard) (sound : IsSound planned) where
         (λ pin u stands. ap (λ (net : Local). head_number (other_numbers net)) (sym (used_is (pin_out (0 + at) pin) u (users planned link pin) stands)))))
         (λ at link u stands. (keys at link u stands).1)
 
-    outputs_once : AreOnce (node_outputs planned node)
+    pub outputs_once : AreOnce (node_outputs planned node)
     outputs_once = subst AreOnce (map-id (node_outputs planned node)) (once_both (λ (net : Local). net) own_pins (cond (node == 0) own_results own_latches) pins_once (others (node == 0)) (λ u v here there same. apart (node == 0) u v here there same)) where
       others : (host : Bool) → AreOnce (map (λ (net : Local). net) (cond host own_results own_latches))
       others true = results_once

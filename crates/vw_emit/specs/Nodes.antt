@@ -5,7 +5,7 @@ use Rattle.std.specs.Option.{option_map_or}
 use Rattle.vw_net.specs.declared.cell.Cell.{Cell}
 use Rattle.vw_net.specs.declared.cell.Cell.TheVariants.{Gate, Latch}
 use Rattle.vw_net.specs.declared.flat.Flat.{Flat}
-use Rattle.vw_net.specs.Order.{is_gate}
+use Rattle.vw_net.specs.Order.{is_latch}
 use Rattle.vw_plan.specs.declared.wire.Wire.{Wire}
 use Rattle.vw_plan.specs.Nets.{driving_cell}
 use Rattle.vw_plan.specs.PlannedBoard.{PlannedBoard, home}
@@ -23,14 +23,14 @@ use Rattle.vw_emit.specs.Outlets.{numbered_hops, outlets}
 abbrev pub home_name : Flat → ℕ → List ℕ
 home_name flat net =
     if nat_lt net flat.inputs then column_name net
-    else (if is_gate (driving_cell flat net) then gate_name (net - flat.inputs) else latch_name (net - flat.inputs))
+    else (if is_latch (driving_cell flat net) then latch_name (net - flat.inputs) else gate_name (net - flat.inputs))
 
--- elsewhere it is the register of the last hop of the wire that brings it
+-- elsewhere it is the register of the last hop of the wire that brings it; where none does, this is any name
 abbrev pub last_hop : List Wire → ℕ → ℕ
 last_hop wires number = option_map_or (λ wire. length wire.hops - 1) (slice_get wires number) 0
 
 abbrev pub last_register : Option ℕ → List Wire → List ℕ
-last_register None wires = []
+last_register None wires = register_name 0 0
 last_register (Some number) wires = register_name number (last_hop wires number)
 
 abbrev pub brought_name : PlannedBoard → ℕ → ℕ → List ℕ

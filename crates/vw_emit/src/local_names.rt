@@ -22,7 +22,7 @@ fn push_home(text: &mut Vec<u8>, flat: &Flat, net: u32) -> Result<(), AllocError
     match flat.cells().get(cell as usize) {
         Some(Cell::Gate { .. }) => push_one(text, b' ', b'c', u64::from(cell)),
         Some(Cell::Latch { .. }) => push_one(text, b' ', b'q', u64::from(cell)),
-        None => push_one(text, b' ', b'q', u64::from(cell)),
+        None => push_one(text, b' ', b'c', u64::from(cell)),
     }
 }
 
@@ -65,10 +65,7 @@ fn push_brought(
             let last = last_hop(emitter.plan.wires(), number);
             push_two(text, b' ', b'r', number as u64, last)
         }
-        None => {
-            text.push(b' ')?;
-            Ok(())
-        }
+        None => push_two(text, b' ', b'r', 0, 0),
     }
 }
 

@@ -1,0 +1,8 @@
+//! The text of an emitted board, as the models of the board in print.
+#![tactic(auto)]
+
+mod laws;
+
+pub use laws::{
+    emitted_texts_act_as_their_designs, emitted_texts_are_printed, emitted_texts_spell_boards,
+};
