@@ -1,8 +1,7 @@
 -- What all hops in order give, pin by pin.
-use Rattle.std.proofs.Common.{◌≡◌, ◌∙◌, ◌++◌, ◌+◌, ◌-◌, ◌<◌, ◌≤◌, ℕ, zero, suc, List, [], ◌∷◌, length, map, slice_get, None, Some, ap, refl, sym, arith}
+use Rattle.std.proofs.Common.{◌≡◌, ◌∙◌, ◌+◌, ◌≤◌, ℕ, List, [], ◌∷◌, length, map, slice_get, None, Some, ap, refl, arith}
 use Rattle.std.specs.List.{AllByRecursion, flat_map}
 use Rattle.vw_net.specs.Gathered.{gather, listed}
-use Rattle.vw_net.proofs.GatheredOrder.{gathered_by_keys}
 use Rattle.vw_net.proofs.ListedLists.{flat_map_gather, gather_agree}
 use Rattle.vw_plan.specs.PlannedBoard.{PlannedBoard}
 use Rattle.vw_plan.specs.Sound.{IsSound}
@@ -11,7 +10,7 @@ use Rattle.vw_plan.proofs.HopsOfWires.{at_place}
 use Rattle.vw_emit.specs.Outlets.{outlets, outlets_behind}
 use Rattle.vw_emit.specs.declared.numbered_hop.NumberedHop.{NumberedHop}
 use Rattle.vw_emit.specs.declared.outlet.Outlet.{Outlet}
-use Rattle.vw_emit.proofs.HopsByPins.{hops_by_pins, link_of, pin_of, times_few}
+use Rattle.vw_emit.proofs.HopsByPins.{hops_by_pins, link_of, pin_of}
 use Rattle.vw_hardware.specs.Items.{User, users}
 use Rattle.vw_bridge.proofs.Blocks.{IsOfPin, in_blocks, in_turn, link_apart, one_block, pin_apart}
 use Rattle.vw_bridge.proofs.Lists.{all_gather, gather_listed, gather_upto}

@@ -1,16 +1,16 @@
 -- The items of all nodes are no more than the cells that are counted of a planned board.
-use Rattle.std.proofs.Common.{◌≡◌, ◌∙◌, ◌≤◌, ◌<◌, ◌+◌, ◌-◌, ◌*◌, ◌++◌, ◌==◌, ℕ, zero, suc, Bool, true, false, cond, List, [], ◌∷◌, length, map, replicate, slice_get, slice_index, Option, Some, None, ap, ap₂, refl, sym, eqb-true, ne_eqb, arith}
+use Rattle.std.proofs.Common.{◌≡◌, ◌∙◌, ◌≤◌, ◌+◌, ◌-◌, ◌*◌, ◌++◌, ◌==◌, ℕ, zero, suc, Bool, true, false, cond, List, [], ◌∷◌, length, map, replicate, slice_get, slice_index, Option, Some, None, ap, ap₂, refl, sym, eqb-true, ne_eqb, arith}
 use Rattle.std.specs.Prelude.{sum_by}
 use Rattle.std.specs.List.{AllByRecursion, flat_map, range_with_len}
 use Rattle.std.proofs.lemmas.List.{length-append, length-map}
 use Rattle.std.proofs.lemmas.List.Concat.{length-flat_map}
-use Rattle.std.proofs.lemmas.List.Sums.{sum_by-cons, sum_by-le-sum_by}
+use Rattle.std.proofs.lemmas.List.Sums.{sum_by-cons}
 use Rattle.vw_net.specs.Cells.{latch_count}
 use Rattle.vw_net.specs.Gathered.{gather, listed}
 use Rattle.vw_net.specs.Sorting.{put, sorted}
 use Rattle.vw_net.specs.declared.cell.Cell.{Cell}
 use Rattle.vw_net.specs.declared.cell.Cell.TheVariants.{Gate, Latch}
-use Rattle.vw_net.proofs.ListedLists.{gather_agree, listed_plain}
+use Rattle.vw_net.proofs.ListedLists.{listed_plain}
 use Rattle.vw_net.proofs.SumsOverLists.{sum_agree, sum_plus}
 use Rattle.vw_plan.specs.HopCounts.{hop_count}
 use Rattle.vw_plan.specs.PlannedBoard.{PlannedBoard}
@@ -18,19 +18,19 @@ use Rattle.vw_plan.specs.Sound.{IsSound}
 use Rattle.vw_plan.specs.declared.link.Link.{Link}
 use Rattle.vw_plan.specs.declared.wire.Hop.{Hop}
 use Rattle.vw_plan.specs.declared.wire.Wire.{Wire}
-use Rattle.vw_plan.proofs.HopLinks.{HopLink, hop_facts}
+use Rattle.vw_plan.proofs.HopLinks.{hop_facts}
 use Rattle.vw_emit.specs.Emitted.{emitted_cells, pin_cells}
 use Rattle.vw_emit.specs.Outlets.{hops_of_wire, hops_of_wires, leaves_before, numbered_hops, outlets, outlets_behind}
 use Rattle.vw_emit.specs.declared.numbered_hop.NumberedHop.{NumberedHop}
 use Rattle.vw_emit.specs.declared.outlet.Outlet.{Outlet}
 use Rattle.vw_hardware.specs.Items.{User, cell_items, delay_item, gate_items, hop_items, hops_to, latch_items, late_name, link_items, node_items, pin_items, pins_from, results, send_item, sequencer, stage, users, wire_items}
-use Rattle.vw_hardware.specs.Locals.{Local, LocalItem, pin_out, result, table}
+use Rattle.vw_hardware.specs.Locals.{pin_out, result, table}
 use Rattle.vw_hardware.specs.Names.{name_at}
 use Rattle.vw_hardware.specs.Tables.{pass}
 use Rattle.vw_bridge.proofs.Blocks.{in_turn}
 use Rattle.vw_bridge.proofs.ByPins.{IsOf, by_pins}
 use Rattle.vw_bridge.proofs.PinUsers.{user_of}
-use Rattle.vw_bridge.proofs.SameNodes.{caught_items, hop_items_are}
+use Rattle.vw_bridge.proofs.SameNodes.{hop_items_are}
 use Rattle.vw_bridge.proofs.Totals.{length_singles, length_when, total, total_listed, total_one, total_same}
 
 -- ---- hops in order

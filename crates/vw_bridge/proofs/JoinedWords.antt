@@ -1,5 +1,5 @@
 -- The lines of items, word by word: as they are printed, and as they are emitted.
-use Rattle.std.proofs.Common.{◌≡◌, ◌∙◌, ◌++◌, ℕ, Bool, true, false, List, [], ◌∷◌, map, codes, ap, ap₂, refl, sym, append-nil}
+use Rattle.std.proofs.Common.{◌≡◌, ◌∙◌, ◌++◌, ℕ, Bool, List, [], ◌∷◌, map, codes, ap, ap₂, refl, sym, append-nil}
 use Rattle.std.specs.List.{join_with_byte}
 use Rattle.vw_net.specs.declared.cell.Init.{Init}
 use Rattle.vw_net.specs.declared.cell.Init.TheVariants.{Zero as StartsAtZero, One as StartsAtOne, Free}

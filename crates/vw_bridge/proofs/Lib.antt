@@ -16,3 +16,4 @@ pub mod Totals
 pub mod CellTotals
 pub mod PortTotals
 pub mod SmallBoards
+pub mod WorkedLines

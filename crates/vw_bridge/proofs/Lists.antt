@@ -1,10 +1,10 @@
 -- Lists that are gathered from numbers and from numbered elements.
-use Rattle.std.proofs.Common.{◌≡◌, ◌∙◌, ◌++◌, ◌+◌, ◌-◌, ◌<◌, ◌≤◌, ℕ, zero, suc, Bool, true, false, cond, List, [], ◌∷◌, length, map, slice_get, Some, ap, ap₂, refl, sym, append-nil, append_assoc, arith}
+use Rattle.std.proofs.Common.{◌≡◌, ◌∙◌, ◌++◌, ◌+◌, ◌-◌, ◌≤◌, ℕ, zero, suc, Bool, true, false, cond, List, [], ◌∷◌, length, slice_get, Some, ap, ap₂, refl, sym, append-nil, append_assoc, arith}
 use Rattle.std.specs.List.{AllByRecursion, filter, flat_map}
 use Rattle.std.proofs.lemmas.Option.{none-some, same_Some}
 use Rattle.vw_net.specs.Gathered.{gather, listed}
 use Rattle.vw_net.proofs.ListParts.{all_append}
-use Rattle.vw_net.proofs.ListedLists.{gather_add, gather_agree, gather_none}
+use Rattle.vw_net.proofs.ListedLists.{gather_add, gather_none}
 
 module _ {X : Type 0} where
   -- the first number comes first

@@ -1,14 +1,14 @@
 -- The hops of a pin, in order, are its users.
-use Rattle.std.proofs.Common.{◌≡◌, ◌∙◌, ◌++◌, ◌+◌, ◌-◌, ◌<◌, ◌≤◌, ◌&&◌, ◌==◌, ℕ, zero, suc, Bool, true, false, cond, List, [], ◌∷◌, length, map, slice_get, Some, ap, ap₂, refl, sym, subst, append-nil, eqb-true, eq-eqb, ne_eqb, true≢false, ⊎_elim, arith}
+use Rattle.std.proofs.Common.{◌≡◌, ◌∙◌, ◌++◌, ◌-◌, ◌<◌, ◌&&◌, ◌==◌, ℕ, zero, suc, Bool, true, false, cond, List, [], ◌∷◌, map, slice_get, Some, ap, ap₂, refl, sym, append-nil, eqb-true, eq-eqb, ne_eqb, true≢false, ⊎_elim, arith}
 use Rattle.std.specs.List.{AllByRecursion, filter, flat_map}
 use Rattle.std.proofs.lemmas.Bool.{cases_Bool}
 use Rattle.std.proofs.lemmas.List.Concat.{flat_map_single}
 use Rattle.std.proofs.lemmas.Option.{same_Some}
 use Rattle.vw_net.specs.Gathered.{gather, listed}
-use Rattle.vw_net.proofs.GatheredOrder.{gathered_by_keys, has_key, keys_of, with_keys}
+use Rattle.vw_net.proofs.GatheredOrder.{has_key, keys_of, with_keys}
 use Rattle.vw_net.proofs.ListedLists.{flat_map_listed, gather_agree, map_gather}
 use Rattle.vw_net.proofs.SortedLists.{all_filter}
-use Rattle.vw_plan.specs.Lead.{arrival, carries}
+use Rattle.vw_plan.specs.Lead.{carries}
 use Rattle.vw_plan.specs.PlannedBoard.{PlannedBoard}
 use Rattle.vw_plan.specs.Sound.{IsSound}
 use Rattle.vw_plan.specs.declared.link.Link.{Link}
@@ -20,10 +20,9 @@ use Rattle.vw_prog.specs.Timetable.{link_place}
 use Rattle.vw_emit.specs.Outlets.{hops_of_wire, hops_of_wires, leaves_before, numbered_hop, numbered_hops}
 use Rattle.vw_emit.specs.declared.numbered_hop.NumberedHop.{NumberedHop}
 use Rattle.vw_emit.proofs.HopsByPins.{link_of, pin_of, time_of, wires_all}
-use Rattle.vw_hardware.specs.Items.{User, leaves_by, users, users_at, wire_users}
-use Rattle.vw_hardware.specs.Locals.{Local, held}
+use Rattle.vw_hardware.specs.Items.{User, leaves_by, users, users_at}
+use Rattle.vw_hardware.specs.Locals.{held}
 use Rattle.vw_hardware.specs.Names.{name_at, sent_name}
-use Rattle.vw_bridge.proofs.Blocks.{IsOfPin}
 use Rattle.vw_bridge.proofs.Lists.{all_gather, flat_map_filter, listed_within}
 use Rattle.vw_bridge.proofs.SameNames.{local_sent}
 

@@ -1,7 +1,6 @@
 -- An emitted board can be printed as it is emitted: plain words, no name twice, rows as wide as their tables, and each item on
 -- its line.
-use Rattle.std.proofs.Common.{◌≡◌, ◌∙◌, ◌≤◌, ◌<◌, ◌+◌, ◌++◌, ◌&&◌, ◌==◌, not, ℕ, zero, suc, Bool, true, false, List, [], ◌∷◌, length, map, codes, inl, inr, ap, ap₂, refl, sym, subst, eq-eqb, true≢false, arith}
-use Rattle.std.specs.Fmt.{decimal}
+use Rattle.std.proofs.Common.{◌≡◌, ◌∙◌, ◌≤◌, ◌+◌, ◌++◌, ◌&&◌, ◌==◌, not, ℕ, true, List, [], ◌∷◌, length, map, codes, inl, inr, ap, refl, sym, subst, eq-eqb, true≢false, arith}
 use Rattle.std.specs.List.{list_all, list_any, range_with_len}
 use Rattle.std.proofs.lemmas.Bool.{and_from, and_parts}
 use Rattle.std.proofs.lemmas.Fmt.{decimal_injective}
@@ -9,19 +8,16 @@ use Rattle.std.proofs.lemmas.List.{map-append}
 use Rattle.std.proofs.lemmas.List.Folds.{list_all-append}
 use Rattle.vw_net.specs.Cells.{latch_count}
 use Rattle.vw_net.proofs.Counts.{latch_count-le}
-use Rattle.vw_net.specs.declared.cell.Cell.{Cell}
-use Rattle.vw_net.specs.declared.cell.Cell.TheVariants.{Gate, Latch}
 use Rattle.vw_text.specs.PlainLines.{is_plain}
 use Rattle.vw_text.specs.declared.limits.TheConstants.{MOST_DESIGN_BYTES}
-use Rattle.vw_design.specs.Distinct.{are_distinct, has_name}
+use Rattle.vw_design.specs.Distinct.{are_distinct}
 use Rattle.vw_design.specs.Paths.{Word}
 use Rattle.vw_design.proofs.DistinctNames.{distinct_append, distinct_front, distinct_map, distinct_more, in_range, once_range}
 use Rattle.vw_design.proofs.ListElements.{Has, at-Has, from-map}
 use Rattle.vw_design.proofs.Names.{has_name-Has}
 use Rattle.vw_design.proofs.NumberedNames.{numbers_same}
 use Rattle.vw_blif.specs.PlainDesigns.{IsPlainFor, are_plain_ports, have_line_numbers, have_numbers, is_plain_bind, is_plain_item, is_plain_model, line_of}
-use Rattle.vw_blif.specs.Printed.{head_lines, item_lines, model_lines, printed_by}
-use Rattle.vw_blif.specs.Spelled.{Binding, SpelledItem, SpelledModel}
+use Rattle.vw_blif.specs.Printed.{head_lines, item_lines, model_lines}
 use Rattle.vw_plan.specs.PlannedBoard.{PlannedBoard}
 use Rattle.vw_plan.specs.Sound.{IsSound}
 use Rattle.vw_emit.specs.Emitted.{emitted_text}
@@ -29,7 +25,7 @@ use Rattle.vw_hardware.specs.Items.{node_items}
 use Rattle.vw_hardware.specs.Locals.{Local, column, drives, result}
 use Rattle.vw_hardware.specs.Ports.{node_inputs, node_outputs}
 use Rattle.vw_hardware.proofs.PortOrigins.{from_outputs}
-use Rattle.vw_boardnames.specs.Boards.{Joined, PlainItem, PlainModel, all_nodes, board_model, board_models, latch, node_model, node_ports, place, placed_node, port_joined, spelled_item, table}
+use Rattle.vw_boardnames.specs.Boards.{PlainItem, PlainModel, all_nodes, board_model, board_models, latch, node_model, node_ports, place, placed_node, port_joined, table}
 use Rattle.vw_boardnames.specs.Spelled.{net_of_port, node_name, shown_net, spelled}
 use Rattle.vw_boardnames.proofs.Codes.{first_number, spelled_once}
 use Rattle.vw_boardnames.proofs.NodeNames.{names_distinct}

@@ -1,28 +1,25 @@
 -- The items of the nodes of an emitted board can be printed.
-use Rattle.std.proofs.Common.{◌≡◌, ◌∙◌, ◌≤◌, ◌&&◌, ◌||◌, ◌==◌, not, ℕ, zero, suc, Bool, true, false, cond, List, [], ◌∷◌, length, map, replicate, slice_get, Some, nat_le, get_or, ap, ap₂, refl, sym, subst, eq-eqb, inl, inr, ◌+◌, ◌-◌, ⊎_elim, arith}
-use Rattle.std.specs.List.{All, list_all}
+use Rattle.std.proofs.Common.{◌≡◌, ◌∙◌, ◌≤◌, ◌&&◌, ◌||◌, ◌==◌, not, ℕ, zero, suc, Bool, true, false, cond, List, [], ◌∷◌, length, map, replicate, nat_le, ap, refl, sym, subst, eq-eqb, inl, inr, ◌+◌, ◌-◌, ⊎_elim, arith}
+use Rattle.std.specs.List.{list_all}
 use Rattle.std.proofs.lemmas.Bool.{and_from, le-leb}
 use Rattle.std.proofs.lemmas.List.{length-map}
 use Rattle.vw_net.specs.Cells.{IsWellFormed}
-use Rattle.vw_net.specs.declared.cell.Cell.{Cell}
-use Rattle.vw_net.specs.declared.cell.Cell.TheVariants.{Gate, Latch}
+use Rattle.vw_net.specs.declared.cell.Cell.TheVariants.{Gate}
 use Rattle.vw_net.specs.declared.cell.Init.{Init}
-use Rattle.vw_net.specs.declared.cover.Cover.{Cover}
 use Rattle.vw_net.specs.declared.cover.Mark.{Mark}
 use Rattle.vw_net.specs.declared.cover.Mark.TheVariants.{Any}
 use Rattle.vw_net.specs.declared.cover.Row.{Row}
-use Rattle.vw_net.proofs.ListedLists.{StandsIn}
 use Rattle.vw_text.specs.PlainLines.{is_plain}
 use Rattle.vw_text.specs.WordLines.{is_empty}
-use Rattle.vw_design.proofs.ListElements.{Has, all_pass, at-Has}
+use Rattle.vw_design.proofs.ListElements.{Has, at-Has}
 use Rattle.vw_blif.specs.PlainDesigns.{is_plain_item}
 use Rattle.vw_plan.specs.PlannedBoard.{PlannedBoard}
 use Rattle.vw_plan.proofs.HopsOfWires.{at_place}
 use Rattle.vw_hardware.specs.Items.{User, node_items, send_item}
 use Rattle.vw_hardware.specs.Locals.{Local, LocalItem, gate, register, table}
 use Rattle.vw_hardware.specs.Names.{name_at}
-use Rattle.vw_hardware.specs.Tables.{cover_table, marks_of, off_table}
-use Rattle.vw_hardware.proofs.Origins.{IsCatch, IsGate, IsLatch, IsPin, IsResult, IsStage, OfPin, Origin, leaves, of_first, of_gate, of_hop, of_latch, of_pins, of_result, of_stage, origin, sends, waits}
+use Rattle.vw_hardware.specs.Tables.{marks_of, off_table}
+use Rattle.vw_hardware.proofs.Origins.{IsGate, OfPin, Origin, leaves, of_first, of_gate, of_hop, of_latch, of_pins, of_result, of_stage, origin, sends, waits}
 use Rattle.vw_boardnames.specs.Boards.{PlainItem, spelled_item}
 use Rattle.vw_boardnames.specs.Spelled.{spelled}
 use Rattle.vw_bridge.specs.Numbered.{on_line}

@@ -1,14 +1,12 @@
 -- The models of a board, whatever the lines on which their items stand.
-use Rattle.std.proofs.Common.{◌≡◌, ◌∙◌, ◌+◌, ℕ, List, [], ◌∷◌, Result, Ok, Err, length, map, ap, ap₂, refl, sym}
-use Rattle.vw_design.specs.Paths.{Word}
+use Rattle.std.proofs.Common.{◌≡◌, ◌∙◌, ◌+◌, ℕ, List, [], ◌∷◌, Result, Ok, Err, length, map, ap, ap₂, refl}
 use Rattle.vw_design.specs.declared.design.Design.{Design}
-use Rattle.vw_design.specs.declared.item.Bind.{Bind}
 use Rattle.vw_design.specs.declared.item.Item.{Item}
 use Rattle.vw_design.specs.declared.item.Item.TheVariants.{Latch, Names, Sub}
 use Rattle.vw_design.specs.declared.model.Model.{Model}
 use Rattle.vw_blif.specs.declared.fault.TextFault.{TextFault}
 use Rattle.vw_blif.specs.Printed.{head_lines, item_lines, model_lines}
-use Rattle.vw_blif.specs.Spelled.{SpelledItem, SpelledModel, spelled_bind, spelled_item, spelled_model}
+use Rattle.vw_blif.specs.Spelled.{SpelledModel, spelled_bind, spelled_item, spelled_model}
 use Rattle.vw_plan.specs.PlannedBoard.{PlannedBoard}
 use Rattle.vw_boardnames.specs.Boards.{IsBoardOf, Joined, PlainItem, PlainModel, board_models, latch, place, plain_bind, plain_item, plain_model, table}
 use Rattle.vw_bridge.specs.Numbered.{bound, emitting, item_without_line, joined_of, model_from, models_from, on_line, on_lines, spelled_board, with_items, without_lines}

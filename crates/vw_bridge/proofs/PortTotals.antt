@@ -1,5 +1,5 @@
 -- The ports of all nodes are no more than the columns, outputs and latches of a planned board, and two for each pin.
-use Rattle.std.proofs.Common.{◌≡◌, ◌∙◌, ◌≤◌, ◌+◌, ◌-◌, ◌++◌, ◌==◌, ℕ, zero, suc, Bool, true, false, cond, List, [], ◌∷◌, length, map, slice_get, slice_index, Some, ap, ap₂, refl, sym, eqb-true, ne_eqb, arith}
+use Rattle.std.proofs.Common.{◌≡◌, ◌∙◌, ◌≤◌, ◌+◌, ◌-◌, ◌++◌, ◌==◌, ℕ, suc, Bool, true, false, cond, List, [], ◌∷◌, length, map, slice_get, slice_index, Some, ap, refl, sym, eqb-true, ne_eqb, arith}
 use Rattle.std.specs.Prelude.{sum_by}
 use Rattle.std.specs.List.{AllByRecursion, flat_map, range_with_len}
 use Rattle.std.proofs.lemmas.List.{length-append}

@@ -1,25 +1,24 @@
 -- Items that no pin comes into: sequencers, gates, latches, registers of hops, and outputs.
-use Rattle.std.proofs.Common.{◌≡◌, ◌∙◌, ◌++◌, ◌+◌, ◌==◌, ℕ, suc, Bool, true, false, cond, List, [], ◌∷◌, length, map, replicate, slice_index, codes, ap, ap₂, refl, sym, append-nil, arith}
+use Rattle.std.proofs.Common.{◌≡◌, ◌∙◌, ◌++◌, ◌+◌, ◌==◌, ℕ, suc, Bool, true, false, cond, List, [], ◌∷◌, map, replicate, slice_index, codes, ap, ap₂, refl, sym, append-nil, arith}
 use Rattle.std.specs.List.{flat_map, range_with_len}
 use Rattle.std.proofs.lemmas.Grind.{flat_map-append}
 use Rattle.std.proofs.lemmas.List.Concat.{flat_map_single}
 use Rattle.vw_net.specs.Gathered.{gather, listed}
 use Rattle.vw_net.specs.declared.cell.Cell.{Cell}
 use Rattle.vw_net.specs.declared.cell.Cell.TheVariants.{Gate, Latch}
-use Rattle.vw_net.specs.declared.cell.Init.{Init}
 use Rattle.vw_net.specs.declared.cell.Init.TheVariants.{Zero as StartsAtZero, One as StartsAtOne}
 use Rattle.vw_net.specs.declared.cover.Cover.{Cover}
 use Rattle.vw_net.specs.declared.cover.Mark.{Mark}
 use Rattle.vw_net.specs.declared.cover.Mark.TheVariants.{Any}
 use Rattle.vw_net.specs.declared.cover.Row.{Row}
-use Rattle.vw_net.proofs.ListedLists.{flat_map_gather, flat_map_listed, gather_agree, gather_range}
+use Rattle.vw_net.proofs.ListedLists.{flat_map_gather, gather_agree, gather_range}
 use Rattle.vw_blif.specs.Rows.{value_word}
 use Rattle.vw_plan.specs.PlannedBoard.{PlannedBoard}
 use Rattle.vw_emit.specs.Lines as lines
 use Rattle.vw_emit.specs.Names as names
 use Rattle.vw_emit.specs.Nodes as nodes
 use Rattle.vw_hardware.specs.Items as items
-use Rattle.vw_hardware.specs.Locals.{Local, LocalItem, coming, gate, kept, moment, register, result, table}
+use Rattle.vw_hardware.specs.Locals.{Local, LocalItem, coming, gate, kept, moment, result, table}
 use Rattle.vw_hardware.specs.Names.{name_at}
 use Rattle.vw_hardware.specs.Tables.{choice, cover_table, marks_of, off_table, pass}
 use Rattle.vw_boardnames.specs.Spelled.{spelled}

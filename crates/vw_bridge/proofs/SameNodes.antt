@@ -1,17 +1,16 @@
 -- The items and the ports of nodes.
-use Rattle.std.proofs.Common.{◌≡◌, ◌∙◌, ◌++◌, ◌+◌, ◌-◌, ◌<◌, ◌&&◌, ◌==◌, ℕ, zero, suc, Bool, true, false, cond, List, [], ◌∷◌, length, map, take, slice_get, slice_index, Some, codes, ap, ap₂, refl, sym, append-nil, append_assoc, eqb, true≢false, ⊎_elim, arith}
-use Rattle.std.specs.List.{flat_map, range_with_len}
+use Rattle.std.proofs.Common.{◌≡◌, ◌∙◌, ◌++◌, ◌+◌, ◌==◌, ℕ, suc, Bool, true, false, cond, List, [], ◌∷◌, length, map, take, slice_get, slice_index, Some, codes, ap, ap₂, refl, sym, append_assoc, ⊎_elim, arith}
+use Rattle.std.specs.List.{range_with_len}
 use Rattle.std.proofs.Math.Seq.{take-append_seam}
 use Rattle.std.proofs.lemmas.Bool.{cases_Bool}
 use Rattle.std.proofs.lemmas.Grind.{flat_map-append}
 use Rattle.std.proofs.lemmas.List.{length-append, map-append}
-use Rattle.std.proofs.lemmas.Option.{same_Some}
 use Rattle.vw_net.specs.Cells.{latch_count}
 use Rattle.vw_net.specs.Gathered.{gather, listed}
 use Rattle.vw_net.specs.declared.cell.Cell.{Cell}
 use Rattle.vw_net.specs.declared.cell.Cell.TheVariants.{Gate, Latch}
 use Rattle.vw_net.specs.declared.cell.Init.TheVariants.{Zero as StartsAtZero}
-use Rattle.vw_net.proofs.ListedLists.{flat_map_listed, map_gather, map_listed}
+use Rattle.vw_net.proofs.ListedLists.{flat_map_listed, map_gather}
 use Rattle.vw_plan.specs.Lead.{arrival, carries}
 use Rattle.vw_plan.specs.PlannedBoard.{PlannedBoard}
 use Rattle.vw_plan.specs.Sound.{IsSound}
@@ -31,7 +30,7 @@ use Rattle.vw_hardware.specs.Locals.{Local, LocalItem, caught, column, held, kep
 use Rattle.vw_hardware.specs.Ports as ports
 use Rattle.vw_hardware.specs.Ports.{pin_ports}
 use Rattle.vw_hardware.specs.Tables.{choice}
-use Rattle.vw_boardnames.specs.Spelled.{net_of_port, shown_net, spelled}
+use Rattle.vw_boardnames.specs.Spelled.{spelled}
 use Rattle.vw_bridge.proofs.JoinedWords.{item_text, register_text, table_text}
 use Rattle.vw_bridge.proofs.Lists.{listed_one}
 use Rattle.vw_bridge.proofs.PinUsers.{each_hop}

@@ -1,6 +1,6 @@
 -- The items and the ports of pins.
 use Rattle.std.proofs.Common.{◌≡◌, ◌∙◌, ◌++◌, ◌+◌, ◌-◌, ◌&&◌, ◌==◌, ℕ, zero, suc, Bool, true, false, cond, List, [], ◌∷◌, length, map, slice_get, Some, codes, ap, ap₂, refl, sym, append-nil, append_assoc, ne_eqb, arith}
-use Rattle.std.specs.List.{AllByRecursion, flat_map, range_with_len}
+use Rattle.std.specs.List.{AllByRecursion, flat_map}
 use Rattle.std.proofs.lemmas.Grind.{flat_map-append}
 use Rattle.vw_net.specs.Gathered.{gather, listed}
 use Rattle.vw_net.specs.declared.cell.Init.TheVariants.{Zero as StartsAtZero}
@@ -16,7 +16,7 @@ use Rattle.vw_emit.specs.declared.numbered_hop.NumberedHop.{NumberedHop}
 use Rattle.vw_emit.specs.declared.outlet.Outlet.{Outlet}
 use Rattle.vw_hardware.specs.Items as items
 use Rattle.vw_hardware.specs.Items.{User, users}
-use Rattle.vw_hardware.specs.Locals.{Local, LocalItem, delayed, moment, pin_in, pin_out, register, sent, table}
+use Rattle.vw_hardware.specs.Locals.{Local, LocalItem, delayed, moment, pin_in, pin_out, sent, table}
 use Rattle.vw_hardware.specs.Ports.{pin_ports, used_port}
 use Rattle.vw_hardware.specs.Tables.{both, both_or, pass}
 use Rattle.vw_boardnames.specs.Spelled.{net_of_port, spelled}

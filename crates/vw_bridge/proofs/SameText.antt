@@ -1,22 +1,19 @@
 -- The text of an emitted board is its models in print.
 use Rattle.std.proofs.Common.{◌≡◌, ◌∙◌, ◌++◌, ◌+◌, ℕ, List, [], ◌∷◌, length, map, codes, ap, ap₂, refl, sym, append_assoc}
 use Rattle.std.specs.List.{flat_map, join_with_byte, range_with_len}
-use Rattle.std.proofs.lemmas.Grind.{flat_map-append}
 use Rattle.std.proofs.lemmas.List.{map-append}
 use Rattle.vw_net.specs.Cells.{latch_count}
 use Rattle.vw_text.specs.Physical.{lines_text}
 use Rattle.vw_blif.specs.Printed.{bind_word, head_lines, item_lines, model_lines, open_port_lines, printed_by, design_lines}
-use Rattle.vw_blif.specs.Spelled.{SpelledItem, SpelledModel}
 use Rattle.vw_plan.specs.PlannedBoard.{PlannedBoard}
 use Rattle.vw_plan.specs.Sound.{IsSound}
 use Rattle.vw_emit.specs.Emitted as emitted
 use Rattle.vw_emit.specs.Lines as lines
-use Rattle.vw_emit.specs.Names as names
 use Rattle.vw_emit.specs.Nodes as nodes
 use Rattle.vw_hardware.specs.Items as items
 use Rattle.vw_hardware.specs.Locals.{Local, LocalItem, column, result}
 use Rattle.vw_hardware.specs.Ports as ports
-use Rattle.vw_boardnames.specs.Boards.{Joined, PlainItem, PlainModel, all_nodes, board_model, board_models, latch, node_model, node_ports, place, placed_node, port_joined, spelled_item, table}
+use Rattle.vw_boardnames.specs.Boards.{PlainItem, PlainModel, all_nodes, board_model, latch, node_model, node_ports, place, placed_node, port_joined, spelled_item, table}
 use Rattle.vw_boardnames.specs.Spelled.{node_name, shown_net, spelled}
 use Rattle.vw_bridge.specs.Numbered.{bound, emitting, model_from, models_from, on_line, on_lines, spelled_board, with_items}
 use Rattle.vw_bridge.proofs.JoinedWords.{in_bytes, item_text, joined_words, plain_is, plain_lines}

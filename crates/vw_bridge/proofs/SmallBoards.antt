@@ -1,9 +1,9 @@
 -- An emitted board that fits is small: its inputs, outputs, instances, bindings, cells and levels are within their limits.
-use Rattle.std.proofs.Common.{◌≡◌, ◌∙◌, ◌≤◌, ◌+◌, ◌++◌, ◌&&◌, ◌==◌, max, not, ℕ, zero, suc, Bool, true, false, List, [], ◌∷◌, length, map, filter, slice_get, Option, Some, None, inl, inr, ap, ap₂, refl, sym, true≢false, arith}
+use Rattle.std.proofs.Common.{◌≡◌, ◌∙◌, ◌≤◌, ◌+◌, max, not, ℕ, suc, true, List, [], ◌∷◌, length, map, slice_get, Option, Some, inl, inr, ap, ap₂, refl, sym, true≢false, arith}
 use Rattle.std.specs.Prelude.{sum_by}
 use Rattle.std.specs.List.{list_all, range_with_len}
 use Rattle.std.proofs.lemmas.List.{length-append, length-map}
-use Rattle.std.proofs.lemmas.List.FromFn.{length-map-range_with_len, length-range_with_len}
+use Rattle.std.proofs.lemmas.List.FromFn.{length-map-range_with_len}
 use Rattle.std.proofs.lemmas.List.Sums.{count_by-le-length, length-filter, sum_by-cons}
 use Rattle.std.proofs.lemmas.Option.{same_Some}
 use Rattle.vw_net.specs.Cells.{latch_count}
@@ -13,7 +13,7 @@ use Rattle.vw_design.specs.Counts.{cell_one, items_height, items_weight, model_h
 use Rattle.vw_design.specs.Distinct.{has_name}
 use Rattle.vw_design.specs.Limits.{IsSmall, binding_count, binding_weight, cell_count, greatest_depth, input_count, instance_count, output_count, weight_of}
 use Rattle.vw_design.specs.Paths.{Word, items_of, model_at, model_named, model_outputs}
-use Rattle.vw_design.specs.Preorder.{instances, is_cell, paths_of, sites}
+use Rattle.vw_design.specs.Preorder.{is_cell, sites}
 use Rattle.vw_design.specs.declared.design.Design.{Design}
 use Rattle.vw_design.specs.declared.item.Bind.{Bind}
 use Rattle.vw_design.specs.declared.item.Item.{Item}
@@ -25,10 +25,10 @@ use Rattle.vw_design.proofs.ListElements.{Has}
 use Rattle.vw_design.proofs.Weights.{cells_weigh, design_weighs, instances_weigh, root_named}
 use Rattle.vw_plan.specs.PlannedBoard.{PlannedBoard}
 use Rattle.vw_plan.specs.Sound.{IsSound}
-use Rattle.vw_emit.specs.Emitted.{FitsDesigns, emitted_cells}
+use Rattle.vw_emit.specs.Emitted.{FitsDesigns}
 use Rattle.vw_hardware.specs.Items.{node_items}
 use Rattle.vw_hardware.specs.Locals.{column, result}
-use Rattle.vw_boardnames.specs.Boards.{IsBoardOf, Joined, PlainItem, PlainModel, all_nodes, board_model, latch, node_model, node_ports, place, placed_node, plain_bind, plain_item, port_joined, spelled_item, table}
+use Rattle.vw_boardnames.specs.Boards.{IsBoardOf, Joined, PlainItem, PlainModel, all_nodes, latch, node_ports, place, placed_node, plain_bind, plain_item, port_joined, spelled_item, table}
 use Rattle.vw_boardnames.specs.Spelled.{node_name, shown_net, spelled}
 use Rattle.vw_boardnames.proofs.Models.{node_model_of, node_named, root, root_at}
 use Rattle.vw_boardnames.proofs.NodeNames.{node_leaf}

@@ -1,9 +1,9 @@
 -- An emitted board with the lines on which its items stand, as its text has them. Source: this project, for the board; the
 -- Berkeley description of BLIF, for lines.
-use Rattle.std.specs.Prelude.{ℕ, ◌+◌, Bool, true, List, [], ◌∷◌, length, map}
-use Rattle.vw_design.specs.Paths.{Word}
+use Rattle.std.specs.Prelude.{ℕ, ◌+◌, true, List, [], ◌∷◌, length, map}
 use Rattle.vw_blif.specs.Printed.{Printing, dont_care, head_lines, item_lines, model_lines}
-use Rattle.vw_blif.specs.Spelled.{Binding, SpelledItem, SpelledModel, latch as latch_on, place as place_on, table as table_on}
+use Rattle.vw_blif.specs.Spelled.{Binding, SpelledItem, SpelledModel}
+use Rattle.vw_blif.specs.Spelled.{latch as latch_on, place as place_on, table as table_on}
 use Rattle.vw_boardnames.specs.Boards.{Joined, PlainItem, PlainModel, board_models, latch, place, table}
 use Rattle.vw_plan.specs.PlannedBoard.{PlannedBoard}
 
@@ -25,7 +25,8 @@ on_line line (place model binds) = place_on line model (map bound binds)
 -- items, the first of which stands on a line, and each other one behind the lines of the one before it
 abbrev pub on_lines : ℕ → List PlainItem → List SpelledItem
 on_lines line [] = []
-on_lines line (item ∷ items) = on_line line item ∷ on_lines (line + length (item_lines emitting (on_line line item))) items
+on_lines line (item ∷ items) =
+    on_line line item ∷ on_lines (line + length (item_lines emitting (on_line line item))) items
 
 -- a model with these items
 abbrev pub with_items : PlainModel → List SpelledItem → SpelledModel

@@ -27,22 +27,23 @@ pub fn emitted_texts_are_printed()
         → map spelled_model board.models ≡ spelled_board planned → IsBoardOf planned board }
 {}
 
-/// So the reader finds no fault in the text, if it is within the limits of designs, and the design that it spells is the
-/// emitted board.
+/// So the reader finds no fault in the text, if it is within the limits of designs. The design that it spells is the emitted
+/// board, and no quantity of it is above its limit: the cells and outputs that the text was measured by are no fewer than
+/// its own.
 pub fn emitted_texts_spell_boards()
     ensures spells { (planned : PlannedBoard) → IsSound planned → FitsDesigns planned
         → design_of (emitted_text planned) ≡ Ok (spelled_board planned) }
     ensures boards { (planned : PlannedBoard) (board : Design) → IsSound planned → FitsDesigns planned
         → design_of (emitted_text planned) ≡ Ok (map spelled_model board.models) → IsBoardOf planned board }
+    ensures small { (planned : PlannedBoard) (board : Design) → IsSound planned → FitsDesigns planned
+        → design_of (emitted_text planned) ≡ Ok (map spelled_model board.models) → IsSmall board }
 {
     printed_designs_read();
 }
 
-/// And this design is small: the counts that the text was measured by are no less than those of the design that it spells.
-/// So it has no fault and no loop, and does at the last microclock of each clock what the planned design does.
+/// And this design has no fault and no loop, and shows at the last microclock of each clock the outputs and then the latch
+/// values of the design that was planned, for all rows, each held for as many microclocks as a clock has.
 pub fn emitted_texts_act_as_their_designs()
-    ensures small { (planned : PlannedBoard) (board : Design) → IsSound planned → FitsDesigns planned
-        → design_of (emitted_text planned) ≡ Ok (map spelled_model board.models) → IsSmall board }
     ensures accepted { (planned : PlannedBoard) (board : Design) → IsSound planned → FitsDesigns planned
         → design_of (emitted_text planned) ≡ Ok (map spelled_model board.models) → IsAccepted board }
     ensures loop_free { (planned : PlannedBoard) (board : Design) → IsSound planned → FitsDesigns planned

@@ -1,14 +1,11 @@
-use Rattle.std.proofs.Common.{◌≡◌, ◌∙◌, ℕ, List, Ok, map, ap, sym}
-use Rattle.vw_design.specs.declared.design.Design.{Design}
+use Rattle.std.proofs.Common.{◌∙◌, map, ap, sym}
 use Rattle.vw_blif.specs.Read.{design_of}
-use Rattle.vw_blif.specs.Spelled.{SpelledModel, spelled_model}
-use Rattle.vw_plan.specs.PlannedBoard.{PlannedBoard}
-use Rattle.vw_plan.specs.Sound.{IsSound}
-use Rattle.vw_emit.specs.Emitted.{FitsDesigns, emitted_text}
+use Rattle.vw_blif.specs.Spelled.{spelled_model}
 use Rattle.vw_bridge.specs.Numbered.{emitting, spelled_board}
 use Rattle.vw_bridge.proofs.PlainBoards.{plain_board}
 use Rattle.vw_bridge.proofs.PlainModels.{same_models, spells_board}
 use Rattle.vw_bridge.proofs.SameText.{text_is}
+use Rattle.vw_bridge.proofs.SmallBoards.{board_small}
 use Rattle.vw_bridge.proofs.laws.emitted_texts_spell_boards.Goals as goal
 
 read : goal.returns-clause-spells
@@ -17,5 +14,12 @@ read c = λ planned sound fits. ap design_of (text_is planned sound) ∙ c.print
 pub returns-clause-spells : goal.returns-clause-spells
 returns-clause-spells c = read c
 
+board_is : goal.returns-clause-boards
+board_is c = λ planned board sound fits reads.
+    spells_board planned board (same_models (map spelled_model board.models) (spelled_board planned) (sym reads ∙ read c planned sound fits))
+
 pub returns-clause-boards : goal.returns-clause-boards
-returns-clause-boards c = λ planned board sound fits reads. spells_board planned board (same_models (map spelled_model board.models) (spelled_board planned) (sym reads ∙ read c planned sound fits))
+returns-clause-boards c = board_is c
+
+pub returns-clause-small : goal.returns-clause-small
+returns-clause-small c = λ planned board sound fits reads. board_small planned sound board (board_is c planned board sound fits reads) fits
