@@ -60,7 +60,26 @@ fn carry_out<R: Threads + Wait + Copy + Send + Sync>(
     Ok(Ran { status, out, err })
 }
 
-/// Asserts how calls with these words end.
+/// Fails unless a call with these words over these texts, with this fault, ends so.
+fn grade_ends<'x, R: Threads + Wait + Copy + Send + Sync>(
+    rt: &R,
+    alloc: Global,
+    words: &'x [&'x str],
+    texts: &'x [(&'x str, &'x str)],
+    fault: Fault,
+    wanted: End,
+) -> Result<(), Fail> {
+    let call = Call {
+        words,
+        texts,
+        most: MOST,
+        fault,
+    };
+    let ended = carry_out(rt, alloc, &call)?;
+    has_ended(&ended, words.last().copied().unwrap_or("no words"), wanted)
+}
+
+/// Fails unless calls with each of these lists of words end so.
 fn grades_end<'x, R: Threads + Wait + Copy + Send + Sync>(
     rt: &R,
     alloc: Global,
@@ -70,14 +89,7 @@ fn grades_end<'x, R: Threads + Wait + Copy + Send + Sync>(
     wanted: End,
 ) -> Result<(), Fail> {
     for words in table {
-        let call = Call {
-            words,
-            texts,
-            most: MOST,
-            fault,
-        };
-        let ended = carry_out(rt, alloc, &call)?;
-        has_ended(&ended, words.last().copied().unwrap_or("no words"), wanted)?;
+        grade_ends(rt, alloc, words, texts, fault, wanted)?;
     }
     Ok(())
 }
