@@ -3,12 +3,11 @@ use std::marker::Sync;
 use std::sync::Wait;
 use std::test::Fail;
 use std::thread::Threads;
-use vw_gen::{design, stimulus};
 use vw_link::Links;
 use vw_outside::{MemSink, OpenGate};
 use vw_sample_calls::{
-    Call, End, Fault, MOST, Ran, SEVERAL, SIM, are_found, call_over, files_of, has_ended, names_of,
-    out_of, shelf_of, words_end,
+    Call, End, Fault, MOST, Ran, SEVERAL, SIM, are_found, has_ended, names_of, out_of, shelf_of,
+    words_end,
 };
 use vw_samples::{TOGGLE, TOGGLE_PLAN, TRIANGLE};
 use vw_top::virtual_wires;

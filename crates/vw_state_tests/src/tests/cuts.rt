@@ -1,11 +1,5 @@
-//! Runs that are cut in pieces, each on another board, with another number of workers.
+//! Runs that are cut in pieces.
 use super::*;
-
-/// Two chips beside the host; and five in a ring whose links take one to three microcycles. Both have room for 500 cells.
-const BOARDS: [&str; 2] = [
-    "board 1\nchips 2\ncells 256\nsettle 1\npins 64\nlink 0 1 8\nlink 1 0 8\nlink 0 2 8\nlink 2 0 8\nlink 1 2 8\nlink 2 1 8\n",
-    "board 2\nchips 5\ncells 110\nsettle 2\npins 64\nlink 0 1 6 1\nlink 1 0 6 1\nlink 1 2 6 2\nlink 2 1 6 2\nlink 2 3 6 3\nlink 3 2 6 3\nlink 3 4 6 1\nlink 4 3 6 1\nlink 4 5 6 2\nlink 5 4 6 2\nlink 5 1 6 3\nlink 1 5 6 3\n",
-];
 
 /// The first lines of a text, and the others.
 fn cut(alloc: Global, text: &str, lines: u32) -> Result<(String, String), AllocError> {
@@ -64,86 +58,6 @@ fn joined(alloc: Global, one: &str, other: &str) -> Result<String, AllocError> {
     let (_, later) = cut(alloc, other, 1)?;
     text.push_str(later.as_str())?;
     Ok(text)
-}
-
-/// Fails unless the traces of a run before and after so many rows, joined, are the trace of the whole. The first piece runs on
-/// the one board, and the second goes on from its state on the other.
-fn joins_at<R: Threads + Wait + Copy + Send + Sync>(
-    rt: &R,
-    alloc: Global,
-    design: &str,
-    rows: &str,
-    whole: &str,
-    place: u32,
-) -> Result<(), Fail> {
-    let (first, later) = cut(alloc, rows, place)?;
-    let texts = [("d", design), ("b", BOARDS[0]), ("s", first.as_str())];
-    let state = written(rt, alloc, &["save", "d", "b", "s", "workers=2"], &texts)?;
-    let trace = written(rt, alloc, &["run", "d", "b", "s", "workers=1"], &texts)?;
-    let texts = [
-        ("d", design),
-        ("b", BOARDS[1]),
-        ("t", state.as_str()),
-        ("s", later.as_str()),
-    ];
-    let rest = written(
-        rt,
-        alloc,
-        &["resume", "d", "b", "t", "s", "workers=3"],
-        &texts,
-    )?;
-    let all = joined(alloc, trace.as_str(), rest.as_str())?;
-    are_found(all.as_bytes(), whole.as_bytes(), first.as_str())
-}
-
-/// A generated design of so many cells, and its rows.
-fn generated(alloc: Global, cells: u32) -> Result<(String, String), Fail> {
-    let cells = cells.max(1).min(500);
-    let design = String::from_utf8(design(alloc, cells)?)
-        .ok()
-        .ok_or("no text")?;
-    let rows = String::from_utf8(stimulus(alloc, cells)?)
-        .ok()
-        .ok_or("no text")?;
-    Ok((design, rows))
-}
-
-/// Fails unless this holds of a generated design at each of these places.
-fn joins_at_all<R: Threads + Wait + Copy + Send + Sync>(
-    rt: &R,
-    alloc: Global,
-    cells: u32,
-    places: &[u32],
-) -> Result<(), Fail> {
-    let (design, rows) = generated(alloc, cells)?;
-    let texts = [("d", design.as_str()), ("s", rows.as_str())];
-    let whole = written(rt, alloc, SIM, &texts)?;
-    for place in places {
-        joins_at(
-            rt,
-            alloc,
-            design.as_str(),
-            rows.as_str(),
-            whole.as_str(),
-            *place,
-        )?;
-    }
-    Ok(())
-}
-
-/// At the ends, inside a batch of 256 rows, at its edge and beside it.
-#[test]
-fn pieces_join_wherever_a_run_is_cut(rt: HostRuntime) -> Result<(), Fail> {
-    joins_at_all(&rt, rt.alloc(), 40, &[0, 1, 97, 255, 256, 257, 300])
-}
-
-#[test]
-fn pieces_of_other_designs_join(rt: HostRuntime) -> Result<(), Fail> {
-    let alloc = rt.alloc();
-    joins_at_all(&rt, alloc, 1, &[31])?;
-    joins_at_all(&rt, alloc, 9, &[256])?;
-    joins_at_all(&rt, alloc, 130, &[150])?;
-    joins_at_all(&rt, alloc, 500, &[211])
 }
 
 /// The `end` line of a trace has the state: `end 3 0` is `state 1 3 1 0`, where there is one latch.
