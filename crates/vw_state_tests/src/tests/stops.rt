@@ -113,11 +113,11 @@ fn files_come_in_their_order(rt: HostRuntime) -> Result<(), Fail> {
         (&["resume", "d", "b", "x", "x"], 7, "read fault: state\n"),
         (&["resume", "d", "b", "t", "x"], 7, "read fault: stimulus\n"),
         (&["save", "d", "b", "x"], 7, "read fault: stimulus\n"),
-        (&["save", "b", "b", "s"], 1, "design 1: line 1: bad line\n"),
+        (&["save", "b", "b", "s"], 1, "design 2: line 1: no model\n"),
         (
             &["resume", "d", "d", "t", "r"],
             3,
-            "board 1: line 1: bad line\n",
+            "board 2: line 1: bad line\n",
         ),
     ];
     for (words, status, line) in TABLE {
