@@ -317,10 +317,10 @@ pub fn alone<S: Shelf, O: Sink, E: Sink>(
 /// `run_statuses`, `save_statuses`, `resume_statuses`, `emit_statuses`, `demo_statuses`, `help_statuses`, `version_statuses`
 /// and `usage_statuses` say.
 ///
-/// A run, a saving and a resumption with several workers have the nodes of the board in groups on threads of the runtime. The words between them go
-/// over links of the fabric, and each group passes the gate before each of its bursts. That such a run ends isn't
-/// promised; where it ends, all that is said here holds. With one worker they use no links. A grading shares its faults among threads of the runtime, and moves
-/// no link. Every other call is one of `alone`.
+/// A run, a saving and a resumption with several workers have the nodes of the board in groups on threads of the runtime. The
+/// words between them go over links of the fabric, and each group passes the gate before each of its bursts. That such a run
+/// ends isn't promised; where it ends, all that is said here holds. With one worker they use no links. A grading shares its
+/// faults among threads of the runtime, and moves no link. Every other call is one of `alone`.
 pub fn virtual_wires<R: Threads + Wait + Sync, S: Shelf, F: Fabric, G: BurstGate, O: Sink, E: Sink>(
     rt: &R,
     alloc: Global,
