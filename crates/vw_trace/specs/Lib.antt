@@ -1,6 +1,7 @@
 pub mod FlatTrace
 pub mod Engines
 pub mod RunFaults
+pub mod Messages
 pub mod Streamed
 pub mod Recorded
 pub mod Steps

@@ -1,6 +1,6 @@
-ghost use Rattle.std.specs.Prelude.{◌≡◌};
+ghost use Rattle.std.specs.Prelude.{◌≡◌, IfOk};
 
-use std::alloc::AllocError;
+use std::alloc::{AllocError, Global};
 use vw_outside::Unwritten;
 use vw_rows::StimFault;
 
@@ -50,6 +50,22 @@ impl From<StimFault> for RunFault {
             StimFault::ReadFault => RunFault::ReadFault,
             StimFault::NoMemory => RunFault::NoMemory,
             fault => RunFault::Stimulus(fault),
+        }
+    }
+}
+
+impl RunFault {
+    ghost use Rattle.vw_trace.specs.Messages.{fault_text};
+
+    /// The message line, with the end of the line.
+    pub fn text(&self, alloc: Global) -> Result<Vec<u8>, AllocError>
+        ensures { IfOk result (λ line. line.items ≡ fault_text self.now) }
+    {
+        match self {
+            RunFault::ReadFault => b"read fault: stimulus\n".to_vec(alloc),
+            RunFault::WriteFault => b"write fault\n".to_vec(alloc),
+            RunFault::Stimulus(fault) => fault.text(alloc),
+            RunFault::NoMemory => b"out of memory\n".to_vec(alloc),
         }
     }
 }
