@@ -1,3 +1,4 @@
 pub mod WordsOfForms
 pub mod ToldApart
 pub mod CountedValues
+pub mod FirstWrong

@@ -1,3 +1,4 @@
+pub mod FirstWrong
 pub mod Forms
 pub mod Matched
 pub mod Values

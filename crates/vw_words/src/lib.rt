@@ -11,7 +11,7 @@ mod value;
 
 pub use form::Form;
 pub use forms::{Entry, command_of, first_wrong};
-pub use laws::{form_has_words, words_have_form};
+pub use laws::{form_has_words, words_have_form, wrong_words_follow_the_longest_front};
 pub use names::Names;
 pub use place::Place;
 pub use setting::Setting;
