@@ -29,7 +29,7 @@ found_in part make groups rest quotient = first (slice_get groups rest) ∙ ap (
   first None = refl
   first (Some group) = sym (slice_get-map make (part group) quotient)
 
-mapped_back : {A B : Type 0} (make : A → B) (found : Option A) (last : B) → option_map make found ≡ Some last → (one : A) × ((found ≡ Some one) × (make one ≡ last))
+pub mapped_back : {A B : Type 0} (make : A → B) (found : Option A) (last : B) → option_map make found ≡ Some last → (one : A) × ((found ≡ Some one) × (make one ≡ last))
 mapped_back make None last is = absurd (none-some last is)
 mapped_back make (Some one) last is = (one, (refl, ap (λ (got : Option _). unwrap_or got last) is))
 

@@ -12,3 +12,4 @@ pub mod CrewStays
 pub mod AfterRounds
 pub mod Sending
 pub mod CrewEnds
+pub mod DealtNodes

@@ -14,6 +14,14 @@ pub record SeenGroup : Type 0 where
   pub nodes : List Node
   pub ends : List SeenOwn
 
+-- the number of a node
+abbrev pub number_of : Node → ℕ
+number_of node = node.share.node
+
+-- for each group the numbers of its nodes
+abbrev pub numbers_of : List SeenGroup → List (List ℕ)
+numbers_of groups = map (λ group. map number_of group.nodes) groups
+
 -- of some groups, the one with the rest of a node's number has the node, at the place that the division gives
 abbrev pub node_at : List SeenGroup → ℕ → Option Node
 node_at groups node = option_and_then (λ group. slice_get group.nodes (node / length groups)) (slice_get groups (node % length groups))

@@ -1,8 +1,9 @@
-ghost use Rattle.std.specs.Prelude.{◌≡◌, ◌≤◌, ◌++◌, true, option_map, IfOk};
+ghost use Rattle.std.specs.Prelude.{◌≡◌, ◌≤◌, ◌+◌, ◌++◌, true, option_map, IfOk};
 ghost use Rattle.std.specs.Option.{is_some};
 ghost use Rattle.vw_net.specs.History.{outputs_of, state_after, states_of};
 ghost use Rattle.vw_prog.specs.Actions.{ArePrograms};
 ghost use Rattle.vw_prog.specs.Scripts.{planned_of, script};
+ghost use Rattle.vw_crew.specs.Seen.{AreDealt};
 
 use crate::group::Group;
 use crate::groups::{first_groups, into_host, node};
@@ -19,8 +20,8 @@ use vw_outside::BurstGate;
 use vw_prog::{Answer, Fabric, Job, Programs};
 
 /// The nodes of a board in a job, in groups that work at the same time, with their words on links that a fabric has laid. It
-/// borrows the job and the programs. Contracts see the job, whether its receiving ends keep their words, and whether its nodes
-/// were brought to the end.
+/// borrows the job and the programs. Contracts see the job, which nodes each group has, whether its receiving ends keep their words,
+/// and whether its nodes were brought to the end.
 #[derive(Drop)]
 pub struct Crew<'a, F: Fabric> {
     job: &'a Job,
@@ -37,6 +38,7 @@ impl<'a, F: Fabric> Model for Crew<'a, F> {
     ghost use Rattle.std.specs.Prelude.{◌≡◌, true};
     ghost use Rattle.std.specs.Option.{is_some};
     ghost use Rattle.vw_answer.specs.Answers.{HasTold};
+    ghost use Rattle.vw_crew.specs.Groups.{numbers_of};
     ghost use Rattle.vw_crew.specs.Laying.{AreThrough, IsCrew};
     ghost use Rattle.vw_crew.specs.Seen.{SeenCrew};
 
@@ -44,6 +46,7 @@ impl<'a, F: Fabric> Model for Crew<'a, F> {
 
     ghost view = { λ crew. record {
       job = crew.job.now;
+      groups = numbers_of crew.groups.items;
       keeps = is_some (F.carried crew.laid_by.value);
       done = crew.done;
     } };
@@ -70,6 +73,8 @@ impl<'a, F: Fabric> Crew<'a, F> {
         requires few { workers ≤ 64 }
         ensures carried { F.carried fabric.new ≡ F.carried fabric.old }
         ensures job { IfOk result (λ crew. crew.job ≡ job.now) }
+        ensures groups { IfOk result (λ crew. AreDealt workers (job.now.checked.board.chips + 1)
+            crew.groups) }
         ensures keeps { IfOk result (λ crew. crew.keeps ≡ is_some (F.carried fabric.old)) }
     {
         let room = Room::make(alloc, job)?;
@@ -96,6 +101,7 @@ impl<'a, F: Fabric> Crew<'a, F> {
         pace: &mut Pace,
     )
         ensures job { self.new.job ≡ self.old.job }
+        ensures groups { self.new.groups ≡ self.old.groups }
         ensures keeps { self.new.keeps ≡ self.old.keeps }
         ensures done { self.new.done ≡ true }
     {

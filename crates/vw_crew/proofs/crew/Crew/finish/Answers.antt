@@ -2,8 +2,10 @@ use Rattle.std.proofs.Common.{◌≡◌, List, true, length, ap, sym, subst, ◌
 use Rattle.std.specs.Option.{is_some}
 use Rattle.std.proofs.lemmas.List.{with_items_is}
 use Rattle.vw_answer.specs.Answers.{HasTold}
-use Rattle.vw_crew.specs.Groups.{AllAtWork, AllStay, SeenGroup}
+use Rattle.vw_crew.specs.Groups.{AllAtWork, AllStay, SeenGroup, numbers_of}
 use Rattle.vw_crew.specs.Laying.{AreThrough, IsCrew}
+use Rattle.vw_crew.specs.Seen.{SeenCrew}
+use Rattle.vw_crew.proofs.DealtNodes.{numbers_stay}
 use Rattle.vw_crew.proofs.CrewStays.{crew_stays, through}
 use Rattle.vw_crew.proofs.crew.Crew.finish.Goals as goal
 
@@ -24,3 +26,14 @@ invariant_of-self g c =
     let crew : IsCrew job keeps new = crew_stays old new stay job keeps c.self.invariant.0 c.finish.ensures.work in
     let done : AreThrough job new = through job new c.share-clocks.result.clocks c.share-clocks.ensures.clocks c.finish.ensures.done in
     subst (λ (groups : List SeenGroup). IsCrew job keeps groups × HasTold job 1 c.self.inside.room × (true ≡ true → AreThrough job groups)) (sym items) (crew, c.self.invariant.1, λ same. done)
+
+
+-- src/crew.rt
+pub returns-clause-groups : goal.returns-clause-groups
+returns-clause-groups g c =
+    let new = c.finish.new.groups in
+    let old = c.self.inside.groups.items in
+    let long : length new ≡ c.self.inside.groups.len = c.finish.auto.groups ∙ ap (λ (groups : List SeenGroup). length groups) c.deref_mut.ensures.value ∙ sym c.self.inside.groups.ok.0 in
+    let items = with_items_is c.self.inside.groups new long in
+    let stay : AllStay old new = subst (λ (groups : List SeenGroup). AllStay groups new) c.deref_mut.ensures.value c.finish.ensures.stay in
+    ap numbers_of items ∙ numbers_stay old new stay ∙ ap (λ (seen : SeenCrew). seen.groups) c.self.view_is

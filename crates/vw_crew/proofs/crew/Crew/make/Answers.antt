@@ -1,9 +1,13 @@
-use Rattle.std.proofs.Common.{◌≡◌, List, Bool, true, false, length, ap, sym, subst, ◌∙◌, true≢false, arith}
+use Rattle.std.proofs.Common.{◌≡◌, ◌+◌, ℕ, List, Bool, true, false, length, min, ap, sym, subst, ◌∙◌, true≢false, arith}
 use Rattle.std.specs.Option.{is_some}
 use Rattle.std.proofs.lemmas.List.{with_items_is}
 use Rattle.vw_answer.specs.Answers.{HasTold}
-use Rattle.vw_crew.specs.Groups.{SeenGroup}
+use Rattle.vw_plan.specs.declared.board.Board.{Board}
+use Rattle.vw_plan.specs.declared.checked.Checked.{Checked}
+use Rattle.vw_crew.specs.Groups.{SeenGroup, numbers_of}
 use Rattle.vw_crew.specs.Laying.{AreThrough, IsBare, IsCrew}
+use Rattle.vw_crew.specs.Seen.{AreDealt}
+use Rattle.vw_crew.proofs.DealtNodes.{are_dealt}
 use Rattle.vw_crew.proofs.Filling.{bare_groups}
 use Rattle.vw_crew.proofs.crew.Crew.make.Goals as goal
 
@@ -25,3 +29,16 @@ invariant_of-result g c =
     let same : told ≡ keeps = ap (λ (fabric : _). is_some (g.F.Fabric.carried fabric)) (sym c.of-laid_by.ensures) in
     let crew : IsCrew job keeps new = subst (λ (one : Bool). IsCrew job one new) same c.in_ok-lay_all.ensures.ready in
     subst (λ (groups : List SeenGroup). IsCrew job keeps groups × HasTold job 1 c.in_ok-room.room × (false ≡ true → AreThrough job groups)) (sym items) (crew, c.in_ok-room.ensures, λ none. absurd (true≢false (sym none)))
+
+-- src/crew.rt
+pub returns-clause-groups : goal.returns-clause-groups
+returns-clause-groups g c =
+    let job = c.args.job.now in
+    let told = is_some (g.F.Fabric.carried c.args.fabric.now) in
+    let new = c.lay_all.new.groups in
+    let long : length new ≡ c.in_ok-groups.groups.len = c.lay_all.auto.groups ∙ ap (λ (groups : List SeenGroup). length groups) c.deref_mut.ensures.value ∙ sym c.in_ok-groups.groups.ok.0 in
+    let items = with_items_is c.in_ok-groups.groups new long in
+    let nodes : c.chips.result + 1 ≡ job.checked.board.chips + 1 = ap (λ (n : ℕ). n + 1) (c.chips.ensures ∙ ap (λ (board : Board). board.chips) (c.board.ensures ∙ ap (λ (checked : Checked). checked.board) c.checked.ensures)) in
+    let many : length new ≡ min c.args.workers (job.checked.board.chips + 1) = long ∙ c.in_ok-groups.groups.ok.0 ∙ c.in_ok-groups.ensures.count ∙ c.min-count.ensures ∙ ap (min c.args.workers) nodes in
+    let dealt = are_dealt job told new c.in_ok-lay_all.ensures.ready c.args.workers (job.checked.board.chips + 1) (omega arith) many in
+    subst (λ (groups : List SeenGroup). AreDealt c.args.workers (job.checked.board.chips + 1) (numbers_of groups)) (sym items) dealt
