@@ -15,7 +15,7 @@ use Rattle.vw_trace.specs.declared.fault.RunFault.{RunFault}
 use Rattle.vw_trace.specs.declared.fault.RunFault.TheVariants.{ReadFault, WriteFault, Stimulus as BadRows, NoMemory}
 use Rattle.vw_trace.specs.Recorded.{ended}
 use Rattle.vw_trace.specs.RunFaults.{run_fault_of}
-use Rattle.vw_trace.specs.Streamed.{EndsStreaming, EndsAt, DoneFor, Streams}
+use Rattle.vw_trace.specs.Streamed.{EndsStreaming, EndsAt, HasClocks, DoneFor, Streams}
 use Rattle.vw_trace.specs.Steps.Recording.{Point, RecordsClocks}
 use Rattle.vw_trace.proofs.Streaming.{BeginWith, begin_with, ends_unwritten}
 
@@ -119,3 +119,8 @@ module _ (stimulus : Stimulus) (flat : Flat) (start : Point) (Done : List (List 
       ends = (clocks.ends.0, last_piece out (text_of clocks.rows) mid after (left_after (ended last)) left all);
       meanwhile = (clocks.meanwhile, clocks.all);
     }
+
+-- what is known after a run says how many rows there were
+pub counted : (flat : Flat) (start : List Bool) (clocks : ℕ) (last : List Bool) (answer : Result (Unit {0}) RunFault) (rows : List (List Bool)) → EndsAt flat start clocks last answer rows → HasClocks clocks answer rows
+counted flat start clocks last (Ok done) rows ends = ends.0
+counted flat start clocks last (Err fault) rows ends = tt

@@ -42,6 +42,10 @@ pub record Streams (name : List ℕ) (width : ℕ) (Text : List (List Bool) → 
   pub ends : EndsStreaming name (Text rows) shelf out shelf_after out_after answer
   pub meanwhile : DoneFor Done rows answer
 
+-- after a success there are as many rows as this
+abbrev pub HasClocks : ℕ → Result (Unit {0}) RunFault → List (List Bool) → Type 0
+HasClocks clocks answer rows = OnOk answer (length rows ≡ clocks)
+
 -- after a success there are as many rows as this, and these are the latch values after them
 abbrev pub EndsAt : Flat → List Bool → ℕ → List Bool → Result (Unit {0}) RunFault → List (List Bool) → Type 0
 EndsAt flat start clocks last answer rows = OnOk answer ((length rows ≡ clocks) × (last ≡ state_after flat start rows))

@@ -93,8 +93,8 @@ fn record_clocks<E: Engine, R: Recorder, S: Shelf, O: Sink>(
 /// The stimulus is read again in batches of 256 clocks, and memory is taken for one batch at a time: all but that of its
 /// lines before its first clock. Where a read or a write fails or memory runs out, a front of the text was appended, and
 /// nothing is known of `state` and of the recorder. Where nothing is told of the text of the stimulus, it may have changed
-/// since it was checked: then it may be found at fault, or what is written is of other rows with the same width. The engine
-/// works out each clock once, in order: all of them before a success, and the first ones alone before a fault.
+/// since it was checked: then it may be found at fault, or what is written is of other rows with the same width, as many as
+/// were counted. Where the engine numbers its clocks, it has done them all after a success.
 pub fn record_run<E: Engine, R: Recorder, S: Shelf, O: Sink>(
     alloc: Global,
     engine: &mut E,

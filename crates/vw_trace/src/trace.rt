@@ -7,7 +7,7 @@ ghost use Rattle.vw_rows.specs.Standing.{StandsIn};
 ghost use Rattle.vw_rows.specs.Trace.{head_text};
 ghost use Rattle.vw_trace.specs.Engines.{IsCount};
 ghost use Rattle.vw_trace.specs.FlatTrace.{trace_from, flat_trace};
-ghost use Rattle.vw_trace.specs.Streamed.{Streams};
+ghost use Rattle.vw_trace.specs.Streamed.{HasClocks, Streams};
 
 use crate::engine::Engine;
 use crate::fault::RunFault;
@@ -58,7 +58,7 @@ fn write_lines<E: Engine, S: Shelf, O: Sink>(
     requires unstarted { IsCount (E.done engine.old) 0 }
     requires probes { probes ≤ length (E.netlist engine.old).outputs }
     ensures streams { Streams stimulus.old.name stimulus.old.width
-        (trace_from probes 0 state.old (E.netlist engine.old)) (λ rows. Unit {0})
+        (trace_from probes 0 state.old (E.netlist engine.old)) (HasClocks stimulus.old.clocks result)
         (S.seen shelf.old) (O.seen out.old) (S.seen shelf.new) (O.seen out.new) result }
     ensures done { OnOk result (stimulus.new.done ≡ stimulus.old.clocks) }
     ensures all { OnOk result (IsCount (E.done engine.new) stimulus.old.clocks) }
@@ -73,9 +73,8 @@ fn write_lines<E: Engine, S: Shelf, O: Sink>(
 /// again in batches of 256 clocks, and memory is taken for one batch at a time: all but that of its lines before its first
 /// clock. Where a read or a write fails or memory runs out, a front of the trace was appended. Where nothing is told of the
 /// text of the stimulus, it may have changed since it was checked: then it may be found at fault, or the trace is that of
-/// other rows with the same width. The engine works out each clock once, in order: all of them before a success, and the
-/// first ones alone before a fault. Where it numbers its clocks, it begins with the first, and has done them all after a
-/// success.
+/// other rows with the same width, as many as were counted. Where the engine numbers its clocks, it begins with the first,
+/// and has done them all after a success.
 pub fn write_trace_by<E: Engine, S: Shelf, O: Sink>(
     alloc: Global,
     engine: &mut E,
@@ -93,7 +92,7 @@ pub fn write_trace_by<E: Engine, S: Shelf, O: Sink>(
     requires probes { probes ≤ length (E.netlist engine.old).outputs }
     ensures streams { Streams stimulus.old.name stimulus.old.width
         (flat_trace probes unknown (E.netlist engine.old))
-        (λ rows. Unit {0})
+        (HasClocks stimulus.old.clocks result)
         (S.seen shelf.old) (O.seen out.old) (S.seen shelf.new) (O.seen out.new) result }
     ensures done { OnOk result (stimulus.new.done ≡ stimulus.old.clocks) }
     ensures all { OnOk result (IsCount (E.done engine.new) stimulus.old.clocks) }
@@ -106,7 +105,7 @@ pub fn write_trace_by<E: Engine, S: Shelf, O: Sink>(
 /// the netlist are probes. Free latches start at `unknown`. The stimulus is read again in batches of 256 clocks, and memory
 /// is taken for one batch at a time. Where a read or a write fails or memory runs out, a front of the trace was appended.
 /// Where nothing is told of the text of the stimulus, it may have changed since it was checked: then it may be found at
-/// fault, or the trace is that of other rows with the same width.
+/// fault, or the trace is that of other rows with the same width, as many as were counted.
 pub fn write_trace<S: Shelf, O: Sink>(
     alloc: Global,
     ordered: &Ordered,
@@ -122,7 +121,7 @@ pub fn write_trace<S: Shelf, O: Sink>(
         → StandsIn stimulus.old text }
     requires probes { probes ≤ length ordered.now.flat.outputs }
     ensures streams { Streams stimulus.old.name stimulus.old.width
-        (flat_trace probes unknown ordered.now.flat) (λ rows. Unit {0}) (S.seen shelf.old) (O.seen out.old)
+        (flat_trace probes unknown ordered.now.flat) (HasClocks stimulus.old.clocks result) (S.seen shelf.old) (O.seen out.old)
         (S.seen shelf.new) (O.seen out.new) result }
     ensures done { OnOk result (stimulus.new.done ≡ stimulus.old.clocks) }
 {

@@ -1,10 +1,11 @@
-use Rattle.std.proofs.Common.{◌≡◌, ◌∙◌, List, Bool, length, ap, subst}
+use Rattle.std.proofs.Common.{◌≡◌, ◌∙◌, List, Bool, length, Err, ap, subst}
 use Rattle.std.proofs.lemmas.Result.{err_from_is_err_and}
 use Rattle.vw_net.specs.declared.flat.Flat.{Flat}
 use Rattle.vw_net.specs.Cells.{start_values}
 use Rattle.vw_net.proofs.Counts.{length-start_values}
 use Rattle.vw_trace.specs.FlatTrace.{trace_from, flat_trace}
-use Rattle.vw_trace.specs.Streamed.{Streams}
+use Rattle.vw_trace.specs.declared.fault.RunFault.TheVariants.{NoMemory}
+use Rattle.vw_trace.specs.Streamed.{HasClocks, Streams}
 use Rattle.vw_trace.proofs.StreamedTexts.{nothing_streamed}
 use Rattle.vw_trace.proofs.trace.write_trace_by.Given.{Over}
 use Rattle.vw_trace.proofs.trace.write_trace_by.Goals as goal
@@ -15,7 +16,7 @@ returns-in_err-state-clause-streams g c =
     let p = err_from_is_err_and c.from_residual.result c.from_residual.ensures.1 in
     let flat = g.E.Engine.netlist c.args.engine.now in
     let start = start_values c.args.unknown flat.cells in
-    rw (p.1, p.2) (nothing_streamed c.args.stimulus.now (flat_trace c.args.probes c.args.unknown flat) (λ rows. Unit {0}) (g.S.Shelf.seen c.args.shelf.now) (g.O.Sink.seen c.args.out.now)
+    rw (p.1, p.2) (nothing_streamed c.args.stimulus.now (flat_trace c.args.probes c.args.unknown flat) (HasClocks c.args.stimulus.now.clocks (Err NoMemory)) (g.S.Shelf.seen c.args.shelf.now) (g.O.Sink.seen c.args.out.now)
     c.requires.stands tt)
 
 -- the state starts with the start values, one for each latch
@@ -31,5 +32,5 @@ pub returns-clause-streams : goal.returns-clause-streams
 returns-clause-streams g c =
     let at = goal.at.returns-clause-streams g c in
     let stimulus = c.args.stimulus.now in
-    subst (λ (state : List Bool). Streams stimulus.name stimulus.width (trace_from c.args.probes 0 state (g.E.Engine.netlist c.args.engine.now)) (λ rows. Unit {0}) (g.S.Shelf.seen c.args.shelf.now) (g.O.Sink.seen c.args.out.now)
+    subst (λ (state : List Bool). Streams stimulus.name stimulus.width (trace_from c.args.probes 0 state (g.E.Engine.netlist c.args.engine.now)) (HasClocks stimulus.clocks c.write_lines.result) (g.S.Shelf.seen c.args.shelf.now) (g.O.Sink.seen c.args.out.now)
     (g.S.Shelf.seen c.write_lines.new.shelf) (g.O.Sink.seen c.write_lines.new.out) c.write_lines.result) (starts g at.In_ok-state) c.write_lines.ensures.streams
