@@ -1,5 +1,5 @@
 -- From a call over texts at hand to the call that writes its summary.
-use Rattle.std.proofs.Common.{◌≡◌, ℕ, List, [], length, take, Option, Some, None, Result, Ok, Err, refl, sym, ◌∙◌, ap, ap₂, subst, inl, inr, arith}
+use Rattle.std.proofs.Common.{◌≡◌, ℕ, List, [], length, take, Option, Some, None, Result, Ok, Err, ◌⊎◌, ⊎_elim, refl, sym, ◌∙◌, ap, ap₂, subst, inl, inr, arith}
 use Rattle.std.proofs.Math.Path.{fun_ext}
 use Rattle.std.specs.Prelude.{unwrap_or}
 use Rattle.std.proofs.Math.Seq.{take-length}
@@ -12,7 +12,7 @@ use Rattle.vw_outside.specs.Writes.{SeenSink, appended, WritesOut}
 use Rattle.vw_outside.proofs.PiecesWritten.{appended-nil}
 use Rattle.vw_course.specs.declared.unfinished.Unfinished.TheVariants.{ReadFault, WriteFault, NoMemory, Refused}
 use Rattle.vw_course.specs.Vocabulary.{Vocabulary}
-use Rattle.vw_course.specs.Outside.{SeenOutside, Work, Carried, carried, CarriedPart, with_all}
+use Rattle.vw_course.specs.Outside.{SeenOutside, Work, Carried, carried, CarriedPart, DidPart, FailedInPart, with_all}
 use Rattle.vw_course.specs.Course.{Again, once, again, Course, works, refuses, reads, makes}
 use Rattle.vw_course.specs.Follows.{Answer, Does, BreaksOff, EndsWorking, EndsRefused, EndsReading, Follows}
 use Rattle.vw_course.specs.Goes.{seen_outside}
@@ -216,3 +216,35 @@ module _ (V : Vocabulary) (texts : List ℕ → List ℕ) where
       write_inside (makes A Good Bad Comes apart certain next) (inl ends) = absurd ends
       write_inside (makes A Good Bad Comes apart certain next) (inr (x, good, rest)) =
           let is = write_inside (next x good) rest in (is.0, inr (x, good, is.1), is.2)
+
+      -- where a write failed, or memory ran out after a part of the summary, all of the work was done over the texts
+      abbrev pub SummedInside : (Work V.Word → Type 0) → Course V → Type 0
+      SummedInside Part course = (work : Work V.Word) × Follows course texts_before (with_all work texts_before) (Ok tt) × Part (summed summary work)
+
+      abbrev failed_in : Work V.Word → Type 0
+      failed_in work = FailedInPart work before after
+
+      abbrev did_part : Work V.Word → Type 0
+      did_part work = DidPart work before after
+
+      summed_there : (Part : Work V.Word → Type 0) (over : Again V) (work did : Work V.Word) → did ≡ summed summary work → Part did → SummedInside Part (works over work)
+      summed_there Part over work did does part = (work, (work, does_all over work, refl), subst Part does part)
+
+      pub failed_inside : (course : Course V) → Follows (on_texts texts summary course) before after (Err WriteFault) → SummedInside (λ work. FailedInPart work before after) course
+      failed_inside (works over work) (did, does, shelf, part) = summed_there failed_in over work did does part
+      failed_inside (refuses reason) ends = absurd ends
+      failed_inside (reads file name next) follows =
+          let is = failed_inside (next (texts name)) follows in (is.0, inr (texts name, refl, is.1), is.2)
+      failed_inside (makes A Good Bad Comes apart certain next) (inl ends) = absurd ends
+      failed_inside (makes A Good Bad Comes apart certain next) (inr (x, good, rest)) =
+          let is = failed_inside (next x good) rest in (is.0, inr (x, good, is.1), is.2)
+
+      pub part_inside : (course : Course V) → Follows (on_texts texts summary course) before after (Err NoMemory)
+          → (after ≡ before) ⊎ SummedInside (λ work. DidPart work before after) course
+      part_inside (works over work) (did, does, shelf, part) = inr (summed_there did_part over work did does part)
+      part_inside (refuses reason) same = inl same
+      part_inside (reads file name next) follows =
+          ⊎_elim inl (λ is. inr (is.0, inr (texts name, refl, is.1), is.2)) (part_inside (next (texts name)) follows)
+      part_inside (makes A Good Bad Comes apart certain next) (inl same) = inl same
+      part_inside (makes A Good Bad Comes apart certain next) (inr (x, good, rest)) =
+          ⊎_elim inl (λ is. inr (is.0, inr (x, good, is.1), is.2)) (part_inside (next x good) rest)
