@@ -9,3 +9,4 @@ pub mod GoesLaws
 pub mod CarriedOut
 pub mod PartLaws
 pub mod OnTexts
+pub mod UnusedLinks
