@@ -3,7 +3,7 @@ ghost use Rattle.std.specs.Prelude.{◌≡◌, ◌≤◌, ℕ, List, length, IfO
 ghost use Rattle.vw_outside.specs.Told.{held};
 ghost use Rattle.vw_rows.specs.Standing.{StandsIn};
 ghost use Rattle.vw_trace.specs.FlatTrace.{flat_trace};
-ghost use Rattle.vw_trace.specs.Streamed.{Streams};
+ghost use Rattle.vw_trace.specs.Streamed.{HasClocks, Streams};
 ghost use Rattle.vw_run.specs.Runs.{without_count};
 
 use std::alloc::Global;
@@ -21,7 +21,7 @@ use vw_trace::{RunFault, write_trace_by};
 /// of the board: memory is taken for one batch at a time, all but that of its lines before its first step; the rows and
 /// start bits of a batch are kept until the next one is read. Where a read or a write fails or memory runs out, a front of
 /// the trace was appended. Where nothing is told of the text of the stimulus, it may have changed since it was checked:
-/// then it may be found at fault, or the trace is that of other rows with the same width.
+/// then it may be found at fault, or the trace is that of other rows with the same width, as many as were counted.
 pub fn run_alone<S: Shelf, O: Sink>(
     alloc: Global,
     checked: Checked,
@@ -37,7 +37,7 @@ pub fn run_alone<S: Shelf, O: Sink>(
         → StandsIn stimulus.old text }
     requires probes { probes ≤ length checked.ordered.flat.outputs }
     ensures streams { Streams stimulus.old.name stimulus.old.width
-        (flat_trace probes unknown checked.ordered.flat) (λ rows. Unit {0}) (S.seen shelf.old)
+        (flat_trace probes unknown checked.ordered.flat) (HasClocks stimulus.old.clocks (without_count result)) (S.seen shelf.old)
         (O.seen out.old) (S.seen shelf.new) (O.seen out.new) (without_count result) }
     ensures clocks { IfOk result (λ clocks. clocks ≡ stimulus.old.clocks) }
     ensures done { IfOk result (λ clocks. stimulus.new.done ≡ clocks) }

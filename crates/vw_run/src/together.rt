@@ -6,9 +6,9 @@ ghost use Rattle.vw_plan.specs.PlannedBoard.{planned_board};
 ghost use Rattle.vw_prog.specs.Scripts.{planned_of};
 ghost use Rattle.vw_rows.specs.Standing.{StandsIn};
 ghost use Rattle.vw_trace.specs.FlatTrace.{flat_trace};
-ghost use Rattle.vw_trace.specs.Streamed.{Streams};
-ghost use Rattle.vw_batches.specs.Traffic.{HaveCarried, grown_by, scripts_of, traffic};
-ghost use Rattle.vw_run.specs.Runs.{without_count};
+ghost use Rattle.vw_trace.specs.Streamed.{HasClocks, Streams};
+ghost use Rattle.vw_batches.specs.Traffic.{grown_by, scripts_of, traffic};
+ghost use Rattle.vw_run.specs.Runs.{HaveRunBoard, without_count};
 
 use std::alloc::Global;
 use std::marker::Sync;
@@ -45,8 +45,8 @@ fn run_board<R: Threads + Wait + Sync, S: Shelf, F: Fabric, G: BurstGate, O: Sin
     requires probes { probes ≤ length board.old.job.checked.ordered.flat.outputs }
     ensures streams { let flat = board.old.job.checked.ordered.flat in
         Streams stimulus.old.name stimulus.old.width (flat_trace probes unknown flat)
-        (HaveCarried workers (planned_of board.old.job) 0 (start_values unknown flat.cells)
-        (F.carried fabric.old) (F.carried fabric.new))
+        (HaveRunBoard workers (planned_of board.old.job) (start_values unknown flat.cells)
+        (F.carried fabric.old) (F.carried fabric.new) stimulus.old.clocks result)
         (S.seen shelf.old) (O.seen out.old) (S.seen shelf.new) (O.seen out.new) result }
     ensures done { OnOk result (stimulus.new.done ≡ stimulus.old.clocks) }
 {
@@ -75,7 +75,8 @@ fn run_board<R: Threads + Wait + Sync, S: Shelf, F: Fabric, G: BurstGate, O: Sin
 /// With one worker it does what `run_alone` does, and the fabric isn't touched. With more the board runs in the same batches,
 /// each a job over links that are laid for it and lifted after it: all memory of a batch but that of its lines is taken
 /// before its first step. The workers run at the same time and wait for each other, so it isn't proved that it returns. Where it
-/// does, each link has carried the words of the plan over all clocks, and after a fault those of the first clocks alone.
+/// does, each link has carried the words of the plan over all clocks, and after a fault those of the first clocks alone. Where
+/// nothing is told of the text of the stimulus, the rows may be other ones, as many as were counted.
 pub fn run<R: Threads + Wait + Sync, S: Shelf, F: Fabric, G: BurstGate, O: Sink>(
     rt: &R,
     alloc: Global,
@@ -98,8 +99,9 @@ pub fn run<R: Threads + Wait + Sync, S: Shelf, F: Fabric, G: BurstGate, O: Sink>
     requires probes { probes ≤ length checked.ordered.flat.outputs }
     ensures streams { let planned = planned_board checked.ordered checked.board checked.plan in
         Streams stimulus.old.name stimulus.old.width (flat_trace probes unknown checked.ordered.flat)
-        (λ rows. F.carried fabric.new
+        (λ rows. (F.carried fabric.new
         ≡ grown_by (scripts_of workers (traffic planned unknown rows)) (F.carried fabric.old))
+        × HasClocks stimulus.old.clocks (without_count result) rows)
         (S.seen shelf.old) (O.seen out.old) (S.seen shelf.new) (O.seen out.new)
         (without_count result) }
     ensures clocks { IfOk result (λ clocks. clocks ≡ stimulus.old.clocks) }

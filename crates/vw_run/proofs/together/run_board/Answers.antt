@@ -8,11 +8,14 @@ use Rattle.vw_outside.specs.Writes.{appended, WritesOut}
 use Rattle.vw_prog.specs.Scripts.{planned_of}
 use Rattle.vw_rows.specs.Trace.{head_text, lines_from}
 use Rattle.vw_trace.specs.FlatTrace.{flat_trace}
-use Rattle.vw_trace.specs.Streamed.{Streams}
-use Rattle.vw_trace.proofs.StreamedTexts.{nothing_streamed, no_head, headed, other_done}
+use Rattle.vw_trace.specs.declared.fault.RunFault.TheVariants.{NoMemory}
+use Rattle.vw_trace.specs.RunFaults.{run_fault_of}
+use Rattle.vw_trace.specs.Streamed.{HasClocks, Streams}
+use Rattle.vw_trace.proofs.StreamedTexts.{counted, nothing_streamed, no_head, headed, other_done}
 use Rattle.vw_batches.specs.Runs.{HaveRun}
 use Rattle.vw_batches.specs.Traffic.{HaveCarried}
 use Rattle.vw_batches.proofs.JoinedTraffic.{after_no_rows}
+use Rattle.vw_run.specs.Runs.{HaveRunBoard}
 use Rattle.vw_run.proofs.together.run_board.Given.{Over}
 use Rattle.vw_run.proofs.together.run_board.Goals as goal
 use Rattle.vw_run.proofs.together.run_board.Goals.{In_ok-state}
@@ -28,8 +31,8 @@ returns-in_err-state-clause-streams g c =
     let start = start_values c.args.unknown planned.ordered.flat.cells in
     let carried = g.F.Fabric.carried c.args.fabric.now in
     rw (p.1, p.2)
-    (nothing_streamed c.args.stimulus.now (flat_trace c.args.probes c.args.unknown planned.ordered.flat) (HaveCarried c.args.workers planned 0 start carried carried) (g.S.Shelf.seen c.args.shelf.now) (g.O.Sink.seen c.args.out.now)
-    c.requires.stands (after_no_rows planned 0 start c.args.workers carried))
+    (nothing_streamed c.args.stimulus.now (flat_trace c.args.probes c.args.unknown planned.ordered.flat) (HaveRunBoard c.args.workers planned start carried carried c.args.stimulus.now.clocks (Err NoMemory)) (g.S.Shelf.seen c.args.shelf.now) (g.O.Sink.seen c.args.out.now)
+    c.requires.stands (after_no_rows planned 0 start c.args.workers carried, tt))
 
 -- the state starts with the start values, one for each latch
 starts : (g : Over) (c : In_ok-state g) → c.in_ok-state.state ≡ start_values c.args.unknown c.args.board.now.job.checked.ordered.flat.cells
@@ -59,8 +62,8 @@ returns-in_err-write_head-clause-streams g c =
     let before = g.O.Sink.seen c.args.out.now in
     let why = c.in_err-write_head.field-0.0 in
     rw (p.1, p.2)
-    (no_head (head_of c.args.probes flat) c.args.stimulus.now (λ rows. lines_from 0 (flat_history flat start rows)) (HaveCarried c.args.workers planned 0 start carried carried)
-    (g.S.Shelf.seen c.args.shelf.now) before c.requires.stands (after_no_rows planned 0 start c.args.workers carried) why (g.O.Sink.seen c.write_head.new.out)
+    (no_head (head_of c.args.probes flat) c.args.stimulus.now (λ rows. lines_from 0 (flat_history flat start rows)) (HaveRunBoard c.args.workers planned start carried carried c.args.stimulus.now.clocks (Err (run_fault_of why)))
+    (g.S.Shelf.seen c.args.shelf.now) before c.requires.stands (after_no_rows planned 0 start c.args.workers carried, tt) why (g.O.Sink.seen c.write_head.new.out)
     (subst (λ (one : Flat). WritesOut (head_of c.args.probes one) before (g.O.Sink.seen c.write_head.new.out) (Err why)) c.flat-2.ensures c.in_err-write_head.ensures))
 
 pub returns-clause-streams : goal.returns-clause-streams
@@ -83,9 +86,10 @@ returns-clause-streams g c =
     let wrote : mid ≡ appended before (head_of c.args.probes flat) =
     c.in_ok-write_head.ensures ∙ ap (λ (one : Flat). appended before (head_of c.args.probes one)) c.flat-2.ensures in
     let text : ℕ → List Bool → List (List Bool) → List ℕ = λ clock latches rows. lines_from clock (flat_history flat latches rows) in
-    let ran : Streams stimulus.name stimulus.width (text first state) (HaveCarried c.args.workers planned first state carried carried_after) shelf mid shelf_after after answer =
+    let had : ℕ → List Bool → List (List Bool) → Type 0 = λ clock latches rows. HaveCarried c.args.workers planned clock latches carried carried_after rows × HasClocks stimulus.clocks answer rows in
+    let ran : Streams stimulus.name stimulus.width (text first state) (had first state) shelf mid shelf_after after answer =
     other_done stimulus.name stimulus.width (text first state) (HaveRun c.args.workers planned first state carried carried_after stimulus.clocks c.go_on.new.state answer)
-    (HaveCarried c.args.workers planned first state carried carried_after) (λ rows both. both.0) shelf mid shelf_after after answer c.go_on.ensures.streams in
-    headed (head_of c.args.probes flat) stimulus (text 0 start) (HaveCarried c.args.workers planned 0 start carried carried_after) shelf before mid wrote shelf_after after answer
-    (subst (λ (clock : ℕ). Streams stimulus.name stimulus.width (text clock start) (HaveCarried c.args.workers planned clock start carried carried_after) shelf mid shelf_after after answer) c.make-recorder.ensures.clocks
-    (subst (λ (latches : List Bool). Streams stimulus.name stimulus.width (text first latches) (HaveCarried c.args.workers planned first latches carried carried_after) shelf mid shelf_after after answer) (starts g at.In_ok-state) ran))
+    (had first state) (λ rows both. (both.0, counted flat state stimulus.clocks c.go_on.new.state answer rows both.1)) shelf mid shelf_after after answer c.go_on.ensures.streams in
+    headed (head_of c.args.probes flat) stimulus (text 0 start) (had 0 start) shelf before mid wrote shelf_after after answer
+    (subst (λ (clock : ℕ). Streams stimulus.name stimulus.width (text clock start) (had clock start) shelf mid shelf_after after answer) c.make-recorder.ensures.clocks
+    (subst (λ (latches : List Bool). Streams stimulus.name stimulus.width (text first latches) (had first latches) shelf mid shelf_after after answer) (starts g at.In_ok-state) ran))
