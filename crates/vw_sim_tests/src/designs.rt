@@ -2,9 +2,10 @@
 use std::alloc::{AllocError, Global};
 use std::test::Fail;
 use vw_sample_calls::{
-    Fault, Large, MOST, REFUSED, Ran, SIM, are_found, call_over, designs_are_refused, designs_run,
-    file, is_status, large_designs_end,
+    End, Fault, Large, MOST, REFUSED, Ran, SIM, are_found, call_over, designs_are_refused,
+    designs_run, file, is_status, large_designs_end, run_ends,
 };
+use vw_samples::TOGGLE_TRACE;
 
 #[test]
 fn texts_of_other_tools_run(rt: HostRuntime) -> Result<(), Fail> {
@@ -124,4 +125,60 @@ fn a_word_is_shown_as_its_bytes(rt: HostRuntime) -> Result<(), Fail> {
     let ran = run_of(rt.alloc(), DESIGN)?;
     are_found(ran.err.bytes(), LINE, "bytes")?;
     is_status(ran.status, 1, "bytes")
+}
+
+/// Fails unless a simulation of each of these fronts of the toggle, over its stimulus, ends so.
+fn fronts_end(alloc: Global, table: &[(&str, u8, &str, &str)]) -> Result<(), Fail> {
+    for (front, status, out, err) in table {
+        let end = End {
+            status: *status,
+            out,
+            err,
+        };
+        run_ends(alloc, front, "1\n1\n0\n", front, end)?;
+    }
+    Ok(())
+}
+
+/// The first lines of a design are a text of their own, which may run, or be refused for what it lacks.
+#[test]
+fn a_design_that_ends_after_any_line_has_its_end(rt: HostRuntime) -> Result<(), Fail> {
+    const UNDRIVEN: &str = "design 19: undriven q\n";
+    const NO_LATCH: &str = "trace 1 0 0\n0 - -\n1 - -\n2 - -\nend 3 -\n";
+    const TABLE: &[(&str, u8, &str, &str)] = &[
+        ("", 1, "", "design 2: line 0: no model\n"),
+        (
+            ".model toggle\n",
+            5,
+            "",
+            "stimulus 3: line 1: found 1 bits, wanted 0\n",
+        ),
+        (".model toggle\n.inputs en\n", 0, NO_LATCH, ""),
+        (".model toggle\n.inputs en\n.outputs q\n", 1, "", UNDRIVEN),
+        (
+            ".model toggle\n.inputs en\n.outputs q\n.names en q d\n",
+            1,
+            "",
+            UNDRIVEN,
+        ),
+        (
+            ".model toggle\n.inputs en\n.outputs q\n.names en q d\n10 1\n",
+            1,
+            "",
+            UNDRIVEN,
+        ),
+        (
+            ".model toggle\n.inputs en\n.outputs q\n.names en q d\n10 1\n01 1\n",
+            1,
+            "",
+            UNDRIVEN,
+        ),
+        (
+            ".model toggle\n.inputs en\n.outputs q\n.names en q d\n10 1\n01 1\n.latch d q 0\n",
+            0,
+            TOGGLE_TRACE,
+            "",
+        ),
+    ];
+    fronts_end(rt.alloc(), TABLE)
 }

@@ -1,16 +1,13 @@
 //! The command `grade`: which stuck nets of a design a stimulus doesn't reveal.
-use std::alloc::{AllocError, Global};
+use std::alloc::Global;
 use std::marker::Sync;
 use std::sync::Wait;
 use std::test::Fail;
 use std::thread::Threads;
-use vw_link::Links;
-use vw_outside::{MemSink, OpenGate};
 use vw_sample_calls::{
-    Call, End, Fault, MOST, Ran, SEVERAL, has_ended, names_of, out_of, shelf_of, words_end,
+    End, Fault, SEVERAL, all_end_on, are_found, demonstrated, words_end, written_on,
 };
 use vw_samples::{TOGGLE, TOGGLE_RUN};
-use vw_top::virtual_wires;
 
 /// The grading of the toggle by its stimulus, which never shows that `en` is stuck at 1.
 const TOGGLE_GRADE: &str = "grade 1 6 5\nopen en 1\nend\n";
@@ -36,61 +33,28 @@ const GRADES: [&[&str]; 4] = [
     &["grade", "d", "s"],
 ];
 
-/// Carries out a call with a runtime.
-fn carry_out<R: Threads + Wait + Copy + Send + Sync>(
+/// The grading of a generated design of 100 cells by its 300 rows, by so many workers.
+fn graded<R: Threads + Wait + Copy + Send + Sync>(
     rt: &R,
     alloc: Global,
-    call: &Call,
-) -> Result<Ran, AllocError> {
-    let mut shelf = shelf_of(alloc, call)?;
-    let mut out = out_of(alloc, call)?;
-    let mut err = MemSink::new(alloc, 100, Vec::new(alloc));
-    let mut links = Links::new(*rt, true);
-    let words = names_of(alloc, call.words)?;
-    let status = virtual_wires(
-        rt,
-        alloc,
-        &words,
-        &mut shelf,
-        &mut links,
-        &OpenGate::new(),
-        &mut out,
-        &mut err,
-    );
-    Ok(Ran { status, out, err })
+    design: &str,
+    rows: &str,
+    workers: &str,
+) -> Result<String, Fail> {
+    let texts = [("d", design), ("s", rows)];
+    written_on(rt, alloc, &["grade", "d", "s", workers], &texts)
 }
 
-/// Fails unless a call with these words over these texts, with this fault, ends so.
-fn grade_ends<'x, R: Threads + Wait + Copy + Send + Sync>(
-    rt: &R,
-    alloc: Global,
-    words: &'x [&'x str],
-    texts: &'x [(&'x str, &'x str)],
-    fault: Fault,
-    wanted: End,
-) -> Result<(), Fail> {
-    let call = Call {
-        words,
-        texts,
-        most: MOST,
-        fault,
-    };
-    let ended = carry_out(rt, alloc, &call)?;
-    has_ended(&ended, words.last().copied().unwrap_or("no words"), wanted)
-}
-
-/// Fails unless calls with each of these lists of words end so.
-fn grades_end<'x, R: Threads + Wait + Copy + Send + Sync>(
-    rt: &R,
-    alloc: Global,
-    table: &'x [&'x [&'x str]],
-    texts: &'x [(&'x str, &'x str)],
-    fault: Fault,
-    wanted: End,
-) -> Result<(), Fail> {
-    for words in table {
-        grade_ends(rt, alloc, words, texts, fault, wanted)?;
-    }
+#[test]
+fn gradings_of_a_generated_design_are_alike(rt: HostRuntime) -> Result<(), Fail> {
+    let alloc = rt.alloc();
+    let (design, rows) = demonstrated(alloc, 100)?;
+    let one = graded(&rt, alloc, design.as_str(), rows.as_str(), "workers=1")?;
+    let eight = graded(&rt, alloc, design.as_str(), rows.as_str(), "workers=8")?;
+    are_found(eight.as_bytes(), one.as_bytes(), "eight workers")?;
+    // eight inputs and 100 cells have 108 nets, of which each can be stuck at two bits
+    let front = one.as_bytes().starts_with(b"grade 1 216 ");
+    assert_eq!(&rt; front, true);
     Ok(())
 }
 
@@ -99,8 +63,8 @@ fn any_number_of_workers_write_the_grading(rt: HostRuntime) -> Result<(), Fail> 
     let alloc = rt.alloc();
     let toggle = End::done(TOGGLE_GRADE);
     let empty = End::done(EMPTY_GRADE);
-    grades_end(&rt, alloc, &GRADES, TOGGLE_RUN, Fault::None, toggle)?;
-    grades_end(&rt, alloc, &GRADES, EMPTY, Fault::None, empty)
+    all_end_on(&rt, alloc, &GRADES, TOGGLE_RUN, Fault::None, toggle)?;
+    all_end_on(&rt, alloc, &GRADES, EMPTY, Fault::None, empty)
 }
 
 #[test]
@@ -112,11 +76,11 @@ fn what_stops_a_grading_is_named(rt: HostRuntime) -> Result<(), Fail> {
     let design = End::refused(7, "read fault: design\n");
     let write = End::refused(8, "write fault\n");
     let wide = End::refused(5, "stimulus 3: line 1: found 2 bits, wanted 1\n");
-    grades_end(&rt, alloc, &MISSING, TOGGLE_RUN, Fault::None, read)?;
-    grades_end(&rt, alloc, &GRADES, TOGGLE_RUN, Fault::Read(1), design)?;
-    grades_end(&rt, alloc, &GRADES, TOGGLE_RUN, Fault::Read(3), read)?;
-    grades_end(&rt, alloc, &GRADES, TOGGLE_RUN, Fault::Write(1), write)?;
-    grades_end(&rt, alloc, &GRADES, WIDE, Fault::None, wide)
+    all_end_on(&rt, alloc, &MISSING, TOGGLE_RUN, Fault::None, read)?;
+    all_end_on(&rt, alloc, &GRADES, TOGGLE_RUN, Fault::Read(1), design)?;
+    all_end_on(&rt, alloc, &GRADES, TOGGLE_RUN, Fault::Read(3), read)?;
+    all_end_on(&rt, alloc, &GRADES, TOGGLE_RUN, Fault::Write(1), write)?;
+    all_end_on(&rt, alloc, &GRADES, WIDE, Fault::None, wide)
 }
 
 #[test]

@@ -4,13 +4,12 @@ use std::sync::Wait;
 use std::test::Fail;
 use std::thread::Threads;
 use vw_link::Links;
-use vw_outside::{MemSink, OpenGate};
+use vw_outside::OpenGate;
 use vw_sample_calls::{
-    Call, End, Fault, MOST, Ran, SEVERAL, SIM, are_found, has_ended, names_of, out_of, shelf_of,
-    words_end,
+    Call, End, Fault, MOST, SEVERAL, SIM, all_end_on, are_found, carried_out_on, demonstrated,
+    ends_on, has_ended, words_carried, words_end, written_on,
 };
 use vw_samples::{TOGGLE, TOGGLE_PLAN, TRIANGLE};
-use vw_top::virtual_wires;
 
 mod cuts;
 mod rows;
@@ -42,62 +41,3 @@ const RESUME: [&[&str]; 6] = [
     &["resume", "d", "b", "t", "r", "plan=p", "workers=2"],
     &["resume", "d", "b", "t", "r", "plan=p", "workers=3"],
 ];
-
-/// Carries out a call, and leaves what links have carried.
-fn carry_out<R: Threads + Wait + Copy + Send + Sync>(
-    rt: &R,
-    alloc: Global,
-    call: &Call,
-    links: &mut Links<R>,
-) -> Result<Ran, AllocError> {
-    let mut shelf = shelf_of(alloc, call)?;
-    let mut out = out_of(alloc, call)?;
-    let mut err = MemSink::new(alloc, 100, Vec::new(alloc));
-    let words = names_of(alloc, call.words)?;
-    let status = virtual_wires(
-        rt,
-        alloc,
-        &words,
-        &mut shelf,
-        links,
-        &OpenGate::new(),
-        &mut out,
-        &mut err,
-    );
-    Ok(Ran { status, out, err })
-}
-
-/// Fails unless a call with these words over these texts, with this fault, ends so.
-fn call_ends<'x, R: Threads + Wait + Copy + Send + Sync>(
-    rt: &R,
-    alloc: Global,
-    words: &'x [&'x str],
-    texts: &'x [(&'x str, &'x str)],
-    fault: Fault,
-    wanted: End,
-) -> Result<(), Fail> {
-    let call = Call {
-        words,
-        texts,
-        most: MOST,
-        fault,
-    };
-    let mut links = Links::new(*rt, true);
-    let ended = carry_out(rt, alloc, &call, &mut links)?;
-    has_ended(&ended, words.last().copied().unwrap_or("no words"), wanted)
-}
-
-/// Fails unless calls with each of these lists of words end so.
-fn calls_end<'x, R: Threads + Wait + Copy + Send + Sync>(
-    rt: &R,
-    alloc: Global,
-    table: &'x [&'x [&'x str]],
-    texts: &'x [(&'x str, &'x str)],
-    fault: Fault,
-    wanted: End,
-) -> Result<(), Fail> {
-    for words in table {
-        call_ends(rt, alloc, words, texts, fault, wanted)?;
-    }
-    Ok(())
-}

@@ -22,3 +22,5 @@ pub mod ConstantLaws
 pub mod HeadlineLaw
 pub mod DemoRuns
 pub mod DemoLaws
+pub mod UnusedLinks
+pub mod WrongWords

@@ -153,10 +153,14 @@ commands =
 abbrev pub found_verb : List (List ℕ) → List CommandForm → Option Verb
 found_verb words table = option_map (λ command. command.verb) (find (λ command. has_form words command.form) table)
 
+-- the forms of all commands
+abbrev pub command_forms : List Form
+command_forms = map (λ command. command.form) commands
+
 -- what words spell: this command, or none, and the place of the first wrong word
 abbrev pub spelled_by : List (List ℕ) → Spelled
 spelled_by words =
-    unwrap_or (option_and_then (λ verb. spelled_as verb words) (found_verb words commands)) (nothing (first_wrong (map (λ command. command.form) commands) words))
+    unwrap_or (option_and_then (λ verb. spelled_as verb words) (found_verb words commands)) (nothing (first_wrong command_forms words))
 
 -- whether a command needs a runtime: what runs a board with several workers does, and each grading, saving and resumption
 abbrev pub needs_runtime : Spelled → Bool
@@ -173,3 +177,19 @@ needs_runtime (emit design board given) = false
 needs_runtime help = false
 needs_runtime version = false
 needs_runtime (nothing place) = false
+
+-- whether a command runs a board with several workers, whose words go over links
+abbrev pub uses_links : Spelled → Bool
+uses_links (run design board stimulus given workers unknown probes) = ltb 1 workers
+uses_links (demo cells workers) = ltb 1 workers
+uses_links (save design board stimulus given workers unknown) = ltb 1 workers
+uses_links (resume design board state stimulus given workers) = ltb 1 workers
+uses_links (sim design stimulus unknown probes) = false
+uses_links (wave design stimulus unknown probes) = false
+uses_links (grade design stimulus workers unknown) = false
+uses_links (check design board its_plan probes) = false
+uses_links (plan design board probes) = false
+uses_links (emit design board given) = false
+uses_links help = false
+uses_links version = false
+uses_links (nothing place) = false

@@ -1,9 +1,11 @@
 //! Laws of the commands, as contracts of functions that do nothing.
-ghost use Rattle.std.specs.Prelude.{◌≡◌, ◌≤◌, ℕ, Bool, List, [], Option, length};
+ghost use Rattle.std.specs.Prelude.{◌≡◌, ◌≤◌, ℕ, Bool, false, List, [], Option, length};
+ghost use Rattle.vw_words.specs.FirstWrong.{IsFirstWrong};
+ghost use Rattle.vw_words.specs.Matched.{first_wrong};
 ghost use Rattle.vw_design.specs.Paths.{Word};
 ghost use Rattle.vw_course.specs.Endings.{IsCallOf};
 ghost use Rattle.vw_course.specs.Statuses.{Holds, Statuses};
-ghost use Rattle.vw_top.specs.Words.{Spelled, help, version};
+ghost use Rattle.vw_top.specs.Words.{Spelled, command_forms, help, uses_links, version};
 ghost use Rattle.vw_top.specs.Commands.{check_course, course_of, demo_course, emit_course, grade_course, plan_course, resume_course, run_course, save_course, saved_of, sim_course, trace_of, usage_course, wave_course, wave_of};
 ghost use Rattle.vw_top.specs.Messages.{Call};
 ghost use Rattle.vw_top.specs.Headline.{WritesTrace};
@@ -22,6 +24,7 @@ ghost use Rattle.vw_top.specs.DemoStatuses.{DemoStatuses};
 
 use vw_resume::traces_join;
 use vw_wave::waves_of_runs_replay;
+use vw_words::wrong_words_follow_the_longest_front;
 
 /// The headline. Whatever the board, the plan and the number of workers, and in whatever order the workers have run: where
 /// the texts of design and stimulus are held and the status of `run` is 0, out has exactly the trace of the unpartitioned
@@ -149,4 +152,19 @@ pub fn version_statuses()
 pub fn usage_statuses()
     ensures { (place : ℕ) (call : Call) → IsCallOf (usage_course place) call
         → UsageStatuses place call }
+{}
+
+/// The place that the message of such words names: the first wrong word stands behind the longest front of the words that is
+/// a front of some command's words.
+pub fn wrong_words_have_their_place()
+    ensures { (words : List (List ℕ)) → IsFirstWrong command_forms words
+        (first_wrong command_forms words) }
+{
+    wrong_words_follow_the_longest_front();
+}
+
+/// What links have carried changes in no call but of a command that runs a board with several workers, however it ends.
+pub fn unused_links_stay()
+    ensures { (spelled : Spelled) (call : Call) → uses_links spelled ≡ false
+        → IsCallOf (course_of spelled) call → call.after.links ≡ call.before.links }
 {}

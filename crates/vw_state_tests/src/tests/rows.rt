@@ -11,13 +11,13 @@ fn the_state_after_a_stimulus_is_saved(rt: HostRuntime) -> Result<(), Fail> {
         &["save", "d", "b", "s", "plan=p", "workers=3"],
     ];
     let wanted = End::done(STATE);
-    calls_end(&rt, rt.alloc(), &SAVE, TEXTS, Fault::None, wanted)
+    all_end_on(&rt, rt.alloc(), &SAVE, TEXTS, Fault::None, wanted)
 }
 
 #[test]
 fn a_run_goes_on_from_a_state(rt: HostRuntime) -> Result<(), Fail> {
     let wanted = End::done(LATER_TRACE);
-    calls_end(&rt, rt.alloc(), &RESUME, TEXTS, Fault::None, wanted)
+    all_end_on(&rt, rt.alloc(), &RESUME, TEXTS, Fault::None, wanted)
 }
 
 /// The bits of latches are those of the state, whatever free latches start at.
@@ -38,8 +38,8 @@ fn the_value_of_free_latches_has_no_effect_on_a_resumption(rt: HostRuntime) -> R
     let alloc = rt.alloc();
     let trace = End::done("trace 1 1 1\n9 0 0\n10 0 0\nend 11 0\n");
     let state = End::done("state 1 2 1 1\n");
-    calls_end(&rt, alloc, &WORDS, FREE_TEXTS, Fault::None, trace)?;
-    calls_end(&rt, alloc, &SAVE, FREE_TEXTS, Fault::None, state)
+    all_end_on(&rt, alloc, &WORDS, FREE_TEXTS, Fault::None, trace)?;
+    all_end_on(&rt, alloc, &SAVE, FREE_TEXTS, Fault::None, state)
 }
 
 #[test]
@@ -65,23 +65,9 @@ fn a_state_may_have_no_latches_and_a_stimulus_no_rows(rt: HostRuntime) -> Result
     let state = End::done("state 1 0 0 -\n");
     let trace = End::done("trace 1 1 0\n4294967294 1 -\nend 4294967295 -\n");
     let nothing = End::done("trace 1 1 0\nend 4294967294 -\n");
-    calls_end(&rt, alloc, &SAVE, WIRE_TEXTS, Fault::None, state)?;
-    calls_end(&rt, alloc, &RESUME, WIRE_TEXTS, Fault::None, trace)?;
-    calls_end(&rt, alloc, &NO_ROWS, WIRE_TEXTS, Fault::None, nothing)
-}
-
-/// What the link between some nodes has carried, a line for each word: its clock, its net, its pin and its bit.
-fn carried<R>(alloc: Global, links: &Links<R>, link: u32) -> Result<String, AllocError> {
-    let mut text = String::new(alloc);
-    for number in 0..1_000 {
-        let Some(word) = links.carried(link, number) else {
-            break;
-        };
-        let (clock, net, pin) = (word.clock(), word.net(), word.pin());
-        let line = format!(in alloc; "{clock} {net} {pin} {}\n", word.bit() as u8)?;
-        text.push_str(line.as_str())?;
-    }
-    Ok(text)
+    all_end_on(&rt, alloc, &SAVE, WIRE_TEXTS, Fault::None, state)?;
+    all_end_on(&rt, alloc, &RESUME, WIRE_TEXTS, Fault::None, trace)?;
+    all_end_on(&rt, alloc, &NO_ROWS, WIRE_TEXTS, Fault::None, nothing)
 }
 
 #[test]
@@ -94,11 +80,11 @@ fn words_are_numbered_from_the_clock_of_the_state(rt: HostRuntime) -> Result<(),
         fault: Fault::None,
     };
     let mut links = Links::new(rt, true);
-    let ended = carry_out(&rt, alloc, &call, &mut links)?;
+    let ended = carried_out_on(&rt, alloc, &call, &OpenGate::new(), &mut links)?;
     has_ended(&ended, "words", End::done(LATER_TRACE))?;
-    let first = carried(alloc, &links, 0)?;
-    let fourth = carried(alloc, &links, 3)?;
-    let fifth = carried(alloc, &links, 4)?;
+    let first = words_carried(alloc, &links, 0)?;
+    let fourth = words_carried(alloc, &links, 3)?;
+    let fifth = words_carried(alloc, &links, 4)?;
     are_found(first.as_bytes(), b"1 0 0 1\n2 0 0 0\n", "host to chip 1")?;
     are_found(fourth.as_bytes(), b"1 1 0 0\n2 1 0 0\n", "chip 1 to chip 2")?;
     are_found(fifth.as_bytes(), b"1 2 0 1\n2 2 0 0\n", "chip 2 to host")

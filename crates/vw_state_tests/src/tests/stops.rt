@@ -61,7 +61,7 @@ fn states_are_refused_with_their_lines(rt: HostRuntime) -> Result<(), Fail> {
     for (state, later, status, line) in TABLE {
         let texts = with(state, later);
         let wanted = End::refused(*status, line);
-        calls_end(&rt, rt.alloc(), &RESUME, &texts, Fault::None, wanted)?;
+        all_end_on(&rt, rt.alloc(), &RESUME, &texts, Fault::None, wanted)?;
     }
     Ok(())
 }
@@ -70,7 +70,7 @@ fn states_are_refused_with_their_lines(rt: HostRuntime) -> Result<(), Fail> {
 fn the_last_clock_that_a_trace_can_have_is_reached(rt: HostRuntime) -> Result<(), Fail> {
     let texts = with("state 1 4294967293 1 0\n", "1\n0\n");
     let wanted = End::done("trace 1 1 1\n4294967293 0 0\n4294967294 1 1\nend 4294967295 1\n");
-    calls_end(&rt, rt.alloc(), &RESUME, &texts, Fault::None, wanted)
+    all_end_on(&rt, rt.alloc(), &RESUME, &texts, Fault::None, wanted)
 }
 
 #[test]
@@ -92,12 +92,12 @@ fn faults_are_those_of_the_file_that_is_read(rt: HostRuntime) -> Result<(), Fail
     let alloc = rt.alloc();
     for (number, line) in READS {
         let wanted = End::refused(7, line);
-        calls_end(&rt, alloc, &OWN, TEXTS, Fault::Read(*number), wanted)?;
+        all_end_on(&rt, alloc, &OWN, TEXTS, Fault::Read(*number), wanted)?;
     }
     let wanted = End::refused(8, "write fault\n");
-    calls_end(&rt, alloc, &RESUME, TEXTS, Fault::Write(1), wanted)?;
+    all_end_on(&rt, alloc, &RESUME, TEXTS, Fault::Write(1), wanted)?;
     const SAVE: [&[&str]; 1] = [&["save", "d", "b", "s"]];
-    calls_end(&rt, alloc, &SAVE, TEXTS, Fault::Write(1), wanted)
+    all_end_on(&rt, alloc, &SAVE, TEXTS, Fault::Write(1), wanted)
 }
 
 #[test]
@@ -122,7 +122,7 @@ fn files_come_in_their_order(rt: HostRuntime) -> Result<(), Fail> {
     ];
     for (words, status, line) in TABLE {
         let wanted = End::refused(*status, line);
-        call_ends(&rt, rt.alloc(), words, TEXTS, Fault::None, wanted)?;
+        ends_on(&rt, rt.alloc(), words, TEXTS, Fault::None, wanted)?;
     }
     Ok(())
 }

@@ -11,7 +11,7 @@ fn are_fronts<R: Abort>(
     assert!(rt; TOGGLE_TRACE.as_bytes().starts_with(ended.out.bytes()));
     for link in 0..6u32 {
         let words = TOGGLE_WORDS[link as usize];
-        let found = carried(alloc, links, link)?;
+        let found = words_carried(alloc, links, link)?;
         assert!(rt; words.as_bytes().starts_with(found.as_bytes()));
     }
     Ok(())
@@ -30,7 +30,7 @@ fn status_of<R: Threads + Wait + Abort + Copy + Send + Sync>(
         fault,
     };
     let mut links = Links::new(*rt, true);
-    let ended = carry_out(rt, alloc, &call, &OpenGate::new(), &mut links)?;
+    let ended = carried_out_on(rt, alloc, &call, &OpenGate::new(), &mut links)?;
     are_fronts(rt, alloc, &ended, &links)?;
     Ok(ended.status)
 }

@@ -18,7 +18,7 @@ fn call_ends<R: Threads + Wait + Copy + Send + Sync>(
     };
     let on = words.last().copied().unwrap_or("no words");
     let mut links = Links::new(*rt, true);
-    let ended = carry_out(rt, alloc, &call, &OpenGate::new(), &mut links)?;
+    let ended = carried_out_on(rt, alloc, &call, &OpenGate::new(), &mut links)?;
     has_ended(&ended, on, wanted)?;
     have_carried(alloc, &links, carried, on)
 }
@@ -126,14 +126,14 @@ fn links_are_laid_anew_for_each_batch(rt: HostRuntime) -> Result<(), Fail> {
         fault: Fault::None,
     };
     let mut links = Links::new(rt, true);
-    let ended = carry_out(&rt, rt.alloc(), &call, &OpenGate::new(), &mut links)?;
+    let ended = carried_out_on(&rt, rt.alloc(), &call, &OpenGate::new(), &mut links)?;
     assert!(rt;
         ended
             .out
             .bytes()
             .ends_with(b"255 1 1\n256 0 0\nend 257 1\n")
     );
-    let words = carried(rt.alloc(), &links, 3)?;
+    let words = words_carried(rt.alloc(), &links, 3)?;
     assert!(rt;
         words
             .as_bytes()

@@ -1,0 +1,89 @@
+//! How often links are laid and lifted.
+use super::*;
+use vw_link::{Receiver, Sender};
+use vw_prog::{Fabric, Job};
+
+/// Links that count how often they are laid and lifted, and of which one isn't laid: the one with this number, from 1.
+#[derive(Drop)]
+struct Counted<R> {
+    links: Links<R>,
+    refused: u32,
+    laid: u32,
+    lifted: u32,
+}
+
+impl<R: Wait + Copy + Send> Fabric for Counted<R> {
+    type Tx = Sender<R>;
+
+    type Rx = Receiver<R>;
+
+    ghost use Rattle.vw_link.specs.Chains.{carried_of};
+
+    ghost carried = { λ counted. carried_of counted.links };
+
+    fn lay(
+        &mut self,
+        alloc: Global,
+        job: &Job,
+        link: u32,
+    ) -> Result<(Sender<R>, Receiver<R>), AllocError> {
+        if self.laid.saturating_add(1) == self.refused {
+            return Err(AllocError);
+        }
+        let ends = self.links.lay(alloc, job, link)?;
+        self.laid = self.laid.saturating_add(1);
+        Ok(ends)
+    }
+
+    fn lift(&mut self, link: u32, tx: Sender<R>, rx: Receiver<R>) {
+        self.lifted = self.lifted.saturating_add(1);
+        self.links.lift(link, tx, rx);
+    }
+}
+
+/// Runs the toggle over 257 clocks, which are a batch and a clock, on links of which one isn't laid. It answers the status, and
+/// how often links were laid and lifted.
+fn laid_and_lifted<R: Threads + Wait + Copy + Send + Sync>(
+    rt: &R,
+    alloc: Global,
+    refused: u32,
+) -> Result<(u8, u32, u32), AllocError> {
+    const TEXTS: &[(&str, &str)] = &[
+        ("d", TOGGLE),
+        ("b", TRIANGLE),
+        ("p", TOGGLE_PLAN),
+        ("s", "1\nhold 256\n"),
+    ];
+    let call = Call {
+        words: &["run", "d", "b", "s", "plan=p", "workers=2"],
+        texts: TEXTS,
+        most: MOST,
+        fault: Fault::None,
+    };
+    let mut counted = Counted {
+        links: Links::new(*rt, true),
+        refused,
+        laid: 0,
+        lifted: 0,
+    };
+    let ended = carried_out_on(rt, alloc, &call, &OpenGate::new(), &mut counted)?;
+    Ok((ended.status, counted.laid, counted.lifted))
+}
+
+/// A board of six links lays each for 256 clocks, and again for the one behind them.
+#[test]
+fn each_batch_lays_each_link_once(rt: HostRuntime) -> Result<(), Fail> {
+    let found = laid_and_lifted(&rt, rt.alloc(), 0)?;
+    assert_eq!(&rt; found, (0, 12, 12));
+    Ok(())
+}
+
+/// A link that isn't laid is want of memory, and all that were laid before it are lifted.
+#[test]
+fn what_was_laid_is_lifted_where_one_is_refused(rt: HostRuntime) -> Result<(), Fail> {
+    for refused in 1..13u32 {
+        let found = laid_and_lifted(&rt, rt.alloc(), refused)?;
+        assert_eq!(&rt; found, (9, refused - 1, refused - 1));
+    }
+    Ok(())
+}
