@@ -1,4 +1,4 @@
-use Rattle.std.proofs.Common.{◌≡◌, [], List, Bool, Some, slice_get, subst, sym}
+use Rattle.std.proofs.Common.{◌≡◌, [], Some, slice_get, subst, sym}
 use Rattle.vw_net.specs.History.{History}
 use Rattle.vw_emit.proofs.laws.emitted_texts_show_their_designs.Goals as goal
 
