@@ -1,5 +1,5 @@
 -- What the text of an emitted board is of the text of a design.
-use Rattle.std.proofs.Common.{◌≡◌, ℕ, List, [], Option, Some, None, ◌∙◌, ap}
+use Rattle.std.proofs.Common.{ℕ, List, [], Option, Some, None, ◌∙◌, ap}
 use Rattle.vw_net.specs.declared.ordered.Ordered.{Ordered}
 use Rattle.vw_design.specs.Flattened.{IsFlatOf}
 use Rattle.vw_design.specs.declared.design.Design.{Design}
