@@ -4,9 +4,9 @@ use Rattle.std.specs.List.{AllByRecursion}
 use Rattle.std.proofs.lemmas.Bool.{and_from, and_right}
 use Rattle.vw_net.specs.Gathered.{gather}
 use Rattle.vw_net.proofs.ListParts.{all_append}
-use Rattle.vw_emit.specs.Outlets.{have_one_pin, head_hop, is_of_pin, outlets_behind}
-use Rattle.vw_emit.specs.declared.numbered_hop.NumberedHop.{NumberedHop}
-use Rattle.vw_emit.specs.declared.outlet.Outlet.{Outlet}
+use Rattle.vw_boardtext.specs.Outlets.{have_one_pin, head_hop, is_of_pin, outlets_behind}
+use Rattle.vw_boardtext.specs.declared.numbered_hop.NumberedHop.{NumberedHop}
+use Rattle.vw_boardtext.specs.declared.outlet.Outlet.{Outlet}
 
 -- ---- hops that leave by different pins
 

@@ -7,10 +7,10 @@ use Rattle.vw_plan.specs.PlannedBoard.{PlannedBoard}
 use Rattle.vw_plan.specs.Sound.{IsSound}
 use Rattle.vw_plan.specs.declared.link.Link.{Link}
 use Rattle.vw_plan.proofs.HopsOfWires.{at_place}
-use Rattle.vw_emit.specs.Outlets.{outlets, outlets_behind}
-use Rattle.vw_emit.specs.declared.numbered_hop.NumberedHop.{NumberedHop}
-use Rattle.vw_emit.specs.declared.outlet.Outlet.{Outlet}
-use Rattle.vw_emit.proofs.HopsByPins.{hops_by_pins, link_of, pin_of}
+use Rattle.vw_boardtext.specs.Outlets.{outlets, outlets_behind}
+use Rattle.vw_boardtext.specs.declared.numbered_hop.NumberedHop.{NumberedHop}
+use Rattle.vw_boardtext.specs.declared.outlet.Outlet.{Outlet}
+use Rattle.vw_boardtext.proofs.HopsByPins.{hops_by_pins, link_of, pin_of}
 use Rattle.vw_hardware.specs.Items.{User, users}
 use Rattle.vw_bridge.proofs.Blocks.{IsOfPin, in_blocks, in_turn, link_apart, one_block, pin_apart}
 use Rattle.vw_bridge.proofs.Lists.{all_gather, gather_listed, gather_upto}

@@ -19,10 +19,10 @@ use Rattle.vw_plan.specs.declared.link.Link.{Link}
 use Rattle.vw_plan.specs.declared.wire.Hop.{Hop}
 use Rattle.vw_plan.specs.declared.wire.Wire.{Wire}
 use Rattle.vw_plan.proofs.HopLinks.{hop_facts}
-use Rattle.vw_emit.specs.Emitted.{emitted_cells, pin_cells}
-use Rattle.vw_emit.specs.Outlets.{hops_of_wire, hops_of_wires, leaves_before, numbered_hops, outlets, outlets_behind}
-use Rattle.vw_emit.specs.declared.numbered_hop.NumberedHop.{NumberedHop}
-use Rattle.vw_emit.specs.declared.outlet.Outlet.{Outlet}
+use Rattle.vw_boardtext.specs.Emitted.{emitted_cells, pin_cells}
+use Rattle.vw_boardtext.specs.Outlets.{hops_of_wire, hops_of_wires, leaves_before, numbered_hops, outlets, outlets_behind}
+use Rattle.vw_boardtext.specs.declared.numbered_hop.NumberedHop.{NumberedHop}
+use Rattle.vw_boardtext.specs.declared.outlet.Outlet.{Outlet}
 use Rattle.vw_hardware.specs.Items.{User, cell_items, delay_item, gate_items, hop_items, hops_to, latch_items, late_name, link_items, node_items, pin_items, pins_from, results, send_item, sequencer, stage, users, wire_items}
 use Rattle.vw_hardware.specs.Locals.{pin_out, result, table}
 use Rattle.vw_hardware.specs.Names.{name_at}

@@ -10,7 +10,7 @@ use Rattle.vw_text.specs.PlainLines.{plain_text}
 use Rattle.vw_text.proofs.LineTexts.{lines_text-map}
 use Rattle.vw_blif.specs.Printed.{init_word, item_lines, mark_byte, row_words}
 use Rattle.vw_blif.specs.Rows.{value_word}
-use Rattle.vw_emit.specs.Lines.{blif_latch, blif_names, mark_code, row_line, spaced_line, start_word}
+use Rattle.vw_boardtext.specs.Lines.{blif_latch, blif_names, mark_code, row_line, spaced_line, start_word}
 use Rattle.vw_hardware.specs.Locals.{Local, LocalItem, register, table}
 use Rattle.vw_boardnames.specs.Boards.{PlainItem, spelled_item}
 use Rattle.vw_boardnames.specs.Spelled.{spelled}

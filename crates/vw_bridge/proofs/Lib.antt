@@ -12,6 +12,8 @@ pub mod SameText
 pub mod PlainWords
 pub mod PlainItems
 pub mod PlainBoards
+pub mod SpelledDesigns
+pub mod BoardDesigns
 pub mod Totals
 pub mod CellTotals
 pub mod PortTotals

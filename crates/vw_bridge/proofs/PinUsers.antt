@@ -17,9 +17,9 @@ use Rattle.vw_plan.specs.declared.wire.Wire.{Wire}
 use Rattle.vw_plan.proofs.HopLinks.{HopLink, hop_facts, one_link}
 use Rattle.vw_prog.proofs.HopPlaces.{hop_place}
 use Rattle.vw_prog.specs.Timetable.{link_place}
-use Rattle.vw_emit.specs.Outlets.{hops_of_wire, hops_of_wires, leaves_before, numbered_hop, numbered_hops}
-use Rattle.vw_emit.specs.declared.numbered_hop.NumberedHop.{NumberedHop}
-use Rattle.vw_emit.proofs.HopsByPins.{link_of, pin_of, time_of, wires_all}
+use Rattle.vw_boardtext.specs.Outlets.{hops_of_wire, hops_of_wires, leaves_before, numbered_hop, numbered_hops}
+use Rattle.vw_boardtext.specs.declared.numbered_hop.NumberedHop.{NumberedHop}
+use Rattle.vw_boardtext.proofs.HopsByPins.{link_of, pin_of, time_of, wires_all}
 use Rattle.vw_hardware.specs.Items.{User, leaves_by, users, users_at}
 use Rattle.vw_hardware.specs.Locals.{held}
 use Rattle.vw_hardware.specs.Names.{name_at, sent_name}

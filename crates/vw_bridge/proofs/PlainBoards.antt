@@ -20,7 +20,7 @@ use Rattle.vw_blif.specs.PlainDesigns.{IsPlainFor, are_plain_ports, have_line_nu
 use Rattle.vw_blif.specs.Printed.{head_lines, item_lines, model_lines}
 use Rattle.vw_plan.specs.PlannedBoard.{PlannedBoard}
 use Rattle.vw_plan.specs.Sound.{IsSound}
-use Rattle.vw_emit.specs.Emitted.{emitted_text}
+use Rattle.vw_boardtext.specs.Emitted.{emitted_text}
 use Rattle.vw_hardware.specs.Items.{node_items}
 use Rattle.vw_hardware.specs.Locals.{Local, column, drives, result}
 use Rattle.vw_hardware.specs.Ports.{node_inputs, node_outputs}

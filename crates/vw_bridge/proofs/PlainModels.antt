@@ -66,7 +66,7 @@ models_in (Ok models) = models
 models_in (Err fault) = []
 
 -- a reader that finds no fault
-abbrev found : List SpelledModel → Result (List SpelledModel) TextFault
+abbrev pub found : List SpelledModel → Result (List SpelledModel) TextFault
 found models = Ok models
 
 -- finds the models of one design alone

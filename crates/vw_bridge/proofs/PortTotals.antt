@@ -14,10 +14,10 @@ use Rattle.vw_net.proofs.SumsOverLists.{sum_agree, sum_plus}
 use Rattle.vw_plan.specs.PlannedBoard.{PlannedBoard}
 use Rattle.vw_plan.specs.Sound.{IsSound}
 use Rattle.vw_plan.specs.declared.link.Link.{Link}
-use Rattle.vw_emit.specs.Emitted.{pin_cells}
-use Rattle.vw_emit.specs.Outlets.{outlets}
-use Rattle.vw_emit.specs.declared.numbered_hop.NumberedHop.{NumberedHop}
-use Rattle.vw_emit.specs.declared.outlet.Outlet.{Outlet}
+use Rattle.vw_boardtext.specs.Emitted.{pin_cells}
+use Rattle.vw_boardtext.specs.Outlets.{outlets}
+use Rattle.vw_boardtext.specs.declared.numbered_hop.NumberedHop.{NumberedHop}
+use Rattle.vw_boardtext.specs.declared.outlet.Outlet.{Outlet}
 use Rattle.vw_hardware.specs.Items.{User, users}
 use Rattle.vw_hardware.specs.Locals.{Local, column, pin_in, pin_out, result}
 use Rattle.vw_hardware.specs.Ports.{latch_port, node_inputs, node_outputs, pin_ports, used_port}

@@ -14,9 +14,9 @@ use Rattle.vw_net.specs.declared.cover.Row.{Row}
 use Rattle.vw_net.proofs.ListedLists.{flat_map_gather, gather_agree, gather_range}
 use Rattle.vw_blif.specs.Rows.{value_word}
 use Rattle.vw_plan.specs.PlannedBoard.{PlannedBoard}
-use Rattle.vw_emit.specs.Lines as lines
-use Rattle.vw_emit.specs.Names as names
-use Rattle.vw_emit.specs.Nodes as nodes
+use Rattle.vw_boardtext.specs.Lines as lines
+use Rattle.vw_boardtext.specs.Names as names
+use Rattle.vw_boardtext.specs.Nodes as nodes
 use Rattle.vw_hardware.specs.Items as items
 use Rattle.vw_hardware.specs.Locals.{Local, LocalItem, coming, gate, kept, moment, result, table}
 use Rattle.vw_hardware.specs.Names.{name_at}

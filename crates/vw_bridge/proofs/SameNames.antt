@@ -13,9 +13,9 @@ use Rattle.vw_plan.specs.PlannedBoard.{PlannedBoard, home}
 use Rattle.vw_plan.specs.declared.wire.Wire.{Wire}
 use Rattle.vw_leads.specs.Pairs.{first_pair, is_number_pair}
 use Rattle.vw_leads.specs.Wires.{wire_pairs}
-use Rattle.vw_emit.specs.Names as names
-use Rattle.vw_emit.specs.Nodes as nodes
-use Rattle.vw_emit.specs.declared.numbered_hop.NumberedHop.{NumberedHop}
+use Rattle.vw_boardtext.specs.Names as names
+use Rattle.vw_boardtext.specs.Nodes as nodes
+use Rattle.vw_boardtext.specs.declared.numbered_hop.NumberedHop.{NumberedHop}
 use Rattle.vw_hardware.specs.Locals.{Local, caught, column, delayed, gate, held, kept, pin_in, pin_out, sent}
 use Rattle.vw_hardware.specs.Names.{brought_by, brought_name, name_at, own_name}
 use Rattle.vw_boardnames.specs.Spelled.{pin_net, spelled, three_numbers, two_numbers}

@@ -20,11 +20,11 @@ use Rattle.vw_plan.specs.declared.wire.Wire.{Wire}
 use Rattle.vw_plan.proofs.HopLinks.{HopLink, hop_facts, one_link}
 use Rattle.vw_prog.proofs.HopPlaces.{hop_place}
 use Rattle.vw_prog.specs.Timetable.{link_place}
-use Rattle.vw_emit.specs.Lines as lines
-use Rattle.vw_emit.specs.Names as names
-use Rattle.vw_emit.specs.Nodes as nodes
-use Rattle.vw_emit.specs.declared.numbered_hop.NumberedHop.{NumberedHop}
-use Rattle.vw_emit.specs.Outlets.{numbered_hop, numbered_hops, outlets}
+use Rattle.vw_boardtext.specs.Lines as lines
+use Rattle.vw_boardtext.specs.Names as names
+use Rattle.vw_boardtext.specs.Nodes as nodes
+use Rattle.vw_boardtext.specs.declared.numbered_hop.NumberedHop.{NumberedHop}
+use Rattle.vw_boardtext.specs.Outlets.{numbered_hop, numbered_hops, outlets}
 use Rattle.vw_hardware.specs.Items as items
 use Rattle.vw_hardware.specs.Locals.{Local, LocalItem, caught, column, held, kept, moment, pin_in, pin_out, register, result, table}
 use Rattle.vw_hardware.specs.Ports as ports

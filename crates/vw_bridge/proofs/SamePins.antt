@@ -8,12 +8,12 @@ use Rattle.vw_net.proofs.ListedLists.{flat_map_gather, flat_map_listed, listed_a
 use Rattle.vw_plan.specs.PlannedBoard.{PlannedBoard}
 use Rattle.vw_plan.specs.Sound.{IsSound}
 use Rattle.vw_plan.specs.declared.link.Link.{Link}
-use Rattle.vw_emit.specs.Lines as lines
-use Rattle.vw_emit.specs.Names as names
-use Rattle.vw_emit.specs.Nodes as nodes
-use Rattle.vw_emit.specs.Outlets.{outlets}
-use Rattle.vw_emit.specs.declared.numbered_hop.NumberedHop.{NumberedHop}
-use Rattle.vw_emit.specs.declared.outlet.Outlet.{Outlet}
+use Rattle.vw_boardtext.specs.Lines as lines
+use Rattle.vw_boardtext.specs.Names as names
+use Rattle.vw_boardtext.specs.Nodes as nodes
+use Rattle.vw_boardtext.specs.Outlets.{outlets}
+use Rattle.vw_boardtext.specs.declared.numbered_hop.NumberedHop.{NumberedHop}
+use Rattle.vw_boardtext.specs.declared.outlet.Outlet.{Outlet}
 use Rattle.vw_hardware.specs.Items as items
 use Rattle.vw_hardware.specs.Items.{User, users}
 use Rattle.vw_hardware.specs.Locals.{Local, LocalItem, delayed, moment, pin_in, pin_out, sent, table}

@@ -7,9 +7,9 @@ use Rattle.vw_text.specs.Physical.{lines_text}
 use Rattle.vw_blif.specs.Printed.{bind_word, head_lines, item_lines, model_lines, open_port_lines, printed_by, design_lines}
 use Rattle.vw_plan.specs.PlannedBoard.{PlannedBoard}
 use Rattle.vw_plan.specs.Sound.{IsSound}
-use Rattle.vw_emit.specs.Emitted as emitted
-use Rattle.vw_emit.specs.Lines as lines
-use Rattle.vw_emit.specs.Nodes as nodes
+use Rattle.vw_boardtext.specs.Emitted as emitted
+use Rattle.vw_boardtext.specs.Lines as lines
+use Rattle.vw_boardtext.specs.Nodes as nodes
 use Rattle.vw_hardware.specs.Items as items
 use Rattle.vw_hardware.specs.Locals.{Local, LocalItem, column, result}
 use Rattle.vw_hardware.specs.Ports as ports

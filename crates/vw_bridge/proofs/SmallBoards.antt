@@ -25,7 +25,7 @@ use Rattle.vw_design.proofs.ListElements.{Has}
 use Rattle.vw_design.proofs.Weights.{cells_weigh, design_weighs, instances_weigh, root_named}
 use Rattle.vw_plan.specs.PlannedBoard.{PlannedBoard}
 use Rattle.vw_plan.specs.Sound.{IsSound}
-use Rattle.vw_emit.specs.Emitted.{FitsDesigns}
+use Rattle.vw_boardtext.specs.Emitted.{FitsDesigns}
 use Rattle.vw_hardware.specs.Items.{node_items}
 use Rattle.vw_hardware.specs.Locals.{column, result}
 use Rattle.vw_boardnames.specs.Boards.{IsBoardOf, Joined, PlainItem, PlainModel, all_nodes, latch, node_ports, place, placed_node, plain_bind, plain_item, port_joined, spelled_item, table}

@@ -9,7 +9,7 @@ ghost use Rattle.vw_blif.specs.Read.{design_of};
 ghost use Rattle.vw_blif.specs.Spelled.{spelled_model};
 ghost use Rattle.vw_plan.specs.PlannedBoard.{PlannedBoard};
 ghost use Rattle.vw_plan.specs.Sound.{IsSound};
-ghost use Rattle.vw_emit.specs.Emitted.{FitsDesigns, emitted_text};
+ghost use Rattle.vw_boardtext.specs.Emitted.{FitsDesigns, emitted_text};
 ghost use Rattle.vw_boardnames.specs.Boards.{IsBoardOf, board_models};
 ghost use Rattle.vw_boardnames.specs.Shows.{ActsAs};
 ghost use Rattle.vw_bridge.specs.Numbered.{emitting, spelled_board, without_lines};
@@ -27,12 +27,14 @@ pub fn emitted_texts_are_printed()
         → map spelled_model board.models ≡ spelled_board planned → IsBoardOf planned board }
 {}
 
-/// So the reader finds no fault in the text, if it is within the limits of designs. The design that it spells is the emitted
-/// board, and no quantity of it is above its limit: the cells and outputs that the text was measured by are no fewer than
-/// its own.
+/// So the reader finds no fault in the text, if it is within the limits of designs, and there is a design that it spells. This
+/// is the emitted board, and no quantity of it is above its limit: the cells and outputs that the text was measured by are no
+/// fewer than its own.
 pub fn emitted_texts_spell_boards()
     ensures spells { (planned : PlannedBoard) → IsSound planned → FitsDesigns planned
         → design_of (emitted_text planned) ≡ Ok (spelled_board planned) }
+    ensures some { (planned : PlannedBoard) → IsSound planned → FitsDesigns planned
+        → (board : Design) × (design_of (emitted_text planned) ≡ Ok (map spelled_model board.models)) }
     ensures boards { (planned : PlannedBoard) (board : Design) → IsSound planned → FitsDesigns planned
         → design_of (emitted_text planned) ≡ Ok (map spelled_model board.models) → IsBoardOf planned board }
     ensures small { (planned : PlannedBoard) (board : Design) → IsSound planned → FitsDesigns planned

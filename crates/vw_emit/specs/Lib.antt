@@ -1,7 +1,1 @@
-pub mod Names
-pub mod Lines
-pub mod Outlets
-pub mod Nodes
-pub mod Emitted
-pub mod Messages
-pub mod Steps
+pub mod EmittedBoard

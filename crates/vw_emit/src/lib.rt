@@ -1,19 +1,9 @@
-//! Writes a planned board as a design in BLIF: each node is a model with a sequencer, its cells, a register for each hop that
-//! reaches it and, for each pin that leaves it, what chooses the bit.
+//! Writes a planned board as a design in BLIF, which does what the planned design does.
 #![tactic(auto)]
 
-mod cells;
 mod emission;
-mod emitter;
-mod fault;
-mod local_names;
-mod models;
-mod numbered_hop;
-mod outlet;
-mod ports;
-mod rows;
-mod senders;
-mod words;
+mod laws;
 
 pub use emission::emit;
-pub use fault::EmitFault;
+pub use laws::{emitted_texts_show_their_designs, emitted_texts_spell_designs};
+pub use vw_boardtext::EmitFault;

@@ -9,13 +9,15 @@ use Rattle.vw_course.proofs.EveryPlace.{IsUnbroken, passes_unbroken, no_break}
 use Rattle.vw_course.proofs.StandLaws.{call_refused}
 use Rattle.vw_course.proofs.StageLaws.{refusal_behind, refused_for}
 use Rattle.vw_plan.specs.PlannedBoard.{planned_board}
-use Rattle.vw_emit.specs.Emitted.{FitsDesigns}
+use Rattle.vw_boardtext.specs.Emitted.{FitsDesigns}
 use Rattle.vw_top.specs.declared.vocabulary.Reason.{Reason}
 use Rattle.vw_top.specs.Messages.{reason_status, vocabulary, Call}
 use Rattle.vw_top.specs.Kinds.{IsBadEmission}
 use Rattle.vw_top.specs.Commands.{emit_rest, emit_course}
 use Rattle.vw_top.specs.PlannedStatuses.{plan_status, other_status, HoldTexts, its_files}
-use Rattle.vw_top.specs.EmitStatuses.{board_design, DesignFits, IsTooLarge, EmitStatuses}
+use Rattle.vw_top.specs.EmittedBoards.{board_design, BoardsShow, DesignFits}
+use Rattle.vw_top.specs.EmitStatuses.{IsTooLarge, EmitStatuses}
+use Rattle.vw_top.proofs.EmittedBoards.{writes_board}
 use Rattle.vw_top.proofs.PlannedLaws.{IsBehindPlan, among_all, plan_differs, plan_few, other_differs, every_planned, behind_planned, held_spelled, to_rest}
 use Rattle.vw_top.proofs.WrittenLaws.{IsWriter, not_written, written_table}
 
@@ -27,7 +29,7 @@ writer = record {
   never = λ number differs ordered board plan. (λ reason bad is. differs (sym (ap reason_status bad.1) ∙ is), λ done fits. tt);
   whole = λ number ordered board plan. (tt, λ done fits. tt);
   works = λ told did ordered board plan may.
-      ⊎_elim (λ (none : ⊥). absurd none) (λ (more : Unit {0} × FitsDesigns (planned_board ordered board plan) × (did ≡ writing (board_design ordered board plan))). more.2) may;
+      ⊎_elim (λ (none : ⊥). absurd none) (λ (more : Unit {0} × FitsDesigns (planned_board ordered board plan) × (did ≡ writing (board_design ordered board plan))). (more.1, more.2)) may;
   comes = λ told files What ordered board plan fits what. inr ((tt, fits), λ done so. (tt, what));
 }
 
@@ -59,12 +61,14 @@ module _ (design board : List ℕ) (given : Option (List ℕ)) (call : Call) whe
       (λ (more : Unit {0} × FitsDesigns (planned_board later.0 later.1 later.2) × ⊥). absurd more.2)
       later.4
 
-  pub emit_table : IsCallOf course call → EmitStatuses design board given call
-  emit_table is =
+  pub emit_table : BoardsShow → IsCallOf course call → EmitStatuses design board given call
+  emit_table show is =
       let none = not_written [] design board given board_design DesignFits 10 emit_rest writer call is in
       let other = other_differs given in
+      let written = written_table [] design board given board_design DesignFits 10 emit_rest writer call (omega arith) (behind given) is in
       record {
-        written = written_table [] design board given board_design DesignFits 10 emit_rest writer call (omega arith) (behind given) is;
+        written = written;
+        acts = λ d b p hold status. writes_board show design board given d b p call (written.done d b p hold status);
         too_large = λ d b p hold. refused_for course call is 10 (IsTooLarge given d b p) (too_large_why d b p hold)
             (no_break told 10 course (every_planned [] design board given emit_rest all (IsUnbroken 10) (passes_unbroken vocabulary all 10) (inl refl) (inr (inl refl)) (among_all [] design board given) (writer.whole 10)))
             (lit< tt) (inr (lit< tt, lit< tt));

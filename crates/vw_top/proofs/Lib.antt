@@ -13,6 +13,7 @@ pub mod PlannedLaws
 pub mod WrittenLaws
 pub mod PlanLaws
 pub mod CheckLaws
+pub mod EmittedBoards
 pub mod EmitLaws
 pub mod RunLaws
 pub mod ResumeLaws

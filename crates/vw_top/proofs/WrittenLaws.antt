@@ -27,7 +27,7 @@ pub record IsWriter (text : Ordered → Board → Plan → List ℕ) (Fits : Ord
   pub once : (ordered : Ordered) (board : Board) (plan : Plan) → Every IsOnce (rest ordered board plan)
   pub never : (number : ℕ) → refusal ≢ number → (ordered : Ordered) (board : Board) (plan : Plan) → Every (IsNever number) (rest ordered board plan)
   pub whole : (number : ℕ) (ordered : Ordered) (board : Board) (plan : Plan) → Every (IsUnbroken number) (rest ordered board plan)
-  pub works : (told : List ℕ → Told) (did : CallWork) (ordered : Ordered) (board : Board) (plan : Plan) → May told (WorksHere told did) (rest ordered board plan) → did ≡ writing (text ordered board plan)
+  pub works : (told : List ℕ → Told) (did : CallWork) (ordered : Ordered) (board : Board) (plan : Plan) → May told (WorksHere told did) (rest ordered board plan) → Fits ordered board plan × (did ≡ writing (text ordered board plan))
   pub comes : (told : List ℕ → Told) (files : Files vocabulary) (What : CallWork → Type 0) (ordered : Ordered) (board : Board) (plan : Plan) → Fits ordered board plan → What (writing (text ordered board plan)) → StandsAt told files (IsToWork told files What) (rest ordered board plan)
 
 -- a text that always fits is written at once
@@ -37,7 +37,7 @@ plain_writer text = record {
   once = λ ordered board plan. tt;
   never = λ number differs ordered board plan. tt;
   whole = λ number ordered board plan. tt;
-  works = λ told did ordered board plan is. is;
+  works = λ told did ordered board plan is. (tt, is);
   comes = λ told files What ordered board plan fits what. (tt, what);
 }
 
@@ -64,7 +64,8 @@ module _ (probes : List Word) (design board : List ℕ) (given : Option (List �
   written_by : (d b p : List ℕ) → HoldTexts probes design board given call d b p → (did : CallWork) → MayDo course call did → IsWritten probes design board given text Fits d b p did
   written_by d b p hold did may =
       let work = work_planned probes design board given rest call d b p hold (plan_differs given).0 did may in
-      record { ordered = work.0; its_board = work.1; plan = work.2; are = work.3; is = writer.works told did work.0 work.1 work.2 work.4 }
+      let wrote = writer.works told did work.0 work.1 work.2 work.4 in
+      record { ordered = work.0; its_board = work.1; plan = work.2; are = work.3; fits = wrote.0; is = wrote.1 }
 
   carried_out : IsCallOf course call → (d b p : List ℕ) → HoldTexts probes design board given call d b p → HavePlan probes given d b p → AllFit probes design board given text Fits d b p
       → IsCarriedOut vocabulary (IsWritten probes design board given text Fits d b p) all call
@@ -72,7 +73,7 @@ module _ (probes : List Word) (design board : List ℕ) (given : Option (List �
       let What : CallWork → Type 0 = IsWritten probes design board given text Fits d b p in
       call_works vocabulary all call What course is
       (to_rest probes design board given rest call d b p hold all (inl refl) (inr (inl refl)) (IsToWork told all What) (among_all probes design board given) have
-      (λ ordered on its are. writer.comes told all What ordered on its (fit ordered on its are) (record { ordered = ordered; its_board = on; plan = its; are = are; is = refl })))
+      (λ ordered on its are. let fits = fit ordered on its are in writer.comes told all What ordered on its fits (record { ordered = ordered; its_board = on; plan = its; are = are; fits = fits; is = refl })))
 
   pub written_table : length probes ≤ 64 → IsBehindPlan given rest → IsCallOf course call → WrittenStatuses probes design board given text Fits call
   written_table few behind is =

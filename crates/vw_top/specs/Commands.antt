@@ -23,7 +23,7 @@ use Rattle.vw_plan.specs.HopCounts.{hop_count}
 use Rattle.vw_plantext.specs.Content.{content_of}
 use Rattle.vw_plantext.specs.Grammar.{spelling}
 use Rattle.vw_prog.specs.declared.word.Word.{Word}
-use Rattle.vw_emit.specs.Emitted.{emitted_text}
+use Rattle.vw_boardtext.specs.Emitted.{emitted_text}
 use Rattle.vw_resume.specs.declared.state.State.{State}
 use Rattle.vw_resume.specs.States.{state_text}
 use Rattle.vw_resume.specs.Resumed.{resumed_trace}

@@ -2,7 +2,6 @@
 use Rattle.std.specs.Prelude.{◌≡◌, ◌≢◌, ◌⊎◌, ℕ, List, [], Option}
 use Rattle.vw_net.specs.declared.ordered.Ordered.{Ordered}
 use Rattle.vw_course.specs.Statuses.{IsRefusedFor, IsStopped}
-use Rattle.vw_emit.specs.Emitted.{FitsDesigns, emitted_text}
 use Rattle.vw_plan.specs.declared.board.Board.{Board}
 use Rattle.vw_plan.specs.declared.plan.Plan.{Plan}
 use Rattle.vw_plan.specs.PlannedBoard.{planned_board}
@@ -10,14 +9,8 @@ use Rattle.vw_top.specs.declared.vocabulary.Reason.{Reason}
 use Rattle.vw_top.specs.Messages.{vocabulary, Call}
 use Rattle.vw_top.specs.Kinds.{IsBadEmission}
 use Rattle.vw_top.specs.PlannedStatuses.{AreSpelled, HavePlan, other_status, HoldTexts, its_files}
+use Rattle.vw_top.specs.EmittedBoards.{DesignFits, WritesBoard, board_design}
 use Rattle.vw_top.specs.WrittenStatuses.{WrittenStatuses}
-
--- what is written of a planned board: the design that it is, where this is within the limits of designs
-abbrev pub board_design : Ordered → Board → Plan → List ℕ
-board_design ordered board plan = emitted_text (planned_board ordered board plan)
-
-abbrev pub DesignFits : Ordered → Board → Plan → Type 0
-DesignFits ordered board plan = FitsDesigns (planned_board ordered board plan)
 
 -- a planned board of these texts is above a limit of designs, for this reason
 pub record IsTooLarge (given : Option (List ℕ)) (d b p : List ℕ) (reason : Reason) : Type 0 where
@@ -36,6 +29,8 @@ module _ (design board : List ℕ) (given : Option (List ℕ)) where
   pub record EmitStatuses (call : Call) : Type 0 where
     -- 0, 1, 3, 4 or 6, 7, 8 and 9, and that it completes: the design is written
     pub written : WrittenStatuses [] design board given board_design DesignFits call
+    -- 0: and it is a design that runs and, for all rows, shows what the design of the text does
+    pub acts : (d b p : List ℕ) → HoldTexts [] design board given call d b p → call.status ≡ 0 → WritesBoard given d b p call
     -- 10: exactly where it is above a limit of designs
     pub too_large : (d b p : List ℕ) → HoldTexts [] design board given call d b p → call.status ≡ 10
         → IsRefusedFor vocabulary (IsTooLarge given d b p) call

@@ -26,10 +26,10 @@ use Rattle.vw_check.specs.Faults.{plan_fault}
 use Rattle.vw_check.proofs.SoundPlans.{faultless}
 use Rattle.vw_rows.specs.declared.fault.StimFault.{StimFault}
 use Rattle.vw_rows.specs.Stimulus.{stimulus_rows, is_text_fault}
-use Rattle.vw_emit.specs.declared.fault.EmitFault.{EmitFault}
-use Rattle.vw_emit.specs.Emitted.{FitsDesigns, IsEmitFault}
-use Rattle.vw_emit.specs.Messages.{is_emit_fault}
-use Rattle.vw_emit.proofs.Limits.{fits_apart}
+use Rattle.vw_boardtext.specs.declared.fault.EmitFault.{EmitFault}
+use Rattle.vw_boardtext.specs.Emitted.{FitsDesigns, IsEmitFault}
+use Rattle.vw_boardtext.specs.Messages.{is_emit_fault}
+use Rattle.vw_boardtext.proofs.Limits.{fits_apart}
 use Rattle.vw_resume.specs.declared.fault.StateFault.{StateFault}
 use Rattle.vw_resume.specs.declared.fault.StateFault.TheVariants.{TooManyClocks}
 use Rattle.vw_resume.specs.declared.state.State.{State}

@@ -16,6 +16,7 @@ pub mod PlannedStatuses
 pub mod WrittenStatuses
 pub mod ConstantStatuses
 pub mod CheckStatuses
+pub mod EmittedBoards
 pub mod EmitStatuses
 pub mod RunStatuses
 pub mod ResumeStatuses

@@ -14,12 +14,13 @@ abbrev pub AlwaysFits : Ordered → Board → Plan → Type 0
 AlwaysFits ordered board plan = Unit {0}
 
 module _ (probes : List Word) (design board : List ℕ) (given : Option (List ℕ)) (text : Ordered → Board → Plan → List ℕ) (Fits : Ordered → Board → Plan → Type 0) where
-  -- the text of a planned board of these texts was written
+  -- the text of a planned board of these texts was written, and it fits
   pub record IsWritten (d b p : List ℕ) (did : CallWork) : Type 0 where
     pub ordered : Ordered
     pub its_board : Board
     pub plan : Plan
     pub are : AreSpelled probes given d b p ordered its_board plan
+    pub fits : Fits ordered its_board plan
     pub is : did ≡ writing (text ordered its_board plan)
 
   -- the text of each planned board of these texts fits

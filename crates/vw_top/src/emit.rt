@@ -2,7 +2,7 @@
 ghost use Rattle.std.specs.Option.{option_copied};
 ghost use Rattle.vw_course.specs.Goes.{Goes};
 ghost use Rattle.vw_course.specs.Stages.{EndsJudging};
-ghost use Rattle.vw_emit.specs.Emitted.{FitsDesigns, emitted_text};
+ghost use Rattle.vw_boardtext.specs.Emitted.{FitsDesigns, emitted_text};
 ghost use Rattle.vw_plan.specs.PlannedBoard.{planned_board};
 ghost use Rattle.vw_top.specs.Commands.{emit_rest, ready_course};
 ghost use Rattle.vw_top.specs.Kinds.{IsBadEmission};

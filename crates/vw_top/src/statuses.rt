@@ -13,6 +13,7 @@ ghost use Rattle.vw_top.specs.WaveLaw.{WavesReplay};
 ghost use Rattle.vw_top.specs.UsageStatuses.{UsageStatuses};
 ghost use Rattle.vw_top.specs.SimStatuses.{GradeStatuses, SimStatuses};
 ghost use Rattle.vw_top.specs.CheckStatuses.{CheckStatuses};
+ghost use Rattle.vw_top.specs.EmittedBoards.{BoardsShow};
 ghost use Rattle.vw_top.specs.EmitStatuses.{EmitStatuses};
 ghost use Rattle.vw_top.specs.PlanStatuses.{PlanStatuses};
 ghost use Rattle.vw_top.specs.RunStatuses.{RunStatuses};
@@ -22,6 +23,7 @@ ghost use Rattle.vw_top.specs.ConstantStatuses.{ConstantStatuses};
 ghost use Rattle.vw_top.specs.Help.{help_text, version_text};
 ghost use Rattle.vw_top.specs.DemoStatuses.{DemoStatuses};
 
+use vw_emit::emitted_texts_show_their_designs;
 use vw_resume::traces_join;
 use vw_wave::waves_of_runs_replay;
 use vw_words::wrong_words_follow_the_longest_front;
@@ -123,12 +125,24 @@ pub fn pieces_join()
     traces_join();
 }
 
-/// What each status of `emit` says of its files, where it is given a plan and where it makes one.
+/// What `emit` writes, by a plan that is given or by one that it makes, spells a design that runs. Simulated by any tool, with
+/// each row held for one clock more than the period, it shows in the last of these clocks the outputs of the design and then
+/// the values of its latches before the step.
+pub fn emitted_boards_show_designs()
+    ensures { BoardsShow }
+{
+    emitted_texts_show_their_designs();
+}
+
+/// What each status of `emit` says of its files, where it is given a plan and where it makes one: after status 0, out has a
+/// design that runs and shows the design of the text.
 pub fn emit_statuses()
     ensures { (design board : List ℕ) (given : Option (List ℕ)) (call : Call)
         → IsCallOf (emit_course design board given) call
         → EmitStatuses design board given call }
-{}
+{
+    emitted_boards_show_designs();
+}
 
 /// What each status of `demo` says of its texts: after status 0, out has the summary of the trace of the unpartitioned
 /// generated design, and with several workers each link has carried exactly its words of one good plan.

@@ -14,7 +14,7 @@ use Rattle.vw_plan.specs.declared.checked.Checked.{Checked}
 use Rattle.vw_plan.specs.PlannedBoard.{PlannedBoard}
 use Rattle.vw_plan.specs.Sound.{IsSound}
 use Rattle.std.specs.Global.{Vec}
-use Rattle.vw_emit.specs.Emitted.{FitsDesigns, emitted_text}
+use Rattle.vw_boardtext.specs.Emitted.{FitsDesigns, emitted_text}
 use Rattle.vw_resume.specs.declared.fault.StateFault.TheVariants.{TooManyClocks}
 use Rattle.vw_rows.specs.declared.limits.TheConstants.{MOST_CLOCKS}
 use Rattle.vw_trace.specs.declared.fault.RunFault.{RunFault}

@@ -2,8 +2,9 @@ use Rattle.std.proofs.Common.{◌∙◌, map, ap, sym}
 use Rattle.vw_blif.specs.Read.{design_of}
 use Rattle.vw_blif.specs.Spelled.{spelled_model}
 use Rattle.vw_bridge.specs.Numbered.{emitting, spelled_board}
+use Rattle.vw_bridge.proofs.BoardDesigns.{a_board}
 use Rattle.vw_bridge.proofs.PlainBoards.{plain_board}
-use Rattle.vw_bridge.proofs.PlainModels.{same_models, spells_board}
+use Rattle.vw_bridge.proofs.PlainModels.{found, same_models, spells_board}
 use Rattle.vw_bridge.proofs.SameText.{text_is}
 use Rattle.vw_bridge.proofs.SmallBoards.{board_small}
 use Rattle.vw_bridge.proofs.laws.emitted_texts_spell_boards.Goals as goal
@@ -13,6 +14,11 @@ read c = λ planned sound fits. ap design_of (text_is planned sound) ∙ c.print
 
 pub returns-clause-spells : goal.returns-clause-spells
 returns-clause-spells c = read c
+
+pub returns-clause-some : goal.returns-clause-some
+returns-clause-some c = λ planned sound fits.
+    let is = a_board planned sound fits.bytes in
+    (is.0, read c planned sound fits ∙ ap found (sym is.1))
 
 board_is : goal.returns-clause-boards
 board_is c = λ planned board sound fits reads.

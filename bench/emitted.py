@@ -1,0 +1,247 @@
+#!/usr/bin/env python3
+"""Simulates emitted boards by two tools, and compares them with the designs that they were made from.
+
+    bench/emitted.py PROGRAM [CLOCKS] [SEED]
+
+PROGRAM is a built vwires; yosys and Icarus Verilog (iverilog, vvp) have to be installed. yosys makes five designs from Verilog. Each
+is planned on a ring of chips, with a row by chance for each of CLOCKS clocks (default 300), and three things are compared clock by
+clock: the trace of `run` by the plan; that of `sim` over the emitted board, with each row held for P + 1 clocks, P being the period,
+in the last of these clocks; and what Icarus Verilog prints in these clocks, of the Verilog that yosys makes of the emitted board. It
+prints a table in Markdown, and ends with 1 where something differs.
+"""
+import pathlib
+import random
+import re
+import subprocess
+import sys
+import tempfile
+import time
+
+MODULES = {
+    # a shift register with feedback, which can be loaded
+    "lfsr": """
+module lfsr(input clk, input load, input [15:0] seed, output reg [15:0] state, output odd);
+  initial state = 16'hACE1;
+  assign odd = ^state;
+  always @(posedge clk)
+    if (load) state <= seed | 16'h1;
+    else state <= (state >> 1) ^ (state[0] ? 16'hB400 : 16'h0);
+endmodule""",
+    # two decimal digits, each shown by seven segments
+    "digits": """
+module seven(input [3:0] digit, output reg [6:0] lit);
+  always @*
+    case (digit)
+      4'd0: lit = 7'h3f; 4'd1: lit = 7'h06; 4'd2: lit = 7'h5b; 4'd3: lit = 7'h4f; 4'd4: lit = 7'h66;
+      4'd5: lit = 7'h6d; 4'd6: lit = 7'h7d; 4'd7: lit = 7'h07; 4'd8: lit = 7'h7f; default: lit = 7'h6f;
+    endcase
+endmodule
+module digits(input clk, input en, input clear, output [6:0] high_lit, output [6:0] low_lit, output full);
+  reg [3:0] high, low;
+  initial begin high = 4'd0; low = 4'd0; end
+  seven left(high, high_lit);
+  seven right(low, low_lit);
+  assign full = high == 4'd9 && low == 4'd9;
+  always @(posedge clk)
+    if (clear) begin high <= 4'd0; low <= 4'd0; end
+    else if (en) begin
+      low <= low == 4'd9 ? 4'd0 : low + 4'd1;
+      if (low == 4'd9) high <= high == 4'd9 ? 4'd0 : high + 4'd1;
+    end
+endmodule""",
+    # a product of two bytes by eight sums
+    "product": """
+module product(input clk, input start, input [7:0] a, input [7:0] b, output reg [15:0] sum, output busy);
+  reg [15:0] left;
+  reg [7:0] right;
+  reg [3:0] steps;
+  initial begin sum = 16'd0; left = 16'd0; right = 8'd0; steps = 4'd0; end
+  assign busy = steps != 4'd0;
+  always @(posedge clk)
+    if (start && !busy) begin sum <= 16'd0; left <= {8'd0, a}; right <= b; steps <= 4'd8; end
+    else if (busy) begin
+      if (right[0]) sum <= sum + left;
+      left <= left << 1;
+      right <= right >> 1;
+      steps <= steps - 4'd1;
+    end
+endmodule""",
+    # a serial line: a start bit, eight bits, a stop bit, four clocks each
+    "serial": """
+module serial(input clk, input send, input [7:0] word, output reg line, output idle);
+  reg [8:0] rest;
+  reg [3:0] bits;
+  reg [1:0] wait_for;
+  initial begin line = 1'b1; rest = 9'h1ff; bits = 4'd0; wait_for = 2'd0; end
+  assign idle = bits == 4'd0;
+  always @(posedge clk)
+    if (idle) begin
+      if (send) begin line <= 1'b0; rest <= {1'b1, word}; bits <= 4'd10; wait_for <= 2'd3; end
+    end else if (wait_for != 2'd0) wait_for <= wait_for - 2'd1;
+    else begin line <= rest[0]; rest <= {1'b1, rest[8:1]}; bits <= bits - 4'd1; wait_for <= 2'd3; end
+endmodule""",
+    # four words that wait in a row
+    "queue": """
+module queue(input clk, input put, input take, input [3:0] word, output [3:0] first, output empty, output full);
+  reg [3:0] w0, w1, w2, w3;
+  reg [2:0] count;
+  initial begin w0 = 4'd0; w1 = 4'd0; w2 = 4'd0; w3 = 4'd0; count = 3'd0; end
+  assign first = w0;
+  assign empty = count == 3'd0;
+  assign full = count == 3'd4;
+  wire takes = take && !empty;
+  wire puts = put && (!full || takes);
+  wire [2:0] place = takes ? count - 3'd1 : count;
+  always @(posedge clk) begin
+    if (takes) begin w0 <= w1; w1 <= w2; w2 <= w3; end
+    if (puts)
+      case (place)
+        3'd0: w0 <= word;
+        3'd1: w1 <= word;
+        3'd2: w2 <= word;
+        default: w3 <= word;
+      endcase
+    count <= place + (puts ? 3'd1 : 3'd0);
+  end
+endmodule""",
+}
+
+RECIPE = "read_verilog {0}.v; synth -flatten -top {0}; async2sync; dfflegalize -cell $_DFF_P_ 01; abc -lut 4; opt_clean -purge; write_blif {0}.blif"
+# yosys has latches without a clock as cells named $ff
+CELL = """
+module \\$ff (D, Q);
+  parameter WIDTH = 1;
+  parameter INIT = 1'bx;
+  input D;
+  output reg Q;
+  initial Q = INIT;
+  always @(posedge bench.clk) Q <= D;
+endmodule
+"""
+
+
+def run(words, folder, wanted=0):
+    """What a command prints, and how long it takes."""
+    start = time.monotonic()
+    done = subprocess.run([str(word) for word in words], cwd=folder, capture_output=True, text=True)
+    if done.returncode != wanted:
+        sys.exit(f"{' '.join(map(str, words))}: status {done.returncode}\n{done.stderr}{done.stdout[-2000:]}")
+    return done.stdout, time.monotonic() - start
+
+
+def ring(cells):
+    """A ring of four chips with the host in it, of two pins each way, whose links take one to three microcycles."""
+    nodes = 5
+    lines = ["board 2", "chips 4", f"cells {-(-cells // 4) + 4}", "settle 1", "pins 8"]
+    for node in range(nodes):
+        after = (node + 1) % nodes
+        lines.append(f"link {node} {after} 2 {1 + node % 3}")
+        lines.append(f"link {after} {node} 2 1")
+    return "\n".join(lines) + "\n"
+
+
+def traced(text):
+    """The outputs of each clock, and the latch values, of a trace without probes."""
+    lines = [line.split() for line in text.splitlines()[1:-1]]
+    return [(outputs.replace("-", ""), latches.replace("-", "")) for _, outputs, latches in lines]
+
+
+def as_verilog(folder):
+    """Turns the emitted board into Verilog, whose latches have their initial bits; gives the ports in order."""
+    run(["yosys", "-q", "-p", "read_blif board.blif; hierarchy -top board; flatten; opt_clean; write_verilog board.v"], folder)
+    text = (folder / "board.v").read_text()
+    init = dict()
+    for bit, name in re.findall(r"\(\* init = 1'h([01]) \*\)\s+(?:wire|output|reg)\s+(\S+);", text):
+        init[name] = bit
+    def with_bit(found):
+        name = found.group(2)
+        return found.group(0).replace(".WIDTH(32'd1)", f".WIDTH(32'd1), .INIT(1'b{init.get(name, 'x')})")
+    text, count = re.subn(r"\\\$ff\s+#\(\s*\.WIDTH\(32'd1\)\s*\) (\S+) \(\s*\.D\([^)]*\),\s*\.Q\((\S+)\)\s*\);", with_bit, text)
+    ports = re.search(r"module board\((.*?)\);", text, re.S).group(1).split(", ")
+    (folder / "board.v").write_text(text + CELL)
+    return ports, count
+
+
+def bench(ports, rows, every):
+    """A test bench that holds each row, and prints the outputs before the last edge of each group."""
+    by_number = lambda letter: sorted((port for port in ports if re.fullmatch(letter + r"\d+", port)), key=lambda port: int(port[1:]))
+    shown = by_number("y") + by_number("s")
+    width = max(1, len(rows[0]))
+    joined = ", ".join([f".{port}(row[{width - 1 - int(port[1:])}])" for port in by_number("x")] + [f".{port}({port})" for port in shown])
+    return f"""
+module bench;
+  reg clk = 0;
+  reg [{width - 1}:0] rows [0:{len(rows) - 1}];
+  reg [{width - 1}:0] row;
+  wire {", ".join(shown)};
+  integer clock, micro;
+  board dut({joined});
+  initial begin
+    $readmemb("rows.mem", rows);
+    for (clock = 0; clock < {len(rows)}; clock = clock + 1)
+      for (micro = 0; micro < {every}; micro = micro + 1) begin
+        row = rows[clock];
+        #1;
+        if (micro == {every - 1}) $display("{"%b" * len(shown)}", {", ".join(shown)});
+        clk = 1;
+        #1;
+        clk = 0;
+        #1;
+      end
+    $finish;
+  end
+endmodule
+"""
+
+
+def compare(program, name, source, clocks, chance, folder):
+    """A line of the table, and how many clocks differ."""
+    (folder / f"{name}.v").write_text(source)
+    run(["yosys", "-q", "-p", RECIPE.format(name)], folder)
+    design = (folder / f"{name}.blif").read_text()
+    cells = sum(line.startswith((".names", ".latch")) for line in design.splitlines())
+    (folder / "ring.board").write_text(ring(cells))
+    inputs = re.search(r"^\.inputs (.*)$", design, re.M).group(1).split()
+    columns = [port for port in inputs if port != "clk"]
+    rows = ["".join(chance.choice("01") for _ in columns) for _ in range(clocks)]
+    (folder / "rows.stim").write_text("\n".join(rows) + "\n")
+    plan, _ = run([program, "plan", f"{name}.blif", "ring.board"], folder)
+    (folder / "board.plan").write_text(plan)
+    period = int(plan.split()[4])
+    (folder / "held.stim").write_text("".join(f"{row}\nhold {period}\n" for row in rows))
+    emitted, _ = run([program, "emit", f"{name}.blif", "ring.board", "plan=board.plan"], folder)
+    (folder / "board.blif").write_text(emitted)
+    own, _ = run([program, "run", f"{name}.blif", "ring.board", "rows.stim", "plan=board.plan"], folder)
+    wanted = [outputs + latches for outputs, latches in traced(own)]
+    by_sim, sim_time = run([program, "sim", "board.blif", "held.stim"], folder)
+    shown = [outputs for outputs, _ in traced(by_sim)][period :: period + 1]
+    ports, latches = as_verilog(folder)
+    (folder / "rows.mem").write_text("\n".join(rows) + "\n")
+    (folder / "bench.v").write_text(bench(ports, rows, period + 1))
+    run(["iverilog", "-g2005", "-o", "bench.out", "bench.v", "board.v"], folder)
+    by_other, other_time = run(["vvp", "-n", "bench.out"], folder)
+    seen = [line for line in by_other.splitlines() if re.fullmatch("[01xz]+", line)]
+    differs = [len(wanted) != len(shown), len(wanted) != len(seen)]
+    wrong_sim = sum(one != other for one, other in zip(wanted, shown)) + differs[0]
+    wrong_other = sum(one != other for one, other in zip(wanted, seen)) + differs[1]
+    board_cells = sum(line.startswith((".names", ".latch")) for line in emitted.splitlines())
+    print(f"| {name} | {cells} | {period} | {board_cells:,} | {len(emitted) / 1000:,.0f} | {len(wanted)} | {wrong_sim} | {wrong_other} | {sim_time:.2f} | {other_time:.2f} |")
+    return wrong_sim + wrong_other
+
+
+def main():
+    if len(sys.argv) < 2:
+        sys.exit(__doc__)
+    program = pathlib.Path(sys.argv[1]).resolve()
+    clocks = int(sys.argv[2]) if len(sys.argv) > 2 else 300
+    chance = random.Random(int(sys.argv[3]) if len(sys.argv) > 3 else 1)
+    print("| design | cells | period | cells of its board | text, kB | clocks | differ in `sim` | differ in Icarus | `sim`, s | Icarus, s |")
+    print("|---|---|---|---|---|---|---|---|---|---|")
+    wrong = 0
+    for name, source in MODULES.items():
+        with tempfile.TemporaryDirectory() as folder:
+            wrong += compare(program, name, source, clocks, chance, pathlib.Path(folder))
+    sys.exit(1 if wrong else 0)
+
+
+main()
