@@ -25,8 +25,8 @@ use Rattle.vw_top.proofs.StreamedTraces.{traces_agree}
 use Rattle.vw_top.proofs.RunLaws.{run_table}
 
 -- a write that failed was counted
-fault_counted : {text : List ℕ} {before after : SeenSink} → FailedAfterPart text before after → IsOneMore before.faults after.faults
-fault_counted (count, within, is) = ap (λ (sink : SeenSink). sink.faults) is
+fault_counted : (text : List ℕ) (before after : SeenSink) → FailedAfterPart text before after → IsOneMore before.faults after.faults
+fault_counted text before after (count, within, is) = ap (λ (sink : SeenSink). sink.faults) is
 
 module _ (cells workers : ℕ) (call : Call) where
   -- what is seen before the run: the texts, an empty trace, and the links
@@ -82,7 +82,7 @@ module _ (cells workers : ℕ) (call : Call) where
   run_ends : (run : Call) → RunStatuses [] (trace_of false) design_name board_name None stimulus_name workers false run → ((name : List ℕ) → run.before.shelf.told name ≡ held (generated cells name))
       → AreAccepted cells → (run.status ≡ 0) ⊎ ((run.status ≡ 7) ⊎ ((run.status ≡ 8) ⊎ (run.status ≡ 9)))
   run_ends run statuses there all =
-      let ready : IsReady [] design_name board_name None stimulus_name run (design_text cells) (stimulus_text cells) = record {
+      let ready : IsReady [] (trace_of false) design_name board_name None stimulus_name workers false run (design_text cells) (stimulus_text cells) = record {
         b = generated cells board_name;
         p = [];
         planned_held = record { design_held = there design_name; board_held = there board_name; plan_held = tt };
@@ -105,7 +105,7 @@ module _ (cells workers : ℕ) (call : Call) where
   completes : (call.status ≡ 8 → HasSummary cells (λ text. FailedAfterPart text call.before.out call.after.out)) → (IsOneMore call.before.out.faults call.after.out.faults → ⊥)
       → (call.status ≡ 0) ⊎ ((call.status ≡ 8) ⊎ (call.status ≡ 9)) → (call.status ≡ 0) ⊎ (call.status ≡ 9)
   completes failed none (inl zero_is) = inl zero_is
-  completes failed none (inr (inl eight)) = absurd (none (fault_counted (failed eight).wrote))
+  completes failed none (inr (inl eight)) = absurd (none (fault_counted _ call.before.out call.after.out (failed eight).wrote))
   completes failed none (inr (inr nine)) = inr nine
 
   done_table : Follows (demo_course cells workers) call.before call.after (Ok tt) → Ends vocabulary (Ok tt) call.err_before call.err_after call.status → DemoStatuses cells workers call

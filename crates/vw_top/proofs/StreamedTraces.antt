@@ -26,6 +26,7 @@ use Rattle.vw_rows.specs.Stimulus.{stimulus_rows}
 use Rattle.vw_trace.specs.declared.fault.RunFault.{RunFault}
 use Rattle.vw_trace.specs.declared.fault.RunFault.TheVariants as runs
 use Rattle.vw_trace.specs.Streamed.{IsNotHeld, MayBeRows, EndsStreaming, DoneFor, Streams}
+use Rattle.vw_trace.proofs.StreamedTexts.{other_done}
 use Rattle.vw_top.specs.declared.vocabulary.File.{File}
 use Rattle.vw_top.specs.declared.vocabulary.File.TheVariants as files
 use Rattle.vw_top.specs.declared.vocabulary.Reason.{Reason}
@@ -215,8 +216,8 @@ pub no_parts : HaveParts no_links
 no_parts rows count = ((λ link. 0), refl)
 
 -- a run that uses no links leaves them as they were
-pub without_links : {name : List ℕ} {width : ℕ} {trace : List (List Bool) → List ℕ} {shelf : SeenShelf} {out : SeenSink} {shelf_after : SeenShelf} {out_after : SeenSink} {answer : Result (Unit {0}) RunFault}
-    → Streams name width trace (λ some. Unit {0}) shelf out shelf_after out_after answer → (links links_after : Carried vocabulary.Word) → links_after ≡ links
+pub without_links : {name : List ℕ} {width : ℕ} {trace : List (List Bool) → List ℕ} {Done : List (List Bool) → Type 0} {shelf : SeenShelf} {out : SeenSink} {shelf_after : SeenShelf} {out_after : SeenSink} {answer : Result (Unit {0}) RunFault}
+    → Streams name width trace Done shelf out shelf_after out_after answer → (links links_after : Carried vocabulary.Word) → links_after ≡ links
     → Streams name width trace (λ some. links_after ≡ carried (no_links some) links) shelf out shelf_after out_after answer
 without_links {answer = answer} streams links links_after same =
     record { rows = streams.rows; are = streams.are; ends = streams.ends; meanwhile = meanwhile answer } where
@@ -225,6 +226,12 @@ without_links {answer = answer} streams links links_after same =
       meanwhile (Err fault) = (0, same)
 
 -- ---- links of a fabric
+
+-- what is known of the links of a run, without how many rows there were
+pub links_alone : {name : List ℕ} {width : ℕ} {trace : List (List Bool) → List ℕ} {Links Count : List (List Bool) → Type 0} {shelf : SeenShelf} {out : SeenSink} {shelf_after : SeenShelf} {out_after : SeenSink}
+    {answer : Result (Unit {0}) RunFault} → Streams name width trace (λ some. Links some × Count some) shelf out shelf_after out_after answer → Streams name width trace Links shelf out shelf_after out_after answer
+links_alone {name = name} {width = width} {trace = trace} {Links = Links} {Count = Count} {shelf = shelf} {out = out} {shelf_after = shelf_after} {out_after = out_after} {answer = answer} streams =
+    other_done name width trace (λ some. Links some × Count some) Links (λ some both. both.0) shelf out shelf_after out_after answer streams
 
 -- a run that has carried so much has carried it from and to what the fabric tells
 pub over_links : {name : List ℕ} {width : ℕ} {trace : List (List Bool) → List ℕ} {shelf : SeenShelf} {out : SeenSink} {shelf_after : SeenShelf} {out_after : SeenSink} {answer : Result (Unit {0}) RunFault}

@@ -12,9 +12,9 @@ use Rattle.vw_plan.specs.declared.plan.Plan.{Plan}
 use Rattle.vw_prog.specs.declared.word.Word.{Word}
 use Rattle.vw_batches.specs.Traffic.{scripts_of}
 use Rattle.vw_gen.specs.Summary.{summary}
-use Rattle.vw_top.specs.Demo.{generated}
+use Rattle.vw_top.specs.Demo.{board_name, design_name, generated, stimulus_name}
 use Rattle.vw_top.specs.Messages.{vocabulary, Call, CallWork}
-use Rattle.vw_top.specs.Commands.{Scripts, no_links, IsSomeTrace, tracing, trace_course, rows_course, TextOver, over_design_course, Rest, ready_course, over_rows_course, resume_rest, course_of, demo_run}
+use Rattle.vw_top.specs.Commands.{Scripts, no_links, IsSomeTrace, tracing, trace_course, rows_course, TextOver, over_design_course, netlist_trace, Rest, size_rest, plan_rest, emit_rest, ready_course, over_rows_course, resume_rest, course_of, demo_run}
 use Rattle.vw_top.specs.Words.{Spelled, uses_links}
 use Rattle.vw_top.specs.Words as words
 
@@ -55,13 +55,13 @@ course_unused : (spelled : Spelled) → uses_links spelled ≡ false → UsesNoL
 course_unused (words.sim design stimulus unknown probes) none = design_unused probes design stimulus _
 course_unused (words.wave design stimulus unknown probes) none = design_unused probes design stimulus _
 course_unused (words.grade design stimulus workers unknown) none = λ d named good. rows_unused stimulus _ _ no_links (λ rows. refl)
-course_unused (words.check design board plan probes) none = ready_unused probes design board (Some plan) _ (λ ordered its plan. refl)
-course_unused (words.plan design board probes) none = ready_unused probes design board None _ (λ ordered its plan. refl)
+course_unused (words.check design board plan probes) none = ready_unused probes design board (Some plan) size_rest (λ ordered its sound. refl)
+course_unused (words.plan design board probes) none = ready_unused probes design board None plan_rest (λ ordered its plan. refl)
 course_unused (words.run design board stimulus given workers unknown probes) none = over_rows_unused probes design board given stimulus _ workers unknown none
-course_unused (words.demo cells workers) none = texts_unused vocabulary (generated cells) (summary cells) (demo_run workers) (over_rows_unused [] _ _ None _ _ workers false none)
+course_unused (words.demo cells workers) none = texts_unused vocabulary (generated cells) (summary cells) (demo_run workers) (over_rows_unused [] design_name board_name None stimulus_name (netlist_trace 0 false) workers false none)
 course_unused (words.save design board stimulus given workers unknown) none = over_rows_unused [] design board given stimulus _ workers unknown none
-course_unused (words.resume design board state stimulus given workers) none = ready_unused [] design board given _ (resume_unused state stimulus workers none)
-course_unused (words.emit design board given) none = ready_unused [] design board given _ (λ ordered its plan done fits. refl)
+course_unused (words.resume design board state stimulus given workers) none = ready_unused [] design board given (resume_rest state stimulus workers) (resume_unused state stimulus workers none)
+course_unused (words.emit design board given) none = ready_unused [] design board given emit_rest (λ ordered its plan done fits. refl)
 course_unused words.help none = refl
 course_unused words.version none = refl
 course_unused (words.nothing place) none = tt

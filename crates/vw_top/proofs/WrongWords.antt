@@ -9,7 +9,7 @@ use Rattle.vw_words.specs.FirstWrong.{CanBeGiven}
 use Rattle.vw_top.specs.Words.{command_forms}
 
 -- a word for a place
-sample : Place → List ℕ
+abbrev sample : Place → List ℕ
 sample (keyword word) = word
 sample (any bit) = codes "0"
 sample (any name) = codes "x"

@@ -6,7 +6,7 @@ use Rattle.vw_plan.specs.PlannedBoard.{planned_board}
 use Rattle.vw_run.specs.Runs.{without_count}
 use Rattle.vw_trace.specs.FlatTrace.{flat_trace}
 use Rattle.vw_top.specs.Commands.{netlist_trace, board_scripts, no_check}
-use Rattle.vw_top.proofs.StreamedTraces.{goes_unchecked, goes_streaming, stands_held, over_links}
+use Rattle.vw_top.proofs.StreamedTraces.{goes_unchecked, goes_streaming, links_alone, stands_held, over_links}
 use Rattle.vw_top.proofs.LinkTraffic.{parts_from, goes_together}
 use Rattle.vw_top.proofs.run.run_checked_together.Goals as goal
 
@@ -37,4 +37,4 @@ returns-clause-goes g c =
     (goes_together g.S.Shelf.seen g.O.Sink.seen Moved c.args.stimulus.now c.args.unknown ordered checked.board checked.plan (netlist_trace c.args.probes c.args.unknown) workers c.args.workers (λ several. c.requires.several) (λ several. omega (arith, c.min-workers.ensures, c.requires.several))
     (goes_streaming g.S.Shelf.seen g.O.Sink.seen Moved c.args.stimulus.now ordered.flat.inputs no_check (flat_trace c.args.probes c.args.unknown ordered.flat) (board_scripts workers c.args.unknown planned) c.args.outside.now mid (record { shelf = refl; out = refl }) refl
     (parts_from planned 0 (start_values c.args.unknown ordered.flat.cells) workers) _ c.in_ok-rows.rows (without_count c.run-ran.result) (record { shelf = refl; out = refl }) c.in_ok-rows.ensures.judges c.in_ok-rows.ensures.starts (λ all counted. tt)
-    (λ links links_after moved. over_links (board_scripts workers c.args.unknown planned) links links_after moved c.run-ran.ensures.streams)))
+    (λ links links_after moved. over_links (board_scripts workers c.args.unknown planned) links links_after moved (links_alone c.run-ran.ensures.streams))))
