@@ -15,13 +15,17 @@ mod laws;
 mod naming;
 mod owners;
 mod programs;
+mod sequencer;
+mod shift;
+mod unfolding;
 mod word;
 
 pub use action::Action;
 pub use answer::Answer;
-pub use code::{Code, Op, TableGate, WideGate};
+pub use code::{Code, Microcycle, Op, TableGate, WideGate};
 pub use ends::{Ends, Fabric, PutEnd, TakeEnd};
 pub use job::{Job, Share};
 pub use laws::{leads_end_in_time, passes_have_two_ends, reads_are_due};
 pub use programs::Programs;
+pub use shift::{LoopNet, ShiftLoop};
 pub use word::Word;
