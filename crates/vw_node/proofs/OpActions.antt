@@ -25,8 +25,10 @@ use Rattle.vw_prog.specs.declared.job.Job.{Job}
 use Rattle.vw_prog.specs.Actions.{action_of, actions}
 use Rattle.vw_prog.specs.Codes.{BeginsWith, IsCode, IsTableGate, IsWideGate, slot_of}
 use Rattle.vw_prog.specs.Ends.{SeenEnds}
+use Rattle.vw_prog.specs.Loops.{Stand}
 use Rattle.vw_prog.specs.Scripts.{planned_of}
 use Rattle.vw_prog.specs.Timetable.{entries_at, is_evaluating, timetable}
+use Rattle.vw_prog.proofs.LoopTurns.{stand_on}
 use Rattle.vw_node.specs.declared.step.Step.TheVariants.{Moved}
 use Rattle.vw_node.specs.Fits.{bit_by, bit_in}
 use Rattle.vw_node.specs.Left.{left}
@@ -118,6 +120,14 @@ module _ (ends : SeenEnds) (node : ℕ) (code : Code) (is_code : IsCode (planned
   pub runs_within : (made slot : ℕ) (gates : List TableGate) → RunsOn made slot gates → AllByRecursion (IsWithin (length nets)) gates
   runs_within made slot [] runs = tt
   runs_within made slot (gate ∷ gates) (number, at, is, rest) = (is.within, runs_within (made + 1) (slot + 1) gates rest)
+
+  -- none of them turns a loop
+  pub runs_stand : (made slot : ℕ) (gates : List TableGate) (places : List ℕ) → RunsOn made slot gates → Stand program code.loops.items made places → Stand program code.loops.items (made + length gates) places
+  runs_stand made slot [] places runs stand = let none : made ≡ made + 0 = omega arith in subst (λ (count : ℕ). Stand program code.loops.items count places) none stand
+  runs_stand made slot (gate ∷ gates) places (number, at, is, rest) stand =
+      let all : made + 1 + length gates ≡ made + suc (length gates) = omega arith in
+      subst (λ (count : ℕ). Stand program code.loops.items count places) all
+      (runs_stand (made + 1) (slot + 1) gates places rest (stand_on program code.loops.items made places stand (action.Evaluate number) at (λ link pin. refl)))
 
   -- there are slots for all of them
   pub runs_room : (made slot : ℕ) (gates : List TableGate) → RunsOn made slot gates → 0 < length gates → slot + length gates ≤ length nets

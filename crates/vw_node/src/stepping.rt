@@ -23,12 +23,16 @@ fn end_of(first: usize, end: usize, whole: bool) -> usize
 }
 
 impl<'a> Node<'a> {
-    /// One action more is made.
-    fn advance(&mut self)
-        requires { self.old.made < length self.old.code.now.ops.items }
-        ensures { self.new ≡ record self.old { made = self.old.made + 1 } }
+    /// One action more is made, which turns a shift loop to a place.
+    fn turn(&mut self, at: usize, place: usize)
+        requires made { self.old.made < length self.old.code.now.ops.items }
+        requires at { at < length self.old.places.items }
+        ensures rest { self.new
+            ≡ record self.old { made = self.old.made + 1; places = self.new.places } }
+        ensures places { self.new.places.items ≡ slice_set self.old.places.items at place }
     {
         let _count = self.code.ops.len();
+        self.places[at] = place;
         self.made += 1;
     }
 
@@ -184,21 +188,20 @@ impl<'a> Node<'a> {
                 self.write(gate.target, bit);
                 Step::Moved
             }
-            Op::Send {
-                link,
-                pin,
-                net,
-                slot,
-            } => {
-                let bit = self.slots[slot as usize];
-                let word = Word::make(self.share.first + self.clock, net, pin, bit);
+            Op::Send(at) => {
+                let one = &code.loops[at];
+                let place = self.places[at];
+                let item = one.at(place);
+                let bit = self.slots[item.slot as usize];
+                let word = Word::make(self.share.first + self.clock, item.net, one.pin(), bit);
+                let link = one.link();
                 if !ends.put(link, word) {
                     return Step::Full(link);
                 }
-                self.advance();
+                self.turn(at, one.next(place));
                 Step::Moved
             }
-            Op::Take { link, slot } => match ends.take(link) {
+            Op::Take { link, slot, .. } => match ends.take(link) {
                 Some(word) => {
                     self.write(slot, word.bit());
                     Step::Moved

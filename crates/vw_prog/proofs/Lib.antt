@@ -11,6 +11,7 @@ pub mod OwnedLatches
 pub mod JoinedOps
 pub mod ShiftLoops
 pub mod UnfoldedCodes
+pub mod LoopTurns
 pub mod Sequencers
 pub mod CodesStand
 pub mod MadeCodes

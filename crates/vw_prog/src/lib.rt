@@ -25,7 +25,7 @@ pub use answer::Answer;
 pub use code::{Code, Microcycle, Op, TableGate, WideGate};
 pub use ends::{Ends, Fabric, PutEnd, TakeEnd};
 pub use job::{Job, Share};
-pub use laws::{leads_end_in_time, passes_have_two_ends, reads_are_due};
+pub use laws::{leads_end_in_time, loops_turn, passes_have_two_ends, reads_are_due};
 pub use programs::Programs;
 pub use shift::{LoopNet, ShiftLoop};
 pub use word::Word;
