@@ -25,8 +25,10 @@ use Rattle.vw_prog.specs.Actions.{actions}
 use Rattle.vw_prog.specs.Codes.{BeginsWith, IsCode, slot_of, taken_net}
 use Rattle.vw_prog.specs.Due.{own_latches, recorded}
 use Rattle.vw_prog.specs.Ends.{SeenEnds}
+use Rattle.vw_prog.specs.Loops.{Stand}
 use Rattle.vw_prog.specs.Scripts.{planned_of}
 use Rattle.vw_prog.specs.Timetable.{entries_at, is_evaluating, is_sending, timetable}
+use Rattle.vw_prog.proofs.LoopTurns.{stand_again, stand_on}
 use Rattle.vw_node.specs.declared.node.Node.{Node}
 use Rattle.vw_node.specs.declared.step.Step.TheVariants.{Moved}
 use Rattle.vw_node.specs.Fits.{IsFit, IsShare, bit_by, bit_in, slot_bit, state_of}
@@ -45,7 +47,7 @@ use Rattle.vw_node.proofs.NodeSteps.{next_of, stepped_agrees}
 use Rattle.vw_node.proofs.OpActions.{op_begins}
 use Rattle.vw_node.proofs.SlotBits.{bits_are, slots_long, slots_within}
 use Rattle.vw_node.proofs.SourceBits.{latch_or, length-with_row, row_is, source_bit}
-use Rattle.vw_node.proofs.StepAnswers.{many_are, moved_to, op_within, unfinished}
+use Rattle.vw_node.proofs.StepAnswers.{actions_long, many_are, moved_to, op_within, unfinished}
 use Rattle.vw_node.proofs.Values.{get_or-tabulate, length-tabulate}
 
 map_twice : {A B C : Type 0} (g : B → C) (f : A → B) (xs : List A) → map g (map f xs) ≡ map (λ x. g (f x)) xs
@@ -220,6 +222,17 @@ module _ (ends : SeenEnds) (old : Node) (fits : IsFit ends.job old) (agrees : Ag
           by (action.Take link pin net) at begins = absurd begins
           by action.Step at begins = at
 
+    all_made : old.made ≡ length (entries_at old.share.node (timetable (planned_of ends.job)))
+    all_made = ⊎_elim (λ found. absurd (no_step (found.0.net - ends.job.checked.ordered.flat.inputs) found.0.net found.0.link found.0.place (is_evaluating found.0) (is_sending found.0) found.1.1)) (λ last. last.0) (next_entry (planned_of ends.job) old.share.node old.made agrees.holds.under action.Step step_next) where
+      no_step : (gate net link pin : ℕ) (first second : Bool) → action.Step ≡ (if first then action.Evaluate gate else (if second then action.Send link pin net else action.Take link pin net)) → ⊥
+      no_step gate net link pin true second same = cc
+      no_step gate net link pin false true same = cc
+      no_step gate net link pin false false same = cc
+
+    -- and no action is left behind it
+    op_last : length (actions (planned_of ends.job) old.share.node) ≤ old.made + 1
+    op_last = omega (arith, all_made, actions_long ends old fits agrees differ)
+
   module _ (new : Node) (row : List Bool) (rest : new ≡ record old { clock = old.clock + 1; made = 0; slots = new.slots; next = new.next; rows = new.rows; spare = new.spare })
       (slots : new.slots.items ≡ with_bits old.code.now.latches.items (map (bit_in old.slots.items) old.code.now.inputs.items) (with_row (row_at old.share (old.clock + 1)) old.slots.items)) (next : length new.next.items ≡ length old.next.items)
       (rows : new.rows.items ≡ old.rows.items ++ map (bit_in old.slots.items) old.code.now.records.items ∷ []) (spare : old.spare.items ≡ new.spare.items ++ row ∷ []) (capacity : vec_capacity old.rows ≤ vec_capacity new.rows) where
@@ -258,15 +271,8 @@ module _ (ends : SeenEnds) (old : Node) (fits : IsFit ends.job old) (agrees : Ag
         (recorded_now ends.job old.share fits.share old.code.now fits.code (net_count old.share) old.clock old.made old.slots.items old.rows.items (many_are ends old fits agrees differ) fits.slots)
 
     module _ (default : Op) (is : get_or old.code.now.ops.items old.made default ≡ op.Step) where
-      all_made : old.made ≡ length (entries_at old.share.node (timetable (planned_of ends.job)))
-      all_made = ⊎_elim (λ found. absurd (no_step (found.0.net - ends.job.checked.ordered.flat.inputs) found.0.net found.0.link found.0.place (is_evaluating found.0) (is_sending found.0) found.1.1)) (λ last. last.0) (next_entry (planned_of ends.job) old.share.node old.made agrees.holds.under action.Step (step_next default is)) where
-        no_step : (gate net link pin : ℕ) (first second : Bool) → action.Step ≡ (if first then action.Evaluate gate else (if second then action.Send link pin net else action.Take link pin net)) → ⊥
-        no_step gate net link pin true second same = cc
-        no_step gate net link pin false true same = cc
-        no_step gate net link pin false false same = cc
-
       pub end_agrees : Agrees ends.job new.share.node (state_of new) ends
-      end_agrees = moved_to ends old fits agrees differ new (stepped ends.job old.share.node (state_of old)) ends same_share end_state (stepped_agrees ends old.share.node (state_of old) agrees (unfinished ends old fits agrees differ) all_made)
+      end_agrees = moved_to ends old fits agrees differ new (stepped ends.job old.share.node (state_of old)) ends same_share end_state (stepped_agrees ends old.share.node (state_of old) agrees (unfinished ends old fits agrees differ) (all_made default is))
 
       pub end_makes : (whole : Bool) → MakesSome ends.job old.share.node (state_of old) (state_of new) ends ends whole Moved
       end_makes whole = makes_one ends.job old.share.node (state_of old) (state_of new) ends ends whole (action.Step, next_of ends old.share.node (state_of old) agrees (unfinished ends old fits agrees differ) action.Step (step_next default is), (end_state, refl)) agrees.holds

@@ -83,7 +83,7 @@ module _ (ends : SeenEnds) (old : Node) (fits : IsFit ends.job old) (agrees : Ag
   pub unfinished : old.clock < length job.rows
   unfinished = omega (arith, agrees.holds.within, fits.share.clocks, differ)
 
-  actions_long : length (actions planned node) ≡ length own + 1
+  pub actions_long : length (actions planned node) ≡ length own + 1
   actions_long = length-append _ _ ∙ ap (λ (count : ℕ). count + 1) (length-map own (action_of flat.inputs))
 
   -- there is an op
@@ -259,47 +259,49 @@ module _ (ends : SeenEnds) (old : Node) (fits : IsFit ends.job old) (agrees : Ag
     pub place_here : (place : ℕ) → place ≡ get_or old.places.items at place → place ≡ slice_index_or old.places.items at 0
     place_here place same = same ∙ get_or_default old.places.items at place 0 send_place
 
-    module _ (one : ShiftLoop) (there : slice_get loops at ≡ Some one) (place : ℕ) (stands : place ≡ slice_index_or old.places.items at 0) where
-      abbrev net : ℕ
-      net = sending.1
+    module _ (one : ShiftLoop) (there : slice_get loops at ≡ Some one) (link : ℕ) (link_is : link ≡ one.link) (place : ℕ) (stands : place ≡ slice_index_or old.places.items at 0) where
+      abbrev sent : ℕ
+      sent = sending.1
 
-      next_send : slice_get program old.made ≡ Some (action.Send one.link one.pin net)
-      next_send = let same : sending.0 ≡ one = cc (sending.2, there) in subst (λ (own : ShiftLoop). slice_get program old.made ≡ Some (action.Send own.link own.pin net)) same sending.3
+      next_send : slice_get program old.made ≡ Some (action.Send link one.pin sent)
+      next_send =
+          let same : sending.0 ≡ one = cc (sending.2, there) in
+          subst (λ (own : ShiftLoop). slice_get program old.made ≡ Some (action.Send own.link own.pin sent)) same sending.3 ∙ ap (λ (its : ℕ). Some (action.Send its one.pin sent)) (sym link_is)
 
-      entry_of_send : (entry : Entry) × ((slice_get own old.made ≡ Some entry) × (action.Send one.link one.pin net ≡ action_of flat.inputs entry))
-      entry_of_send = entry_for (action.Send one.link one.pin net) next_send (λ same. cc)
+      entry_of_send : (entry : Entry) × ((slice_get own old.made ≡ Some entry) × (action.Send link one.pin sent ≡ action_of flat.inputs entry))
+      entry_of_send = entry_for (action.Send link one.pin sent) next_send (λ same. cc)
 
       pub send_inside : place < length one.nets
-      send_inside = subst (λ (spot : ℕ). spot < length one.nets) (sym stands) (place_inside program loops old.made old.places.items fits.loops fits.code.loops one.link one.pin net at one next_send there refl refl)
+      send_inside = subst (λ (spot : ℕ). spot < length one.nets) (sym stands) (place_inside program loops old.made old.places.items fits.loops fits.code.loops link one.pin sent at one next_send there (sym link_is) refl)
 
       -- its net is that of the loop, and has the slot that stands there
-      item_is : (item : LoopNet) → slice_get one.nets place ≡ Some item → (item.net ≡ net) × (slot_of nets net ≡ Some item.slot)
+      item_is : (item : LoopNet) → slice_get one.nets place ≡ Some item → (item.net ≡ sent) × (slot_of nets sent ≡ Some item.slot)
       item_is item here =
-          let found : slice_get (nets_of one) place ≡ Some net = ap (slice_get (nets_of one)) stands ∙ net_here program loops old.made old.places.items fits.loops fits.code.loops one.link one.pin net at one next_send there refl refl in
+          let found : slice_get (nets_of one) place ≡ Some sent = ap (slice_get (nets_of one)) stands ∙ net_here program loops old.made old.places.items fits.loops fits.code.loops link one.pin sent at one next_send there (sym link_is) refl in
           let mapped : slice_get (nets_of one) place ≡ Some item.net = slice_get-map (λ (item : LoopNet). item.net) one.nets place ∙ ap (option_map (λ (item : LoopNet). item.net)) here in
-          let same : item.net ≡ net = cc (found, mapped) in
+          let same : item.net ≡ sent = cc (found, mapped) in
           let its_slot : slot_of nets item.net ≡ Some item.slot = subst (λ (own : LoopNet). slot_of nets own.net ≡ Some own.slot) (get_or_from_slice_get one.nets place item item here) (fits.code.sends at one there place item send_inside) in
           (same, ap (slot_of nets) (sym same) ∙ its_slot)
 
       module _ (item : LoopNet) (here : slice_get one.nets place ≡ Some item) where
         pub send_slot : item.slot < length old.slots.items
-        send_slot = omega (arith, fits.slots, slot_within nets net item.slot (item_is item here).1)
+        send_slot = omega (arith, fits.slots, slot_within nets sent item.slot (item_is item here).1)
 
-        send_net : net < length state.slots
-        send_net = let found = entry_of_send in let kind = sends flat.inputs one.link one.pin net found.0 found.1.1 in sent_net ends node state agrees unfinished found.0 found.1.0 one.link one.pin net kind.0 kind.1 kind.2 kind.3
+        send_net : sent < length state.slots
+        send_net = let found = entry_of_send in let kind = sends flat.inputs link one.pin sent found.0 found.1.1 in sent_net ends node state agrees unfinished found.0 found.1.0 link one.pin sent kind.0 kind.1 kind.2 kind.3
 
-        bit_there : get_or old.slots.items item.slot false ≡ slot state net
-        bit_there = sym (ap (slot_bit old.slots.items) (item_is item here).1) ∙ sym (get_or-tabulate (bit_by nets old.slots.items) many net false (omega (arith, send_net, agrees.holds.size, many_are)))
+        bit_there : get_or old.slots.items item.slot false ≡ slot state sent
+        bit_there = sym (ap (slot_bit old.slots.items) (item_is item here).1) ∙ sym (get_or-tabulate (bit_by nets old.slots.items) many sent false (omega (arith, send_net, agrees.holds.size, many_are)))
 
-        pub send_next : (word : Word) → word.clock ≡ old.share.first + old.clock → word.net ≡ item.net → word.pin ≡ one.pin → word.bit ≡ get_or old.slots.items item.slot false → IsNextWord ends one.link word
+        pub send_next : (word : Word) → word.clock ≡ old.share.first + old.clock → word.net ≡ item.net → word.pin ≡ one.pin → word.bit ≡ get_or old.slots.items item.slot false → IsNextWord ends link word
         send_next word clock its_net its_pin bit =
             let found = entry_of_send in
-            let kind = sends flat.inputs one.link one.pin net found.0 found.1.1 in
-            sent_next ends node state agrees unfinished found.0 found.1.0 one.link one.pin net kind.0 kind.1 kind.2 kind.3 word (clock ∙ ap (λ (first : ℕ). first + old.clock) fits.share.first) (its_net ∙ (item_is item here).0) its_pin (bit ∙ bit_there)
+            let kind = sends flat.inputs link one.pin sent found.0 found.1.1 in
+            sent_next ends node state agrees unfinished found.0 found.1.0 link one.pin sent kind.0 kind.1 kind.2 kind.3 word (clock ∙ ap (λ (first : ℕ). first + old.clock) fits.share.first) (its_net ∙ (item_is item here).0) its_pin (bit ∙ bit_there)
 
-      module _ (new : Node) (after : SeenEnds) (rest : new ≡ record old { made = old.made + 1; places = new.places }) (turned : new.places.items ≡ set old.places.items at (place_after (length one.nets) (place + 1))) (puts : Puts one.link ends after true) where
+      module _ (new : Node) (after : SeenEnds) (rest : new ≡ record old { made = old.made + 1; places = new.places }) (turned : new.places.items ≡ set old.places.items at (place_after (length one.nets) (place + 1))) (puts : Puts link ends after true) where
         stand_now : Stand program loops (old.made + 1) new.places.items
-        stand_now = stand_turned program loops old.made old.places.items fits.loops fits.code.loops one.link one.pin net at one next_send there refl refl new.places.items (turned ∙ ap (λ (spot : ℕ). set old.places.items at (place_after (length one.nets) (spot + 1))) stands)
+        stand_now = stand_turned program loops old.made old.places.items fits.loops fits.code.loops link one.pin sent at one next_send there (sym link_is) refl new.places.items (turned ∙ ap (λ (spot : ℕ). set old.places.items at (place_after (length one.nets) (spot + 1))) stands)
 
         pub send_fits : IsFit after.job new
         send_fits = subst (λ (one : SeenEnds). IsFit one.job new) (sym puts.ends) (subst (IsFit job) (sym rest) (fits_then (old.made + 1) new.places old.slots stand_now refl))
@@ -307,16 +309,16 @@ module _ (ends : SeenEnds) (old : Node) (fits : IsFit ends.job old) (agrees : Ag
         pub send_agrees : Agrees after.job new.share.node (state_of new) after
         send_agrees =
             let found = entry_of_send in
-            let kind = sends flat.inputs one.link one.pin net found.0 found.1.1 in
-            let agree = sent_agrees ends node state agrees unfinished found.0 found.1.0 one.link one.pin net kind.0 kind.1 kind.2 kind.3 in
-            let so = moved_to new (moved state) (record ends { sent = counted one.link ends.sent }) (ap (λ (one : Node). one.share) rest) (ap state_of rest) agree in
+            let kind = sends flat.inputs link one.pin sent found.0 found.1.1 in
+            let agree = sent_agrees ends node state agrees unfinished found.0 found.1.0 link one.pin sent kind.0 kind.1 kind.2 kind.3 in
+            let so = moved_to new (moved state) (record ends { sent = counted link ends.sent }) (ap (λ (one : Node). one.share) rest) (ap state_of rest) agree in
             subst (λ (one : SeenEnds). Agrees one.job new.share.node (state_of new) one) (sym puts.ends) so
 
         pub send_makes : (whole : Bool) → MakesSome job node state (state_of new) ends after whole Moved
-        send_makes whole = makes_one job node state (state_of new) ends after whole (action.Send one.link one.pin net, next_of ends node state agrees unfinished (action.Send one.link one.pin net) next_send, (ap state_of rest, puts)) agrees.holds
+        send_makes whole = makes_one job node state (state_of new) ends after whole (action.Send link one.pin sent, next_of ends node state agrees unfinished (action.Send link one.pin sent) next_send, (ap state_of rest, puts)) agrees.holds
 
-      pub full_makes : (after : SeenEnds) (whole : Bool) → Puts one.link ends after false → MakesSome job node state state ends after whole (Full one.link)
-      full_makes after whole puts = makes_none job node state state ends after whole (Full one.link) refl (one.pin, net, next_of ends node state agrees unfinished (action.Send one.link one.pin net) next_send, refl, puts)
+      pub full_makes : (after : SeenEnds) (whole : Bool) → Puts link ends after false → MakesSome job node state state ends after whole (Full link)
+      full_makes after whole puts = makes_none job node state state ends after whole (Full link) refl (one.pin, sent, next_of ends node state agrees unfinished (action.Send link one.pin sent) next_send, refl, puts)
 
   -- ---- a take
 

@@ -190,11 +190,11 @@ impl<'a> Node<'a> {
             }
             Op::Send(at) => {
                 let one = &code.loops[at];
+                let link = one.link();
                 let place = self.places[at];
                 let item = one.at(place);
                 let bit = self.slots[item.slot as usize];
                 let word = Word::make(self.share.first + self.clock, item.net, one.pin(), bit);
-                let link = one.link();
                 if !ends.put(link, word) {
                     return Step::Full(link);
                 }

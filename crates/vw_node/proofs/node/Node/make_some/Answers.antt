@@ -1,4 +1,4 @@
-use Rattle.std.proofs.Common.{◌∙◌, length, Bool, List, false, ap, slice_get, sym, arith}
+use Rattle.std.proofs.Common.{◌∙◌, ℕ, length, Bool, List, false, set, ap, slice_get, sym, arith}
 use Rattle.std.proofs.lemmas.List.{get_or_default}
 use Rattle.vw_net.specs.declared.ordered.Ordered.{Ordered}
 use Rattle.vw_plan.specs.declared.checked.Checked.{Checked}
@@ -68,25 +68,32 @@ pub index-place-requires : goal.index-place-requires
 index-place-requires g c = omega (arith, send_place (g.E.Ends.seen c.args.ends.now) c.args.self.now c.requires.fits c.requires.agrees c.if-self.false c.index.result.now c.in-Send.at (sym c.index.ensures ∙ c.in-Send.is), c.args.self.now.places.ok)
 
 pub at-item-requires : goal.at-item-requires
-at-item-requires g c = send_inside (g.E.Ends.seen c.args.ends.now) c.args.self.now c.requires.fits c.requires.agrees c.if-self.false c.index.result.now c.in-Send.at (sym c.index.ensures ∙ c.in-Send.is) c.index-one.result.now (loop_here (g.E.Ends.seen c.args.ends.now) c.args.self.now c.requires.fits c.requires.agrees c.if-self.false c.index.result.now c.in-Send.at (sym c.index.ensures ∙ c.in-Send.is) c.index-one.result.now c.index-one.ensures) c.index-place.result (place_here (g.E.Ends.seen c.args.ends.now) c.args.self.now c.requires.fits c.requires.agrees c.if-self.false c.index.result.now c.in-Send.at (sym c.index.ensures ∙ c.in-Send.is) c.index-place.result c.index-place.ensures)
+at-item-requires g c = send_inside (g.E.Ends.seen c.args.ends.now) c.args.self.now c.requires.fits c.requires.agrees c.if-self.false c.index.result.now c.in-Send.at (sym c.index.ensures ∙ c.in-Send.is) c.index-one.result.now (loop_here (g.E.Ends.seen c.args.ends.now) c.args.self.now c.requires.fits c.requires.agrees c.if-self.false c.index.result.now c.in-Send.at (sym c.index.ensures ∙ c.in-Send.is) c.index-one.result.now c.index-one.ensures) c.link-link.result c.link-link.ensures c.index-place.result.now (place_here (g.E.Ends.seen c.args.ends.now) c.args.self.now c.requires.fits c.requires.agrees c.if-self.false c.index.result.now c.in-Send.at (sym c.index.ensures ∙ c.in-Send.is) c.index-place.result.now c.index-place.ensures)
 
 pub index-bit-requires : goal.index-bit-requires
-index-bit-requires g c = omega (arith, send_slot (g.E.Ends.seen c.args.ends.now) c.args.self.now c.requires.fits c.requires.agrees c.if-self.false c.index.result.now c.in-Send.at (sym c.index.ensures ∙ c.in-Send.is) c.index-one.result.now (loop_here (g.E.Ends.seen c.args.ends.now) c.args.self.now c.requires.fits c.requires.agrees c.if-self.false c.index.result.now c.in-Send.at (sym c.index.ensures ∙ c.in-Send.is) c.index-one.result.now c.index-one.ensures) c.index-place.result (place_here (g.E.Ends.seen c.args.ends.now) c.args.self.now c.requires.fits c.requires.agrees c.if-self.false c.index.result.now c.in-Send.at (sym c.index.ensures ∙ c.in-Send.is) c.index-place.result c.index-place.ensures) c.at-item.result c.at-item.ensures, c.args.self.now.slots.ok)
+index-bit-requires g c = omega (arith, send_slot (g.E.Ends.seen c.args.ends.now) c.args.self.now c.requires.fits c.requires.agrees c.if-self.false c.index.result.now c.in-Send.at (sym c.index.ensures ∙ c.in-Send.is) c.index-one.result.now (loop_here (g.E.Ends.seen c.args.ends.now) c.args.self.now c.requires.fits c.requires.agrees c.if-self.false c.index.result.now c.in-Send.at (sym c.index.ensures ∙ c.in-Send.is) c.index-one.result.now c.index-one.ensures) c.link-link.result c.link-link.ensures c.index-place.result.now (place_here (g.E.Ends.seen c.args.ends.now) c.args.self.now c.requires.fits c.requires.agrees c.if-self.false c.index.result.now c.in-Send.at (sym c.index.ensures ∙ c.in-Send.is) c.index-place.result.now c.index-place.ensures) c.at-item.result c.at-item.ensures, c.args.self.now.slots.ok)
 
 pub put-requires : goal.put-requires
-put-requires g c = ?
+put-requires g c = send_next (g.E.Ends.seen c.args.ends.now) c.args.self.now c.requires.fits c.requires.agrees c.if-self.false c.index.result.now c.in-Send.at (sym c.index.ensures ∙ c.in-Send.is) c.index-one.result.now (loop_here (g.E.Ends.seen c.args.ends.now) c.args.self.now c.requires.fits c.requires.agrees c.if-self.false c.index.result.now c.in-Send.at (sym c.index.ensures ∙ c.in-Send.is) c.index-one.result.now c.index-one.ensures) c.link-link.result c.link-link.ensures c.index-place.result.now (place_here (g.E.Ends.seen c.args.ends.now) c.args.self.now c.requires.fits c.requires.agrees c.if-self.false c.index.result.now c.in-Send.at (sym c.index.ensures ∙ c.in-Send.is) c.index-place.result.now c.index-place.ensures) c.at-item.result c.at-item.ensures c.make-word.result c.make-word.ensures.clock c.make-word.ensures.net (c.make-word.ensures.pin ∙ c.pin.ensures)
+    (c.make-word.ensures.bit ∙ c.index-bit.ensures ∙ get_or_default c.args.self.now.slots.items c.at-item.result.slot _ false (send_slot (g.E.Ends.seen c.args.ends.now) c.args.self.now c.requires.fits c.requires.agrees c.if-self.false c.index.result.now c.in-Send.at (sym c.index.ensures ∙ c.in-Send.is) c.index-one.result.now (loop_here (g.E.Ends.seen c.args.ends.now) c.args.self.now c.requires.fits c.requires.agrees c.if-self.false c.index.result.now c.in-Send.at (sym c.index.ensures ∙ c.in-Send.is) c.index-one.result.now c.index-one.ensures) c.link-link.result c.link-link.ensures c.index-place.result.now (place_here (g.E.Ends.seen c.args.ends.now) c.args.self.now c.requires.fits c.requires.agrees c.if-self.false c.index.result.now c.in-Send.at (sym c.index.ensures ∙ c.in-Send.is) c.index-place.result.now c.index-place.ensures) c.at-item.result c.at-item.ensures))
 
 pub returns-then-not-put-clause-makes : goal.returns-then-not-put-clause-makes
-returns-then-not-put-clause-makes g c = ?
+returns-then-not-put-clause-makes g c = full_makes (g.E.Ends.seen c.args.ends.now) c.args.self.now c.requires.fits c.requires.agrees c.if-self.false c.index.result.now c.in-Send.at (sym c.index.ensures ∙ c.in-Send.is) c.index-one.result.now (loop_here (g.E.Ends.seen c.args.ends.now) c.args.self.now c.requires.fits c.requires.agrees c.if-self.false c.index.result.now c.in-Send.at (sym c.index.ensures ∙ c.in-Send.is) c.index-one.result.now c.index-one.ensures) c.link-link.result c.link-link.ensures c.index-place.result.now (place_here (g.E.Ends.seen c.args.ends.now) c.args.self.now c.requires.fits c.requires.agrees c.if-self.false c.index.result.now c.in-Send.at (sym c.index.ensures ∙ c.in-Send.is) c.index-place.result.now c.index-place.ensures) (g.E.Ends.seen c.put.new.self) c.args.whole c.if-not-put.ensures
+
+pub next-requires : goal.next-requires
+next-requires g c = send_inside (g.E.Ends.seen c.args.ends.now) c.args.self.now c.requires.fits c.requires.agrees c.if-self.false c.index.result.now c.in-Send.at (sym c.index.ensures ∙ c.in-Send.is) c.index-one.result.now (loop_here (g.E.Ends.seen c.args.ends.now) c.args.self.now c.requires.fits c.requires.agrees c.if-self.false c.index.result.now c.in-Send.at (sym c.index.ensures ∙ c.in-Send.is) c.index-one.result.now c.index-one.ensures) c.link-link.result c.link-link.ensures c.index-place.result.now (place_here (g.E.Ends.seen c.args.ends.now) c.args.self.now c.requires.fits c.requires.agrees c.if-self.false c.index.result.now c.in-Send.at (sym c.index.ensures ∙ c.in-Send.is) c.index-place.result.now c.index-place.ensures)
+
+pub turn-requires-clause-at : goal.turn-requires-clause-at
+turn-requires-clause-at g c = send_place (g.E.Ends.seen c.args.ends.now) c.args.self.now c.requires.fits c.requires.agrees c.if-self.false c.index.result.now c.in-Send.at (sym c.index.ensures ∙ c.in-Send.is)
 
 pub returns-else-not-put-clause-fits : goal.returns-else-not-put-clause-fits
-returns-else-not-put-clause-fits g c = ?
+returns-else-not-put-clause-fits g c = send_fits (g.E.Ends.seen c.args.ends.now) c.args.self.now c.requires.fits c.requires.agrees c.if-self.false c.index.result.now c.in-Send.at (sym c.index.ensures ∙ c.in-Send.is) c.index-one.result.now (loop_here (g.E.Ends.seen c.args.ends.now) c.args.self.now c.requires.fits c.requires.agrees c.if-self.false c.index.result.now c.in-Send.at (sym c.index.ensures ∙ c.in-Send.is) c.index-one.result.now c.index-one.ensures) c.link-link.result c.link-link.ensures c.index-place.result.now (place_here (g.E.Ends.seen c.args.ends.now) c.args.self.now c.requires.fits c.requires.agrees c.if-self.false c.index.result.now c.in-Send.at (sym c.index.ensures ∙ c.in-Send.is) c.index-place.result.now c.index-place.ensures) c.turn.new.self (g.E.Ends.seen c.put.new.self) c.turn.ensures.rest (c.turn.ensures.places ∙ ap (λ (place : ℕ). set c.args.self.now.places.items c.in-Send.at place) c.next.ensures) c.if-not-put.ensures
 
 pub returns-else-not-put-clause-agrees : goal.returns-else-not-put-clause-agrees
-returns-else-not-put-clause-agrees g c = ?
+returns-else-not-put-clause-agrees g c = send_agrees (g.E.Ends.seen c.args.ends.now) c.args.self.now c.requires.fits c.requires.agrees c.if-self.false c.index.result.now c.in-Send.at (sym c.index.ensures ∙ c.in-Send.is) c.index-one.result.now (loop_here (g.E.Ends.seen c.args.ends.now) c.args.self.now c.requires.fits c.requires.agrees c.if-self.false c.index.result.now c.in-Send.at (sym c.index.ensures ∙ c.in-Send.is) c.index-one.result.now c.index-one.ensures) c.link-link.result c.link-link.ensures c.index-place.result.now (place_here (g.E.Ends.seen c.args.ends.now) c.args.self.now c.requires.fits c.requires.agrees c.if-self.false c.index.result.now c.in-Send.at (sym c.index.ensures ∙ c.in-Send.is) c.index-place.result.now c.index-place.ensures) c.turn.new.self (g.E.Ends.seen c.put.new.self) c.turn.ensures.rest (c.turn.ensures.places ∙ ap (λ (place : ℕ). set c.args.self.now.places.items c.in-Send.at place) c.next.ensures) c.if-not-put.ensures
 
 pub returns-else-not-put-clause-makes : goal.returns-else-not-put-clause-makes
-returns-else-not-put-clause-makes g c = ?
+returns-else-not-put-clause-makes g c = send_makes (g.E.Ends.seen c.args.ends.now) c.args.self.now c.requires.fits c.requires.agrees c.if-self.false c.index.result.now c.in-Send.at (sym c.index.ensures ∙ c.in-Send.is) c.index-one.result.now (loop_here (g.E.Ends.seen c.args.ends.now) c.args.self.now c.requires.fits c.requires.agrees c.if-self.false c.index.result.now c.in-Send.at (sym c.index.ensures ∙ c.in-Send.is) c.index-one.result.now c.index-one.ensures) c.link-link.result c.link-link.ensures c.index-place.result.now (place_here (g.E.Ends.seen c.args.ends.now) c.args.self.now c.requires.fits c.requires.agrees c.if-self.false c.index.result.now c.in-Send.at (sym c.index.ensures ∙ c.in-Send.is) c.index-place.result.now c.index-place.ensures) c.turn.new.self (g.E.Ends.seen c.put.new.self) c.turn.ensures.rest (c.turn.ensures.places ∙ ap (λ (place : ℕ). set c.args.self.now.places.items c.in-Send.at place) c.next.ensures) c.if-not-put.ensures c.args.whole
 
 -- ---- a take
 
