@@ -14,7 +14,6 @@ use Rattle.vw_prog.specs.declared.action.Action.TheVariants as action
 use Rattle.vw_prog.specs.declared.code.Code.{Code}
 use Rattle.vw_prog.specs.declared.code.Op.{Op}
 use Rattle.vw_prog.specs.declared.code.Op.TheVariants as op
-use Rattle.vw_prog.specs.declared.code.TableGate.{TableGate}
 use Rattle.vw_prog.specs.declared.code.WideGate.{WideGate}
 use Rattle.vw_prog.specs.declared.entry.Entry.{Entry}
 use Rattle.vw_prog.specs.declared.job.Job.{Job}
@@ -27,6 +26,7 @@ use Rattle.vw_prog.specs.Codes.{BeginsWith, IsWideGate, slot_of}
 use Rattle.vw_prog.specs.Ends.{IsExpected, IsNextWord, Puts, SeenEnds, Takes, counted}
 use Rattle.vw_prog.specs.Loops.{Stand, nets_of, place_after}
 use Rattle.vw_prog.specs.Scripts.{planned_of}
+use Rattle.vw_prog.specs.SeenGates.{SeenGate, seen_gates}
 use Rattle.vw_prog.specs.Timetable.{entries_at, timetable}
 use Rattle.vw_prog.proofs.LoopTurns.{net_here, place_inside, stand_on, stand_turned}
 use Rattle.vw_node.specs.declared.node.Node.{Node}
@@ -131,20 +131,20 @@ module _ (ends : SeenEnds) (old : Node) (fits : IsFit ends.job old) (agrees : Ag
       by true at = omega (arith, at)
       by false at = omega (arith, at, begins)
 
-    abbrev gates : List TableGate
-    gates = slice_range code.gates.items first stop
+    abbrev gates : List SeenGate
+    gates = slice_range (seen_gates code.gates) first stop
 
-    runs : RunsOn ends node code fits.code old.made place gates × (stop ≤ length code.gates.items)
+    runs : RunsOn ends node code fits.code old.made place gates × (stop ≤ length (seen_gates code.gates))
     runs = run_of ends node code fits.code (stop - first - 1) old.made first stop end place (omega (arith, run_some)) run_ends (op_is default (op.Run first end place) is)
 
-    pub run_last : stop ≤ length code.gates.items
+    pub run_last : stop ≤ length (seen_gates code.gates)
     run_last = runs.1
 
     pub run_within : All (IsWithin (length old.slots.items)) gates
     run_within = subst (λ (count : ℕ). All (IsWithin count) gates) (sym fits.slots) (All-from_recursion (IsWithin (length nets)) gates (runs_within ends node code fits.code old.made place gates runs.0))
 
     gates_long : length gates ≡ stop - first
-    gates_long = omega (arith, run_last, length-take (stop - first) (drop first code.gates.items), length-drop first code.gates.items)
+    gates_long = omega (arith, run_last, length-take (stop - first) (drop first (seen_gates code.gates)), length-drop first (seen_gates code.gates))
 
     pub run_made : old.made + (stop - first) ≤ length code.ops.items
     run_made = omega (arith, gates_long, runs_inside ends node code fits.code old.made place gates runs.0 (omega (arith, op_within, fits.code.count)), fits.code.count)

@@ -2,6 +2,7 @@
 ghost use Rattle.std.specs.Prelude.{◌≡◌, ◌<◌, ◌≤◌, ◌+◌, ◌-◌, ◌++◌, ◌∷◌, [], Bool, List, length, map, slice_set, false, if◌then◌else◌};
 ghost use Rattle.std.specs.List.{All, slice_range};
 ghost use Rattle.std.specs.Vec.{vec_capacity};
+ghost use Rattle.vw_prog.specs.SeenGates.{seen_gates};
 ghost use Rattle.vw_node.specs.Fits.{IsFit, bit_in, state_of};
 ghost use Rattle.vw_node.specs.Moves.{MakesSome, Steps};
 ghost use Rattle.vw_node.specs.Positions.{Agrees};
@@ -52,20 +53,20 @@ impl<'a> Node<'a> {
     /// Works out some of the gates of at most six inputs, into slots from one on.
     fn run(&mut self, first: usize, end: usize, slot: u32)
         requires order { first ≤ end }
-        requires end { end ≤ length self.old.code.now.gates.items }
+        requires end { end ≤ length (seen_gates self.old.code.now.gates) }
         requires within { All (IsWithin (length self.old.slots.items))
-            (slice_range self.old.code.now.gates.items first end) }
+            (slice_range (seen_gates self.old.code.now.gates) first end) }
         requires room { slot + (end - first) ≤ length self.old.slots.items }
         requires made { self.old.made + (end - first) ≤ length self.old.code.now.ops.items }
         ensures rest { self.new
             ≡ record self.old { made = self.old.made + (end - first); slots = self.new.slots } }
         ensures slots { self.new.slots.items
-            ≡ with_gates slot (slice_range self.old.code.now.gates.items first end)
+            ≡ with_gates slot (slice_range (seen_gates self.old.code.now.gates) first end)
             self.old.slots.items }
     {
         let code = self.code;
         let _count = code.ops.len();
-        run_gates(&code.gates[first..end], slot as usize, &mut self.slots);
+        run_gates(&code.gates, first, end, slot as usize, &mut self.slots);
         self.made += (end - first) as u64;
     }
 

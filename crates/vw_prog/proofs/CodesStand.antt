@@ -1,11 +1,12 @@
 -- A code that was made for a node stands for its actions.
 use Rattle.std.proofs.Common.{◌≡◌, ◌<◌, ◌≤◌, ◌+◌, ◌-◌, ◌%◌, ◌&&◌, ◌||◌, ◌∷◌, ◌++◌, ◌^◌, ◌⊎◌, ℕ, zero, suc, min, Bool, true, false, not, List, [], length, map, take, get_or, cond, eqb, nat_le, nat_lt, slice_get, slice_index, Option, Some, None, if◌then◌else◌, ap, ap₂, refl, sym, subst, ◌∙◌, ⊎_elim, true≢false, eqb-true, eq-eqb, le-ltb, inl, inr, append_assoc, All, arith}
-use Rattle.std.specs.Prelude.{unwrap_or}
+use Rattle.std.specs.Prelude.{option_map, unwrap_or}
 use Rattle.std.specs.List.{AllByRecursion, filter, list_any, range_with_len}
 use Rattle.std.proofs.lemmas.Bool.{and_from, and_parts, cases_eq, leb-true, ltb-false, ltb-true, or_cases, or_left, or_right}
-use Rattle.std.proofs.lemmas.List.Elements.{All-from_recursion, filter_passes, recursion_from_All}
+use Rattle.std.proofs.lemmas.List.{length-map, length-take}
+use Rattle.std.proofs.lemmas.List.Elements.{All-from_recursion, All-take, filter_passes, recursion_from_All}
 use Rattle.std.proofs.lemmas.List.Folds.{list_any-append}
-use Rattle.std.proofs.lemmas.Option.{slice_get_within}
+use Rattle.std.proofs.lemmas.Option.{slice_get-map, slice_get_within}
 use Rattle.vw_net.specs.declared.cell.Cell.{Cell}
 use Rattle.vw_net.specs.declared.cell.Cell.TheVariants.{Gate, Latch}
 use Rattle.vw_net.specs.declared.cover.Cover.{Cover}
@@ -22,17 +23,18 @@ use Rattle.vw_prog.specs.declared.action.Action.TheVariants as action
 use Rattle.vw_prog.specs.declared.code.Code.{Code}
 use Rattle.vw_prog.specs.declared.code.Op.{Op}
 use Rattle.vw_prog.specs.declared.code.Op.TheVariants as op
-use Rattle.vw_prog.specs.declared.code.TableGate.{TableGate}
 use Rattle.vw_prog.specs.declared.code.WideGate.{WideGate}
 use Rattle.vw_prog.specs.declared.entry.Entry.{Entry}
+use Rattle.vw_prog.specs.declared.gates.PaddedGate.{PaddedGate}
 use Rattle.vw_prog.specs.declared.owners.OwnLatch.{OwnLatch}
 use Rattle.vw_prog.specs.declared.shift.LoopNet.{LoopNet}
 use Rattle.vw_prog.specs.declared.shift.ShiftLoop.{ShiftLoop}
 use Rattle.vw_prog.specs.Actions.{action_of, actions}
 use Rattle.vw_prog.specs.Codes.{BeginsWith, HasSlot, IsCode, IsTableGate, IsWideGate, slot_of, taken_net}
-use Rattle.vw_prog.specs.Coding.{IsMadeOf, RiseByMicrocycles, action_gates, action_op, action_wide, all_ops, gate_nets, cell_gates, cell_op, cell_wide, joined_ops, known_nets, named_all, no_slot, own_latch, read_at, slot_in, table_gate, take_nets, wide_gate}
+use Rattle.vw_prog.specs.Coding.{IsMadeOf, RiseByMicrocycles, action_gates, action_op, action_wide, all_gates, all_ops, gate_nets, cell_gates, cell_op, cell_wide, joined_ops, known_nets, named_all, no_slot, own_latch, read_at, slot_in, table_gate, take_nets, wide_gate}
 use Rattle.vw_prog.specs.Due.{gives, is_due, is_source, own_latches, reads, recorded}
 use Rattle.vw_prog.specs.Loops.{AreLoops, loop_place}
+use Rattle.vw_prog.specs.SeenGates.{SeenGate, narrowed, seen_gates}
 use Rattle.vw_prog.specs.Timetable.{entries_at, is_evaluating, is_sending, timetable}
 use Rattle.vw_prog.proofs.DueReads.{finds_ends, finds_reads, own_rises}
 use Rattle.vw_prog.proofs.EntryParts.{HasParts, entry_has}
@@ -51,6 +53,14 @@ all_from P (x ∷ xs) all = (all 0 x refl, all_from P xs (λ place other is. all
 map_twice : {A B C : Type 0} (g : B → C) (f : A → B) (xs : List A) → map g (map f xs) ≡ map (λ x. g (f x)) xs
 map_twice g f [] = refl
 map_twice g f (x ∷ xs) = ap (λ (rest : List _). g (f x) ∷ rest) (map_twice g f xs)
+
+-- a front that has all of a list, and some of the next
+take_front : {X : Type 0} (count : ℕ) (xs ys : List X) → length xs ≤ count → take count (xs ++ ys) ≡ xs ++ take (count - length xs) ys
+take_front count [] ys most = let all : count ≡ count - 0 = omega arith in ap (λ (many : ℕ). take many ys) all
+take_front zero (x ∷ xs) ys most = absurd (omega (arith, most))
+take_front (suc count) (x ∷ xs) ys most =
+    let rest : count - length xs ≡ suc count - length (x ∷ xs) = omega arith in
+    ap (λ (list : List _). x ∷ list) (take_front count xs ys (omega (arith, most))) ∙ ap (λ (many : ℕ). x ∷ (xs ++ take many ys)) rest
 
 -- a function that is another one at each element
 map_as : {A B : Type 0} (f g : A → B) (xs : List A) → AllByRecursion (λ x. f x ≡ g x) xs → map f xs ≡ map g xs
@@ -257,15 +267,15 @@ module _ (planned : PlannedBoard) (sound : IsSound planned) (node : ℕ) where
     read_slot (net ∷ ins) all zero some = below nets net (slot_in table net) all.0
     read_slot (net ∷ ins) all (suc place) some = read_slot ins all.1 place some
 
-    six_slots : (ins : List ℕ) (truth_table : ℕ) → length ins ≤ 6 → (more : List ℕ) × ((table_gate table ins truth_table).reads ≡ map (slot_in table) ins ++ more)
-    six_slots [] truth_table few = (0 ∷ 0 ∷ 0 ∷ 0 ∷ 0 ∷ 0 ∷ [], refl)
-    six_slots (a ∷ []) truth_table few = (0 ∷ 0 ∷ 0 ∷ 0 ∷ 0 ∷ [], refl)
-    six_slots (a ∷ b ∷ []) truth_table few = (0 ∷ 0 ∷ 0 ∷ 0 ∷ [], refl)
-    six_slots (a ∷ b ∷ c ∷ []) truth_table few = (0 ∷ 0 ∷ 0 ∷ [], refl)
-    six_slots (a ∷ b ∷ c ∷ d ∷ []) truth_table few = (0 ∷ 0 ∷ [], refl)
-    six_slots (a ∷ b ∷ c ∷ d ∷ e ∷ []) truth_table few = (0 ∷ [], refl)
-    six_slots (a ∷ b ∷ c ∷ d ∷ e ∷ f ∷ []) truth_table few = ([], refl)
-    six_slots (a ∷ b ∷ c ∷ d ∷ e ∷ f ∷ g ∷ more) truth_table few = absurd (omega (arith, few))
+    six_slots : (ins : List ℕ) (inputs truth_table : ℕ) → length ins ≤ 6 → (more : List ℕ) × ((table_gate table ins inputs truth_table).reads ≡ map (slot_in table) ins ++ more)
+    six_slots [] inputs truth_table few = (0 ∷ 0 ∷ 0 ∷ 0 ∷ 0 ∷ 0 ∷ [], refl)
+    six_slots (a ∷ []) inputs truth_table few = (0 ∷ 0 ∷ 0 ∷ 0 ∷ 0 ∷ [], refl)
+    six_slots (a ∷ b ∷ []) inputs truth_table few = (0 ∷ 0 ∷ 0 ∷ 0 ∷ [], refl)
+    six_slots (a ∷ b ∷ c ∷ []) inputs truth_table few = (0 ∷ 0 ∷ 0 ∷ [], refl)
+    six_slots (a ∷ b ∷ c ∷ d ∷ []) inputs truth_table few = (0 ∷ 0 ∷ [], refl)
+    six_slots (a ∷ b ∷ c ∷ d ∷ e ∷ []) inputs truth_table few = (0 ∷ [], refl)
+    six_slots (a ∷ b ∷ c ∷ d ∷ e ∷ f ∷ []) inputs truth_table few = ([], refl)
+    six_slots (a ∷ b ∷ c ∷ d ∷ e ∷ f ∷ g ∷ more) inputs truth_table few = absurd (omega (arith, few))
 
     module _ (number : ℕ) (ins : List ℕ) (cover : Cover) (is : slice_get flat.cells number ≡ Some (Gate ins cover)) (all : AllByRecursion IsIn ins) (own_in : IsIn (inputs + number)) where
       fits : (length ins ≡ cover.inputs) × All (λ net. net < count) ins
@@ -274,22 +284,26 @@ module _ (planned : PlannedBoard) (sound : IsSound planned) (node : ℕ) where
       some_slot : 0 < length nets
       some_slot = let low = below nets (inputs + number) (slot_in table (inputs + number)) own_in in omega (arith, low)
 
-      abbrev its_gate : TableGate
-      its_gate = table_gate table ins (truth_table_of cover)
+      abbrev its_gate : PaddedGate
+      its_gate = table_gate table ins cover.inputs (truth_table_of cover)
 
-      is_table_gate : cover.inputs ≤ 6 → IsTableGate flat nets number its_gate (slot_in table (inputs + number))
-      is_table_gate few =
-          let six = six_slots ins (truth_table_of cover) (omega (arith, few, fits.0)) in
+      -- with room for its inputs, or for more
+      is_table_gate : cover.inputs ≤ 6 → (room : ℕ) → room ≤ 6 → cover.inputs ≤ room → IsTableGate flat nets number (narrowed room its_gate) (slot_in table (inputs + number))
+      is_table_gate few room most enough =
+          let six = six_slots ins cover.inputs (truth_table_of cover) (omega (arith, few, fits.0)) in
+          let own = map (slot_in table) ins in
+          let ins_in = all in
+          let within = All-from_recursion (λ (slot : ℕ). slot < length nets) its_gate.reads (read_slot ins all 0 some_slot, (read_slot ins all 1 some_slot, (read_slot ins all 2 some_slot, (read_slot ins all 3 some_slot, (read_slot ins all 4 some_slot, (read_slot ins all 5 some_slot, tt)))))) in
           record {
             ins = ins;
             cover = cover;
             cell = is;
-            own = map (slot_in table) ins;
-            more = six.0;
-            six = refl;
-            reads = six.1;
-            slots = slots_map ins all;
-            within = All-from_recursion (λ (slot : ℕ). slot < length nets) its_gate.reads (read_slot ins all 0 some_slot, (read_slot ins all 1 some_slot, (read_slot ins all 2 some_slot, (read_slot ins all 3 some_slot, (read_slot ins all 4 some_slot, (read_slot ins all 5 some_slot, tt))))));
+            own = own;
+            more = take (room - length own) six.0;
+            few = omega (arith, most, length-take room its_gate.reads);
+            reads = ap (take room) six.1 ∙ take_front room own six.0 (omega (arith, enough, fits.0, length-map ins (slot_in table)));
+            slots = slots_map ins ins_in;
+            within = All-take (λ (slot : ℕ). slot < length nets) room its_gate.reads within;
             truth_table = refl;
             target = own_in;
           }
@@ -367,9 +381,14 @@ module _ (planned : PlannedBoard) (sound : IsSound planned) (node : ℕ) where
               let op_is : action_op flat table (kept place (action.Evaluate number) at).first (kept place (action.Evaluate number) at).wide (kept place (action.Evaluate number) at).sooner (action.Evaluate number) ≡ op.Run (kept place (action.Evaluate number) at).first ((kept place (action.Evaluate number) at).first + 1) (slot_in table (inputs + number)) =
               ap (λ (net : ℕ). cell_op (slot_in table net) (kept place (action.Evaluate number) at).first (kept place (action.Evaluate number) at).wide (slice_get flat.cells number)) (net_low is) ∙ ap (cell_op (slot_in table (inputs + number)) (kept place (action.Evaluate number) at).first (kept place (action.Evaluate number) at).wide) is ∙ ap (λ (one : Bool). if one then op.Run (kept place (action.Evaluate number) at).first ((kept place (action.Evaluate number) at).first + 1) (slot_in table (inputs + number)) else op.Wide (kept place (action.Evaluate number) at).wide) test in
               let run = subst (λ (one : Op). Becomes one (two place (action.Evaluate number) at).0) op_is (two place (action.Evaluate number) at).2 in
-              let gates : action_gates flat table (action.Evaluate number) ≡ its_gate number ins cover is all own_in ∷ [] = ap (cell_gates inputs table number) is ∙ ap (λ (one : Bool). if one then table_gate table ins (truth_table_of cover) ∷ [] else []) test in
-              let there : slice_get code.gates.items (kept place (action.Evaluate number) at).first ≡ Some (its_gate number ins cover is all own_in) = ap (λ (list : List TableGate). slice_get list (kept place (action.Evaluate number) at).first) made.gates ∙ (kept place (action.Evaluate number) at).gate (its_gate number ins cover is all own_in) gates in
-              subst (BeginsWith flat code (action.Evaluate number)) (sym run.1) (run.2, its_gate number ins cover is all own_in, there, is_table_gate number ins cover is all own_in (leb-true cover.inputs 6 test))
+              let gates : action_gates flat table (action.Evaluate number) ≡ its_gate number ins cover is all own_in ∷ [] = ap (cell_gates inputs table number) is ∙ ap (λ (one : Bool). if one then table_gate table ins cover.inputs (truth_table_of cover) ∷ [] else []) test in
+              let few : cover.inputs ≤ 6 = leb-true cover.inputs 6 test in
+              let first = (kept place (action.Evaluate number) at).first in
+              let here : slice_get (all_gates flat table program) first ≡ Some (its_gate number ins cover is all own_in) = (kept place (action.Evaluate number) at).gate (its_gate number ins cover is all own_in) gates in
+              let there : slice_get (seen_gates code.gates) first ≡ Some (narrowed made.gates.room (its_gate number ins cover is all own_in)) =
+              ap (λ (list : List SeenGate). slice_get list first) made.gates.are ∙ slice_get-map (narrowed made.gates.room) (all_gates flat table program) first ∙ ap (option_map (narrowed made.gates.room)) here in
+              subst (BeginsWith flat code (action.Evaluate number)) (sym run.1)
+              (run.2, narrowed made.gates.room (its_gate number ins cover is all own_in), there, is_table_gate number ins cover is all own_in few made.gates.room made.gates.few (made.gates.enough first (its_gate number ins cover is all own_in) here few))
           by false test =
               let op_is : action_op flat table (kept place (action.Evaluate number) at).first (kept place (action.Evaluate number) at).wide (kept place (action.Evaluate number) at).sooner (action.Evaluate number) ≡ op.Wide (kept place (action.Evaluate number) at).wide =
               ap (λ (net : ℕ). cell_op (slot_in table net) (kept place (action.Evaluate number) at).first (kept place (action.Evaluate number) at).wide (slice_get flat.cells number)) (net_low is) ∙ ap (cell_op (slot_in table (inputs + number)) (kept place (action.Evaluate number) at).first (kept place (action.Evaluate number) at).wide) is ∙ ap (λ (one : Bool). if one then op.Run (kept place (action.Evaluate number) at).first ((kept place (action.Evaluate number) at).first + 1) (slot_in table (inputs + number)) else op.Wide (kept place (action.Evaluate number) at).wide) test in

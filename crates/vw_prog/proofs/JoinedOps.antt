@@ -9,7 +9,7 @@ use Rattle.vw_prog.specs.declared.action.Action.{Action}
 use Rattle.vw_prog.specs.declared.action.Action.TheVariants as action
 use Rattle.vw_prog.specs.declared.code.Op.{Op}
 use Rattle.vw_prog.specs.declared.code.Op.TheVariants as op
-use Rattle.vw_prog.specs.declared.code.TableGate.{TableGate}
+use Rattle.vw_prog.specs.declared.gates.PaddedGate.{PaddedGate}
 use Rattle.vw_prog.specs.declared.code.WideGate.{WideGate}
 use Rattle.vw_prog.specs.declared.shift.LoopNet.{LoopNet}
 use Rattle.vw_prog.specs.declared.shift.ShiftLoop.{ShiftLoop}
@@ -148,20 +148,20 @@ module _ (flat : Flat) (table : List ℕ) where
   all_ones (one ∷ program) first place loops = (action_one first place loops one, all_ones program (first + length (action_gates flat table one)) (place + length (action_wide flat table one)) (action_loops table one loops))
 
   -- the op of an action, and where its gate is kept, or its shift loop
-  pub record IsKept (program : List Action) (before : List TableGate) (wides : List WideGate) (loops : List ShiftLoop) (ops : List Op) (place : ℕ) (one : Action) : Type 0 where
+  pub record IsKept (program : List Action) (before : List PaddedGate) (wides : List WideGate) (loops : List ShiftLoop) (ops : List Op) (place : ℕ) (one : Action) : Type 0 where
     pub first : ℕ
     pub wide : ℕ
     pub sooner : List ShiftLoop
     pub op_is : slice_get ops place ≡ Some (action_op flat table first wide sooner one)
     pub pin : (link pin net : ℕ) → one ≡ action.Send link pin net → HasPin (all_loops table loops program) (loop_place link pin sooner) link pin
-    pub gate : (gate : TableGate) → action_gates flat table one ≡ gate ∷ [] → slice_get (before ++ all_gates flat table program) first ≡ Some gate
+    pub gate : (gate : PaddedGate) → action_gates flat table one ≡ gate ∷ [] → slice_get (before ++ all_gates flat table program) first ≡ Some gate
     pub wide_gate : (gate : WideGate) → action_wide flat table one ≡ gate ∷ [] → slice_get (wides ++ all_wide flat table program) wide ≡ Some gate
 
   there : {X : Type 0} (before : List X) (x : X) (rest : List X) → slice_get (before ++ (x ∷ [] ++ rest)) (length before) ≡ Some x
   there [] x rest = refl
   there (first ∷ before) x rest = there before x rest
 
-  pub kept_at : (program : List Action) (place : ℕ) (one : Action) (before : List TableGate) (wides : List WideGate) (first wide : ℕ) (loops : List ShiftLoop) → length before ≡ first → length wides ≡ wide → slice_get program place ≡ Some one → IsKept program before wides loops (all_ops flat table first wide loops program) place one
+  pub kept_at : (program : List Action) (place : ℕ) (one : Action) (before : List PaddedGate) (wides : List WideGate) (first wide : ℕ) (loops : List ShiftLoop) → length before ≡ first → length wides ≡ wide → slice_get program place ≡ Some one → IsKept program before wides loops (all_ops flat table first wide loops program) place one
   kept_at [] place one before wides first wide loops long wide_long is = cc
   kept_at (own ∷ program) zero one before wides first wide loops long wide_long is =
       let same : own ≡ one = cc in
@@ -174,7 +174,7 @@ module _ (flat : Flat) (table : List ℕ) where
             let item : LoopNet = record { net = net; slot = slot_in table net } in
             subst (λ (act : Action). HasPin (all_loops table (action_loops table act loops) program) (loop_place link pin loops) link pin) (sym (same ∙ sends))
             (stays_all table program (with_net link pin item loops) (loop_place link pin loops) link pin (here_with link pin item loops));
-        gate = λ gate are. ap₂ (λ (gates : List TableGate) (at : ℕ). slice_get (before ++ (gates ++ all_gates flat table program)) at) (ap (action_gates flat table) same ∙ are) (sym long) ∙ there before gate (all_gates flat table program);
+        gate = λ gate are. ap₂ (λ (gates : List PaddedGate) (at : ℕ). slice_get (before ++ (gates ++ all_gates flat table program)) at) (ap (action_gates flat table) same ∙ are) (sym long) ∙ there before gate (all_gates flat table program);
         wide_gate = λ gate are. ap₂ (λ (gates : List WideGate) (at : ℕ). slice_get (wides ++ (gates ++ all_wide flat table program)) at) (ap (action_wide flat table) same ∙ are) (sym wide_long) ∙ there wides gate (all_wide flat table program);
       }
   kept_at (own ∷ program) (suc place) one before wides first wide loops long wide_long is =
@@ -186,6 +186,6 @@ module _ (flat : Flat) (table : List ℕ) where
         sooner = rest.sooner;
         op_is = rest.op_is;
         pin = rest.pin;
-        gate = λ gate are. ap (λ (gates : List TableGate). slice_get gates rest.first) (sym (append_assoc before (action_gates flat table own) (all_gates flat table program))) ∙ rest.gate gate are;
+        gate = λ gate are. ap (λ (gates : List PaddedGate). slice_get gates rest.first) (sym (append_assoc before (action_gates flat table own) (all_gates flat table program))) ∙ rest.gate gate are;
         wide_gate = λ gate are. ap (λ (gates : List WideGate). slice_get gates rest.wide) (sym (append_assoc wides (action_wide flat table own) (all_wide flat table program))) ∙ rest.wide_gate gate are;
       }

@@ -10,6 +10,7 @@ pub mod CellOps
 pub mod OwnedLatches
 pub mod JoinedOps
 pub mod ShiftLoops
+pub mod NarrowedGates
 pub mod UnfoldedCodes
 pub mod LoopTurns
 pub mod Sequencers

@@ -14,7 +14,7 @@ use Rattle.vw_prog.specs.declared.action.Action.TheVariants as action
 use Rattle.vw_prog.specs.declared.code.Code.{Code}
 use Rattle.vw_prog.specs.declared.code.Op.{Op}
 use Rattle.vw_prog.specs.declared.code.Op.TheVariants as op
-use Rattle.vw_prog.specs.declared.code.TableGate.{TableGate}
+use Rattle.vw_prog.specs.declared.gates.PaddedGate.{PaddedGate}
 use Rattle.vw_prog.specs.declared.code.WideGate.{WideGate}
 use Rattle.vw_prog.specs.declared.entry.Entry.{Entry}
 use Rattle.vw_prog.specs.declared.owners.OwnLatch.{OwnLatch}
@@ -23,6 +23,7 @@ use Rattle.vw_prog.specs.declared.shift.ShiftLoop.{ShiftLoop}
 use Rattle.vw_prog.specs.Actions.{action_of}
 use Rattle.vw_prog.specs.Codes.{slot_of, taken_net}
 use Rattle.vw_prog.specs.Loops.{is_of, loop_place}
+use Rattle.vw_prog.specs.SeenGates.{AreNarrowed}
 use Rattle.vw_prog.specs.Sequencer.{IsSequencer, microcycle}
 
 -- ---- slots
@@ -74,9 +75,10 @@ abbrev pub read_at : List ℕ → Option ℕ → ℕ
 read_at table None = 0
 read_at table (Some net) = slot_in table net
 
-abbrev pub table_gate : List ℕ → List ℕ → ℕ → TableGate
-table_gate table ins truth_table = record {
+abbrev pub table_gate : List ℕ → List ℕ → ℕ → ℕ → PaddedGate
+table_gate table ins inputs truth_table = record {
   reads = read_at table (slice_get ins 0) ∷ read_at table (slice_get ins 1) ∷ read_at table (slice_get ins 2) ∷ read_at table (slice_get ins 3) ∷ read_at table (slice_get ins 4) ∷ read_at table (slice_get ins 5) ∷ [];
+  inputs = inputs;
   truth_table = truth_table;
 }
 
@@ -84,9 +86,9 @@ abbrev pub wide_gate : List ℕ → ℕ → ℕ → List ℕ → WideGate
 wide_gate table number net ins = record { number = number; reads = map (slot_in table) ins; target = slot_in table net }
 
 -- what a cell adds to the gates of a code, and the op for it
-abbrev pub cell_gates : ℕ → List ℕ → ℕ → Option Cell → List TableGate
+abbrev pub cell_gates : ℕ → List ℕ → ℕ → Option Cell → List PaddedGate
 cell_gates inputs table number None = []
-cell_gates inputs table number (Some (Gate ins cover)) = if nat_le cover.inputs 6 then table_gate table ins (truth_table_of cover) ∷ [] else []
+cell_gates inputs table number (Some (Gate ins cover)) = if nat_le cover.inputs 6 then table_gate table ins cover.inputs (truth_table_of cover) ∷ [] else []
 cell_gates inputs table number (Some (Latch d init)) = []
 
 abbrev pub cell_wide : ℕ → List ℕ → ℕ → Option Cell → List WideGate
@@ -130,7 +132,7 @@ RiseByMicrocycles (entry ∷ entries) = AllByRecursion (λ later. microcycle ent
 abbrev pub program_of : ℕ → List Entry → List Action
 program_of inputs entries = map (action_of inputs) entries ++ action.Step ∷ []
 
-abbrev pub action_gates : Flat → List ℕ → Action → List TableGate
+abbrev pub action_gates : Flat → List ℕ → Action → List PaddedGate
 action_gates flat table (action.Evaluate number) = cell_gates flat.inputs table number (slice_get flat.cells number)
 action_gates flat table (action.Send link pin net) = []
 action_gates flat table (action.Take link pin net) = []
@@ -149,7 +151,7 @@ action_op flat table first place loops (action.Take link pin net) = op.Take link
 action_op flat table first place loops action.Step = op.Step
 
 -- the gates and the ops of actions, behind so many gates, and with these loops before
-abbrev pub all_gates : Flat → List ℕ → List Action → List TableGate
+abbrev pub all_gates : Flat → List ℕ → List Action → List PaddedGate
 all_gates flat table [] = []
 all_gates flat table (one ∷ actions) = action_gates flat table one ++ all_gates flat table actions
 
@@ -198,7 +200,7 @@ pub record IsMadeOf (flat : Flat) (node : ℕ) (own : List OwnLatch) (entries : 
   pub nets : code.nets.items ≡ named_all count [] (known_nets flat.inputs node own (program_of flat.inputs entries))
   pub ops : code.ops.items ≡ joined_ops (all_ops flat table 0 0 [] (program_of flat.inputs entries))
   pub loops : code.loops.items ≡ all_loops table [] (program_of flat.inputs entries)
-  pub gates : code.gates.items ≡ all_gates flat table (program_of flat.inputs entries)
+  pub gates : AreNarrowed (all_gates flat table (program_of flat.inputs entries)) code.gates
   pub wide : code.wide.items ≡ all_wide flat table (program_of flat.inputs entries)
   pub sequencer : RiseByMicrocycles entries → IsSequencer (map microcycle entries) code.sequencer.items
   pub records : code.records.items ≡ record_slots flat node own table

@@ -1,5 +1,6 @@
 pub mod Timetable
 pub mod SeenLoop
+pub mod SeenGates
 pub mod Loops
 pub mod Sequencer
 pub mod Unfolded

@@ -1,14 +1,6 @@
+use crate::gates::Gates;
 use crate::shift::ShiftLoop;
 use vw_net::Sequence;
-
-/// A gate of at most six inputs, by its truth table.
-#[derive(Clone, Copy)]
-pub struct TableGate {
-    /// The slots of its inputs. Where it has fewer than six, further slots that there are follow.
-    pub reads: [u32; 6],
-    /// Its truth table, over six inputs.
-    pub truth_table: u64,
-}
 
 /// A gate of more than six inputs.
 #[derive(Drop)]
@@ -56,7 +48,7 @@ pub struct Code {
     /// The microcycles in which it acts, but for the step at the end: each once, in order.
     pub sequencer: Vec<Microcycle>,
     /// Its gates of at most six inputs, in order.
-    pub gates: Vec<TableGate>,
+    pub gates: Gates,
     /// Its wider gates, in order.
     pub wide: Vec<WideGate>,
     /// The net of each slot. The host's inputs have the first slots.

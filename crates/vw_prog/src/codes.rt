@@ -13,6 +13,7 @@ use crate::action::Action;
 use crate::code::Code;
 use crate::coding::{parts_of, program_of};
 use crate::entry::Entry;
+use crate::gates::gates_of;
 use crate::naming::{
     NO_SLOT, clear, list_gates, list_inputs, list_latches, list_takes, name_all, slot_at, slots_at,
 };
@@ -123,6 +124,7 @@ fn code_of(
     let mut nets = Vec::new(alloc);
     name_all(&known, &mut nets, table)?;
     let parts = parts_of(alloc, flat, table, &actions)?;
+    let gates = gates_of(alloc, &parts.gates)?;
     let sequencer = sequencer_of(alloc, entries)?;
     let records = record_slots(alloc, flat, node, own, table)?;
     let latches = latch_slots(alloc, table, own)?;
@@ -133,7 +135,7 @@ fn code_of(
         ops: parts.ops,
         loops: parts.loops,
         sequencer,
-        gates: parts.gates,
+        gates,
         wide: parts.wide,
         nets,
         records,

@@ -5,8 +5,9 @@ ghost use Rattle.vw_prog.specs.Coding.{all_gates, all_loops, all_ops, all_wide, 
 ghost use Rattle.vw_prog.specs.Actions.{action_of};
 
 use crate::action::Action;
-use crate::code::{Op, TableGate, WideGate};
+use crate::code::{Op, WideGate};
 use crate::entry::Entry;
+use crate::gates::PaddedGate;
 use crate::naming::{slot_at, slots_at};
 use crate::shift::{LoopNet, ShiftLoop, keep_net};
 use std::alloc::{AllocError, Global};
@@ -54,10 +55,10 @@ fn read_at(table: &[u32], ins: &[u32], place: usize) -> u32
 }
 
 /// A gate of at most six inputs.
-fn table_gate(table: &[u32], ins: &[u32], truth_table: u64) -> TableGate
-    ensures { result ≡ table_gate table.now ins.now truth_table }
+fn table_gate(table: &[u32], ins: &[u32], inputs: u32, truth_table: u64) -> PaddedGate
+    ensures { result ≡ table_gate table.now ins.now inputs truth_table }
 {
-    TableGate {
+    PaddedGate {
         reads: [
             read_at(table, ins, 0),
             read_at(table, ins, 1),
@@ -66,6 +67,7 @@ fn table_gate(table: &[u32], ins: &[u32], truth_table: u64) -> TableGate
             read_at(table, ins, 4),
             read_at(table, ins, 5),
         ],
+        inputs,
         truth_table,
     }
 }
@@ -88,7 +90,11 @@ fn wide_gate(
 }
 
 /// Keeps a gate of at most six inputs, and gives the op that works it out into a slot.
-fn keep_table_gate(gates: &mut Vec<TableGate>, gate: TableGate, slot: u32) -> Result<Op, AllocError>
+fn keep_table_gate(
+    gates: &mut Vec<PaddedGate>,
+    gate: PaddedGate,
+    slot: u32,
+) -> Result<Op, AllocError>
     ensures one { IfOk result (λ one. one
         ≡ Run (length gates.old.items) (length gates.old.items + 1) slot) }
     ensures gates { OnOk result (gates.new.items ≡ gates.old.items ++ gate ∷ []) }
@@ -118,7 +124,7 @@ fn cell_op(
     flat: &Flat,
     table: &[u32],
     number: u32,
-    gates: &mut Vec<TableGate>,
+    gates: &mut Vec<PaddedGate>,
     wide: &mut Vec<WideGate>,
 ) -> Result<Op, AllocError>
     ensures one { IfOk result (λ one. one
@@ -133,7 +139,8 @@ fn cell_op(
         Some(Cell::Gate { ins, cover }) => {
             let net = flat.inputs() + number;
             if cover.inputs() <= TRUTH_TABLE_INPUTS {
-                let gate = table_gate(table, ins.as_slice(), cover.truth_table());
+                let inputs = cover.inputs();
+                let gate = table_gate(table, ins.as_slice(), inputs, cover.truth_table());
                 let one = keep_table_gate(gates, gate, slot_at(table, net))?;
                 return Ok(one);
             }
@@ -151,7 +158,7 @@ fn cell_op(
 pub struct Parts {
     pub ops: Vec<Op>,
     pub loops: Vec<ShiftLoop>,
-    pub gates: Vec<TableGate>,
+    pub gates: Vec<PaddedGate>,
     pub wide: Vec<WideGate>,
 }
 

@@ -10,6 +10,7 @@ mod codes;
 mod coding;
 mod ends;
 mod entry;
+mod gates;
 mod job;
 mod laws;
 mod naming;
@@ -22,8 +23,9 @@ mod word;
 
 pub use action::Action;
 pub use answer::Answer;
-pub use code::{Code, Microcycle, Op, TableGate, WideGate};
+pub use code::{Code, Microcycle, Op, WideGate};
 pub use ends::{Ends, Fabric, PutEnd, TakeEnd};
+pub use gates::{Gates, TableGate};
 pub use job::{Job, Share};
 pub use laws::{leads_end_in_time, loops_turn, passes_have_two_ends, reads_are_due};
 pub use programs::Programs;
