@@ -47,12 +47,12 @@ fn run_part<const N: usize>(
 )
     requires few { N ≤ 6 }
     requires order { first ≤ end }
-    requires end { end ≤ length gates.now }
+    requires end { end ≤ length (map (seen_gate N) gates.now) }
     requires within { All (IsWithin (length slots.old))
-        (map (seen_gate N) (slice_range gates.now first end)) }
+        (slice_range (map (seen_gate N) gates.now) first end) }
     requires room { slot + (end - first) ≤ length slots.old }
     ensures { slots.new
-        ≡ with_gates slot (map (seen_gate N) (slice_range gates.now first end)) slots.old }
+        ≡ with_gates slot (slice_range (map (seen_gate N) gates.now) first end) slots.old }
 {
     run_all(&gates[first..end], slot, slots);
 }
