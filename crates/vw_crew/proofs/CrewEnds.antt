@@ -1,6 +1,7 @@
 -- What a crew that is through has told.
-use Rattle.std.proofs.Common.{◌≡◌, ◌<◌, ◌++◌, ℕ, suc, Bool, List, length, ap, refl, sym, subst, ◌∙◌, Option, Some}
+use Rattle.std.proofs.Common.{◌≡◌, ◌<◌, ◌++◌, ◌∷◌, ◌/◌, ◌%◌, ℕ, suc, Bool, List, [], length, get_or, slice_get, ap, ap₂, refl, sym, subst, ◌∙◌, Option, Some, rules}
 use Rattle.std.specs.Prelude.{option_map, unwrap_or}
+use Rattle.std.specs.Option.{option_and_then}
 use Rattle.vw_prog.specs.declared.job.Job.{Job}
 use Rattle.vw_prog.specs.Fabric.{Carried}
 use Rattle.vw_prog.specs.Scripts.{script}
@@ -15,6 +16,16 @@ use Rattle.vw_crew.proofs.NoScripts.{no_script}
 -- each link's script has come to what it carried
 pub all_carried : (job : Job) (carried : Carried) → carried_on job (length job.checked.board.links) (λ link. length (script job link)) carried ≡ option_map (λ words. λ link. words link ++ script job link) carried
 all_carried job carried = carried_all job (λ link. length (script job link)) (length job.checked.board.links) carried (λ number below. refl) (λ number past. no_script job number past)
+
+-- node 0 is the first of the first group
+pub host_first : (groups : List SeenGroup) (group : SeenGroup) (node : Node) → (there : Node) × (node_at groups 0 ≡ Some there) → group ≡ get_or groups 0 group → slice_get group.nodes 0 ≡ Some node → node_at groups 0 ≡ Some node
+host_first [] group node has is here = let none = has.1 in cc
+host_first (first ∷ groups) group node has is here =
+    let place : 0 / length (first ∷ groups) ≡ 0 = search rules in
+    let rest : 0 % length (first ∷ groups) ≡ 0 = search rules in
+    ap₂ (λ (at number : ℕ). option_and_then (λ (own : SeenGroup). slice_get own.nodes at) (slice_get (first ∷ groups) number)) place rest
+    ∙ ap (λ (own : SeenGroup). slice_get own.nodes 0) (sym is)
+    ∙ here
 
 module _ (job : Job) (keeps : Bool) (groups new : List SeenGroup) (crew : IsCrew job keeps groups) (done : AreThrough job groups) (same : HasSameNodes groups new) (number : ℕ) (inside : number < suc job.checked.board.chips) where
   -- the node with a number is still there

@@ -1,5 +1,5 @@
 //! The scripts of links, worked out by the simulator and the programs of nodes.
-ghost use Rattle.std.specs.Prelude.{◌≡◌, ◌<◌, ◌+◌, ◌++◌, length, map, IfOk, OnOk};
+ghost use Rattle.std.specs.Prelude.{◌≡◌, ◌<◌, ◌+◌, ◌++◌, [], length, map, slice_index_or, IfOk, OnOk};
 ghost use Rattle.std.specs.Bool.{OnTrue};
 ghost use Rattle.std.specs.List.{All};
 ghost use Rattle.vw_prog.specs.Scripts.{planned_of, script};
@@ -17,6 +17,18 @@ use vw_sim::step;
 pub struct Slot {
     pub net: u32,
     pub pin: u32,
+}
+
+/// The actions of a node.
+fn actions_of(alloc: Global, programs: &Programs, node: u32) -> Result<Vec<Action>, AllocError>
+    requires { node < length programs.now.lists }
+    ensures { IfOk result (λ actions. actions.items ≡ slice_index_or programs.now.lists node []) }
+{
+    let mut actions = Vec::new(alloc);
+    for number in 0..programs.count(node) {
+        actions.push(programs.action(node, number))?;
+    }
+    Ok(actions)
 }
 
 /// What a program sends over a link, in order.
@@ -96,7 +108,8 @@ pub fn script_of(alloc: Global, job: &Job, link: u32) -> Result<Vec<Word>, Fail>
     let nets = flat.inputs() as usize + flat.cells().len();
     let programs = Programs::build(alloc, job.checked())?;
     let from = job.checked().board().links()[link as usize].from();
-    let slots = slots_of(alloc, programs.list(from), link)?;
+    let actions = actions_of(alloc, &programs, from)?;
+    let slots = slots_of(alloc, &actions, link)?;
     if !are_below(&slots, nets) {
         return Err("a net that is none".into());
     }

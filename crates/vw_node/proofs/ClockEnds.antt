@@ -25,8 +25,10 @@ use Rattle.vw_prog.specs.Actions.{actions}
 use Rattle.vw_prog.specs.Codes.{BeginsWith, IsCode, slot_of, taken_net}
 use Rattle.vw_prog.specs.Due.{own_latches, recorded}
 use Rattle.vw_prog.specs.Ends.{SeenEnds}
+use Rattle.vw_prog.specs.Loops.{Stand}
 use Rattle.vw_prog.specs.Scripts.{planned_of}
 use Rattle.vw_prog.specs.Timetable.{entries_at, is_evaluating, is_sending, timetable}
+use Rattle.vw_prog.proofs.LoopTurns.{stand_again, stand_on}
 use Rattle.vw_node.specs.declared.node.Node.{Node}
 use Rattle.vw_node.specs.declared.step.Step.TheVariants.{Moved}
 use Rattle.vw_node.specs.Fits.{IsFit, IsShare, bit_by, bit_in, slot_bit, state_of}
@@ -45,7 +47,7 @@ use Rattle.vw_node.proofs.NodeSteps.{next_of, stepped_agrees}
 use Rattle.vw_node.proofs.OpActions.{op_begins}
 use Rattle.vw_node.proofs.SlotBits.{bits_are, slots_long, slots_within}
 use Rattle.vw_node.proofs.SourceBits.{latch_or, length-with_row, row_is, source_bit}
-use Rattle.vw_node.proofs.StepAnswers.{many_are, moved_to, op_within, unfinished}
+use Rattle.vw_node.proofs.StepAnswers.{actions_long, many_are, moved_to, op_within, unfinished}
 use Rattle.vw_node.proofs.Values.{get_or-tabulate, length-tabulate}
 
 map_twice : {A B C : Type 0} (g : B → C) (f : A → B) (xs : List A) → map g (map f xs) ≡ map (λ x. g (f x)) xs
@@ -209,6 +211,28 @@ module _ (ends : SeenEnds) (old : Node) (fits : IsFit ends.job old) (agrees : Ag
   pub end_within : All (λ slot. slot < length old.slots.items) old.code.now.records.items
   end_within = subst (λ (count : ℕ). All (λ slot. slot < count) old.code.now.records.items) (sym fits.slots) (slots_within old.code.now.nets.items (recorded (planned_of ends.job) old.share.node) old.code.now.records.items fits.code.records)
 
+  module _ (default : Op) (is : get_or old.code.now.ops.items old.made default ≡ op.Step) where
+    step_next : slice_get (actions (planned_of ends.job) old.share.node) old.made ≡ Some action.Step
+    step_next =
+        let found = op_begins ends old.share.node old.code.now fits.code old.made op.Step (slice_get-get_or old.code.now.ops.items old.made default (op_within ends old fits agrees differ) ∙ ap Some is) in
+        by found.0 found.1.0 found.1.1 where
+          by : (one : Action) → slice_get (actions (planned_of ends.job) old.share.node) old.made ≡ Some one → BeginsWith ends.job.checked.ordered.flat old.code.now one op.Step → slice_get (actions (planned_of ends.job) old.share.node) old.made ≡ Some action.Step
+          by (action.Evaluate number) at begins = absurd begins
+          by (action.Send link pin net) at begins = absurd begins
+          by (action.Take link pin net) at begins = absurd begins
+          by action.Step at begins = at
+
+    all_made : old.made ≡ length (entries_at old.share.node (timetable (planned_of ends.job)))
+    all_made = ⊎_elim (λ found. absurd (no_step (found.0.net - ends.job.checked.ordered.flat.inputs) found.0.net found.0.link found.0.place (is_evaluating found.0) (is_sending found.0) found.1.1)) (λ last. last.0) (next_entry (planned_of ends.job) old.share.node old.made agrees.holds.under action.Step step_next) where
+      no_step : (gate net link pin : ℕ) (first second : Bool) → action.Step ≡ (if first then action.Evaluate gate else (if second then action.Send link pin net else action.Take link pin net)) → ⊥
+      no_step gate net link pin true second same = cc
+      no_step gate net link pin false true same = cc
+      no_step gate net link pin false false same = cc
+
+    -- and no action is left behind it
+    op_last : length (actions (planned_of ends.job) old.share.node) ≤ old.made + 1
+    op_last = omega (arith, all_made, actions_long ends old fits agrees differ)
+
   module _ (new : Node) (row : List Bool) (rest : new ≡ record old { clock = old.clock + 1; made = 0; slots = new.slots; next = new.next; rows = new.rows; spare = new.spare })
       (slots : new.slots.items ≡ with_bits old.code.now.latches.items (map (bit_in old.slots.items) old.code.now.inputs.items) (with_row (row_at old.share (old.clock + 1)) old.slots.items)) (next : length new.next.items ≡ length old.next.items)
       (rows : new.rows.items ≡ old.rows.items ++ map (bit_in old.slots.items) old.code.now.records.items ∷ []) (spare : old.spare.items ≡ new.spare.items ++ row ∷ []) (capacity : vec_capacity old.rows ≤ vec_capacity new.rows) where
@@ -218,10 +242,16 @@ module _ (ends : SeenEnds) (old : Node) (fits : IsFit ends.job old) (agrees : Ag
     same_code : new.code.now ≡ old.code.now
     same_code = ap (λ (one : Node). one.code.now) rest
 
-    pub end_fits : IsFit ends.job new
-    end_fits = record {
+    pub end_fits : (default : Op) → get_or old.code.now.ops.items old.made default ≡ op.Step → IsFit ends.job new
+    end_fits default is = record {
       share = subst (IsShare ends.job) (sym same_share) fits.share;
       code = subst (λ (share : Share). IsCode (planned_of ends.job) share.node (actions (planned_of ends.job) share.node) new.code.now) (sym same_share) (subst (IsCode (planned_of ends.job) old.share.node (actions (planned_of ends.job) old.share.node)) (sym same_code) fits.code);
+      loops =
+          let program = actions (planned_of ends.job) old.share.node in
+          let here = stand_on program old.code.now.loops.items old.made old.places.items fits.loops action.Step (step_next default is) (λ link pin. refl) in
+          let all : length program ≤ old.made + 1 = omega (arith, op_last default is) in
+          let again = stand_again program old.code.now.loops.items (old.made + 1) old.places.items here fits.code.loops all in
+          subst (λ (one : Node). Stand (actions (planned_of ends.job) one.share.node) one.code.now.loops.items one.made one.places.items) (sym rest) again;
       slots = ap (λ (bits : List Bool). length bits) slots ∙ length-sourced ends.job old.share fits.share old.code.now fits.code (map (bit_in old.slots.items) old.code.now.inputs.items) (old.clock + 1) old.slots.items fits.slots ∙ ap (λ (code : Code). length code.nets.items) (sym same_code);
       next = next ∙ fits.next ∙ ap (λ (code : Code). length code.latches.items) (sym same_code);
       spare = omega (arith, fits.spare, ap (λ (list : List (List Bool)). length list) spare, length_push new.spare.items row, ap (λ (one : Node). one.clock) rest);
@@ -241,25 +271,8 @@ module _ (ends : SeenEnds) (old : Node) (fits : IsFit ends.job old) (agrees : Ag
         (recorded_now ends.job old.share fits.share old.code.now fits.code (net_count old.share) old.clock old.made old.slots.items old.rows.items (many_are ends old fits agrees differ) fits.slots)
 
     module _ (default : Op) (is : get_or old.code.now.ops.items old.made default ≡ op.Step) where
-      step_next : slice_get (actions (planned_of ends.job) old.share.node) old.made ≡ Some action.Step
-      step_next =
-          let found = op_begins ends old.share.node old.code.now fits.code old.made op.Step (slice_get-get_or old.code.now.ops.items old.made default (op_within ends old fits agrees differ) ∙ ap Some is) in
-          by found.0 found.1.0 found.1.1 where
-            by : (one : Action) → slice_get (actions (planned_of ends.job) old.share.node) old.made ≡ Some one → BeginsWith ends.job.checked.ordered.flat old.code.now one op.Step → slice_get (actions (planned_of ends.job) old.share.node) old.made ≡ Some action.Step
-            by (action.Evaluate number) at begins = absurd begins
-            by (action.Send link pin net) at begins = absurd begins
-            by (action.Take link pin net) at begins = absurd begins
-            by action.Step at begins = at
-
-      all_made : old.made ≡ length (entries_at old.share.node (timetable (planned_of ends.job)))
-      all_made = ⊎_elim (λ found. absurd (no_step (found.0.net - ends.job.checked.ordered.flat.inputs) found.0.net found.0.link found.0.place (is_evaluating found.0) (is_sending found.0) found.1.1)) (λ last. last.0) (next_entry (planned_of ends.job) old.share.node old.made agrees.holds.under action.Step step_next) where
-        no_step : (gate net link pin : ℕ) (first second : Bool) → action.Step ≡ (if first then action.Evaluate gate else (if second then action.Send link pin net else action.Take link pin net)) → ⊥
-        no_step gate net link pin true second same = cc
-        no_step gate net link pin false true same = cc
-        no_step gate net link pin false false same = cc
-
       pub end_agrees : Agrees ends.job new.share.node (state_of new) ends
-      end_agrees = moved_to ends old fits agrees differ new (stepped ends.job old.share.node (state_of old)) ends same_share end_state (stepped_agrees ends old.share.node (state_of old) agrees (unfinished ends old fits agrees differ) all_made)
+      end_agrees = moved_to ends old fits agrees differ new (stepped ends.job old.share.node (state_of old)) ends same_share end_state (stepped_agrees ends old.share.node (state_of old) agrees (unfinished ends old fits agrees differ) (all_made default is))
 
       pub end_makes : (whole : Bool) → MakesSome ends.job old.share.node (state_of old) (state_of new) ends ends whole Moved
-      end_makes whole = makes_one ends.job old.share.node (state_of old) (state_of new) ends ends whole (action.Step, next_of ends old.share.node (state_of old) agrees (unfinished ends old fits agrees differ) action.Step step_next, (end_state, refl)) agrees.holds
+      end_makes whole = makes_one ends.job old.share.node (state_of old) (state_of new) ends ends whole (action.Step, next_of ends old.share.node (state_of old) agrees (unfinished ends old fits agrees differ) action.Step (step_next default is), (end_state, refl)) agrees.holds

@@ -7,6 +7,7 @@ pub mod Words
 pub mod EntryKinds
 pub mod NodeSteps
 pub mod MovesOn
+pub mod SeenRanges
 pub mod OpActions
 pub mod StepAnswers
 pub mod SourceBits

@@ -18,15 +18,17 @@ use Rattle.vw_prog.specs.declared.action.Action.TheVariants as action
 use Rattle.vw_prog.specs.declared.code.Code.{Code}
 use Rattle.vw_prog.specs.declared.code.Op.{Op}
 use Rattle.vw_prog.specs.declared.code.Op.TheVariants as op
-use Rattle.vw_prog.specs.declared.code.TableGate.{TableGate}
 use Rattle.vw_prog.specs.declared.code.WideGate.{WideGate}
 use Rattle.vw_prog.specs.declared.entry.Entry.{Entry}
 use Rattle.vw_prog.specs.declared.job.Job.{Job}
 use Rattle.vw_prog.specs.Actions.{action_of, actions}
 use Rattle.vw_prog.specs.Codes.{BeginsWith, IsCode, IsTableGate, IsWideGate, slot_of}
 use Rattle.vw_prog.specs.Ends.{SeenEnds}
+use Rattle.vw_prog.specs.Loops.{Stand}
 use Rattle.vw_prog.specs.Scripts.{planned_of}
+use Rattle.vw_prog.specs.SeenGates.{SeenGate, seen_gates}
 use Rattle.vw_prog.specs.Timetable.{entries_at, is_evaluating, timetable}
+use Rattle.vw_prog.proofs.LoopTurns.{stand_on}
 use Rattle.vw_node.specs.declared.step.Step.TheVariants.{Moved}
 use Rattle.vw_node.specs.Fits.{bit_by, bit_in}
 use Rattle.vw_node.specs.Left.{left}
@@ -82,7 +84,7 @@ module _ (ends : SeenEnds) (node : ℕ) (code : Code) (is_code : IsCode (planned
 
   -- ---- gates
 
-  abbrev pub RunsOn : ℕ → ℕ → List TableGate → Type 0
+  abbrev pub RunsOn : ℕ → ℕ → List SeenGate → Type 0
   RunsOn made slot [] = made ≡ made
   RunsOn made slot (gate ∷ gates) = (number : ℕ) × (slice_get program made ≡ Some (action.Evaluate number)) × IsTableGate flat nets number gate slot × RunsOn (made + 1) (slot + 1) gates
 
@@ -95,32 +97,40 @@ module _ (ends : SeenEnds) (node : ℕ) (code : Code) (is_code : IsCode (planned
     by action.Step at begins = absurd begins
 
   -- the gates of a part of a run
-  pub run_of : (count place first stop end slot : ℕ) → stop ≡ first + suc count → stop ≤ end → slice_get code.ops.items place ≡ Some (op.Run first end slot) → RunsOn place slot (slice_range code.gates.items first stop) × (stop ≤ length code.gates.items)
+  pub run_of : (count place first stop end slot : ℕ) → stop ≡ first + suc count → stop ≤ end → slice_get code.ops.items place ≡ Some (op.Run first end slot) → RunsOn place slot (slice_range (seen_gates code.gates) first stop) × (stop ≤ length (seen_gates code.gates))
   run_of zero place first stop end slot is within at =
       let found = run_begins place first end slot at in
       let gate = found.2.1 in
       let last : stop ≡ first + 1 = omega (arith, is) in
-      let one : slice_range code.gates.items first stop ≡ gate ∷ [] = range_more code.gates.items first stop gate found.2.2 (omega (arith, is)) ∙ ap (λ (stop : ℕ). gate ∷ slice_range code.gates.items (first + 1) stop) last ∙ ap (λ (gates : List TableGate). gate ∷ gates) (range_none code.gates.items (first + 1)) in
-      (subst (RunsOn place slot) (sym one) (found.0, found.1, found.2.3, refl), omega (arith, is, slice_get_within code.gates.items first gate found.2.2))
+      let one : slice_range (seen_gates code.gates) first stop ≡ gate ∷ [] = range_more (seen_gates code.gates) first stop gate found.2.2 (omega (arith, is)) ∙ ap (λ (stop : ℕ). gate ∷ slice_range (seen_gates code.gates) (first + 1) stop) last ∙ ap (λ (gates : List SeenGate). gate ∷ gates) (range_none (seen_gates code.gates) (first + 1)) in
+      (subst (RunsOn place slot) (sym one) (found.0, found.1, found.2.3, refl), omega (arith, is, slice_get_within (seen_gates code.gates) first gate found.2.2))
   run_of (suc count) place first stop end slot is within at =
       let found = run_begins place first end slot at in
       let gate = found.2.1 in
-      let more : slice_range code.gates.items first stop ≡ gate ∷ slice_range code.gates.items (first + 1) stop = range_more code.gates.items first stop gate found.2.2 (omega (arith, is)) in
+      let more : slice_range (seen_gates code.gates) first stop ≡ gate ∷ slice_range (seen_gates code.gates) (first + 1) stop = range_more (seen_gates code.gates) first stop gate found.2.2 (omega (arith, is)) in
       let rest = run_of count (place + 1) (first + 1) stop end (slot + 1) (omega (arith, is)) within (is_code.runs place first end slot at (omega (arith, is, within))) in
       (subst (RunsOn place slot) (sym more) (found.0, found.1, found.2.3, rest.0), rest.1)
 
-  pub runs_inside : (made slot : ℕ) (gates : List TableGate) → RunsOn made slot gates → made ≤ length program → made + length gates ≤ length program
+  pub runs_inside : (made slot : ℕ) (gates : List SeenGate) → RunsOn made slot gates → made ≤ length program → made + length gates ≤ length program
   runs_inside made slot [] runs under = omega (arith, under)
   runs_inside made slot (gate ∷ gates) (number, at, is, rest) under =
       let inside : made < length program = slice_get_within program made (action.Evaluate number) at in
       omega (arith, runs_inside (made + 1) (slot + 1) gates rest (omega (arith, inside)))
 
-  pub runs_within : (made slot : ℕ) (gates : List TableGate) → RunsOn made slot gates → AllByRecursion (IsWithin (length nets)) gates
+  pub runs_within : (made slot : ℕ) (gates : List SeenGate) → RunsOn made slot gates → AllByRecursion (IsWithin (length nets)) gates
   runs_within made slot [] runs = tt
   runs_within made slot (gate ∷ gates) (number, at, is, rest) = (is.within, runs_within (made + 1) (slot + 1) gates rest)
 
+  -- none of them turns a loop
+  pub runs_stand : (made slot : ℕ) (gates : List SeenGate) (places : List ℕ) → RunsOn made slot gates → Stand program code.loops.items made places → Stand program code.loops.items (made + length gates) places
+  runs_stand made slot [] places runs stand = let none : made ≡ made + 0 = omega arith in subst (λ (count : ℕ). Stand program code.loops.items count places) none stand
+  runs_stand made slot (gate ∷ gates) places (number, at, is, rest) stand =
+      let all : made + 1 + length gates ≡ made + suc (length gates) = omega arith in
+      subst (λ (count : ℕ). Stand program code.loops.items count places) all
+      (runs_stand (made + 1) (slot + 1) gates places rest (stand_on program code.loops.items made places stand (action.Evaluate number) at (λ link pin. refl)))
+
   -- there are slots for all of them
-  pub runs_room : (made slot : ℕ) (gates : List TableGate) → RunsOn made slot gates → 0 < length gates → slot + length gates ≤ length nets
+  pub runs_room : (made slot : ℕ) (gates : List SeenGate) → RunsOn made slot gates → 0 < length gates → slot + length gates ≤ length nets
   runs_room made slot [] runs some = absurd (omega (arith, some))
   runs_room made slot (gate ∷ []) (number, at, is, rest) some = omega (arith, slot_within nets (flat.inputs + number) slot is.target)
   runs_room made slot (gate ∷ second ∷ gates) (number, at, is, rest) some = omega (arith, runs_room (made + 1) (slot + 1) (second ∷ gates) rest (omega arith))
@@ -129,7 +139,7 @@ module _ (ends : SeenEnds) (node : ℕ) (code : Code) (is_code : IsCode (planned
   ins_within : (number : ℕ) (ins : List ℕ) (cover : Cover) → slice_get flat.cells number ≡ Some (Gate ins cover) → (length ins ≡ cover.inputs) × All (λ net. net < all_nets) ins
   ins_within number ins cover is = cell_fits all_nets flat.cells number (Gate ins cover) flat.cells_fit is
 
-  pub length-with_gates : (slot : ℕ) (gates : List TableGate) (bits : List Bool) → length (with_gates slot gates bits) ≡ length bits
+  pub length-with_gates : (slot : ℕ) (gates : List SeenGate) (bits : List Bool) → length (with_gates slot gates bits) ≡ length bits
   length-with_gates slot [] bits = refl
   length-with_gates slot (gate ∷ gates) bits =
       let bit = bit_of gate.truth_table (place_of (map (bit_in bits) gate.reads)) in
@@ -137,15 +147,15 @@ module _ (ends : SeenEnds) (node : ℕ) (code : Code) (is_code : IsCode (planned
 
   module _ (number : ℕ) (bits : List Bool) where
     -- a gate by its truth table has the value of its cover
-    pub table_bit : (gate : TableGate) (slot : ℕ) → IsTableGate flat nets number gate slot → bit_of gate.truth_table (place_of (map (bit_in bits) gate.reads)) ≡ gate_bit (bit_by nets bits) (slice_get flat.cells number)
+    pub table_bit : (gate : SeenGate) (slot : ℕ) → IsTableGate flat nets number gate slot → bit_of gate.truth_table (place_of (map (bit_in bits) gate.reads)) ≡ gate_bit (bit_by nets bits) (slice_get flat.cells number)
     table_bit gate slot is =
         let fits = ins_within number is.ins is.cover is.cell in
         let own_bits : map (bit_in bits) is.own ≡ map (bit_by nets bits) is.ins = bits_are nets bits is.ins is.own is.slots in
         let parts : map (bit_in bits) gate.reads ≡ map (bit_by nets bits) is.ins ++ map (bit_in bits) is.more =
         ap (map (bit_in bits)) is.reads ∙ map_parts (bit_in bits) is.own is.more ∙ ap (λ (some : List Bool). some ++ map (bit_in bits) is.more) own_bits in
-        let six : length (map (bit_by nets bits) is.ins ++ map (bit_in bits) is.more) ≡ 6 = ap (λ (some : List Bool). length some) (sym parts) ∙ length-map gate.reads (bit_in bits) ∙ is.six in
+        let long : length (map (bit_by nets bits) is.ins ++ map (bit_in bits) is.more) ≡ length gate.reads = ap (λ (some : List Bool). length some) (sym parts) ∙ length-map gate.reads (bit_in bits) in
         ap₂ (λ (table : ℕ) (some : List Bool). bit_of table (place_of some)) is.truth_table parts
-        ∙ truth_table_repeats is.cover (map (bit_by nets bits) is.ins) (map (bit_in bits) is.more) (length-map is.ins (bit_by nets bits) ∙ fits.0) (omega (arith, six))
+        ∙ truth_table_repeats is.cover (map (bit_by nets bits) is.ins) (map (bit_in bits) is.more) (length-map is.ins (bit_by nets bits) ∙ fits.0) (omega (arith, long, is.few))
         ∙ ap (gate_bit (bit_by nets bits)) (sym is.cell) where
           map_parts : (f : ℕ → Bool) (xs ys : List ℕ) → map f (xs ++ ys) ≡ map f xs ++ map f ys
           map_parts f [] ys = refl
@@ -209,13 +219,13 @@ module _ (ends : SeenEnds) (node : ℕ) (code : Code) (is_code : IsCode (planned
 
     -- ---- the gates of a run
 
-    abbrev pub HasGone : ℕ → List TableGate → ℕ → ℕ → List Bool → Type 0
+    abbrev pub HasGone : ℕ → List SeenGate → ℕ → ℕ → List Bool → Type 0
     HasGone place gates made last bits =
         Agrees job node (known last (with_gates place gates bits)) ends
         × GoesOn job node (known made bits) (known last (with_gates place gates bits)) ends ends (length gates)
         × (left job node (known last (with_gates place gates bits)) + length gates ≡ left job node (known made bits))
 
-    pub gates_go : (gates : List TableGate) (place made last : ℕ) (bits : List Bool) → last ≡ made + length gates → length bits ≡ length nets → RunsOn made place gates → Agrees job node (known made bits) ends → HasGone place gates made last bits
+    pub gates_go : (gates : List SeenGate) (place made last : ℕ) (bits : List Bool) → last ≡ made + length gates → length bits ≡ length nets → RunsOn made place gates → Agrees job node (known made bits) ends → HasGone place gates made last bits
     gates_go [] place made last bits is size runs agree =
         let same : made ≡ last = omega (arith, is) in
         (subst (λ (at : ℕ). Agrees job node (known at bits) ends) same agree, (ap (λ (at : ℕ). known at bits) (sym same), refl), omega (arith, ap (λ (at : ℕ). left job node (known at bits)) same))

@@ -2,9 +2,10 @@
 use Rattle.std.proofs.Common.{◌≡◌, ◌<◌, ◌≤◌, ◌+◌, ◌-◌, ℕ, Bool, true, false, List, length, get_or, set, drop, slice_get, if◌then◌else◌, ap, refl, sym, subst, ◌∙◌, ⊎_elim, Some, None, All, arith}
 use Rattle.std.specs.Global.{Vec}
 use Rattle.std.specs.List.{slice_range}
-use Rattle.std.proofs.lemmas.List.{length-append, length-drop, length-map, length-set, length-take}
+use Rattle.std.specs.Prelude.{slice_index_or, option_map}
+use Rattle.std.proofs.lemmas.List.{get_or_default, length-append, length-drop, length-map, length-set, length-take}
 use Rattle.std.proofs.lemmas.List.Elements.{All-from_recursion}
-use Rattle.std.proofs.lemmas.Option.{slice_get-get_or, slice_get_within}
+use Rattle.std.proofs.lemmas.Option.{get_or_from_slice_get, slice_get-get_or, slice_get-map, slice_get_within}
 use Rattle.vw_net.specs.declared.flat.Flat.{Flat}
 use Rattle.vw_plan.specs.declared.checked.Checked.{Checked}
 use Rattle.vw_plan.specs.PlannedBoard.{PlannedBoard}
@@ -13,17 +14,21 @@ use Rattle.vw_prog.specs.declared.action.Action.TheVariants as action
 use Rattle.vw_prog.specs.declared.code.Code.{Code}
 use Rattle.vw_prog.specs.declared.code.Op.{Op}
 use Rattle.vw_prog.specs.declared.code.Op.TheVariants as op
-use Rattle.vw_prog.specs.declared.code.TableGate.{TableGate}
 use Rattle.vw_prog.specs.declared.code.WideGate.{WideGate}
 use Rattle.vw_prog.specs.declared.entry.Entry.{Entry}
 use Rattle.vw_prog.specs.declared.job.Job.{Job}
 use Rattle.vw_prog.specs.declared.job.Share.{Share}
+use Rattle.vw_prog.specs.declared.shift.LoopNet.{LoopNet}
+use Rattle.vw_prog.specs.declared.shift.ShiftLoop.{ShiftLoop}
 use Rattle.vw_prog.specs.declared.word.Word.{Word}
 use Rattle.vw_prog.specs.Actions.{action_of, actions}
 use Rattle.vw_prog.specs.Codes.{BeginsWith, IsWideGate, slot_of}
 use Rattle.vw_prog.specs.Ends.{IsExpected, IsNextWord, Puts, SeenEnds, Takes, counted}
+use Rattle.vw_prog.specs.Loops.{Stand, nets_of, place_after}
 use Rattle.vw_prog.specs.Scripts.{planned_of}
+use Rattle.vw_prog.specs.SeenGates.{SeenGate, seen_gates}
 use Rattle.vw_prog.specs.Timetable.{entries_at, timetable}
+use Rattle.vw_prog.proofs.LoopTurns.{net_here, place_inside, stand_on, stand_turned}
 use Rattle.vw_node.specs.declared.node.Node.{Node}
 use Rattle.vw_node.specs.declared.step.Step.TheVariants.{Empty, Full, Moved}
 use Rattle.vw_node.specs.Fits.{IsFit, bit_by, slot_bit, state_of}
@@ -36,7 +41,7 @@ use Rattle.vw_node.specs.States.{NodeState, gate_bit, moved, slot, written}
 use Rattle.vw_node.proofs.EntryKinds.{next_entry, sends, takes}
 use Rattle.vw_node.proofs.MovesOn.{makes_many, makes_none, makes_one}
 use Rattle.vw_node.proofs.NodeSteps.{is_expected, next_of, sent_agrees, sent_net, sent_next, taken_agrees, taken_net}
-use Rattle.vw_node.proofs.OpActions.{HasGone, RunsOn, gate_agrees, gate_steps, gates_go, length-with_gates, op_begins, run_begins, run_of, runs_inside, runs_room, runs_within, wide_arity, wide_is}
+use Rattle.vw_node.proofs.OpActions.{HasGone, RunsOn, gate_agrees, gate_steps, gates_go, length-with_gates, op_begins, run_begins, run_of, runs_inside, runs_room, runs_stand, runs_within, wide_arity, wide_is}
 use Rattle.vw_node.proofs.SlotBits.{known_written, slot_within, slots_within}
 use Rattle.vw_node.proofs.Values.{get_or-tabulate}
 
@@ -78,7 +83,7 @@ module _ (ends : SeenEnds) (old : Node) (fits : IsFit ends.job old) (agrees : Ag
   pub unfinished : old.clock < length job.rows
   unfinished = omega (arith, agrees.holds.within, fits.share.clocks, differ)
 
-  actions_long : length (actions planned node) ≡ length own + 1
+  pub actions_long : length (actions planned node) ≡ length own + 1
   actions_long = length-append _ _ ∙ ap (λ (count : ℕ). count + 1) (length-map own (action_of flat.inputs))
 
   -- there is an op
@@ -88,12 +93,18 @@ module _ (ends : SeenEnds) (old : Node) (fits : IsFit ends.job old) (agrees : Ag
   op_is : (default one : Op) → get_or code.ops.items old.made default ≡ one → slice_get code.ops.items old.made ≡ Some one
   op_is default one is = slice_get-get_or code.ops.items old.made default op_within ∙ ap Some is
 
-  -- what a node has stays, as long as there are as many slots
-  fits_then : (made : ℕ) (slots : Vec Bool) → length slots.items ≡ length old.slots.items → IsFit job (record old { made = made; slots = slots })
-  fits_then made slots long = record { share = fits.share; code = fits.code; slots = long ∙ fits.slots; next = fits.next; spare = fits.spare; even = fits.even; room = fits.room }
+  abbrev program : List Action
+  program = actions planned node
 
-  fits_again : (new : Node) (made : ℕ) → new ≡ record old { made = made; slots = new.slots } → length new.slots.items ≡ length old.slots.items → IsFit job new
-  fits_again new made rest long = subst (IsFit job) (sym rest) (fits_then made new.slots long)
+  abbrev loops : List ShiftLoop
+  loops = code.loops.items
+
+  -- what a node has stays, as long as there are as many slots, and its loops stand as its actions have turned them
+  fits_then : (made : ℕ) (places : Vec ℕ) (slots : Vec Bool) → Stand program loops made places.items → length slots.items ≡ length old.slots.items → IsFit job (record old { made = made; places = places; slots = slots })
+  fits_then made places slots stand long = record { share = fits.share; code = fits.code; loops = stand; slots = long ∙ fits.slots; next = fits.next; spare = fits.spare; even = fits.even; room = fits.room }
+
+  fits_again : (new : Node) (made : ℕ) → new ≡ record old { made = made; slots = new.slots } → Stand program loops made old.places.items → length new.slots.items ≡ length old.slots.items → IsFit job new
+  fits_again new made rest stand long = subst (IsFit job) (sym rest) (fits_then made old.places new.slots stand long)
 
   -- an answer about a node and its ends that are as they were is one about these
   pub moved_to : (new : Node) (state_then : NodeState) (after : SeenEnds) → new.share ≡ old.share → state_of new ≡ state_then → Agrees job node state_then after → Agrees job new.share.node (state_of new) after
@@ -120,20 +131,20 @@ module _ (ends : SeenEnds) (old : Node) (fits : IsFit ends.job old) (agrees : Ag
       by true at = omega (arith, at)
       by false at = omega (arith, at, begins)
 
-    abbrev gates : List TableGate
-    gates = slice_range code.gates.items first stop
+    abbrev gates : List SeenGate
+    gates = slice_range (seen_gates code.gates) first stop
 
-    runs : RunsOn ends node code fits.code old.made place gates × (stop ≤ length code.gates.items)
+    runs : RunsOn ends node code fits.code old.made place gates × (stop ≤ length (seen_gates code.gates))
     runs = run_of ends node code fits.code (stop - first - 1) old.made first stop end place (omega (arith, run_some)) run_ends (op_is default (op.Run first end place) is)
 
-    pub run_last : stop ≤ length code.gates.items
+    pub run_last : stop ≤ length (seen_gates code.gates)
     run_last = runs.1
 
     pub run_within : All (IsWithin (length old.slots.items)) gates
     run_within = subst (λ (count : ℕ). All (IsWithin count) gates) (sym fits.slots) (All-from_recursion (IsWithin (length nets)) gates (runs_within ends node code fits.code old.made place gates runs.0))
 
     gates_long : length gates ≡ stop - first
-    gates_long = omega (arith, run_last, length-take (stop - first) (drop first code.gates.items), length-drop first code.gates.items)
+    gates_long = omega (arith, run_last, length-take (stop - first) (drop first (seen_gates code.gates)), length-drop first (seen_gates code.gates))
 
     pub run_made : old.made + (stop - first) ≤ length code.ops.items
     run_made = omega (arith, gates_long, runs_inside ends node code fits.code old.made place gates runs.0 (omega (arith, op_within, fits.code.count)), fits.code.count)
@@ -149,7 +160,10 @@ module _ (ends : SeenEnds) (old : Node) (fits : IsFit ends.job old) (agrees : Ag
       gone = gates_go ends node code fits.code old.clock many old.rows.items many_are unfinished gates place old.made (old.made + (stop - first)) old.slots.items (omega (arith, gates_long)) fits.slots runs.0 agrees
 
       pub run_fits : IsFit job new
-      run_fits = fits_again new (old.made + (stop - first)) rest (ap (λ (bits : List Bool). length bits) wrote ∙ length-with_gates ends node code fits.code place gates old.slots.items)
+      run_fits =
+          let many_gates : old.made + length gates ≡ old.made + (stop - first) = ap (λ (count : ℕ). old.made + count) gates_long in
+          fits_again new (old.made + (stop - first)) rest
+          (subst (λ (count : ℕ). Stand program loops count old.places.items) many_gates (runs_stand ends node code fits.code old.made place gates old.places.items runs.0 fits.loops)) (ap (λ (bits : List Bool). length bits) wrote ∙ length-with_gates ends node code fits.code place gates old.slots.items)
 
       pub run_agrees : Agrees job new.share.node (state_of new) ends
       run_agrees = moved_to new (known_now (old.made + (stop - first)) (with_gates place gates old.slots.items)) ends (ap (λ (one : Node). one.share) rest) run_state gone.0
@@ -201,7 +215,7 @@ module _ (ends : SeenEnds) (old : Node) (fits : IsFit ends.job old) (agrees : Ag
         right = bit_is ∙ ap (λ (one : Flat). wide_by (slice_get one.cells gate.number) old.slots.items gate.reads) flat_is ∙ wide_is ends node code fits.code wide_gate.0 old.slots.items gate is_gate
 
         pub wide_fits : IsFit job new
-        wide_fits = fits_again new (old.made + 1) rest (ap (λ (bits : List Bool). length bits) wrote ∙ length-set old.slots.items gate.target bit)
+        wide_fits = fits_again new (old.made + 1) rest (stand_on program loops old.made old.places.items fits.loops (action.Evaluate wide_gate.0) wide_gate.1 (λ link pin. refl)) (ap (λ (bits : List Bool). length bits) wrote ∙ length-set old.slots.items gate.target bit)
 
         pub wide_agrees : Agrees job new.share.node (state_of new) ends
         wide_agrees =
@@ -221,80 +235,115 @@ module _ (ends : SeenEnds) (old : Node) (fits : IsFit ends.job old) (agrees : Ag
 
   -- ---- a send
 
-  module _ (default : Op) (link pin net place : ℕ) (is : get_or code.ops.items old.made default ≡ op.Send link pin net place) where
-    sending : (slice_get (actions planned node) old.made ≡ Some (action.Send link pin net)) × (slot_of nets net ≡ Some place)
-    sending = let found = op_begins ends node code fits.code old.made (op.Send link pin net place) (op_is default (op.Send link pin net place) is) in by found.0 found.1.0 found.1.1 where
-      by : (next : Action) → slice_get (actions planned node) old.made ≡ Some next → BeginsWith flat code next (op.Send link pin net place) → (slice_get (actions planned node) old.made ≡ Some (action.Send link pin net)) × (slot_of nets net ≡ Some place)
-      by (action.Evaluate number) at begins = absurd begins
-      by (action.Send its_link its_pin its_net) at begins =
-          let same : action.Send its_link its_pin its_net ≡ action.Send link pin net = λ i. action.Send (sym begins.0 i) (sym begins.1 i) (sym begins.2 i) in
-          (at ∙ ap Some same, ap (slot_of nets) begins.2 ∙ begins.3)
-      by (action.Take its_link its_pin its_net) at begins = absurd begins
-      by action.Step at begins = absurd begins
+  module _ (default : Op) (at : ℕ) (is : get_or code.ops.items old.made default ≡ op.Send at) where
+    -- the loop, and the action
+    sending : (one : ShiftLoop) × (net : ℕ) × (slice_get loops at ≡ Some one) × (slice_get program old.made ≡ Some (action.Send one.link one.pin net))
+    sending = let found = op_begins ends node code fits.code old.made (op.Send at) (op_is default (op.Send at) is) in by found.0 found.1.0 found.1.1 where
+      by : (next : Action) → slice_get program old.made ≡ Some next → BeginsWith flat code next (op.Send at) → (one : ShiftLoop) × (net : ℕ) × (slice_get loops at ≡ Some one) × (slice_get program old.made ≡ Some (action.Send one.link one.pin net))
+      by (action.Evaluate number) there begins = absurd begins
+      by (action.Send link pin net) there begins =
+          let same : action.Send link pin net ≡ action.Send begins.0.link begins.0.pin net = λ i. action.Send (sym begins.2 i) (sym begins.3 i) net in
+          (begins.0, net, begins.1, there ∙ ap Some same)
+      by (action.Take link pin net) there begins = absurd begins
+      by action.Step there begins = absurd begins
 
-    entry_of_send : (entry : Entry) × ((slice_get own old.made ≡ Some entry) × (action.Send link pin net ≡ action_of flat.inputs entry))
-    entry_of_send = entry_for (action.Send link pin net) sending.0 (λ same. cc)
+    pub send_loop : at < length loops
+    send_loop = slice_get_within loops at sending.0 sending.2
 
-    pub send_slot : place < length old.slots.items
-    send_slot = omega (arith, fits.slots, slot_within nets net place sending.1)
+    pub send_place : at < length old.places.items
+    send_place = omega (arith, send_loop, fits.loops.count)
 
-    send_net : net < length state.slots
-    send_net = let found = entry_of_send in let kind = sends flat.inputs link pin net found.0 found.1.1 in sent_net ends node state agrees unfinished found.0 found.1.0 link pin net kind.0 kind.1 kind.2 kind.3
+    pub loop_here : (one : ShiftLoop) → one ≡ get_or loops at one → slice_get loops at ≡ Some one
+    loop_here one same = slice_get-get_or loops at one send_loop ∙ ap Some (sym same)
 
-    bit_there : get_or old.slots.items place false ≡ slot state net
-    bit_there = sym (ap (slot_bit old.slots.items) sending.1) ∙ sym (get_or-tabulate (bit_by nets old.slots.items) many net false (omega (arith, send_net, agrees.holds.size, many_are)))
+    pub place_here : (place : ℕ) → place ≡ get_or old.places.items at place → place ≡ slice_index_or old.places.items at 0
+    place_here place same = same ∙ get_or_default old.places.items at place 0 send_place
 
-    pub send_next : (word : Word) → word.clock ≡ old.share.first + old.clock → word.net ≡ net → word.pin ≡ pin → word.bit ≡ get_or old.slots.items place false → IsNextWord ends link word
-    send_next word clock one two bit =
-        let found = entry_of_send in
-        let kind = sends flat.inputs link pin net found.0 found.1.1 in
-        sent_next ends node state agrees unfinished found.0 found.1.0 link pin net kind.0 kind.1 kind.2 kind.3 word (clock ∙ ap (λ (first : ℕ). first + old.clock) fits.share.first) one two (bit ∙ bit_there)
+    module _ (one : ShiftLoop) (there : slice_get loops at ≡ Some one) (link : ℕ) (link_is : link ≡ one.link) (place : ℕ) (stands : place ≡ slice_index_or old.places.items at 0) where
+      abbrev sent : ℕ
+      sent = sending.1
 
-    module _ (new : Node) (after : SeenEnds) (rest : new ≡ record old { made = old.made + 1 }) (puts : Puts link ends after true) where
-      pub send_fits : IsFit after.job new
-      send_fits = subst (λ (one : SeenEnds). IsFit one.job new) (sym puts.ends) (subst (IsFit job) (sym rest) (fits_then (old.made + 1) old.slots refl))
+      next_send : slice_get program old.made ≡ Some (action.Send link one.pin sent)
+      next_send =
+          let same : sending.0 ≡ one = cc (sending.2, there) in
+          subst (λ (own : ShiftLoop). slice_get program old.made ≡ Some (action.Send own.link own.pin sent)) same sending.3 ∙ ap (λ (its : ℕ). Some (action.Send its one.pin sent)) (sym link_is)
 
-      pub send_agrees : Agrees after.job new.share.node (state_of new) after
-      send_agrees =
-          let found = entry_of_send in
-          let kind = sends flat.inputs link pin net found.0 found.1.1 in
-          let agree = sent_agrees ends node state agrees unfinished found.0 found.1.0 link pin net kind.0 kind.1 kind.2 kind.3 in
-          let so = moved_to new (moved state) (record ends { sent = counted link ends.sent }) (ap (λ (one : Node). one.share) rest) (ap state_of rest) agree in
-          subst (λ (one : SeenEnds). Agrees one.job new.share.node (state_of new) one) (sym puts.ends) so
+      entry_of_send : (entry : Entry) × ((slice_get own old.made ≡ Some entry) × (action.Send link one.pin sent ≡ action_of flat.inputs entry))
+      entry_of_send = entry_for (action.Send link one.pin sent) next_send (λ same. cc)
 
-      pub send_makes : (whole : Bool) → MakesSome job node state (state_of new) ends after whole Moved
-      send_makes whole = makes_one job node state (state_of new) ends after whole (action.Send link pin net, next_of ends node state agrees unfinished (action.Send link pin net) sending.0, (ap state_of rest, puts)) agrees.holds
+      pub send_inside : place < length one.nets
+      send_inside = subst (λ (spot : ℕ). spot < length one.nets) (sym stands) (place_inside program loops old.made old.places.items fits.loops fits.code.loops link one.pin sent at one next_send there (sym link_is) refl)
 
-    pub full_makes : (after : SeenEnds) (whole : Bool) → Puts link ends after false → MakesSome job node state state ends after whole (Full link)
-    full_makes after whole puts = makes_none job node state state ends after whole (Full link) refl (pin, net, next_of ends node state agrees unfinished (action.Send link pin net) sending.0, refl, puts)
+      -- its net is that of the loop, and has the slot that stands there
+      item_is : (item : LoopNet) → slice_get one.nets place ≡ Some item → (item.net ≡ sent) × (slot_of nets sent ≡ Some item.slot)
+      item_is item here =
+          let found : slice_get (nets_of one) place ≡ Some sent = ap (slice_get (nets_of one)) stands ∙ net_here program loops old.made old.places.items fits.loops fits.code.loops link one.pin sent at one next_send there (sym link_is) refl in
+          let mapped : slice_get (nets_of one) place ≡ Some item.net = slice_get-map (λ (item : LoopNet). item.net) one.nets place ∙ ap (option_map (λ (item : LoopNet). item.net)) here in
+          let same : item.net ≡ sent = cc (found, mapped) in
+          let its_slot : slot_of nets item.net ≡ Some item.slot = subst (λ (own : LoopNet). slot_of nets own.net ≡ Some own.slot) (get_or_from_slice_get one.nets place item item here) (fits.code.sends at one there place item send_inside) in
+          (same, ap (slot_of nets) (sym same) ∙ its_slot)
+
+      module _ (item : LoopNet) (here : slice_get one.nets place ≡ Some item) where
+        pub send_slot : item.slot < length old.slots.items
+        send_slot = omega (arith, fits.slots, slot_within nets sent item.slot (item_is item here).1)
+
+        send_net : sent < length state.slots
+        send_net = let found = entry_of_send in let kind = sends flat.inputs link one.pin sent found.0 found.1.1 in sent_net ends node state agrees unfinished found.0 found.1.0 link one.pin sent kind.0 kind.1 kind.2 kind.3
+
+        bit_there : get_or old.slots.items item.slot false ≡ slot state sent
+        bit_there = sym (ap (slot_bit old.slots.items) (item_is item here).1) ∙ sym (get_or-tabulate (bit_by nets old.slots.items) many sent false (omega (arith, send_net, agrees.holds.size, many_are)))
+
+        pub send_next : (word : Word) → word.clock ≡ old.share.first + old.clock → word.net ≡ item.net → word.pin ≡ one.pin → word.bit ≡ get_or old.slots.items item.slot false → IsNextWord ends link word
+        send_next word clock its_net its_pin bit =
+            let found = entry_of_send in
+            let kind = sends flat.inputs link one.pin sent found.0 found.1.1 in
+            sent_next ends node state agrees unfinished found.0 found.1.0 link one.pin sent kind.0 kind.1 kind.2 kind.3 word (clock ∙ ap (λ (first : ℕ). first + old.clock) fits.share.first) (its_net ∙ (item_is item here).0) its_pin (bit ∙ bit_there)
+
+      module _ (new : Node) (after : SeenEnds) (rest : new ≡ record old { made = old.made + 1; places = new.places }) (turned : new.places.items ≡ set old.places.items at (place_after (length one.nets) (place + 1))) (puts : Puts link ends after true) where
+        stand_now : Stand program loops (old.made + 1) new.places.items
+        stand_now = stand_turned program loops old.made old.places.items fits.loops fits.code.loops link one.pin sent at one next_send there (sym link_is) refl new.places.items (turned ∙ ap (λ (spot : ℕ). set old.places.items at (place_after (length one.nets) (spot + 1))) stands)
+
+        pub send_fits : IsFit after.job new
+        send_fits = subst (λ (one : SeenEnds). IsFit one.job new) (sym puts.ends) (subst (IsFit job) (sym rest) (fits_then (old.made + 1) new.places old.slots stand_now refl))
+
+        pub send_agrees : Agrees after.job new.share.node (state_of new) after
+        send_agrees =
+            let found = entry_of_send in
+            let kind = sends flat.inputs link one.pin sent found.0 found.1.1 in
+            let agree = sent_agrees ends node state agrees unfinished found.0 found.1.0 link one.pin sent kind.0 kind.1 kind.2 kind.3 in
+            let so = moved_to new (moved state) (record ends { sent = counted link ends.sent }) (ap (λ (one : Node). one.share) rest) (ap state_of rest) agree in
+            subst (λ (one : SeenEnds). Agrees one.job new.share.node (state_of new) one) (sym puts.ends) so
+
+        pub send_makes : (whole : Bool) → MakesSome job node state (state_of new) ends after whole Moved
+        send_makes whole = makes_one job node state (state_of new) ends after whole (action.Send link one.pin sent, next_of ends node state agrees unfinished (action.Send link one.pin sent) next_send, (ap state_of rest, puts)) agrees.holds
+
+      pub full_makes : (after : SeenEnds) (whole : Bool) → Puts link ends after false → MakesSome job node state state ends after whole (Full link)
+      full_makes after whole puts = makes_none job node state state ends after whole (Full link) refl (one.pin, sent, next_of ends node state agrees unfinished (action.Send link one.pin sent) next_send, refl, puts)
 
   -- ---- a take
 
-  module _ (default : Op) (link place : ℕ) (is : get_or code.ops.items old.made default ≡ op.Take link place) where
-    taking : (pin net : ℕ) × (slice_get (actions planned node) old.made ≡ Some (action.Take link pin net)) × (slot_of nets net ≡ Some place)
-    taking = let found = op_begins ends node code fits.code old.made (op.Take link place) (op_is default (op.Take link place) is) in by found.0 found.1.0 found.1.1 where
-      by : (next : Action) → slice_get (actions planned node) old.made ≡ Some next → BeginsWith flat code next (op.Take link place) → (pin net : ℕ) × (slice_get (actions planned node) old.made ≡ Some (action.Take link pin net)) × (slot_of nets net ≡ Some place)
+  module _ (default : Op) (link pin place : ℕ) (is : get_or code.ops.items old.made default ≡ op.Take link pin place) where
+    taking : (net : ℕ) × (slice_get program old.made ≡ Some (action.Take link pin net)) × (slot_of nets net ≡ Some place)
+    taking = let found = op_begins ends node code fits.code old.made (op.Take link pin place) (op_is default (op.Take link pin place) is) in by found.0 found.1.0 found.1.1 where
+      by : (next : Action) → slice_get program old.made ≡ Some next → BeginsWith flat code next (op.Take link pin place) → (net : ℕ) × (slice_get program old.made ≡ Some (action.Take link pin net)) × (slot_of nets net ≡ Some place)
       by (action.Evaluate number) at begins = absurd begins
       by (action.Send its_link its_pin its_net) at begins = absurd begins
       by (action.Take its_link its_pin its_net) at begins =
-          let same : action.Take its_link its_pin its_net ≡ action.Take link its_pin its_net = λ i. action.Take (sym begins.0 i) its_pin its_net in
-          (its_pin, its_net, at ∙ ap Some same, begins.1)
+          let same : action.Take its_link its_pin its_net ≡ action.Take link pin its_net = λ i. action.Take (sym begins.0 i) (sym begins.1 i) its_net in
+          (its_net, at ∙ ap Some same, begins.2)
       by action.Step at begins = absurd begins
 
-    abbrev pin : ℕ
-    pin = taking.0
-
     abbrev net : ℕ
-    net = taking.1
+    net = taking.0
 
     entry_of_take : (entry : Entry) × ((slice_get own old.made ≡ Some entry) × (action.Take link pin net ≡ action_of flat.inputs entry))
-    entry_of_take = entry_for (action.Take link pin net) taking.2 (λ same. cc)
+    entry_of_take = entry_for (action.Take link pin net) taking.1 (λ same. cc)
 
     take_net : net < length state.slots
     take_net = let found = entry_of_take in let kind = takes flat.inputs link pin net found.0 found.1.1 in taken_net ends node state agrees unfinished found.0 found.1.0 link net kind.0 kind.1 kind.2
 
     pub take_slot : place < length old.slots.items
-    take_slot = omega (arith, fits.slots, slot_within nets net place taking.3)
+    take_slot = omega (arith, fits.slots, slot_within nets net place taking.2)
 
     pub take_expected : IsExpected ends link
     take_expected = let found = entry_of_take in let kind = takes flat.inputs link pin net found.0 found.1.1 in is_expected ends node state agrees unfinished found.0 found.1.0 link net kind.0 kind.1 kind.2
@@ -304,10 +353,10 @@ module _ (ends : SeenEnds) (old : Node) (fits : IsFit ends.job old) (agrees : Ag
       take_state =
           state_then new (old.made + 1) (set old.slots.items place bit) rest wrote
           ∙ ap (λ (all : List Bool). let state : NodeState = record { clock = old.clock; made = old.made + 1; slots = all; rows = old.rows.items } in state)
-          (known_written nets old.slots.items net place bit many taking.3 take_slot (omega (arith, take_net, agrees.holds.size, many_are)) ∙ ap (set (tabulate (bit_by nets old.slots.items) many) net) its_bit)
+          (known_written nets old.slots.items net place bit many taking.2 take_slot (omega (arith, take_net, agrees.holds.size, many_are)) ∙ ap (set (tabulate (bit_by nets old.slots.items) many) net) its_bit)
 
       pub take_fits : IsFit after.job new
-      take_fits = subst (λ (one : SeenEnds). IsFit one.job new) (sym took.0) (fits_again new (old.made + 1) rest (ap (λ (bits : List Bool). length bits) wrote ∙ length-set old.slots.items place bit))
+      take_fits = subst (λ (one : SeenEnds). IsFit one.job new) (sym took.0) (fits_again new (old.made + 1) rest (stand_on program loops old.made old.places.items fits.loops (action.Take link pin net) taking.1 (λ its other. refl)) (ap (λ (bits : List Bool). length bits) wrote ∙ length-set old.slots.items place bit))
 
       pub take_agrees : Agrees after.job new.share.node (state_of new) after
       take_agrees =
@@ -318,7 +367,7 @@ module _ (ends : SeenEnds) (old : Node) (fits : IsFit ends.job old) (agrees : Ag
           subst (λ (one : SeenEnds). Agrees one.job new.share.node (state_of new) one) (sym took.0) so
 
       pub take_makes : (whole : Bool) → MakesSome job node state (state_of new) ends after whole Moved
-      take_makes whole = makes_one job node state (state_of new) ends after whole (action.Take link pin net, next_of ends node state agrees unfinished (action.Take link pin net) taking.2, (word, take_state, took)) agrees.holds
+      take_makes whole = makes_one job node state (state_of new) ends after whole (action.Take link pin net, next_of ends node state agrees unfinished (action.Take link pin net) taking.1, (word, take_state, took)) agrees.holds
 
     pub empty_makes : (after : SeenEnds) (whole : Bool) → Takes link ends after None → MakesSome job node state state ends after whole (Empty link)
-    empty_makes after whole took = makes_none job node state state ends after whole (Empty link) refl (pin, net, next_of ends node state agrees unfinished (action.Take link pin net) taking.2, refl, took)
+    empty_makes after whole took = makes_none job node state state ends after whole (Empty link) refl (pin, net, next_of ends node state agrees unfinished (action.Take link pin net) taking.1, refl, took)

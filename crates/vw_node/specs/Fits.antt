@@ -6,6 +6,7 @@ use Rattle.vw_prog.specs.declared.job.Job.{Job}
 use Rattle.vw_prog.specs.declared.job.Share.{Share}
 use Rattle.vw_prog.specs.Actions.{actions}
 use Rattle.vw_prog.specs.Codes.{IsCode, slot_of}
+use Rattle.vw_prog.specs.Loops.{Stand}
 use Rattle.vw_prog.specs.Scripts.{planned_of}
 use Rattle.vw_node.specs.declared.node.Node.{Node}
 use Rattle.vw_node.specs.Lists.{tabulate}
@@ -37,10 +38,11 @@ bit_by nets bits net = slot_bit bits (slot_of nets net)
 abbrev pub state_of : Node → NodeState
 state_of node = record { clock = node.clock; made = node.made; slots = tabulate (bit_by node.code.now.nets.items node.slots.items) (net_count node.share); rows = node.rows.items }
 
--- a node has what it needs for its job: its code, a slot for each net that it knows, and room for all that it records
+-- a node has what it needs for its job: its code, whose shift loops stand as the actions so far have turned them, a slot for each net that it knows, and room for all that it records
 pub record IsFit (job : Job) (node : Node) : Type 0 where
   pub share : IsShare job node.share
   pub code : IsCode (planned_of job) node.share.node (actions (planned_of job) node.share.node) node.code.now
+  pub loops : Stand (actions (planned_of job) node.share.node) node.code.now.loops.items node.made node.places.items
   pub slots : length node.slots.items ≡ length node.code.now.nets.items
   pub next : length node.next.items ≡ length node.code.now.latches.items
   pub spare : length node.spare.items + node.clock ≡ length job.rows

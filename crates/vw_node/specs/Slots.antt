@@ -6,18 +6,18 @@ use Rattle.vw_net.specs.declared.cell.Cell.{Cell}
 use Rattle.vw_net.specs.declared.cell.Cell.TheVariants.{Gate, Latch}
 use Rattle.vw_net.specs.Cover.{cover_value}
 use Rattle.vw_net.specs.TruthTable.{bit_of, place_of}
-use Rattle.vw_prog.specs.declared.code.TableGate.{TableGate}
 use Rattle.vw_prog.specs.declared.job.Share.{Share}
+use Rattle.vw_prog.specs.SeenGates.{SeenGate}
 use Rattle.vw_node.specs.Fits.{bit_in}
 
 -- ---- gates
 
 -- a gate reads slots that there are
-abbrev pub IsWithin : ℕ → TableGate → Type 0
+abbrev pub IsWithin : ℕ → SeenGate → Type 0
 IsWithin slots gate = All (λ slot. slot < slots) gate.reads
 
 -- bits after gates were worked out, one after the other, into slots from one on
-abbrev pub with_gates : ℕ → List TableGate → List Bool → List Bool
+abbrev pub with_gates : ℕ → List SeenGate → List Bool → List Bool
 with_gates slot [] bits = bits
 with_gates slot (gate ∷ gates) bits = with_gates (slot + 1) gates (slice_set bits slot (bit_of gate.truth_table (place_of (map (bit_in bits) gate.reads))))
 

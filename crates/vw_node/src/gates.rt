@@ -1,13 +1,14 @@
 //! The values of gates from slots.
-ghost use Rattle.std.specs.Prelude.{◌≡◌, ◌<◌, ◌≤◌, ◌+◌, length, map, take, slice_get};
-ghost use Rattle.std.specs.List.{All};
+ghost use Rattle.std.specs.Prelude.{◌≡◌, ◌<◌, ◌≤◌, ◌+◌, ◌-◌, length, map, take, slice_get};
+ghost use Rattle.std.specs.List.{All, slice_range};
+ghost use Rattle.vw_prog.specs.SeenGates.{seen_gate, seen_gates};
 ghost use Rattle.vw_net.specs.Cover.{cover_value};
 ghost use Rattle.vw_net.specs.TruthTable.{place_of};
 ghost use Rattle.vw_node.specs.Fits.{bit_in};
 ghost use Rattle.vw_node.specs.Slots.{HasArity, IsWithin, wide_by, with_gates};
 
 use vw_net::{Cell, Cover, Flat, bit_of};
-use vw_prog::{TableGate, WideGate};
+use vw_prog::{Gates, TableGate, WideGate};
 
 /// The place of the bits of some slots in a truth table.
 fn place_at(reads: &[u32], slots: &[bool]) -> u32
@@ -24,14 +25,52 @@ fn place_at(reads: &[u32], slots: &[bool]) -> u32
 }
 
 /// Works out gates, one after the other, into slots from one on.
-pub fn run_gates(gates: &[TableGate], first: usize, slots: &mut [bool])
-    requires within { All (IsWithin (length slots.old)) gates.now }
+fn run_all<const N: usize>(gates: &[TableGate<N>], first: usize, slots: &mut [bool])
+    requires few { N ≤ 6 }
+    requires within { All (IsWithin (length slots.old)) (map (seen_gate N) gates.now) }
     requires room { first + length gates.now ≤ length slots.old }
-    ensures { slots.new ≡ with_gates first gates.now slots.old }
+    ensures { slots.new ≡ with_gates first (map (seen_gate N) gates.now) slots.old }
 {
     for (i, gate) in gates.iter().enumerate() {
         let place = place_at(&gate.reads, slots);
         slots[first + i] = bit_of(gate.truth_table, place);
+    }
+}
+
+/// The same with the gates from one number up to another.
+fn run_part<const N: usize>(
+    gates: &[TableGate<N>],
+    first: usize,
+    end: usize,
+    slot: usize,
+    slots: &mut [bool],
+)
+    requires few { N ≤ 6 }
+    requires order { first ≤ end }
+    requires end { end ≤ length (map (seen_gate N) gates.now) }
+    requires within { All (IsWithin (length slots.old))
+        (slice_range (map (seen_gate N) gates.now) first end) }
+    requires room { slot + (end - first) ≤ length slots.old }
+    ensures { slots.new
+        ≡ with_gates slot (slice_range (map (seen_gate N) gates.now) first end) slots.old }
+{
+    run_all(&gates[first..end], slot, slots);
+}
+
+/// Works out the gates of a node from one number up to another, one after the other, into slots from one on.
+pub fn run_gates(gates: &Gates, first: usize, end: usize, slot: usize, slots: &mut [bool])
+    requires order { first ≤ end }
+    requires end { end ≤ length (seen_gates gates.now) }
+    requires within { All (IsWithin (length slots.old))
+        (slice_range (seen_gates gates.now) first end) }
+    requires room { slot + (end - first) ≤ length slots.old }
+    ensures { slots.new
+        ≡ with_gates slot (slice_range (seen_gates gates.now) first end) slots.old }
+{
+    match gates {
+        Gates::Two(list) => run_part(list, first, end, slot, slots),
+        Gates::Four(list) => run_part(list, first, end, slot, slots),
+        Gates::Six(list) => run_part(list, first, end, slot, slots),
     }
 }
 

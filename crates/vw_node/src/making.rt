@@ -19,6 +19,7 @@ impl<'a> Node<'a> {
         ensures { IfOk result (IsMade share.entry) }
     {
         let code = programs.code(share.node);
+        let places = vec![in alloc; 0; code.loops.len()]?;
         let slots = start_slots(alloc, &share, code)?;
         let next = vec![in alloc; false; code.latches.len()]?;
         let rows = Vec::with_capacity(alloc, share.clocks as usize)?;
@@ -28,6 +29,7 @@ impl<'a> Node<'a> {
             code,
             clock: 0,
             made: 0,
+            places,
             slots,
             next,
             rows,

@@ -13,6 +13,8 @@ pub struct Node<'a> {
     pub clock: u64,
     /// How many actions of the present clock it has made.
     pub made: u64,
+    /// The place at which each shift loop of its code stands.
+    pub places: Vec<usize>,
     /// The bit of each slot.
     pub slots: Vec<bool>,
     /// Room for the next bits of its latches.

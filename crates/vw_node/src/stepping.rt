@@ -2,6 +2,7 @@
 ghost use Rattle.std.specs.Prelude.{◌≡◌, ◌<◌, ◌≤◌, ◌+◌, ◌-◌, ◌++◌, ◌∷◌, [], Bool, List, length, map, slice_set, false, if◌then◌else◌};
 ghost use Rattle.std.specs.List.{All, slice_range};
 ghost use Rattle.std.specs.Vec.{vec_capacity};
+ghost use Rattle.vw_prog.specs.SeenGates.{seen_gates};
 ghost use Rattle.vw_node.specs.Fits.{IsFit, bit_in, state_of};
 ghost use Rattle.vw_node.specs.Moves.{MakesSome, Steps};
 ghost use Rattle.vw_node.specs.Positions.{Agrees};
@@ -23,12 +24,16 @@ fn end_of(first: usize, end: usize, whole: bool) -> usize
 }
 
 impl<'a> Node<'a> {
-    /// One action more is made.
-    fn advance(&mut self)
-        requires { self.old.made < length self.old.code.now.ops.items }
-        ensures { self.new ≡ record self.old { made = self.old.made + 1 } }
+    /// One action more is made, which turns a shift loop to a place.
+    fn turn(&mut self, at: usize, place: usize)
+        requires made { self.old.made < length self.old.code.now.ops.items }
+        requires at { at < length self.old.places.items }
+        ensures rest { self.new
+            ≡ record self.old { made = self.old.made + 1; places = self.new.places } }
+        ensures places { self.new.places.items ≡ slice_set self.old.places.items at place }
     {
         let _count = self.code.ops.len();
+        self.places[at] = place;
         self.made += 1;
     }
 
@@ -48,20 +53,20 @@ impl<'a> Node<'a> {
     /// Works out some of the gates of at most six inputs, into slots from one on.
     fn run(&mut self, first: usize, end: usize, slot: u32)
         requires order { first ≤ end }
-        requires end { end ≤ length self.old.code.now.gates.items }
+        requires end { end ≤ length (seen_gates self.old.code.now.gates) }
         requires within { All (IsWithin (length self.old.slots.items))
-            (slice_range self.old.code.now.gates.items first end) }
+            (slice_range (seen_gates self.old.code.now.gates) first end) }
         requires room { slot + (end - first) ≤ length self.old.slots.items }
         requires made { self.old.made + (end - first) ≤ length self.old.code.now.ops.items }
         ensures rest { self.new
             ≡ record self.old { made = self.old.made + (end - first); slots = self.new.slots } }
         ensures slots { self.new.slots.items
-            ≡ with_gates slot (slice_range self.old.code.now.gates.items first end)
+            ≡ with_gates slot (slice_range (seen_gates self.old.code.now.gates) first end)
             self.old.slots.items }
     {
         let code = self.code;
         let _count = code.ops.len();
-        run_gates(&code.gates[first..end], slot as usize, &mut self.slots);
+        run_gates(&code.gates, first, end, slot as usize, &mut self.slots);
         self.made += (end - first) as u64;
     }
 
@@ -184,21 +189,20 @@ impl<'a> Node<'a> {
                 self.write(gate.target, bit);
                 Step::Moved
             }
-            Op::Send {
-                link,
-                pin,
-                net,
-                slot,
-            } => {
-                let bit = self.slots[slot as usize];
-                let word = Word::make(self.share.first + self.clock, net, pin, bit);
+            Op::Send(at) => {
+                let one = &code.loops[at];
+                let link = one.link();
+                let place = self.places[at];
+                let item = one.at(place);
+                let bit = self.slots[item.slot as usize];
+                let word = Word::make(self.share.first + self.clock, item.net, one.pin(), bit);
                 if !ends.put(link, word) {
                     return Step::Full(link);
                 }
-                self.advance();
+                self.turn(at, one.next(place));
                 Step::Moved
             }
-            Op::Take { link, slot } => match ends.take(link) {
+            Op::Take { link, slot, .. } => match ends.take(link) {
                 Some(word) => {
                     self.write(slot, word.bit());
                     Step::Moved

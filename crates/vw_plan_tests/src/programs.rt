@@ -25,8 +25,8 @@ fn all_numbers(alloc: Global, checked: &Checked) -> Result<Vec<u32>, AllocError>
     let programs = Programs::build(alloc, checked)?;
     let mut all = Vec::new(alloc);
     for node in 0..checked.board().chips() + 1 {
-        for action in programs.list(node) {
-            all.extend_from_slice(&numbers(action))?;
+        for number in 0..programs.count(node) {
+            all.extend_from_slice(&numbers(&programs.action(node, number)))?;
         }
     }
     Ok(all)

@@ -8,7 +8,7 @@ use Rattle.vw_net.specs.declared.cell.Cell.TheVariants.{Gate}
 use Rattle.vw_net.specs.declared.cover.Cover.{Cover}
 use Rattle.vw_net.specs.TruthTable.{truth_table as truth_table_of}
 use Rattle.vw_prog.specs.declared.code.Op.TheVariants.{Run, Wide}
-use Rattle.vw_prog.specs.declared.code.TableGate.{TableGate}
+use Rattle.vw_prog.specs.declared.gates.PaddedGate.{PaddedGate}
 use Rattle.vw_prog.specs.declared.code.WideGate.{WideGate}
 use Rattle.vw_prog.specs.Coding.{cell_gates, cell_op, cell_wide, table_gate, wide_gate}
 
@@ -29,8 +29,8 @@ module _ (inputs : ℕ) (table : List ℕ) (number slot first place : ℕ) (cell
     pub small_op : Run first (first + 1) slot ≡ cell_op slot first place cell
     small_op = sym (ap (cell_op slot first place) is ∙ ap (λ (one : Bool). if one then Run first (first + 1) slot else Wide place) small)
 
-    pub small_gates : (gates new : List TableGate) → new ≡ gates ++ table_gate table ins (truth_table_of cover) ∷ [] → new ≡ gates ++ cell_gates inputs table number cell
-    small_gates gates new added = added ∙ sym (ap (λ (one : Option Cell). gates ++ cell_gates inputs table number one) is ∙ ap (λ (one : Bool). gates ++ (if one then table_gate table ins (truth_table_of cover) ∷ [] else [])) small)
+    pub small_gates : (gates new : List PaddedGate) → new ≡ gates ++ table_gate table ins cover.inputs (truth_table_of cover) ∷ [] → new ≡ gates ++ cell_gates inputs table number cell
+    small_gates gates new added = added ∙ sym (ap (λ (one : Option Cell). gates ++ cell_gates inputs table number one) is ∙ ap (λ (one : Bool). gates ++ (if one then table_gate table ins cover.inputs (truth_table_of cover) ∷ [] else [])) small)
 
     pub small_wide : (wide : List WideGate) → wide ≡ wide ++ cell_wide inputs table number cell
     small_wide wide = nothing_more wide ∙ sym (ap (λ (one : Option Cell). wide ++ cell_wide inputs table number one) is ∙ ap (λ (one : Bool). wide ++ (if one then [] else wide_gate table number (inputs + number) ins ∷ [])) small)
@@ -42,8 +42,8 @@ module _ (inputs : ℕ) (table : List ℕ) (number slot first place : ℕ) (cell
     pub large_op : Wide place ≡ cell_op slot first place cell
     large_op = sym (ap (cell_op slot first place) is ∙ ap (λ (one : Bool). if one then Run first (first + 1) slot else Wide place) large)
 
-    pub large_gates : (gates : List TableGate) → gates ≡ gates ++ cell_gates inputs table number cell
-    large_gates gates = nothing_more gates ∙ sym (ap (λ (one : Option Cell). gates ++ cell_gates inputs table number one) is ∙ ap (λ (one : Bool). gates ++ (if one then table_gate table ins (truth_table_of cover) ∷ [] else [])) large)
+    pub large_gates : (gates : List PaddedGate) → gates ≡ gates ++ cell_gates inputs table number cell
+    large_gates gates = nothing_more gates ∙ sym (ap (λ (one : Option Cell). gates ++ cell_gates inputs table number one) is ∙ ap (λ (one : Bool). gates ++ (if one then table_gate table ins cover.inputs (truth_table_of cover) ∷ [] else [])) large)
 
     pub large_wide : (wide new : List WideGate) → new ≡ wide ++ wide_gate table number (inputs + number) ins ∷ [] → new ≡ wide ++ cell_wide inputs table number cell
     large_wide wide new added = added ∙ sym (ap (λ (one : Option Cell). wide ++ cell_wide inputs table number one) is ∙ ap (λ (one : Bool). wide ++ (if one then [] else wide_gate table number (inputs + number) ins ∷ [])) large)

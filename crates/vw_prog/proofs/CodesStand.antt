@@ -1,11 +1,12 @@
 -- A code that was made for a node stands for its actions.
 use Rattle.std.proofs.Common.{◌≡◌, ◌<◌, ◌≤◌, ◌+◌, ◌-◌, ◌%◌, ◌&&◌, ◌||◌, ◌∷◌, ◌++◌, ◌^◌, ◌⊎◌, ℕ, zero, suc, min, Bool, true, false, not, List, [], length, map, take, get_or, cond, eqb, nat_le, nat_lt, slice_get, slice_index, Option, Some, None, if◌then◌else◌, ap, ap₂, refl, sym, subst, ◌∙◌, ⊎_elim, true≢false, eqb-true, eq-eqb, le-ltb, inl, inr, append_assoc, All, arith}
-use Rattle.std.specs.Prelude.{unwrap_or}
+use Rattle.std.specs.Prelude.{option_map, unwrap_or}
 use Rattle.std.specs.List.{AllByRecursion, filter, list_any, range_with_len}
 use Rattle.std.proofs.lemmas.Bool.{and_from, and_parts, cases_eq, leb-true, ltb-false, ltb-true, or_cases, or_left, or_right}
-use Rattle.std.proofs.lemmas.List.Elements.{All-from_recursion, filter_passes, recursion_from_All}
+use Rattle.std.proofs.lemmas.List.{length-map, length-take}
+use Rattle.std.proofs.lemmas.List.Elements.{All-from_recursion, All-take, filter_passes, recursion_from_All}
 use Rattle.std.proofs.lemmas.List.Folds.{list_any-append}
-use Rattle.std.proofs.lemmas.Option.{slice_get_within}
+use Rattle.std.proofs.lemmas.Option.{slice_get-map, slice_get_within}
 use Rattle.vw_net.specs.declared.cell.Cell.{Cell}
 use Rattle.vw_net.specs.declared.cell.Cell.TheVariants.{Gate, Latch}
 use Rattle.vw_net.specs.declared.cover.Cover.{Cover}
@@ -13,6 +14,7 @@ use Rattle.vw_net.specs.declared.flat.Flat.{Flat}
 use Rattle.vw_net.specs.Order.{gate_inputs, is_among, is_gate, is_latch}
 use Rattle.vw_net.specs.TruthTable.{truth_table as truth_table_of}
 use Rattle.vw_net.proofs.FittingCells.{cell_fits}
+use Rattle.vw_net.proofs.ListParts.{all_at}
 use Rattle.vw_plan.specs.Nets.{driving_cell}
 use Rattle.vw_plan.specs.PlannedBoard.{PlannedBoard, home}
 use Rattle.vw_plan.specs.Sound.{IsSound}
@@ -21,19 +23,25 @@ use Rattle.vw_prog.specs.declared.action.Action.TheVariants as action
 use Rattle.vw_prog.specs.declared.code.Code.{Code}
 use Rattle.vw_prog.specs.declared.code.Op.{Op}
 use Rattle.vw_prog.specs.declared.code.Op.TheVariants as op
-use Rattle.vw_prog.specs.declared.code.TableGate.{TableGate}
 use Rattle.vw_prog.specs.declared.code.WideGate.{WideGate}
 use Rattle.vw_prog.specs.declared.entry.Entry.{Entry}
+use Rattle.vw_prog.specs.declared.gates.PaddedGate.{PaddedGate}
 use Rattle.vw_prog.specs.declared.owners.OwnLatch.{OwnLatch}
+use Rattle.vw_prog.specs.declared.shift.LoopNet.{LoopNet}
+use Rattle.vw_prog.specs.declared.shift.ShiftLoop.{ShiftLoop}
 use Rattle.vw_prog.specs.Actions.{action_of, actions}
 use Rattle.vw_prog.specs.Codes.{BeginsWith, HasSlot, IsCode, IsTableGate, IsWideGate, slot_of, taken_net}
-use Rattle.vw_prog.specs.Coding.{IsMadeOf, action_gates, action_op, action_wide, all_ops, gate_nets, cell_gates, cell_op, cell_wide, joined_ops, known_nets, named_all, no_slot, own_latch, read_at, slot_in, table_gate, take_nets, wide_gate}
+use Rattle.vw_prog.specs.Coding.{IsMadeOf, RiseByMicrocycles, action_gates, action_op, action_wide, all_gates, all_ops, gate_nets, cell_gates, cell_op, cell_wide, joined_ops, known_nets, named_all, no_slot, own_latch, read_at, slot_in, table_gate, take_nets, wide_gate}
 use Rattle.vw_prog.specs.Due.{gives, is_due, is_source, own_latches, reads, recorded}
+use Rattle.vw_prog.specs.Loops.{AreLoops, loop_place}
+use Rattle.vw_prog.specs.SeenGates.{SeenGate, narrowed, seen_gates}
 use Rattle.vw_prog.specs.Timetable.{entries_at, is_evaluating, is_sending, timetable}
-use Rattle.vw_prog.proofs.DueReads.{finds_ends, finds_reads}
+use Rattle.vw_prog.proofs.DueReads.{finds_ends, finds_reads, own_rises}
 use Rattle.vw_prog.proofs.EntryParts.{HasParts, entry_has}
 use Rattle.vw_prog.proofs.JoinedOps.{Becomes, IsKept, all_ones, joined_at, joined_runs, kept_at, length-all_ops, length-joined}
 use Rattle.vw_prog.proofs.LinkPasses.{turn_of}
+use Rattle.vw_prog.proofs.Sequencers.{by_microcycles}
+use Rattle.vw_prog.proofs.ShiftLoops.{AllNets, OfSent, are_loops, nets_all}
 use Rattle.vw_prog.proofs.NamedNets.{all_have_slots, below, first_slots}
 
 -- ---- lists
@@ -45,6 +53,14 @@ all_from P (x ∷ xs) all = (all 0 x refl, all_from P xs (λ place other is. all
 map_twice : {A B C : Type 0} (g : B → C) (f : A → B) (xs : List A) → map g (map f xs) ≡ map (λ x. g (f x)) xs
 map_twice g f [] = refl
 map_twice g f (x ∷ xs) = ap (λ (rest : List _). g (f x) ∷ rest) (map_twice g f xs)
+
+-- a front that has all of a list, and some of the next
+take_front : {X : Type 0} (count : ℕ) (xs ys : List X) → length xs ≤ count → take count (xs ++ ys) ≡ xs ++ take (count - length xs) ys
+take_front count [] ys most = let all : count ≡ count - 0 = omega arith in ap (λ (many : ℕ). take many ys) all
+take_front zero (x ∷ xs) ys most = absurd (omega (arith, most))
+take_front (suc count) (x ∷ xs) ys most =
+    let rest : count - length xs ≡ suc count - length (x ∷ xs) = omega arith in
+    ap (λ (list : List _). x ∷ list) (take_front count xs ys (omega (arith, most))) ∙ ap (λ (many : ℕ). x ∷ (xs ++ take many ys)) rest
 
 -- a function that is another one at each element
 map_as : {A B : Type 0} (f g : A → B) (xs : List A) → AllByRecursion (λ x. f x ≡ g x) xs → map f xs ≡ map g xs
@@ -213,7 +229,7 @@ module _ (planned : PlannedBoard) (sound : IsSound planned) (node : ℕ) where
 
   -- ---- a code
 
-  module _ (code : Code) (made : IsMadeOf flat node latches program count code) where
+  module _ (code : Code) (made : IsMadeOf flat node latches own_entries count code) where
     abbrev nets : List ℕ
     nets = code.nets.items
 
@@ -251,15 +267,15 @@ module _ (planned : PlannedBoard) (sound : IsSound planned) (node : ℕ) where
     read_slot (net ∷ ins) all zero some = below nets net (slot_in table net) all.0
     read_slot (net ∷ ins) all (suc place) some = read_slot ins all.1 place some
 
-    six_slots : (ins : List ℕ) (truth_table : ℕ) → length ins ≤ 6 → (more : List ℕ) × ((table_gate table ins truth_table).reads ≡ map (slot_in table) ins ++ more)
-    six_slots [] truth_table few = (0 ∷ 0 ∷ 0 ∷ 0 ∷ 0 ∷ 0 ∷ [], refl)
-    six_slots (a ∷ []) truth_table few = (0 ∷ 0 ∷ 0 ∷ 0 ∷ 0 ∷ [], refl)
-    six_slots (a ∷ b ∷ []) truth_table few = (0 ∷ 0 ∷ 0 ∷ 0 ∷ [], refl)
-    six_slots (a ∷ b ∷ c ∷ []) truth_table few = (0 ∷ 0 ∷ 0 ∷ [], refl)
-    six_slots (a ∷ b ∷ c ∷ d ∷ []) truth_table few = (0 ∷ 0 ∷ [], refl)
-    six_slots (a ∷ b ∷ c ∷ d ∷ e ∷ []) truth_table few = (0 ∷ [], refl)
-    six_slots (a ∷ b ∷ c ∷ d ∷ e ∷ f ∷ []) truth_table few = ([], refl)
-    six_slots (a ∷ b ∷ c ∷ d ∷ e ∷ f ∷ g ∷ more) truth_table few = absurd (omega (arith, few))
+    six_slots : (ins : List ℕ) (inputs truth_table : ℕ) → length ins ≤ 6 → (more : List ℕ) × ((table_gate table ins inputs truth_table).reads ≡ map (slot_in table) ins ++ more)
+    six_slots [] inputs truth_table few = (0 ∷ 0 ∷ 0 ∷ 0 ∷ 0 ∷ 0 ∷ [], refl)
+    six_slots (a ∷ []) inputs truth_table few = (0 ∷ 0 ∷ 0 ∷ 0 ∷ 0 ∷ [], refl)
+    six_slots (a ∷ b ∷ []) inputs truth_table few = (0 ∷ 0 ∷ 0 ∷ 0 ∷ [], refl)
+    six_slots (a ∷ b ∷ c ∷ []) inputs truth_table few = (0 ∷ 0 ∷ 0 ∷ [], refl)
+    six_slots (a ∷ b ∷ c ∷ d ∷ []) inputs truth_table few = (0 ∷ 0 ∷ [], refl)
+    six_slots (a ∷ b ∷ c ∷ d ∷ e ∷ []) inputs truth_table few = (0 ∷ [], refl)
+    six_slots (a ∷ b ∷ c ∷ d ∷ e ∷ f ∷ []) inputs truth_table few = ([], refl)
+    six_slots (a ∷ b ∷ c ∷ d ∷ e ∷ f ∷ g ∷ more) inputs truth_table few = absurd (omega (arith, few))
 
     module _ (number : ℕ) (ins : List ℕ) (cover : Cover) (is : slice_get flat.cells number ≡ Some (Gate ins cover)) (all : AllByRecursion IsIn ins) (own_in : IsIn (inputs + number)) where
       fits : (length ins ≡ cover.inputs) × All (λ net. net < count) ins
@@ -268,22 +284,26 @@ module _ (planned : PlannedBoard) (sound : IsSound planned) (node : ℕ) where
       some_slot : 0 < length nets
       some_slot = let low = below nets (inputs + number) (slot_in table (inputs + number)) own_in in omega (arith, low)
 
-      abbrev its_gate : TableGate
-      its_gate = table_gate table ins (truth_table_of cover)
+      abbrev its_gate : PaddedGate
+      its_gate = table_gate table ins cover.inputs (truth_table_of cover)
 
-      is_table_gate : cover.inputs ≤ 6 → IsTableGate flat nets number its_gate (slot_in table (inputs + number))
-      is_table_gate few =
-          let six = six_slots ins (truth_table_of cover) (omega (arith, few, fits.0)) in
+      -- with room for its inputs, or for more
+      is_table_gate : cover.inputs ≤ 6 → (room : ℕ) → room ≤ 6 → cover.inputs ≤ room → IsTableGate flat nets number (narrowed room its_gate) (slot_in table (inputs + number))
+      is_table_gate few room most enough =
+          let six = six_slots ins cover.inputs (truth_table_of cover) (omega (arith, few, fits.0)) in
+          let own = map (slot_in table) ins in
+          let ins_in = all in
+          let within = All-from_recursion (λ (slot : ℕ). slot < length nets) its_gate.reads (read_slot ins all 0 some_slot, (read_slot ins all 1 some_slot, (read_slot ins all 2 some_slot, (read_slot ins all 3 some_slot, (read_slot ins all 4 some_slot, (read_slot ins all 5 some_slot, tt)))))) in
           record {
             ins = ins;
             cover = cover;
             cell = is;
-            own = map (slot_in table) ins;
-            more = six.0;
-            six = refl;
-            reads = six.1;
-            slots = slots_map ins all;
-            within = All-from_recursion (λ (slot : ℕ). slot < length nets) its_gate.reads (read_slot ins all 0 some_slot, (read_slot ins all 1 some_slot, (read_slot ins all 2 some_slot, (read_slot ins all 3 some_slot, (read_slot ins all 4 some_slot, (read_slot ins all 5 some_slot, tt))))));
+            own = own;
+            more = take (room - length own) six.0;
+            few = omega (arith, most, length-take room its_gate.reads);
+            reads = ap (take room) six.1 ∙ take_front room own six.0 (omega (arith, enough, fits.0, length-map ins (slot_in table)));
+            slots = slots_map ins ins_in;
+            within = All-take (λ (slot : ℕ). slot < length nets) room its_gate.reads within;
             truth_table = refl;
             target = own_in;
           }
@@ -294,14 +314,14 @@ module _ (planned : PlannedBoard) (sound : IsSound planned) (node : ℕ) where
     -- ---- ops
 
     ops_are : List Op
-    ops_are = all_ops flat table 0 0 program
+    ops_are = all_ops flat table 0 0 [] program
 
     module _ (place : ℕ) (one : Action) (at : slice_get program place ≡ Some one) where
-      kept : IsKept flat table program [] [] (all_ops flat table 0 0 program) place one
-      kept = kept_at flat table program place one [] [] 0 0 refl refl at
+      kept : IsKept flat table program [] [] [] (all_ops flat table 0 0 [] program) place one
+      kept = kept_at flat table program place one [] [] 0 0 [] refl refl at
 
-      two : (second : Op) × (slice_get (joined_ops (all_ops flat table 0 0 program)) place ≡ Some second) × Becomes (action_op flat table kept.first kept.wide one) second
-      two = joined_at (all_ops flat table 0 0 program) (all_ones flat table program 0 0) place (action_op flat table kept.first kept.wide one) kept.op_is
+      two : (second : Op) × (slice_get (joined_ops (all_ops flat table 0 0 [] program)) place ≡ Some second) × Becomes (action_op flat table kept.first kept.wide kept.sooner one) second
+      two = joined_at (all_ops flat table 0 0 [] program) (all_ones flat table program 0 0 []) place (action_op flat table kept.first kept.wide kept.sooner one) kept.op_is
 
       its_op : slice_get code.ops.items place ≡ Some two.0
       its_op = ap (λ (ops : List Op). slice_get ops place) made.ops ∙ two.1
@@ -347,7 +367,7 @@ module _ (planned : PlannedBoard) (sound : IsSound planned) (node : ℕ) where
         → (second : Op) × (slice_get code.ops.items place ≡ Some second) × BeginsWith flat code (action.Evaluate number) second
     gate_begins place number at ins cover is all own_in =
         (second, its_op place (action.Evaluate number) at, by (nat_le cover.inputs 6) refl) where
-          abbrev_kept : IsKept flat table program [] [] (all_ops flat table 0 0 program) place (action.Evaluate number)
+          abbrev_kept : IsKept flat table program [] [] [] (all_ops flat table 0 0 [] program) place (action.Evaluate number)
           abbrev_kept = kept place (action.Evaluate number) at
 
           net_low : slice_get flat.cells number ≡ Some (Gate ins cover) → min (inputs + number) (2 ^ 32 - 1) ≡ inputs + number
@@ -358,19 +378,47 @@ module _ (planned : PlannedBoard) (sound : IsSound planned) (node : ℕ) where
 
           by : (few : Bool) → nat_le cover.inputs 6 ≡ few → BeginsWith flat code (action.Evaluate number) (two place (action.Evaluate number) at).0
           by true test =
-              let op_is : action_op flat table (kept place (action.Evaluate number) at).first (kept place (action.Evaluate number) at).wide (action.Evaluate number) ≡ op.Run (kept place (action.Evaluate number) at).first ((kept place (action.Evaluate number) at).first + 1) (slot_in table (inputs + number)) =
+              let op_is : action_op flat table (kept place (action.Evaluate number) at).first (kept place (action.Evaluate number) at).wide (kept place (action.Evaluate number) at).sooner (action.Evaluate number) ≡ op.Run (kept place (action.Evaluate number) at).first ((kept place (action.Evaluate number) at).first + 1) (slot_in table (inputs + number)) =
               ap (λ (net : ℕ). cell_op (slot_in table net) (kept place (action.Evaluate number) at).first (kept place (action.Evaluate number) at).wide (slice_get flat.cells number)) (net_low is) ∙ ap (cell_op (slot_in table (inputs + number)) (kept place (action.Evaluate number) at).first (kept place (action.Evaluate number) at).wide) is ∙ ap (λ (one : Bool). if one then op.Run (kept place (action.Evaluate number) at).first ((kept place (action.Evaluate number) at).first + 1) (slot_in table (inputs + number)) else op.Wide (kept place (action.Evaluate number) at).wide) test in
               let run = subst (λ (one : Op). Becomes one (two place (action.Evaluate number) at).0) op_is (two place (action.Evaluate number) at).2 in
-              let gates : action_gates flat table (action.Evaluate number) ≡ its_gate number ins cover is all own_in ∷ [] = ap (cell_gates inputs table number) is ∙ ap (λ (one : Bool). if one then table_gate table ins (truth_table_of cover) ∷ [] else []) test in
-              let there : slice_get code.gates.items (kept place (action.Evaluate number) at).first ≡ Some (its_gate number ins cover is all own_in) = ap (λ (list : List TableGate). slice_get list (kept place (action.Evaluate number) at).first) made.gates ∙ (kept place (action.Evaluate number) at).gate (its_gate number ins cover is all own_in) gates in
-              subst (BeginsWith flat code (action.Evaluate number)) (sym run.1) (run.2, its_gate number ins cover is all own_in, there, is_table_gate number ins cover is all own_in (leb-true cover.inputs 6 test))
+              let gates : action_gates flat table (action.Evaluate number) ≡ its_gate number ins cover is all own_in ∷ [] = ap (cell_gates inputs table number) is ∙ ap (λ (one : Bool). if one then table_gate table ins cover.inputs (truth_table_of cover) ∷ [] else []) test in
+              let few : cover.inputs ≤ 6 = leb-true cover.inputs 6 test in
+              let first = (kept place (action.Evaluate number) at).first in
+              let here : slice_get (all_gates flat table program) first ≡ Some (its_gate number ins cover is all own_in) = (kept place (action.Evaluate number) at).gate (its_gate number ins cover is all own_in) gates in
+              let there : slice_get (seen_gates code.gates) first ≡ Some (narrowed made.gates.room (its_gate number ins cover is all own_in)) =
+              ap (λ (list : List SeenGate). slice_get list first) made.gates.are ∙ slice_get-map (narrowed made.gates.room) (all_gates flat table program) first ∙ ap (option_map (narrowed made.gates.room)) here in
+              subst (BeginsWith flat code (action.Evaluate number)) (sym run.1)
+              (run.2, narrowed made.gates.room (its_gate number ins cover is all own_in), there, is_table_gate number ins cover is all own_in few made.gates.room made.gates.few (made.gates.enough first (its_gate number ins cover is all own_in) here few))
           by false test =
-              let op_is : action_op flat table (kept place (action.Evaluate number) at).first (kept place (action.Evaluate number) at).wide (action.Evaluate number) ≡ op.Wide (kept place (action.Evaluate number) at).wide =
+              let op_is : action_op flat table (kept place (action.Evaluate number) at).first (kept place (action.Evaluate number) at).wide (kept place (action.Evaluate number) at).sooner (action.Evaluate number) ≡ op.Wide (kept place (action.Evaluate number) at).wide =
               ap (λ (net : ℕ). cell_op (slot_in table net) (kept place (action.Evaluate number) at).first (kept place (action.Evaluate number) at).wide (slice_get flat.cells number)) (net_low is) ∙ ap (cell_op (slot_in table (inputs + number)) (kept place (action.Evaluate number) at).first (kept place (action.Evaluate number) at).wide) is ∙ ap (λ (one : Bool). if one then op.Run (kept place (action.Evaluate number) at).first ((kept place (action.Evaluate number) at).first + 1) (slot_in table (inputs + number)) else op.Wide (kept place (action.Evaluate number) at).wide) test in
               let is_op = subst (λ (one : Op). Becomes one (two place (action.Evaluate number) at).0) op_is (two place (action.Evaluate number) at).2 in
               let gates : action_wide flat table (action.Evaluate number) ≡ wide_gate table number (inputs + number) ins ∷ [] = ap (cell_wide inputs table number) is ∙ ap (λ (one : Bool). if one then [] else wide_gate table number (inputs + number) ins ∷ []) test in
               let there : slice_get code.wide.items (kept place (action.Evaluate number) at).wide ≡ Some (wide_gate table number (inputs + number) ins) = ap (λ (list : List WideGate). slice_get list (kept place (action.Evaluate number) at).wide) made.wide ∙ (kept place (action.Evaluate number) at).wide_gate (wide_gate table number (inputs + number) ins) gates in
               subst (BeginsWith flat code (action.Evaluate number)) (sym is_op) (wide_gate table number (inputs + number) ins, there, is_wide_gate number ins cover is all own_in)
+
+    -- the net of a send has a slot
+    sent_in : (place link pin net : ℕ) → slice_get program place ≡ Some (action.Send link pin net) → IsIn net
+    sent_in place link pin net at =
+        ⊎_elim (λ found.
+        let entry = found.0 in
+        let kind = sending link pin net entry found.1.1 in
+        let parts = entry_has planned sound node place entry found.1.0 in
+        let apart : is_evaluating entry ≡ false = turn_of (entry.moment % 3) 1 0 (eqb-true (entry.moment % 3) 1 kind.0) (omega arith) in
+        let reads_are : reads planned entry ≡ entry.net ∷ [] =
+        ap (λ (first : Bool). if first then gate_inputs (driving_cell flat entry.net) else (if is_sending entry then entry.net ∷ [] else [])) apart ∙ ap (λ (second : Bool). if second then entry.net ∷ [] else []) kind.0 in
+        let all = read_in place entry found.1.0 (entry.net ∷ []) reads_are (All-from_recursion (λ (one : ℕ). one < count) (entry.net ∷ []) (parts.net, tt)) in
+        subst IsIn (sym kind.1) all.0)
+        (λ same. absurd (no_step same)) (entry_at place (action.Send link pin net) at) where
+          no_step : action.Send link pin net ≡ action.Step → ⊥
+          no_step same = cc
+
+          sending : (link pin net : ℕ) (entry : Entry) → action.Send link pin net ≡ action_of inputs entry → (is_sending entry ≡ true) × (net ≡ entry.net)
+          sending link pin net entry is = turn (is_evaluating entry) (is_sending entry) refl is where
+            turn : (first second : Bool) → is_sending entry ≡ second → action.Send link pin net ≡ (if first then action.Evaluate (entry.net - inputs) else (if second then action.Send entry.link entry.place entry.net else action.Take entry.link entry.place entry.net)) → (is_sending entry ≡ true) × (net ≡ entry.net)
+            turn true second two same = cc
+            turn false true two same = (two, cc)
+            turn false false two same = cc
 
     begins : (place : ℕ) (one : Action) → slice_get program place ≡ Some one → (second : Op) × (slice_get code.ops.items place ≡ Some second) × BeginsWith flat code one second
     begins place (action.Evaluate number) at =
@@ -393,33 +441,19 @@ module _ (planned : PlannedBoard) (sound : IsSound planned) (node : ℕ) where
           no_step : action.Evaluate number ≡ action.Step → ⊥
           no_step same = cc
     begins place (action.Send link pin net) at =
-        ⊎_elim (λ found.
-        let entry = found.0 in
-        let kind = sending link pin net entry found.1.1 in
-        let parts = entry_has planned sound node place entry found.1.0 in
-        let apart : is_evaluating entry ≡ false = turn_of (entry.moment % 3) 1 0 (eqb-true (entry.moment % 3) 1 kind.0) (omega arith) in
-        let reads_are : reads planned entry ≡ entry.net ∷ [] =
-        ap (λ (first : Bool). if first then gate_inputs (driving_cell flat entry.net) else (if is_sending entry then entry.net ∷ [] else [])) apart ∙ ap (λ (second : Bool). if second then entry.net ∷ [] else []) kind.0 in
-        let all = read_in place entry found.1.0 (entry.net ∷ []) reads_are (All-from_recursion (λ (one : ℕ). one < count) (entry.net ∷ []) (parts.net, tt)) in
-        let is_in : IsIn net = subst IsIn (sym kind.1) all.0 in
-        (op.Send link pin net (slot_in table net), its_op place (action.Send link pin net) at ∙ ap Some (two place (action.Send link pin net) at).2, (refl, refl, refl, is_in)))
-        (λ same. absurd (no_step same)) (entry_at place (action.Send link pin net) at) where
-          no_step : action.Send link pin net ≡ action.Step → ⊥
-          no_step same = cc
-
-          sending : (link pin net : ℕ) (entry : Entry) → action.Send link pin net ≡ action_of inputs entry → (is_sending entry ≡ true) × (net ≡ entry.net)
-          sending link pin net entry is = turn (is_evaluating entry) (is_sending entry) refl is where
-            turn : (first second : Bool) → is_sending entry ≡ second → action.Send link pin net ≡ (if first then action.Evaluate (entry.net - inputs) else (if second then action.Send entry.link entry.place entry.net else action.Take entry.link entry.place entry.net)) → (is_sending entry ≡ true) × (net ≡ entry.net)
-            turn true second two same = cc
-            turn false true two same = (two, cc)
-            turn false false two same = cc
+        let its = kept place (action.Send link pin net) at in
+        let has = its.pin link pin net refl in (
+          op.Send (loop_place link pin its.sooner),
+          its_op place (action.Send link pin net) at ∙ ap Some (two place (action.Send link pin net) at).2,
+          (has.0, ap (λ (loops : List ShiftLoop). slice_get loops (loop_place link pin its.sooner)) made.loops ∙ has.1, has.2, has.3),
+        )
     begins place (action.Take link pin net) at =
         ⊎_elim (λ found.
         let entry = found.0 in
         let kind = taking link pin net entry found.1.1 in
         let parts = entry_has planned sound node place entry found.1.0 in
         let is_in : IsIn net = subst IsIn (sym kind.1) (due_in entry.net parts.net (gives_due place entry found.1.0 kind.0)) in
-        (op.Take link (slot_in table net), its_op place (action.Take link pin net) at ∙ ap Some (two place (action.Take link pin net) at).2, (refl, is_in)))
+        (op.Take link pin (slot_in table net), its_op place (action.Take link pin net) at ∙ ap Some (two place (action.Take link pin net) at).2, (refl, refl, is_in)))
         (λ same. absurd (no_step same)) (entry_at place (action.Take link pin net) at) where
           no_step : action.Take link pin net ≡ action.Step → ⊥
           no_step same = cc
@@ -481,13 +515,33 @@ module _ (planned : PlannedBoard) (sound : IsSound planned) (node : ℕ) where
       by true = refl
       by false = map_twice (λ (latch : OwnLatch). slot_in table latch.net) (own_latch flat) own
 
+    -- ---- shift loops, and the sequencer
+
+    all_sent : AllByRecursion (λ (one : ShiftLoop). AllByRecursion (λ (item : LoopNet). slot_of nets item.net ≡ Some item.slot) one.nets) code.loops.items
+    all_sent =
+        subst (AllNets table (λ item. slot_of nets item.net ≡ Some item.slot)) (sym made.loops)
+        (nets_all table (λ item. slot_of nets item.net ≡ Some item.slot) program (all_from (OfSent table (λ item. slot_of nets item.net ≡ Some item.slot)) program by) [] tt) where
+          by : (place : ℕ) (one : Action) → slice_get program place ≡ Some one → OfSent table (λ item. slot_of nets item.net ≡ Some item.slot) one
+          by place (action.Evaluate number) at = refl
+          by place (action.Send link pin net) at = sent_in place link pin net at
+          by place (action.Take link pin net) at = refl
+          by place action.Step at = refl
+
+    own_in_order : RiseByMicrocycles own_entries
+    own_in_order = by_microcycles own_entries (own_rises planned sound node)
+
     pub stands : IsCode planned node program code
     stands = record {
-      count = ap (λ (ops : List Op). length ops) made.ops ∙ length-joined (all_ops flat table 0 0 program) ∙ length-all_ops flat table program 0 0;
+      count = ap (λ (ops : List Op). length ops) made.ops ∙ length-joined (all_ops flat table 0 0 [] program) ∙ length-all_ops flat table program 0 0 [];
       begins = begins;
       runs = λ place first end slot at more.
           ap (λ (ops : List Op). slice_get ops (place + 1)) made.ops
-          ∙ joined_runs (all_ops flat table 0 0 program) (all_ones flat table program 0 0) place first end slot (ap (λ (ops : List Op). slice_get ops place) (sym made.ops) ∙ at) more;
+          ∙ joined_runs (all_ops flat table 0 0 [] program) (all_ones flat table program 0 0 []) place first end slot (ap (λ (ops : List Op). slice_get ops place) (sym made.ops) ∙ at) more;
+      loops = subst (AreLoops program) (sym made.loops) (are_loops table program);
+      sends = λ place one at.
+          All-from_recursion (λ (item : LoopNet). slot_of nets item.net ≡ Some item.slot) one.nets
+          (all_at (λ (one : ShiftLoop). AllByRecursion (λ (item : LoopNet). slot_of nets item.net ≡ Some item.slot) one.nets) code.loops.items place one all_sent at);
+      sequencer = made.sequencer own_in_order;
       sources = λ net is. let known_net = source_known net is in (slot_in table net, known_slot net known_net.0 known_net.1);
       host = λ is net low.
           let rest = map (λ (latch : OwnLatch). latch.net) latches ++ gate_nets inputs program ++ take_nets program in

@@ -230,7 +230,7 @@ module _ (planned : PlannedBoard) (sound : IsSound planned) where
     unfolding timetable
     own_find = all_filter comes_before FindsAll (is_at node) (timetable planned) (all_sorted comes_before FindsAll (entries planned) all_find)
 
-    own_rises : Rises comes_before own_entries
+    pub own_rises : Rises comes_before own_entries
     unfolding timetable
     own_rises = part_rises comes_before is_order (is_at node) (entries planned)
 

@@ -1,6 +1,6 @@
 pub mod EntryOrder
 pub mod LeadsInTime
-pub mod DealtPrograms
+pub mod DealtEntries
 pub mod Givers
 pub mod DueReads
 pub mod LinkPasses
@@ -9,6 +9,11 @@ pub mod NamedNets
 pub mod CellOps
 pub mod OwnedLatches
 pub mod JoinedOps
+pub mod ShiftLoops
+pub mod NarrowedGates
+pub mod UnfoldedCodes
+pub mod LoopTurns
+pub mod Sequencers
 pub mod CodesStand
 pub mod MadeCodes
 pub mod HopPlaces

@@ -1,6 +1,6 @@
 -- The form in which the actions of a node run: the bits of nets are in slots, and each gate has the slots that it reads.
 -- Source: this project.
-use Rattle.std.specs.Prelude.{◌≡◌, ◌<◌, ◌-◌, ◌+◌, ℕ, suc, true, List, [], ◌∷◌, ◌++◌, length, map, take, slice_get, Option, Some, None, option_map, IsTrue, if◌then◌else◌, ◌==◌}
+use Rattle.std.specs.Prelude.{◌≡◌, ◌<◌, ◌≤◌, ◌-◌, ◌+◌, ℕ, suc, true, List, [], ◌∷◌, ◌++◌, length, map, take, slice_get, Option, Some, None, option_map, IsTrue, if◌then◌else◌, ◌==◌}
 use Rattle.std.specs.List.{All}
 use Rattle.vw_net.specs.declared.cell.Cell.{Cell}
 use Rattle.vw_net.specs.declared.cell.Cell.TheVariants.{Gate, Latch}
@@ -15,9 +15,14 @@ use Rattle.vw_prog.specs.declared.action.Action.TheVariants as action
 use Rattle.vw_prog.specs.declared.code.Code.{Code}
 use Rattle.vw_prog.specs.declared.code.Op.{Op}
 use Rattle.vw_prog.specs.declared.code.Op.TheVariants as op
-use Rattle.vw_prog.specs.declared.code.TableGate.{TableGate}
 use Rattle.vw_prog.specs.declared.code.WideGate.{WideGate}
+use Rattle.vw_prog.specs.declared.shift.LoopNet.{LoopNet}
+use Rattle.vw_prog.specs.declared.shift.ShiftLoop.{ShiftLoop}
 use Rattle.vw_prog.specs.Due.{is_source, own_latches, recorded}
+use Rattle.vw_prog.specs.Loops.{AreLoops}
+use Rattle.vw_prog.specs.SeenGates.{SeenGate, seen_gates}
+use Rattle.vw_prog.specs.Sequencer.{IsSequencer, microcycle}
+use Rattle.vw_prog.specs.Timetable.{entries_at, timetable}
 
 -- the slot of a net: its first place among the nets of slots
 abbrev pub slot_of : List ℕ → ℕ → Option ℕ
@@ -28,13 +33,13 @@ abbrev pub HasSlot : List ℕ → ℕ → Type 0
 HasSlot nets net = (slot : ℕ) × (slot_of nets net ≡ Some slot)
 
 -- the gate with a cell number by its truth table, with the slots of its inputs, and then any others that there are; and its own slot
-pub record IsTableGate (flat : Flat) (nets : List ℕ) (number : ℕ) (gate : TableGate) (slot : ℕ) : Type 0 where
+pub record IsTableGate (flat : Flat) (nets : List ℕ) (number : ℕ) (gate : SeenGate) (slot : ℕ) : Type 0 where
   pub ins : List ℕ
   pub cover : Cover
   pub cell : slice_get flat.cells number ≡ Some (Gate ins cover)
   pub own : List ℕ
   pub more : List ℕ
-  pub six : length gate.reads ≡ 6
+  pub few : length gate.reads ≤ 6
   pub reads : gate.reads ≡ own ++ more
   pub slots : map (slot_of nets) ins ≡ map Some own
   pub within : All (λ read. read < length nets) gate.reads
@@ -52,10 +57,10 @@ pub record IsWideGate (flat : Flat) (nets : List ℕ) (number : ℕ) (gate : Wid
 
 -- an op does this action first
 abbrev pub BeginsWith : Flat → Code → Action → Op → Type 0
-BeginsWith flat code (action.Evaluate number) (op.Run first end slot) = (first < end) × (gate : TableGate) × (slice_get code.gates.items first ≡ Some gate) × IsTableGate flat code.nets.items number gate slot
+BeginsWith flat code (action.Evaluate number) (op.Run first end slot) = (first < end) × (gate : SeenGate) × (slice_get (seen_gates code.gates) first ≡ Some gate) × IsTableGate flat code.nets.items number gate slot
 BeginsWith flat code (action.Evaluate number) (op.Wide place) = (gate : WideGate) × (slice_get code.wide.items place ≡ Some gate) × IsWideGate flat code.nets.items number gate
-BeginsWith flat code (action.Send link pin net) (op.Send its_link its_pin its_net slot) = (its_link ≡ link) × (its_pin ≡ pin) × (its_net ≡ net) × (slot_of code.nets.items net ≡ Some slot)
-BeginsWith flat code (action.Take link pin net) (op.Take its_link slot) = (its_link ≡ link) × (slot_of code.nets.items net ≡ Some slot)
+BeginsWith flat code (action.Send link pin net) (op.Send place) = (one : ShiftLoop) × (slice_get code.loops.items place ≡ Some one) × (one.link ≡ link) × (one.pin ≡ pin)
+BeginsWith flat code (action.Take link pin net) (op.Take its_link its_pin slot) = (its_link ≡ link) × (its_pin ≡ pin) × (slot_of code.nets.items net ≡ Some slot)
 BeginsWith flat code action.Step op.Step = IsTrue true
 BeginsWith flat code one other = ⊥
 
@@ -73,6 +78,11 @@ pub record IsCode (planned : PlannedBoard) (node : ℕ) (program : List Action) 
       → (one : Op) × (slice_get code.ops.items place ≡ Some one) × BeginsWith planned.ordered.flat code action one
   -- a run of more gates than one goes on at the next action and the next slot
   pub runs : (place first end slot : ℕ) → slice_get code.ops.items place ≡ Some (op.Run first end slot) → first + 1 < end → slice_get code.ops.items (place + 1) ≡ Some (op.Run (first + 1) end (slot + 1))
+  -- a loop for each pin that is sent over; and the slots of its nets
+  pub loops : AreLoops program code.loops.items
+  pub sends : (place : ℕ) (one : ShiftLoop) → slice_get code.loops.items place ≡ Some one → All (λ item. slot_of code.nets.items item.net ≡ Some item.slot) one.nets
+  -- the microcycles in which the node acts
+  pub sequencer : IsSequencer (map microcycle (entries_at node (timetable planned))) code.sequencer.items
   -- the inputs and latches of the node have slots, and the host's inputs the first ones
   pub sources : (net : ℕ) → IsTrue (is_source planned node net) → HasSlot code.nets.items net
   pub host : node ≡ 0 → (net : ℕ) → net < planned.ordered.flat.inputs → slot_of code.nets.items net ≡ Some net

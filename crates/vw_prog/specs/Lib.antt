@@ -1,4 +1,9 @@
 pub mod Timetable
+pub mod SeenLoop
+pub mod SeenGates
+pub mod Loops
+pub mod Sequencer
+pub mod Unfolded
 pub mod Actions
 pub mod Codes
 pub mod Scripts

@@ -1,14 +1,12 @@
-//! The timetable of a board, and the programs that it is dealt to.
+//! The timetable of a board, and the nodes that it is dealt to.
 ghost use Rattle.std.specs.Prelude.{◌≡◌, ◌≤◌, ◌<◌, ◌^◌, ◌++◌, ℕ, [], length, map, IfOk, OnOk};
 ghost use Rattle.std.specs.List.{All};
 ghost use Rattle.vw_plan.specs.PlannedBoard.{planned_board};
 ghost use Rattle.vw_plan.specs.Sound.{IsSound};
 ghost use Rattle.vw_leads.specs.LeadTables.{AreLeads, planned_in};
-ghost use Rattle.vw_prog.specs.Actions.{action_of};
-ghost use Rattle.vw_prog.specs.Steps.{AreDealt, AreEnded, gate_entry_of, lists_of, with_step};
+ghost use Rattle.vw_prog.specs.Steps.{AreDealt, gate_entry_of, lists_of};
 ghost use Rattle.vw_prog.specs.Timetable.{entries, gate_entries, hop_entries, link_place, sent_entry, taken_entry, timetable, wire_entries};
 
-use crate::action::Action;
 use crate::entry::Entry;
 use crate::laws::leads_end_in_time;
 use std::alloc::{AllocError, Global};
@@ -150,28 +148,9 @@ pub fn timetable(alloc: Global, checked: &Checked) -> Result<Vec<Entry>, AllocEr
     Ok(list)
 }
 
-/// The action of an entry, in a netlist with so many inputs.
-fn action_of(inputs: u32, entry: &Entry) -> Action
-    ensures { result ≡ action_of inputs entry.now }
-{
-    match entry.moment % 3 {
-        0 => Action::Evaluate(entry.net.saturating_sub(inputs)),
-        1 => Action::Send {
-            link: entry.link,
-            pin: entry.place,
-            net: entry.net,
-        },
-        _ => Action::Take {
-            link: entry.link,
-            pin: entry.place,
-            net: entry.net,
-        },
-    }
-}
-
-/// So many programs without actions.
-fn no_actions(alloc: Global, nodes: u32) -> Result<Vec<Vec<Action>>, AllocError>
-    ensures { IfOk result (λ lists. (inputs : ℕ) → AreDealt nodes inputs [] (lists_of lists.items)) }
+/// So many lists without entries.
+fn no_entries(alloc: Global, nodes: u32) -> Result<Vec<Vec<Entry>>, AllocError>
+    ensures { IfOk result (λ lists. AreDealt nodes [] (lists_of lists.items)) }
 {
     let mut lists = Vec::new(alloc);
     for _ in 0..nodes {
@@ -180,45 +159,25 @@ fn no_actions(alloc: Global, nodes: u32) -> Result<Vec<Vec<Action>>, AllocError>
     Ok(lists)
 }
 
-/// Gives each node the actions of its entries.
-fn deal_entries(
-    inputs: u32,
-    entries: &[Entry],
-    lists: &mut Vec<Vec<Action>>,
-) -> Result<(), AllocError>
-    ensures { OnOk result ((nodes : ℕ) → AreDealt nodes inputs [] (lists_of lists.old.items)
-        → AreDealt nodes inputs entries.now (lists_of lists.new.items)) }
+/// Gives each node its entries.
+fn deal_entries(entries: &[Entry], lists: &mut Vec<Vec<Entry>>) -> Result<(), AllocError>
+    ensures { OnOk result ((nodes : ℕ) → AreDealt nodes [] (lists_of lists.old.items)
+        → AreDealt nodes entries.now (lists_of lists.new.items)) }
 {
     for entry in entries {
         let node = entry.node as usize;
         if node < lists.len() {
-            lists[node].push(action_of(inputs, entry))?;
+            lists[node].push(*entry)?;
         }
     }
     Ok(())
 }
 
-/// Ends each program with a step.
-fn end_programs(lists: &mut Vec<Vec<Action>>) -> Result<(), AllocError>
-    ensures { OnOk result (lists_of lists.new.items ≡ map with_step (lists_of lists.old.items)) }
+/// The entries of each node.
+pub fn deal(alloc: Global, nodes: u32, entries: &[Entry]) -> Result<Vec<Vec<Entry>>, AllocError>
+    ensures { IfOk result (λ lists. AreDealt nodes entries.now (lists_of lists.items)) }
 {
-    for node in 0..lists.len() {
-        lists[node].push(Action::Step)?;
-    }
-    Ok(())
-}
-
-/// The program of each node: the actions of its entries, and then a step.
-pub fn deal(
-    alloc: Global,
-    nodes: u32,
-    inputs: u32,
-    entries: &[Entry],
-) -> Result<Vec<Vec<Action>>, AllocError>
-    ensures { IfOk result (λ lists. AreEnded nodes inputs entries.now (lists_of lists.items)) }
-{
-    let mut lists = no_actions(alloc, nodes)?;
-    deal_entries(inputs, entries, &mut lists)?;
-    end_programs(&mut lists)?;
+    let mut lists = no_entries(alloc, nodes)?;
+    deal_entries(entries, &mut lists)?;
     Ok(lists)
 }

@@ -1,13 +1,6 @@
+use crate::gates::Gates;
+use crate::shift::ShiftLoop;
 use vw_net::Sequence;
-
-/// A gate of at most six inputs, by its truth table.
-#[derive(Clone, Copy)]
-pub struct TableGate {
-    /// The slots of its inputs. Where it has fewer than six, further slots that there are follow.
-    pub reads: [u32; 6],
-    /// Its truth table, over six inputs.
-    pub truth_table: u64,
-}
 
 /// A gate of more than six inputs.
 #[derive(Drop)]
@@ -25,27 +18,24 @@ pub struct WideGate {
 pub enum Op {
     /// It works out the gates with these numbers among its gates of at most six inputs, from the first to the one before the
     /// last number. The first one's bit goes into this slot, and those of the others into the slots behind it.
-    Run {
-        first: usize,
-        end: usize,
-        slot: u32,
-    },
+    Run { first: usize, end: usize, slot: u32 },
     /// It works out the gate with this number among its wider gates.
     Wide(usize),
-    /// It sends the bit of a net, which is in this slot.
-    Send {
-        link: u32,
-        pin: u32,
-        net: u32,
-        slot: u32,
-    },
+    /// It sends the bit of the net at which the shift loop with this number stands, and turns the loop.
+    Send(usize),
     /// It takes the bit of a net into this slot.
-    Take {
-        link: u32,
-        slot: u32,
-    },
+    Take { link: u32, pin: u32, slot: u32 },
     /// It records, and goes on to the next clock.
     Step,
+}
+
+/// A microcycle in which a node acts.
+#[derive(Clone, Copy)]
+pub struct Microcycle {
+    /// Its number, from 0.
+    pub number: u64,
+    /// How many actions of a clock the node has made by its end.
+    pub end: usize,
 }
 
 /// What a node does in one clock, in the form in which it runs. The bit of each net that the node knows has a slot of its own.
@@ -53,8 +43,12 @@ pub enum Op {
 pub struct Code {
     /// For each action what it does from there on: a gate of at most six inputs goes together with those behind it.
     pub ops: Vec<Op>,
+    /// A shift loop for each pin that it sends over.
+    pub loops: Vec<ShiftLoop>,
+    /// The microcycles in which it acts, but for the step at the end: each once, in order.
+    pub sequencer: Vec<Microcycle>,
     /// Its gates of at most six inputs, in order.
-    pub gates: Vec<TableGate>,
+    pub gates: Gates,
     /// Its wider gates, in order.
     pub wide: Vec<WideGate>,
     /// The net of each slot. The host's inputs have the first slots.

@@ -7,14 +7,18 @@ ghost use Rattle.vw_prog.specs.Actions.{actions};
 ghost use Rattle.vw_prog.specs.Codes.{IsCode};
 ghost use Rattle.vw_prog.specs.Coding.{IsMadeOf, IsTable, known_nets, no_slot, owned_of, record_slots, slot_in};
 ghost use Rattle.vw_prog.specs.Steps.{lists_of};
+ghost use Rattle.vw_prog.specs.Timetable.{entries_at, timetable};
 
 use crate::action::Action;
 use crate::code::Code;
-use crate::coding::parts_of;
+use crate::coding::{parts_of, program_of};
+use crate::entry::Entry;
+use crate::gates::gates_of;
 use crate::naming::{
     NO_SLOT, clear, list_gates, list_inputs, list_latches, list_takes, name_all, slot_at, slots_at,
 };
 use crate::owners::{OwnLatch, owned_latches};
+use crate::sequencer::sequencer_of;
 use std::alloc::{AllocError, Global};
 use vw_net::Flat;
 use vw_plan::Checked;
@@ -99,13 +103,13 @@ fn record_slots(
     slots_at(alloc, table, flat.outputs())
 }
 
-/// The code of a node with these latches and actions. The table has no slots, before it and after it.
+/// The code of a node with these latches and entries. The table has no slots, before it and after it.
 fn code_of(
     alloc: Global,
     flat: &Flat,
     node: u32,
     own: &[OwnLatch],
-    actions: &[Action],
+    entries: &[Entry],
     table: &mut [u32],
 ) -> Result<Code, AllocError>
     requires is { IsTable [] table.old }
@@ -113,12 +117,15 @@ fn code_of(
     ensures long { length table.new ≡ length table.old }
     ensures is { OnOk result (IsTable [] table.new) }
     ensures made { IfOk result
-        (IsMadeOf flat.now node own.now actions.now (length table.old)) }
+        (IsMadeOf flat.now node own.now entries.now (length table.old)) }
 {
-    let known = known_nets(alloc, flat.inputs(), node, own, actions)?;
+    let actions = program_of(alloc, flat.inputs(), entries)?;
+    let known = known_nets(alloc, flat.inputs(), node, own, &actions)?;
     let mut nets = Vec::new(alloc);
     name_all(&known, &mut nets, table)?;
-    let parts = parts_of(alloc, flat, table, actions)?;
+    let parts = parts_of(alloc, flat, table, &actions)?;
+    let gates = gates_of(alloc, &parts.gates)?;
+    let sequencer = sequencer_of(alloc, entries)?;
     let records = record_slots(alloc, flat, node, own, table)?;
     let latches = latch_slots(alloc, table, own)?;
     let inputs = taken_slots(alloc, table, own)?;
@@ -126,7 +133,9 @@ fn code_of(
     clear(&nets, table);
     Ok(Code {
         ops: parts.ops,
-        gates: parts.gates,
+        loops: parts.loops,
+        sequencer,
+        gates,
         wide: parts.wide,
         nets,
         records,
@@ -136,12 +145,12 @@ fn code_of(
     })
 }
 
-/// The code of each node, by the latches and the actions of each.
+/// The code of each node, by the latches and the entries of each.
 fn all_codes(
     alloc: Global,
     flat: &Flat,
     owned: &[Vec<OwnLatch>],
-    lists: &[Vec<Action>],
+    lists: &[Vec<Entry>],
     table: &mut [u32],
 ) -> Result<Vec<Code>, AllocError>
     requires same { length owned.now ≡ length lists.now }
@@ -157,23 +166,24 @@ fn all_codes(
     let mut codes = Vec::new(alloc);
     for node in 0..lists.len() {
         let own = owned[node].as_slice();
-        let actions = lists[node].as_slice();
-        let code = code_of(alloc, flat, node as u32, own, actions, table)?;
+        let entries = lists[node].as_slice();
+        let code = code_of(alloc, flat, node as u32, own, entries, table)?;
         codes.push(code)?;
     }
     Ok(codes)
 }
 
-/// The code of each node, by the actions of each.
+/// The code of each node, by the entries of each.
 pub fn codes_of(
     alloc: Global,
     checked: &Checked,
-    lists: &[Vec<Action>],
+    lists: &[Vec<Entry>],
 ) -> Result<Vec<Code>, AllocError>
     requires count { length lists.now ≡ suc checked.now.board.chips }
     requires each { (node : ℕ) → node < suc checked.now.board.chips
         → slice_index_or (lists_of lists.now) node []
-        ≡ actions (planned_board checked.now.ordered checked.now.board checked.now.plan) node }
+        ≡ entries_at node
+        (timetable (planned_board checked.now.ordered checked.now.board checked.now.plan)) }
     ensures count { IfOk result (λ codes. length codes.items ≡ suc checked.now.board.chips) }
     ensures each { IfOk result (λ codes. (node : ℕ) (code : Code)
         → slice_get codes.items node ≡ Some code

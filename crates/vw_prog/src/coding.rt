@@ -1,13 +1,48 @@
 //! The form in which the actions of nodes run.
 ghost use Rattle.std.specs.Prelude.{◌≡◌, ◌+◌, ◌-◌, ◌^◌, ◌==◌, ◌++◌, ◌∷◌, [], length, min, slice_get, IfOk, OnOk};
 ghost use Rattle.vw_prog.specs.declared.code.Op.TheVariants.{Run, Wide};
-ghost use Rattle.vw_prog.specs.Coding.{all_gates, all_ops, all_wide, action_gates, action_op, action_wide, cell_gates, cell_op, cell_wide, joined_op, joined_ops, read_at, slot_in, table_gate, wide_gate};
+ghost use Rattle.vw_prog.specs.Coding.{all_gates, all_loops, all_ops, all_wide, action_gates, action_loops, action_op, action_wide, cell_gates, cell_op, cell_wide, joined_op, joined_ops, program_of, read_at, slot_in, table_gate, wide_gate};
+ghost use Rattle.vw_prog.specs.Actions.{action_of};
 
 use crate::action::Action;
-use crate::code::{Op, TableGate, WideGate};
+use crate::code::{Op, WideGate};
+use crate::entry::Entry;
+use crate::gates::PaddedGate;
 use crate::naming::{slot_at, slots_at};
+use crate::shift::{LoopNet, ShiftLoop, keep_net};
 use std::alloc::{AllocError, Global};
 use vw_net::{Cell, Flat, Sequence, TRUTH_TABLE_INPUTS};
+
+/// The action of an entry, in a netlist with so many inputs.
+fn action_of(inputs: u32, entry: &Entry) -> Action
+    ensures { result ≡ action_of inputs entry.now }
+{
+    match entry.moment % 3 {
+        0 => Action::Evaluate(entry.net.saturating_sub(inputs)),
+        1 => Action::Send {
+            link: entry.link,
+            pin: entry.place,
+            net: entry.net,
+        },
+        _ => Action::Take {
+            link: entry.link,
+            pin: entry.place,
+            net: entry.net,
+        },
+    }
+}
+
+/// The actions of entries, and then a step.
+pub fn program_of(alloc: Global, inputs: u32, entries: &[Entry]) -> Result<Vec<Action>, AllocError>
+    ensures { IfOk result (λ actions. actions.items ≡ program_of inputs entries.now) }
+{
+    let mut actions = Vec::new(alloc);
+    for entry in entries {
+        actions.push(action_of(inputs, entry))?;
+    }
+    actions.push(Action::Step)?;
+    Ok(actions)
+}
 
 /// The slot of the net at a place, and any slot where there is none.
 fn read_at(table: &[u32], ins: &[u32], place: usize) -> u32
@@ -20,10 +55,10 @@ fn read_at(table: &[u32], ins: &[u32], place: usize) -> u32
 }
 
 /// A gate of at most six inputs.
-fn table_gate(table: &[u32], ins: &[u32], truth_table: u64) -> TableGate
-    ensures { result ≡ table_gate table.now ins.now truth_table }
+fn table_gate(table: &[u32], ins: &[u32], inputs: u32, truth_table: u64) -> PaddedGate
+    ensures { result ≡ table_gate table.now ins.now inputs truth_table }
 {
-    TableGate {
+    PaddedGate {
         reads: [
             read_at(table, ins, 0),
             read_at(table, ins, 1),
@@ -32,6 +67,7 @@ fn table_gate(table: &[u32], ins: &[u32], truth_table: u64) -> TableGate
             read_at(table, ins, 4),
             read_at(table, ins, 5),
         ],
+        inputs,
         truth_table,
     }
 }
@@ -54,7 +90,11 @@ fn wide_gate(
 }
 
 /// Keeps a gate of at most six inputs, and gives the op that works it out into a slot.
-fn keep_table_gate(gates: &mut Vec<TableGate>, gate: TableGate, slot: u32) -> Result<Op, AllocError>
+fn keep_table_gate(
+    gates: &mut Vec<PaddedGate>,
+    gate: PaddedGate,
+    slot: u32,
+) -> Result<Op, AllocError>
     ensures one { IfOk result (λ one. one
         ≡ Run (length gates.old.items) (length gates.old.items + 1) slot) }
     ensures gates { OnOk result (gates.new.items ≡ gates.old.items ++ gate ∷ []) }
@@ -84,7 +124,7 @@ fn cell_op(
     flat: &Flat,
     table: &[u32],
     number: u32,
-    gates: &mut Vec<TableGate>,
+    gates: &mut Vec<PaddedGate>,
     wide: &mut Vec<WideGate>,
 ) -> Result<Op, AllocError>
     ensures one { IfOk result (λ one. one
@@ -99,7 +139,8 @@ fn cell_op(
         Some(Cell::Gate { ins, cover }) => {
             let net = flat.inputs() + number;
             if cover.inputs() <= TRUTH_TABLE_INPUTS {
-                let gate = table_gate(table, ins.as_slice(), cover.truth_table());
+                let inputs = cover.inputs();
+                let gate = table_gate(table, ins.as_slice(), inputs, cover.truth_table());
                 let one = keep_table_gate(gates, gate, slot_at(table, net))?;
                 return Ok(one);
             }
@@ -112,35 +153,53 @@ fn cell_op(
     }
 }
 
-/// Keeps the gate of an action, and gives the op for it.
+/// What stands for the actions of a node: its ops, its shift loops and its gates.
+#[derive(Drop)]
+pub struct Parts {
+    pub ops: Vec<Op>,
+    pub loops: Vec<ShiftLoop>,
+    pub gates: Vec<PaddedGate>,
+    pub wide: Vec<WideGate>,
+}
+
+/// Keeps the gate of an action, or the net that it sends, and gives the op for it.
 fn action_op(
     alloc: Global,
     flat: &Flat,
     table: &[u32],
     action: &Action,
-    gates: &mut Vec<TableGate>,
-    wide: &mut Vec<WideGate>,
+    parts: &mut Parts,
 ) -> Result<Op, AllocError>
-    ensures one { IfOk result (λ one. one ≡ action_op flat.now table.now (length gates.old.items)
-        (length wide.old.items) action.now) }
-    ensures gates { OnOk result (gates.new.items
-        ≡ gates.old.items ++ action_gates flat.now table.now action.now) }
-    ensures wide { OnOk result (wide.new.items
-        ≡ wide.old.items ++ action_wide flat.now table.now action.now) }
+    ensures one { IfOk result (λ one. one ≡ action_op flat.now table.now (length parts.old.gates.items)
+        (length parts.old.wide.items) parts.old.loops.items action.now) }
+    ensures ops { OnOk result (parts.new.ops ≡ parts.old.ops) }
+    ensures loops { OnOk result (parts.new.loops.items
+        ≡ action_loops table.now action.now parts.old.loops.items) }
+    ensures gates { OnOk result (parts.new.gates.items
+        ≡ parts.old.gates.items ++ action_gates flat.now table.now action.now) }
+    ensures wide { OnOk result (parts.new.wide.items
+        ≡ parts.old.wide.items ++ action_wide flat.now table.now action.now) }
 {
     match *action {
         Action::Evaluate(number) => {
-            let one = cell_op(alloc, flat, table, number, gates, wide)?;
+            let one = cell_op(
+                alloc,
+                flat,
+                table,
+                number,
+                &mut parts.gates,
+                &mut parts.wide,
+            )?;
             Ok(one)
         }
-        Action::Send { link, pin, net } => Ok(Op::Send {
+        Action::Send { link, pin, net } => {
+            let slot = slot_at(table, net);
+            let place = keep_net(alloc, link, pin, LoopNet { net, slot }, &mut parts.loops)?;
+            Ok(Op::Send(place))
+        }
+        Action::Take { link, pin, net } => Ok(Op::Take {
             link,
             pin,
-            net,
-            slot: slot_at(table, net),
-        }),
-        Action::Take { link, net, .. } => Ok(Op::Take {
-            link,
             slot: slot_at(table, net),
         }),
         Action::Step => Ok(Op::Step),
@@ -196,15 +255,7 @@ fn join_ops(ops: &mut [Op])
     }
 }
 
-/// What stands for the actions of a node: its ops and its gates.
-#[derive(Drop)]
-pub struct Parts {
-    pub ops: Vec<Op>,
-    pub gates: Vec<TableGate>,
-    pub wide: Vec<WideGate>,
-}
-
-/// The ops and the gates of actions, by a table of slots.
+/// The ops, the shift loops and the gates of actions, by a table of slots.
 pub fn parts_of(
     alloc: Global,
     flat: &Flat,
@@ -212,18 +263,23 @@ pub fn parts_of(
     actions: &[Action],
 ) -> Result<Parts, AllocError>
     ensures ops { IfOk result (λ parts. parts.ops.items
-        ≡ joined_ops (all_ops flat.now table.now 0 0 actions.now)) }
+        ≡ joined_ops (all_ops flat.now table.now 0 0 [] actions.now)) }
+    ensures loops { IfOk result (λ parts. parts.loops.items ≡ all_loops table.now [] actions.now) }
     ensures gates { IfOk result (λ parts. parts.gates.items
         ≡ all_gates flat.now table.now actions.now) }
     ensures wide { IfOk result (λ parts. parts.wide.items
         ≡ all_wide flat.now table.now actions.now) }
 {
-    let mut ops = Vec::new(alloc);
-    let mut gates = Vec::new(alloc);
-    let mut wide = Vec::new(alloc);
+    let mut parts = Parts {
+        ops: Vec::new(alloc),
+        loops: Vec::new(alloc),
+        gates: Vec::new(alloc),
+        wide: Vec::new(alloc),
+    };
     for action in actions {
-        ops.push(action_op(alloc, flat, table, action, &mut gates, &mut wide)?)?;
+        let one = action_op(alloc, flat, table, action, &mut parts)?;
+        parts.ops.push(one)?;
     }
-    join_ops(&mut ops);
-    Ok(Parts { ops, gates, wide })
+    join_ops(&mut parts.ops);
+    Ok(parts)
 }

@@ -6,25 +6,30 @@ use crate::action::Action;
 use crate::build::{deal, timetable};
 use crate::code::Code;
 use crate::codes::codes_of;
+use crate::unfolding::action_by;
 use std::alloc::{AllocError, Global};
 use std::marker::Model;
 use vw_plan::Checked;
 
-/// The actions of each node for one clock, by the number of the node, as a list and in the form in which they run.
+/// The code of each node for one clock, by the number of the node. Contracts also see the actions that it stands for.
 #[derive(Drop)]
 pub struct Programs {
-    lists: Vec<Vec<Action>>,
+    /// The number of inputs of the design, to which the cell numbers of gates are relative.
+    inputs: u32,
     codes: Vec<Code>,
 }
 
 impl Model for Programs {
+    ghost use Rattle.std.specs.Prelude.{map};
     ghost use Rattle.vw_prog.specs.Actions.{SeenPrograms};
-    ghost use Rattle.vw_prog.specs.Steps.{lists_of};
+    ghost use Rattle.vw_prog.specs.Unfolded.{unfolded};
 
     ghost Value = { SeenPrograms };
 
-    ghost view = { λ programs.
-        record { lists = lists_of programs.lists.items; codes = programs.codes.items } };
+    ghost view = { λ programs. record {
+      lists = map (unfolded programs.inputs) programs.codes.items;
+      codes = programs.codes.items;
+    } };
 }
 
 impl Programs {
@@ -36,9 +41,9 @@ impl Programs {
         let entries = timetable(alloc, checked)?;
         let nodes = checked.board().chips() + 1;
         let inputs = checked.ordered().flat().inputs();
-        let lists = deal(alloc, nodes, inputs, &entries)?;
+        let lists = deal(alloc, nodes, &entries)?;
         let codes = codes_of(alloc, checked, &lists)?;
-        Ok(Programs { lists, codes })
+        Ok(Programs { inputs, codes })
     }
 
     /// The code of a node.
@@ -49,28 +54,23 @@ impl Programs {
         &self.codes[node as usize]
     }
 
-    /// The actions of a node.
-    pub fn list(&self, node: u32) -> &[Action]
-        requires { node < length self.now.lists }
-        ensures { result.now ≡ slice_index_or self.now.lists node [] }
-    {
-        self.lists[node as usize].as_slice()
-    }
-
     /// The number of actions of a node for one clock. It takes no memory.
     pub fn count(&self, node: u32) -> u64
         requires { node < length self.now.lists }
         ensures { result ≡ length (slice_index_or self.now.lists node []) }
     {
-        self.list(node).len() as u64
+        self.codes[node as usize].ops.len() as u64
     }
 
-    /// The action of a node with this number, from 0. It takes no memory.
+    /// The action of a node with this number, from 0. A send takes the net at which its shift loop stands then, for which it
+    /// looks through the actions before. It takes no memory.
     pub fn action(&self, node: u32, number: u64) -> Action
         requires node { node < length self.now.lists }
         requires number { number < length (slice_index_or self.now.lists node []) }
         ensures { result ≡ slice_index_or (slice_index_or self.now.lists node []) number result }
     {
-        self.list(node)[number as usize]
+        let code = &self.codes[node as usize];
+        let number = number as usize;
+        action_by(self.inputs, code, number, code.ops[number])
     }
 }

@@ -1,7 +1,7 @@
 use Rattle.std.proofs.Common.{◌∙◌, ◌+◌, List, ℕ, length, ap, subst, arith}
 use Rattle.std.proofs.lemmas.List.{length_push}
-use Rattle.vw_prog.specs.declared.action.Action.{Action}
 use Rattle.vw_prog.specs.declared.code.Code.{Code}
+use Rattle.vw_prog.specs.declared.entry.Entry.{Entry}
 use Rattle.vw_prog.specs.declared.owners.OwnLatch.{OwnLatch}
 use Rattle.vw_prog.specs.Coding.{IsMadeOf}
 use Rattle.vw_prog.proofs.MadeCodes.{one_more}
@@ -15,8 +15,8 @@ loop-node-preserved c = record {
   each =
       let made : IsMadeOf c.args.flat.now c.loop-node.node c.index-owned-node.result.items c.index-lists-node.result.items (length c.args.table.now) c.in_ok-code.code =
       subst (λ (count : ℕ). IsMadeOf c.args.flat.now c.loop-node.node c.index-owned-node.result.items c.index-lists-node.result.items count c.in_ok-code.code) c.loop-node.invariant.long
-      (subst (λ (actions : List Action). IsMadeOf c.args.flat.now c.loop-node.node c.index-owned-node.result.items actions (length c.loop-node.table) c.in_ok-code.code) c.as_slice-actions.ensures.value
-      (subst (λ (own : List OwnLatch). IsMadeOf c.args.flat.now c.loop-node.node own c.as_slice-actions.result.now (length c.loop-node.table) c.in_ok-code.code) c.as_slice-own.ensures.value c.in_ok-code.ensures.made)) in
+      (subst (λ (entries : List Entry). IsMadeOf c.args.flat.now c.loop-node.node c.index-owned-node.result.items entries (length c.loop-node.table) c.in_ok-code.code) c.as_slice-entries.ensures.value
+      (subst (λ (own : List OwnLatch). IsMadeOf c.args.flat.now c.loop-node.node own c.as_slice-entries.result.now (length c.loop-node.table) c.in_ok-code.code) c.as_slice-own.ensures.value c.in_ok-code.ensures.made)) in
       one_more c.args.flat.now c.args.owned.now c.args.lists.now (length c.args.table.now) c.loop-node.node c.loop-node.codes.items c.push.new.self.items c.in_ok-code.code c.index-owned-node.result c.index-lists-node.result
       c.loop-node.invariant.count c.loop-node.invariant.each c.in_ok-push.ensures.items (omega (arith, c.loop-node-test.true, c.requires.same)) c.loop-node-test.true c.index-owned-node.is c.index-lists-node.is made;
 }

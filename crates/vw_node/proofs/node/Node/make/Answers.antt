@@ -1,4 +1,5 @@
-use Rattle.std.proofs.Common.{◌≡◌, ◌+◌, ◌∙◌, ℕ, false, Bool, List, length, map, replicate, ap, ap₂, subst, refl, arith}
+use Rattle.std.proofs.Common.{◌≡◌, ◌+◌, ◌∙◌, ℕ, zero, suc, false, Bool, List, length, map, replicate, ap, ap₂, subst, refl, arith}
+use Rattle.std.specs.Prelude.{slice_index_or}
 use Rattle.std.proofs.lemmas.List.{length-replicate}
 use Rattle.vw_plan.specs.declared.checked.Checked.{Checked}
 use Rattle.vw_plan.specs.PlannedBoard.{PlannedBoard, planned_board}
@@ -8,6 +9,7 @@ use Rattle.vw_prog.specs.Actions.{actions}
 use Rattle.vw_prog.specs.Codes.{IsCode}
 use Rattle.vw_prog.specs.Due.{own_latches}
 use Rattle.vw_prog.specs.Scripts.{planned_of}
+use Rattle.vw_prog.proofs.LoopTurns.{stand_first}
 use Rattle.vw_node.specs.Fits.{IsShare, bit_by, bit_in}
 use Rattle.vw_node.specs.Lists.{tabulate}
 use Rattle.vw_node.specs.Starts.{net_count, planned_in}
@@ -21,6 +23,11 @@ same_board job share is = ap (λ (checked : Checked). planned_board checked.orde
 
 same_count : (job : Job) (share : Share) → IsShare job share → net_count share ≡ job.checked.ordered.flat.inputs + length job.checked.ordered.flat.cells
 same_count job share is = ap (λ (checked : Checked). checked.ordered.flat.inputs + length checked.ordered.flat.cells) is.checked
+
+same_in : (count place one : ℕ) → slice_index_or (replicate count one) place one ≡ one
+same_in zero place one = refl
+same_in (suc count) zero one = refl
+same_in (suc count) (suc place) one = same_in count place one
 
 pub start_slots-requires-clause-numbers : goal.start_slots-requires-clause-numbers
 start_slots-requires-clause-numbers c =
@@ -40,6 +47,7 @@ returns c =
     let is_code = c.requires.stand share.node code c.code-code.ensures in
     let zeros = replicate (length code.nets.items) false in
     let long : length zeros ≡ length code.nets.items = length-replicate (length code.nets.items) false in
+    let zero_places : c.in_ok-places.places.items ≡ replicate c.len.result 0 = c.in_ok-places.ensures.items_if_clones_equal (λ y same. same) in
     record {
       same = refl;
       fits = λ job is.
@@ -47,10 +55,12 @@ returns c =
           record {
             share = is;
             code = its_code;
+            loops = stand_first (actions (planned_of job) share.node) code.loops.items c.in_ok-places.places.items (ap (λ (places : List ℕ). length places) zero_places ∙ length-replicate c.len.result 0 ∙ omega (arith, c.len.ensures, code.loops.ok))
+                (λ place. ap (λ (places : List ℕ). slice_index_or places place 0) zero_places ∙ same_in c.len.result place 0);
             slots = ap (λ (bits : List Bool). length bits) c.in_ok-slots.ensures ∙ length-sourced job share is code its_code (map (bit_in share.start.now) code.numbers.items) 0 zeros long;
-            next = omega (arith, c.in_ok-next.ensures.len, c.in_ok-next.next.ok, c.len.ensures, code.latches.ok);
+            next = omega (arith, c.in_ok-next.ensures.len, c.in_ok-next.next.ok, c.len-2.ensures, code.latches.ok);
             spare = omega (arith, c.in_ok-spare.ensures.count, is.clocks);
-            even = λ place default within. c.in_ok-spare.ensures.even place default within ∙ omega (arith, c.len-2.ensures, code.records.ok);
+            even = λ place default within. c.in_ok-spare.ensures.even place default within ∙ omega (arith, c.len-3.ensures, code.records.ok);
             room = omega (arith, c.in_ok-spare.ensures.count, c.in_ok-rows.ensures.exact, ap (λ (rows : List (List Bool)). length rows) c.in_ok-rows.ensures.items);
           };
       starts = λ job is.

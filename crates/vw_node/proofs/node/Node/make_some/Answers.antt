@@ -1,10 +1,10 @@
-use Rattle.std.proofs.Common.{◌∙◌, length, Bool, List, false, ap, slice_get, sym, arith}
+use Rattle.std.proofs.Common.{◌∙◌, ℕ, length, Bool, List, false, set, ap, slice_get, sym, arith}
 use Rattle.std.proofs.lemmas.List.{get_or_default}
 use Rattle.vw_net.specs.declared.ordered.Ordered.{Ordered}
 use Rattle.vw_plan.specs.declared.checked.Checked.{Checked}
 use Rattle.vw_node.specs.Slots.{wide_by}
 use Rattle.vw_node.proofs.ClockEnds.{end_agrees, end_fits, end_latches, end_makes, end_taken, end_within}
-use Rattle.vw_node.proofs.StepAnswers.{empty_makes, full_makes, run_agrees, run_begins_first, run_fits, run_last, run_made, run_makes, run_room, run_some, run_within, send_agrees, send_fits, send_makes, send_next, send_slot, take_agrees, take_expected, take_fits, take_makes, take_slot, wide_agrees, wide_fits, wide_here, wide_inside, wide_makes, wide_reads, wide_target, wide_within}
+use Rattle.vw_node.proofs.StepAnswers.{empty_makes, full_makes, run_agrees, run_begins_first, run_fits, run_last, run_made, run_makes, run_room, run_some, run_within, loop_here, place_here, send_agrees, send_fits, send_inside, send_loop, send_makes, send_next, send_place, send_slot, take_agrees, take_expected, take_fits, take_makes, take_slot, wide_agrees, wide_fits, wide_here, wide_inside, wide_makes, wide_reads, wide_target, wide_within}
 use Rattle.vw_node.proofs.node.Node.make_some.Goals as goal
 
 -- ---- gates
@@ -61,44 +61,59 @@ returns-in-Wide-clause-makes g c = wide_makes (g.E.Ends.seen c.args.ends.now) c.
 
 -- ---- a send
 
+pub index-one-requires : goal.index-one-requires
+index-one-requires g c = omega (arith, send_loop (g.E.Ends.seen c.args.ends.now) c.args.self.now c.requires.fits c.requires.agrees c.if-self.false c.index.result.now c.in-Send.at (sym c.index.ensures ∙ c.in-Send.is), c.args.self.now.code.now.loops.ok)
+
+pub index-place-requires : goal.index-place-requires
+index-place-requires g c = omega (arith, send_place (g.E.Ends.seen c.args.ends.now) c.args.self.now c.requires.fits c.requires.agrees c.if-self.false c.index.result.now c.in-Send.at (sym c.index.ensures ∙ c.in-Send.is), c.args.self.now.places.ok)
+
+pub at-item-requires : goal.at-item-requires
+at-item-requires g c = send_inside (g.E.Ends.seen c.args.ends.now) c.args.self.now c.requires.fits c.requires.agrees c.if-self.false c.index.result.now c.in-Send.at (sym c.index.ensures ∙ c.in-Send.is) c.index-one.result.now (loop_here (g.E.Ends.seen c.args.ends.now) c.args.self.now c.requires.fits c.requires.agrees c.if-self.false c.index.result.now c.in-Send.at (sym c.index.ensures ∙ c.in-Send.is) c.index-one.result.now c.index-one.ensures) c.link-link.result c.link-link.ensures c.index-place.result.now (place_here (g.E.Ends.seen c.args.ends.now) c.args.self.now c.requires.fits c.requires.agrees c.if-self.false c.index.result.now c.in-Send.at (sym c.index.ensures ∙ c.in-Send.is) c.index-place.result.now c.index-place.ensures)
+
 pub index-bit-requires : goal.index-bit-requires
-index-bit-requires g c = omega (arith, send_slot (g.E.Ends.seen c.args.ends.now) c.args.self.now c.requires.fits c.requires.agrees c.if-self.false c.index.result.now c.in-Send.link c.in-Send.pin c.in-Send.net c.in-Send.slot (sym c.index.ensures ∙ c.in-Send.is), c.args.self.now.slots.ok)
+index-bit-requires g c = omega (arith, send_slot (g.E.Ends.seen c.args.ends.now) c.args.self.now c.requires.fits c.requires.agrees c.if-self.false c.index.result.now c.in-Send.at (sym c.index.ensures ∙ c.in-Send.is) c.index-one.result.now (loop_here (g.E.Ends.seen c.args.ends.now) c.args.self.now c.requires.fits c.requires.agrees c.if-self.false c.index.result.now c.in-Send.at (sym c.index.ensures ∙ c.in-Send.is) c.index-one.result.now c.index-one.ensures) c.link-link.result c.link-link.ensures c.index-place.result.now (place_here (g.E.Ends.seen c.args.ends.now) c.args.self.now c.requires.fits c.requires.agrees c.if-self.false c.index.result.now c.in-Send.at (sym c.index.ensures ∙ c.in-Send.is) c.index-place.result.now c.index-place.ensures) c.at-item.result c.at-item.ensures, c.args.self.now.slots.ok)
 
 pub put-requires : goal.put-requires
-put-requires g c = send_next (g.E.Ends.seen c.args.ends.now) c.args.self.now c.requires.fits c.requires.agrees c.if-self.false c.index.result.now c.in-Send.link c.in-Send.pin c.in-Send.net c.in-Send.slot (sym c.index.ensures ∙ c.in-Send.is) c.make-word.result c.make-word.ensures.clock c.make-word.ensures.net c.make-word.ensures.pin
-    (c.make-word.ensures.bit ∙ c.index-bit.ensures ∙ get_or_default c.args.self.now.slots.items c.in-Send.slot _ false (send_slot (g.E.Ends.seen c.args.ends.now) c.args.self.now c.requires.fits c.requires.agrees c.if-self.false c.index.result.now c.in-Send.link c.in-Send.pin c.in-Send.net c.in-Send.slot (sym c.index.ensures ∙ c.in-Send.is)))
+put-requires g c = send_next (g.E.Ends.seen c.args.ends.now) c.args.self.now c.requires.fits c.requires.agrees c.if-self.false c.index.result.now c.in-Send.at (sym c.index.ensures ∙ c.in-Send.is) c.index-one.result.now (loop_here (g.E.Ends.seen c.args.ends.now) c.args.self.now c.requires.fits c.requires.agrees c.if-self.false c.index.result.now c.in-Send.at (sym c.index.ensures ∙ c.in-Send.is) c.index-one.result.now c.index-one.ensures) c.link-link.result c.link-link.ensures c.index-place.result.now (place_here (g.E.Ends.seen c.args.ends.now) c.args.self.now c.requires.fits c.requires.agrees c.if-self.false c.index.result.now c.in-Send.at (sym c.index.ensures ∙ c.in-Send.is) c.index-place.result.now c.index-place.ensures) c.at-item.result c.at-item.ensures c.make-word.result c.make-word.ensures.clock c.make-word.ensures.net (c.make-word.ensures.pin ∙ c.pin.ensures)
+    (c.make-word.ensures.bit ∙ c.index-bit.ensures ∙ get_or_default c.args.self.now.slots.items c.at-item.result.slot _ false (send_slot (g.E.Ends.seen c.args.ends.now) c.args.self.now c.requires.fits c.requires.agrees c.if-self.false c.index.result.now c.in-Send.at (sym c.index.ensures ∙ c.in-Send.is) c.index-one.result.now (loop_here (g.E.Ends.seen c.args.ends.now) c.args.self.now c.requires.fits c.requires.agrees c.if-self.false c.index.result.now c.in-Send.at (sym c.index.ensures ∙ c.in-Send.is) c.index-one.result.now c.index-one.ensures) c.link-link.result c.link-link.ensures c.index-place.result.now (place_here (g.E.Ends.seen c.args.ends.now) c.args.self.now c.requires.fits c.requires.agrees c.if-self.false c.index.result.now c.in-Send.at (sym c.index.ensures ∙ c.in-Send.is) c.index-place.result.now c.index-place.ensures) c.at-item.result c.at-item.ensures))
 
 pub returns-then-not-put-clause-makes : goal.returns-then-not-put-clause-makes
-returns-then-not-put-clause-makes g c = full_makes (g.E.Ends.seen c.args.ends.now) c.args.self.now c.requires.fits c.requires.agrees c.if-self.false c.index.result.now c.in-Send.link c.in-Send.pin c.in-Send.net c.in-Send.slot (sym c.index.ensures ∙ c.in-Send.is) (g.E.Ends.seen c.put.new.self) c.args.whole c.if-not-put.ensures
+returns-then-not-put-clause-makes g c = full_makes (g.E.Ends.seen c.args.ends.now) c.args.self.now c.requires.fits c.requires.agrees c.if-self.false c.index.result.now c.in-Send.at (sym c.index.ensures ∙ c.in-Send.is) c.index-one.result.now (loop_here (g.E.Ends.seen c.args.ends.now) c.args.self.now c.requires.fits c.requires.agrees c.if-self.false c.index.result.now c.in-Send.at (sym c.index.ensures ∙ c.in-Send.is) c.index-one.result.now c.index-one.ensures) c.link-link.result c.link-link.ensures c.index-place.result.now (place_here (g.E.Ends.seen c.args.ends.now) c.args.self.now c.requires.fits c.requires.agrees c.if-self.false c.index.result.now c.in-Send.at (sym c.index.ensures ∙ c.in-Send.is) c.index-place.result.now c.index-place.ensures) (g.E.Ends.seen c.put.new.self) c.args.whole c.if-not-put.ensures
+
+pub next-requires : goal.next-requires
+next-requires g c = send_inside (g.E.Ends.seen c.args.ends.now) c.args.self.now c.requires.fits c.requires.agrees c.if-self.false c.index.result.now c.in-Send.at (sym c.index.ensures ∙ c.in-Send.is) c.index-one.result.now (loop_here (g.E.Ends.seen c.args.ends.now) c.args.self.now c.requires.fits c.requires.agrees c.if-self.false c.index.result.now c.in-Send.at (sym c.index.ensures ∙ c.in-Send.is) c.index-one.result.now c.index-one.ensures) c.link-link.result c.link-link.ensures c.index-place.result.now (place_here (g.E.Ends.seen c.args.ends.now) c.args.self.now c.requires.fits c.requires.agrees c.if-self.false c.index.result.now c.in-Send.at (sym c.index.ensures ∙ c.in-Send.is) c.index-place.result.now c.index-place.ensures)
+
+pub turn-requires-clause-at : goal.turn-requires-clause-at
+turn-requires-clause-at g c = send_place (g.E.Ends.seen c.args.ends.now) c.args.self.now c.requires.fits c.requires.agrees c.if-self.false c.index.result.now c.in-Send.at (sym c.index.ensures ∙ c.in-Send.is)
 
 pub returns-else-not-put-clause-fits : goal.returns-else-not-put-clause-fits
-returns-else-not-put-clause-fits g c = send_fits (g.E.Ends.seen c.args.ends.now) c.args.self.now c.requires.fits c.requires.agrees c.if-self.false c.index.result.now c.in-Send.link c.in-Send.pin c.in-Send.net c.in-Send.slot (sym c.index.ensures ∙ c.in-Send.is) c.advance.new.self (g.E.Ends.seen c.put.new.self) c.advance.ensures c.if-not-put.ensures
+returns-else-not-put-clause-fits g c = send_fits (g.E.Ends.seen c.args.ends.now) c.args.self.now c.requires.fits c.requires.agrees c.if-self.false c.index.result.now c.in-Send.at (sym c.index.ensures ∙ c.in-Send.is) c.index-one.result.now (loop_here (g.E.Ends.seen c.args.ends.now) c.args.self.now c.requires.fits c.requires.agrees c.if-self.false c.index.result.now c.in-Send.at (sym c.index.ensures ∙ c.in-Send.is) c.index-one.result.now c.index-one.ensures) c.link-link.result c.link-link.ensures c.index-place.result.now (place_here (g.E.Ends.seen c.args.ends.now) c.args.self.now c.requires.fits c.requires.agrees c.if-self.false c.index.result.now c.in-Send.at (sym c.index.ensures ∙ c.in-Send.is) c.index-place.result.now c.index-place.ensures) c.turn.new.self (g.E.Ends.seen c.put.new.self) c.turn.ensures.rest (c.turn.ensures.places ∙ ap (λ (place : ℕ). set c.args.self.now.places.items c.in-Send.at place) c.next.ensures) c.if-not-put.ensures
 
 pub returns-else-not-put-clause-agrees : goal.returns-else-not-put-clause-agrees
-returns-else-not-put-clause-agrees g c = send_agrees (g.E.Ends.seen c.args.ends.now) c.args.self.now c.requires.fits c.requires.agrees c.if-self.false c.index.result.now c.in-Send.link c.in-Send.pin c.in-Send.net c.in-Send.slot (sym c.index.ensures ∙ c.in-Send.is) c.advance.new.self (g.E.Ends.seen c.put.new.self) c.advance.ensures c.if-not-put.ensures
+returns-else-not-put-clause-agrees g c = send_agrees (g.E.Ends.seen c.args.ends.now) c.args.self.now c.requires.fits c.requires.agrees c.if-self.false c.index.result.now c.in-Send.at (sym c.index.ensures ∙ c.in-Send.is) c.index-one.result.now (loop_here (g.E.Ends.seen c.args.ends.now) c.args.self.now c.requires.fits c.requires.agrees c.if-self.false c.index.result.now c.in-Send.at (sym c.index.ensures ∙ c.in-Send.is) c.index-one.result.now c.index-one.ensures) c.link-link.result c.link-link.ensures c.index-place.result.now (place_here (g.E.Ends.seen c.args.ends.now) c.args.self.now c.requires.fits c.requires.agrees c.if-self.false c.index.result.now c.in-Send.at (sym c.index.ensures ∙ c.in-Send.is) c.index-place.result.now c.index-place.ensures) c.turn.new.self (g.E.Ends.seen c.put.new.self) c.turn.ensures.rest (c.turn.ensures.places ∙ ap (λ (place : ℕ). set c.args.self.now.places.items c.in-Send.at place) c.next.ensures) c.if-not-put.ensures
 
 pub returns-else-not-put-clause-makes : goal.returns-else-not-put-clause-makes
-returns-else-not-put-clause-makes g c = send_makes (g.E.Ends.seen c.args.ends.now) c.args.self.now c.requires.fits c.requires.agrees c.if-self.false c.index.result.now c.in-Send.link c.in-Send.pin c.in-Send.net c.in-Send.slot (sym c.index.ensures ∙ c.in-Send.is) c.advance.new.self (g.E.Ends.seen c.put.new.self) c.advance.ensures c.if-not-put.ensures c.args.whole
+returns-else-not-put-clause-makes g c = send_makes (g.E.Ends.seen c.args.ends.now) c.args.self.now c.requires.fits c.requires.agrees c.if-self.false c.index.result.now c.in-Send.at (sym c.index.ensures ∙ c.in-Send.is) c.index-one.result.now (loop_here (g.E.Ends.seen c.args.ends.now) c.args.self.now c.requires.fits c.requires.agrees c.if-self.false c.index.result.now c.in-Send.at (sym c.index.ensures ∙ c.in-Send.is) c.index-one.result.now c.index-one.ensures) c.link-link.result c.link-link.ensures c.index-place.result.now (place_here (g.E.Ends.seen c.args.ends.now) c.args.self.now c.requires.fits c.requires.agrees c.if-self.false c.index.result.now c.in-Send.at (sym c.index.ensures ∙ c.in-Send.is) c.index-place.result.now c.index-place.ensures) c.turn.new.self (g.E.Ends.seen c.put.new.self) c.turn.ensures.rest (c.turn.ensures.places ∙ ap (λ (place : ℕ). set c.args.self.now.places.items c.in-Send.at place) c.next.ensures) c.if-not-put.ensures c.args.whole
 
 -- ---- a take
 
 pub take-requires : goal.take-requires
-take-requires g c = take_expected (g.E.Ends.seen c.args.ends.now) c.args.self.now c.requires.fits c.requires.agrees c.if-self.false c.index.result.now c.in-Take.link c.in-Take.slot (sym c.index.ensures ∙ c.in-Take.is)
+take-requires g c = take_expected (g.E.Ends.seen c.args.ends.now) c.args.self.now c.requires.fits c.requires.agrees c.if-self.false c.index.result.now c.in-Take.link c.in-Take.pin c.in-Take.slot (sym c.index.ensures ∙ c.in-Take.is)
 
 pub write-requires-in-Some-clause-slot : goal.write-requires-in-Some-clause-slot
-write-requires-in-Some-clause-slot g c = take_slot (g.E.Ends.seen c.args.ends.now) c.args.self.now c.requires.fits c.requires.agrees c.if-self.false c.index.result.now c.in-Take.link c.in-Take.slot (sym c.index.ensures ∙ c.in-Take.is)
+write-requires-in-Some-clause-slot g c = take_slot (g.E.Ends.seen c.args.ends.now) c.args.self.now c.requires.fits c.requires.agrees c.if-self.false c.index.result.now c.in-Take.link c.in-Take.pin c.in-Take.slot (sym c.index.ensures ∙ c.in-Take.is)
 
 pub returns-in-Some-clause-fits : goal.returns-in-Some-clause-fits
-returns-in-Some-clause-fits g c = take_fits (g.E.Ends.seen c.args.ends.now) c.args.self.now c.requires.fits c.requires.agrees c.if-self.false c.index.result.now c.in-Take.link c.in-Take.slot (sym c.index.ensures ∙ c.in-Take.is) c.write-in-Some.new.self (g.E.Ends.seen c.take.new.self) c.in-Some.word c.bit.result c.in-Some.ensures c.write-in-Some.ensures.rest c.write-in-Some.ensures.slots c.bit.ensures
+returns-in-Some-clause-fits g c = take_fits (g.E.Ends.seen c.args.ends.now) c.args.self.now c.requires.fits c.requires.agrees c.if-self.false c.index.result.now c.in-Take.link c.in-Take.pin c.in-Take.slot (sym c.index.ensures ∙ c.in-Take.is) c.write-in-Some.new.self (g.E.Ends.seen c.take.new.self) c.in-Some.word c.bit.result c.in-Some.ensures c.write-in-Some.ensures.rest c.write-in-Some.ensures.slots c.bit.ensures
 
 pub returns-in-Some-clause-agrees : goal.returns-in-Some-clause-agrees
-returns-in-Some-clause-agrees g c = take_agrees (g.E.Ends.seen c.args.ends.now) c.args.self.now c.requires.fits c.requires.agrees c.if-self.false c.index.result.now c.in-Take.link c.in-Take.slot (sym c.index.ensures ∙ c.in-Take.is) c.write-in-Some.new.self (g.E.Ends.seen c.take.new.self) c.in-Some.word c.bit.result c.in-Some.ensures c.write-in-Some.ensures.rest c.write-in-Some.ensures.slots c.bit.ensures
+returns-in-Some-clause-agrees g c = take_agrees (g.E.Ends.seen c.args.ends.now) c.args.self.now c.requires.fits c.requires.agrees c.if-self.false c.index.result.now c.in-Take.link c.in-Take.pin c.in-Take.slot (sym c.index.ensures ∙ c.in-Take.is) c.write-in-Some.new.self (g.E.Ends.seen c.take.new.self) c.in-Some.word c.bit.result c.in-Some.ensures c.write-in-Some.ensures.rest c.write-in-Some.ensures.slots c.bit.ensures
 
 pub returns-in-Some-clause-makes : goal.returns-in-Some-clause-makes
-returns-in-Some-clause-makes g c = take_makes (g.E.Ends.seen c.args.ends.now) c.args.self.now c.requires.fits c.requires.agrees c.if-self.false c.index.result.now c.in-Take.link c.in-Take.slot (sym c.index.ensures ∙ c.in-Take.is) c.write-in-Some.new.self (g.E.Ends.seen c.take.new.self) c.in-Some.word c.bit.result c.in-Some.ensures c.write-in-Some.ensures.rest c.write-in-Some.ensures.slots c.bit.ensures c.args.whole
+returns-in-Some-clause-makes g c = take_makes (g.E.Ends.seen c.args.ends.now) c.args.self.now c.requires.fits c.requires.agrees c.if-self.false c.index.result.now c.in-Take.link c.in-Take.pin c.in-Take.slot (sym c.index.ensures ∙ c.in-Take.is) c.write-in-Some.new.self (g.E.Ends.seen c.take.new.self) c.in-Some.word c.bit.result c.in-Some.ensures c.write-in-Some.ensures.rest c.write-in-Some.ensures.slots c.bit.ensures c.args.whole
 
 pub returns-in-None-clause-makes : goal.returns-in-None-clause-makes
-returns-in-None-clause-makes g c = empty_makes (g.E.Ends.seen c.args.ends.now) c.args.self.now c.requires.fits c.requires.agrees c.if-self.false c.index.result.now c.in-Take.link c.in-Take.slot (sym c.index.ensures ∙ c.in-Take.is) (g.E.Ends.seen c.take.new.self) c.args.whole c.in-None.ensures
+returns-in-None-clause-makes g c = empty_makes (g.E.Ends.seen c.args.ends.now) c.args.self.now c.requires.fits c.requires.agrees c.if-self.false c.index.result.now c.in-Take.link c.in-Take.pin c.in-Take.slot (sym c.index.ensures ∙ c.in-Take.is) (g.E.Ends.seen c.take.new.self) c.args.whole c.in-None.ensures
 
 -- ---- the end of a clock
 
@@ -112,7 +127,7 @@ pub end_clock-requires-clause-within : goal.end_clock-requires-clause-within
 end_clock-requires-clause-within g c = end_within (g.E.Ends.seen c.args.ends.now) c.args.self.now c.requires.fits c.requires.agrees c.if-self.false
 
 pub returns-in-Step-clause-fits : goal.returns-in-Step-clause-fits
-returns-in-Step-clause-fits g c = end_fits (g.E.Ends.seen c.args.ends.now) c.args.self.now c.requires.fits c.requires.agrees c.if-self.false c.end_clock.new.self c.end_clock.ensures.spare.0 c.end_clock.ensures.rest c.end_clock.ensures.slots c.end_clock.ensures.next c.end_clock.ensures.rows c.end_clock.ensures.spare.1 c.end_clock.ensures.capacity
+returns-in-Step-clause-fits g c = end_fits (g.E.Ends.seen c.args.ends.now) c.args.self.now c.requires.fits c.requires.agrees c.if-self.false c.end_clock.new.self c.end_clock.ensures.spare.0 c.end_clock.ensures.rest c.end_clock.ensures.slots c.end_clock.ensures.next c.end_clock.ensures.rows c.end_clock.ensures.spare.1 c.end_clock.ensures.capacity c.index.result.now (sym c.index.ensures ∙ c.in-Step.is)
 
 pub returns-in-Step-clause-agrees : goal.returns-in-Step-clause-agrees
 returns-in-Step-clause-agrees g c = end_agrees (g.E.Ends.seen c.args.ends.now) c.args.self.now c.requires.fits c.requires.agrees c.if-self.false c.end_clock.new.self c.end_clock.ensures.spare.0 c.end_clock.ensures.rest c.end_clock.ensures.slots c.end_clock.ensures.next c.end_clock.ensures.rows c.end_clock.ensures.spare.1 c.end_clock.ensures.capacity c.index.result.now (sym c.index.ensures ∙ c.in-Step.is)
