@@ -27,9 +27,9 @@ pub fn emitted_texts_are_printed()
         → map spelled_model board.models ≡ spelled_board planned → IsBoardOf planned board }
 {}
 
-/// So the reader finds no fault in the text, if it is within the limits of designs, and there is a design that it spells. This
-/// is the emitted board, and no quantity of it is above its limit: the cells and outputs that the text was measured by are no
-/// fewer than its own.
+/// So the reader finds no fault in the text, if it is within the limits of designs, and there is a design that it
+/// spells. This is the emitted board, and no quantity of it is above its limit: the cells and outputs that the text was
+/// measured by are no fewer than its own.
 pub fn emitted_texts_spell_boards()
     ensures spells { (planned : PlannedBoard) → IsSound planned → FitsDesigns planned
         → design_of (emitted_text planned) ≡ Ok (spelled_board planned) }
