@@ -3,11 +3,11 @@
 
     bench/emitted.py PROGRAM [CLOCKS] [SEED]
 
-PROGRAM is a built vwires; yosys and Icarus Verilog (iverilog, vvp) have to be installed. yosys makes five designs from Verilog. Each
-is planned on a ring of chips, with a row by chance for each of CLOCKS clocks (default 300), and three things are compared clock by
-clock: the trace of `run` by the plan; that of `sim` over the emitted board, with each row held for P + 1 clocks, P being the period,
-in the last of these clocks; and what Icarus Verilog prints in these clocks, of the Verilog that yosys makes of the emitted board. It
-prints a table in Markdown, and ends with 1 where something differs.
+PROGRAM is a built vwires; yosys and Icarus Verilog (iverilog, vvp) have to be installed. yosys makes five designs from
+Verilog. Each is planned on a ring of chips, with a row by chance for each of CLOCKS clocks (default 300). Three things
+are compared clock by clock: the trace of `run` by the plan; that of `sim` over the emitted board, each row held for
+P + 1 clocks, P being the period, in the last of these clocks; and what Icarus Verilog prints in these clocks, of the
+Verilog that yosys makes of the emitted board. It prints a table in Markdown, and ends with 1 where something differs.
 """
 import pathlib
 import random
@@ -15,7 +15,6 @@ import re
 import subprocess
 import sys
 import tempfile
-import time
 
 MODULES = {
     # a shift register with feedback, which can be loaded
@@ -106,7 +105,11 @@ module queue(input clk, input put, input take, input [3:0] word, output [3:0] fi
 endmodule""",
 }
 
-RECIPE = "read_verilog {0}.v; synth -flatten -top {0}; async2sync; dfflegalize -cell $_DFF_P_ 01; abc -lut 4; opt_clean -purge; write_blif {0}.blif"
+RECIPE = (
+    "read_verilog {0}.v; synth -flatten -top {0}; async2sync; dfflegalize -cell $_DFF_P_ 01; abc -lut 4; "
+    "opt_clean -purge; write_blif {0}.blif"
+)
+AS_VERILOG = "read_blif board.blif; hierarchy -top board; flatten; opt_clean; write_verilog board.v"
 # yosys has latches without a clock as cells named $ff
 CELL = """
 module \\$ff (D, Q);
@@ -120,13 +123,12 @@ endmodule
 """
 
 
-def run(words, folder, wanted=0):
-    """What a command prints, and how long it takes."""
-    start = time.monotonic()
+def run(words, folder):
+    """What a command prints; this program ends where one fails."""
     done = subprocess.run([str(word) for word in words], cwd=folder, capture_output=True, text=True)
-    if done.returncode != wanted:
+    if done.returncode != 0:
         sys.exit(f"{' '.join(map(str, words))}: status {done.returncode}\n{done.stderr}{done.stdout[-2000:]}")
-    return done.stdout, time.monotonic() - start
+    return done.stdout
 
 
 def ring(cells):
@@ -148,7 +150,7 @@ def traced(text):
 
 def as_verilog(folder):
     """Turns the emitted board into Verilog, whose latches have their initial bits; gives the ports in order."""
-    run(["yosys", "-q", "-p", "read_blif board.blif; hierarchy -top board; flatten; opt_clean; write_verilog board.v"], folder)
+    run(["yosys", "-q", "-p", AS_VERILOG], folder)
     text = (folder / "board.v").read_text()
     init = dict()
     for bit, name in re.findall(r"\(\* init = 1'h([01]) \*\)\s+(?:wire|output|reg)\s+(\S+);", text):
@@ -156,18 +158,22 @@ def as_verilog(folder):
     def with_bit(found):
         name = found.group(2)
         return found.group(0).replace(".WIDTH(32'd1)", f".WIDTH(32'd1), .INIT(1'b{init.get(name, 'x')})")
-    text, count = re.subn(r"\\\$ff\s+#\(\s*\.WIDTH\(32'd1\)\s*\) (\S+) \(\s*\.D\([^)]*\),\s*\.Q\((\S+)\)\s*\);", with_bit, text)
-    ports = re.search(r"module board\((.*?)\);", text, re.S).group(1).split(", ")
+    cell = r"\\\$ff\s+#\(\s*\.WIDTH\(32'd1\)\s*\) (\S+) \(\s*\.D\([^)]*\),\s*\.Q\((\S+)\)\s*\);"
+    text = re.sub(cell, with_bit, text)
+    ports = [port.strip() for port in re.search(r"module board\((.*?)\);", text, re.S).group(1).split(",")]
     (folder / "board.v").write_text(text + CELL)
-    return ports, count
+    return ports
 
 
 def bench(ports, rows, every):
     """A test bench that holds each row, and prints the outputs before the last edge of each group."""
-    by_number = lambda letter: sorted((port for port in ports if re.fullmatch(letter + r"\d+", port)), key=lambda port: int(port[1:]))
+    def by_number(letter):
+        return sorted((port for port in ports if re.fullmatch(letter + r"\d+", port)), key=lambda port: int(port[1:]))
+
     shown = by_number("y") + by_number("s")
     width = max(1, len(rows[0]))
-    joined = ", ".join([f".{port}(row[{width - 1 - int(port[1:])}])" for port in by_number("x")] + [f".{port}({port})" for port in shown])
+    taken = [f".{port}(row[{width - 1 - int(port[1:])}])" for port in by_number("x")]
+    joined = ", ".join(taken + [f".{port}({port})" for port in shown])
     return f"""
 module bench;
   reg clk = 0;
@@ -194,6 +200,11 @@ endmodule
 """
 
 
+def different(one, other):
+    """At how many places two lists differ; those past the end of one of them count."""
+    return sum(left != right for left, right in zip(one, other)) + abs(len(one) - len(other))
+
+
 def compare(program, name, source, clocks, chance, folder):
     """A line of the table, and how many clocks differ."""
     (folder / f"{name}.v").write_text(source)
@@ -205,27 +216,27 @@ def compare(program, name, source, clocks, chance, folder):
     columns = [port for port in inputs if port != "clk"]
     rows = ["".join(chance.choice("01") for _ in columns) for _ in range(clocks)]
     (folder / "rows.stim").write_text("\n".join(rows) + "\n")
-    plan, _ = run([program, "plan", f"{name}.blif", "ring.board"], folder)
+    plan = run([program, "plan", f"{name}.blif", "ring.board"], folder)
     (folder / "board.plan").write_text(plan)
     period = int(plan.split()[4])
     (folder / "held.stim").write_text("".join(f"{row}\nhold {period}\n" for row in rows))
-    emitted, _ = run([program, "emit", f"{name}.blif", "ring.board", "plan=board.plan"], folder)
+    emitted = run([program, "emit", f"{name}.blif", "ring.board", "plan=board.plan"], folder)
     (folder / "board.blif").write_text(emitted)
-    own, _ = run([program, "run", f"{name}.blif", "ring.board", "rows.stim", "plan=board.plan"], folder)
+    own = run([program, "run", f"{name}.blif", "ring.board", "rows.stim", "plan=board.plan"], folder)
     wanted = [outputs + latches for outputs, latches in traced(own)]
-    by_sim, sim_time = run([program, "sim", "board.blif", "held.stim"], folder)
+    by_sim = run([program, "sim", "board.blif", "held.stim"], folder)
     shown = [outputs for outputs, _ in traced(by_sim)][period :: period + 1]
-    ports, latches = as_verilog(folder)
+    ports = as_verilog(folder)
     (folder / "rows.mem").write_text("\n".join(rows) + "\n")
     (folder / "bench.v").write_text(bench(ports, rows, period + 1))
     run(["iverilog", "-g2005", "-o", "bench.out", "bench.v", "board.v"], folder)
-    by_other, other_time = run(["vvp", "-n", "bench.out"], folder)
+    by_other = run(["vvp", "-n", "bench.out"], folder)
     seen = [line for line in by_other.splitlines() if re.fullmatch("[01xz]+", line)]
-    differs = [len(wanted) != len(shown), len(wanted) != len(seen)]
-    wrong_sim = sum(one != other for one, other in zip(wanted, shown)) + differs[0]
-    wrong_other = sum(one != other for one, other in zip(wanted, seen)) + differs[1]
+    wrong_sim = different(wanted, shown)
+    wrong_other = different(wanted, seen)
     board_cells = sum(line.startswith((".names", ".latch")) for line in emitted.splitlines())
-    print(f"| {name} | {cells} | {period} | {board_cells:,} | {len(emitted) / 1000:,.0f} | {len(wanted)} | {wrong_sim} | {wrong_other} | {sim_time:.2f} | {other_time:.2f} |")
+    size = f"{board_cells:,} | {len(emitted) / 1000:,.0f}"
+    print(f"| {name} | {cells} | {period} | {size} | {len(wanted)} | {wrong_sim} | {wrong_other} |")
     return wrong_sim + wrong_other
 
 
@@ -235,8 +246,8 @@ def main():
     program = pathlib.Path(sys.argv[1]).resolve()
     clocks = int(sys.argv[2]) if len(sys.argv) > 2 else 300
     chance = random.Random(int(sys.argv[3]) if len(sys.argv) > 3 else 1)
-    print("| design | cells | period | cells of its board | text, kB | clocks | differ in `sim` | differ in Icarus | `sim`, s | Icarus, s |")
-    print("|---|---|---|---|---|---|---|---|---|---|")
+    print("| design | cells | period | cells of its board | text, kB | clocks | differ in `sim` | in Icarus |")
+    print("|---|---|---|---|---|---|---|---|")
     wrong = 0
     for name, source in MODULES.items():
         with tempfile.TemporaryDirectory() as folder:

@@ -4,7 +4,7 @@ use Rattle.std.specs.List.{list_any, range_with_len}
 use Rattle.std.specs.Str.{bytes_eq}
 use Rattle.std.proofs.lemmas.Bool.{false_from_ne_true}
 use Rattle.std.proofs.lemmas.List.{map-append}
-use Rattle.std.proofs.lemmas.List.FromFn.{get_or-range_with_len, length-range_with_len}
+use Rattle.std.proofs.lemmas.List.FromFn.{get_or-range_with_len, length-map-range_with_len, length-range_with_len}
 use Rattle.std.proofs.lemmas.Option.{get_or_from_slice_get, slice_get_within}
 use Rattle.std.proofs.lemmas.Simd.{map-map}
 use Rattle.vw_net.specs.Cells.{latch_count, start_value}
@@ -305,3 +305,9 @@ acts_as planned sound board is_board small unknown rows = record { at_last = at_
 -- there is a run
 pub has_run : (planned : PlannedBoard) (board : Design) → IsSound planned → IsBoardOf planned board → IsSmall board → (unknown : Bool) (rows : List (List Bool)) → (bits : Values) × IsRun planned unknown rows bits
 has_run planned board sound is_board small unknown rows = (value planned sound board is_board small unknown rows, is_run planned sound board is_board small unknown rows)
+
+-- and as many columns as the planned netlist has inputs
+pub has_columns : (planned : PlannedBoard) (board : Design) → IsSound planned → IsBoardOf planned board → IsSmall board → length (columns board) ≡ planned.ordered.flat.inputs
+has_columns planned board sound is_board small =
+    ap (λ (names : List Word). length names) (columns_are planned sound board is_board small false [])
+    ∙ length-map-range_with_len (λ n. spelled (column n)) 0 planned.ordered.flat.inputs

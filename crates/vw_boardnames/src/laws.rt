@@ -1,6 +1,7 @@
 //! Laws of the definitions, as contracts of functions that do nothing.
-ghost use Rattle.std.specs.Prelude.{◌≡◌, Bool, List, None};
+ghost use Rattle.std.specs.Prelude.{◌≡◌, Bool, List, None, length};
 ghost use Rattle.vw_design.specs.Accepted.{IsAccepted};
+ghost use Rattle.vw_design.specs.Clocks.{columns};
 ghost use Rattle.vw_design.specs.Limits.{IsSmall};
 ghost use Rattle.vw_design.specs.Loops.{IsLoopFree};
 ghost use Rattle.vw_design.specs.NetFaults.{two_drivers};
@@ -22,10 +23,13 @@ pub fn emitted_boards_are_accepted()
         → IsBoardOf planned board → IsSmall board → IsLoopFree board }
 {}
 
-/// It shows, at the last microclock of each clock, the outputs and then the latch values of the design that was planned, for
-/// all rows, each held for as many microclocks as a clock has. And over any rows its nets have the bits of a run of the
-/// board's nodes, so that there is such a run.
+/// It takes rows of the same width as the design that was planned. It shows, at the last microclock of each clock, the
+/// outputs and then the latch values of that design, for all rows, each held for as many microclocks as a clock has. And
+/// over any rows its nets have the bits of a run of the board's nodes, so that there is such a run.
 pub fn emitted_boards_act_as_their_designs()
+    ensures columns { (planned : PlannedBoard) (board : Design) → IsSound planned
+        → IsBoardOf planned board → IsSmall board
+        → length (columns board) ≡ planned.ordered.flat.inputs }
     ensures acts { (planned : PlannedBoard) (board : Design) → IsSound planned
         → IsBoardOf planned board → IsSmall board → (unknown : Bool) (rows : List (List Bool))
         → ActsAs planned board unknown rows }

@@ -1,6 +1,7 @@
 //! Laws of the definitions, as contracts of functions that do nothing.
-ghost use Rattle.std.specs.Prelude.{◌≡◌, Bool, List, Ok, map};
+ghost use Rattle.std.specs.Prelude.{◌≡◌, Bool, List, Ok, length, map};
 ghost use Rattle.vw_design.specs.Accepted.{IsAccepted};
+ghost use Rattle.vw_design.specs.Clocks.{columns};
 ghost use Rattle.vw_design.specs.Limits.{IsSmall};
 ghost use Rattle.vw_design.specs.Loops.{IsLoopFree};
 ghost use Rattle.vw_design.specs.declared.design.Design.{Design};
@@ -27,9 +28,9 @@ pub fn emitted_texts_are_printed()
         → map spelled_model board.models ≡ spelled_board planned → IsBoardOf planned board }
 {}
 
-/// So the reader finds no fault in the text, if it is within the limits of designs, and there is a design that it spells. This
-/// is the emitted board, and no quantity of it is above its limit: the cells and outputs that the text was measured by are no
-/// fewer than its own.
+/// So the reader finds no fault in the text, if it is within the limits of designs, and there is a design that it
+/// spells. This is the emitted board, and no quantity of it is above its limit: the cells and outputs that the text was
+/// measured by are no fewer than its own.
 pub fn emitted_texts_spell_boards()
     ensures spells { (planned : PlannedBoard) → IsSound planned → FitsDesigns planned
         → design_of (emitted_text planned) ≡ Ok (spelled_board planned) }
@@ -43,13 +44,17 @@ pub fn emitted_texts_spell_boards()
     printed_designs_read();
 }
 
-/// And this design has no fault and no loop, and shows at the last microclock of each clock the outputs and then the latch
-/// values of the design that was planned, for all rows, each held for as many microclocks as a clock has.
+/// And this design has no fault and no loop, and takes rows of the same width as the design that was planned. It shows at
+/// the last microclock of each clock the outputs and then the latch values of that design, for all rows, each held for as
+/// many microclocks as a clock has.
 pub fn emitted_texts_act_as_their_designs()
     ensures accepted { (planned : PlannedBoard) (board : Design) → IsSound planned → FitsDesigns planned
         → design_of (emitted_text planned) ≡ Ok (map spelled_model board.models) → IsAccepted board }
     ensures loop_free { (planned : PlannedBoard) (board : Design) → IsSound planned → FitsDesigns planned
         → design_of (emitted_text planned) ≡ Ok (map spelled_model board.models) → IsLoopFree board }
+    ensures columns { (planned : PlannedBoard) (board : Design) → IsSound planned → FitsDesigns planned
+        → design_of (emitted_text planned) ≡ Ok (map spelled_model board.models)
+        → length (columns board) ≡ planned.ordered.flat.inputs }
     ensures acts { (planned : PlannedBoard) (board : Design) → IsSound planned → FitsDesigns planned
         → design_of (emitted_text planned) ≡ Ok (map spelled_model board.models)
         → (unknown : Bool) (rows : List (List Bool)) → ActsAs planned board unknown rows }

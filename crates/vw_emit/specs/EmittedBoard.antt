@@ -1,18 +1,21 @@
 -- What the text of an emitted board spells, and what that design does: whoever simulates it, by whatever tool, finds the outputs
 -- and latch values of the design that was planned. Source: this project.
-use Rattle.std.specs.Prelude.{◌≡◌, ◌+◌, ◌*◌, ◌++◌, ℕ, Bool, List, [], Some, replicate, slice_get}
+use Rattle.std.specs.Prelude.{◌≡◌, ◌+◌, ◌*◌, ◌++◌, ℕ, Bool, List, [], Some, length, replicate, slice_get}
 use Rattle.std.specs.List.{flat_map}
+use Rattle.vw_design.specs.Clocks.{columns}
 use Rattle.vw_design.specs.PathHistory.{path_history}
 use Rattle.vw_design.specs.declared.design.Design.{Design}
 use Rattle.vw_front.specs.Designs.{IsDesignOf}
 use Rattle.vw_plan.specs.PlannedBoard.{PlannedBoard}
 use Rattle.vw_boardnames.specs.Shows.{ActsAs}
 
--- the text spells a design that runs, and over held rows this shows at the last microclock of each clock the outputs and then the
--- latch values of the planned netlist, for all rows and both values of what starts unknown
+-- the text spells a design that runs, with a column for each input of the planned netlist. Over held rows it shows at the last
+-- microclock of each clock the outputs and then the latch values of the netlist, for all rows and both values of what starts
+-- unknown
 pub record IsEmittedBoard (planned : PlannedBoard) (text : List ℕ) : Type 0 where
   pub board : Design
   pub is : IsDesignOf text board
+  pub as_wide : length (columns board) ≡ planned.ordered.flat.inputs
   pub acts : (unknown : Bool) (rows : List (List Bool)) → ActsAs planned board unknown rows
 
 -- ---- the same between designs
@@ -33,8 +36,10 @@ pub record ShowsDesign (period : ℕ) (board design : Design) (unknown : Bool) (
       → slice_get (path_history design [] unknown rows).states clock ≡ Some state
       → slice_get (path_history board [] unknown (held period rows)).outputs (last_of period clock) ≡ Some (outputs ++ state)
 
--- the text spells a design that runs, and this shows a design, for all rows and both values of what starts unknown
+-- the text spells a design that runs, with as many columns as a design, and shows that design, for all rows and both values of
+-- what starts unknown
 pub record IsBoardOfDesign (period : ℕ) (design : Design) (text : List ℕ) : Type 0 where
   pub board : Design
   pub is : IsDesignOf text board
+  pub as_wide : length (columns board) ≡ length (columns design)
   pub shows : (unknown : Bool) (rows : List (List Bool)) → ShowsDesign period board design unknown rows

@@ -9,10 +9,10 @@ use std::alloc::Global;
 use vw_boardtext::EmitFault;
 use vw_plan::Checked;
 
-/// The planned board as the text of a design in BLIF: a model of the board, which places a model of each node, the host and
-/// the chips. It is a design without a fault or a loop. With each row held for as many microclocks as a clock has, one more
-/// than the period, it shows at the last of them the outputs and then the latch values of the planned design at that clock.
-/// It is within the limits of designs and their texts; a fault is the first of these that it is above.
+/// The planned board as the text of a design in BLIF: a model of the board, which places a model of each node, the host
+/// and the chips. It is a design without a fault or a loop. With each row held for as many microclocks as a clock has,
+/// one more than the period, it shows at the last of them the outputs and then the latch values of the planned design
+/// at that clock. It is within the limits of designs and their texts; a fault is the first of these that it is above.
 pub fn emit(alloc: Global, checked: &Checked) -> Result<Vec<u8>, EmitFault>
     ensures text { IfOk result (λ text. text.items ≡ emitted_text
         (planned_board checked.now.ordered checked.now.board checked.now.plan)) }

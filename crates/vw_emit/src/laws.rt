@@ -11,8 +11,8 @@ ghost use Rattle.vw_emit.specs.EmittedBoard.{IsBoardOfDesign, IsEmittedBoard};
 use vw_bridge::{emitted_texts_act_as_their_designs, emitted_texts_spell_boards};
 use vw_design::histories_agree;
 
-/// The text of the emitted board of a sound plan, within the limits of designs, spells a design that runs and does what was
-/// planned. So it isn't refused, and each design that it spells is that one.
+/// The text of the emitted board of a sound plan, within the limits of designs, spells a design that runs and does what
+/// was planned. So it isn't refused, and each design that it spells is that one.
 pub fn emitted_texts_spell_designs()
     ensures board { (planned : PlannedBoard) → IsSound planned → FitsDesigns planned
         → IsEmittedBoard planned (emitted_text planned) }
@@ -27,8 +27,8 @@ pub fn emitted_texts_spell_designs()
     emitted_texts_act_as_their_designs();
 }
 
-/// So it is between designs: where the netlist that was planned is that of a design, the emitted text spells a design that
-/// shows it.
+/// So it is between designs: where the netlist that was planned is that of a design, the emitted text spells a design
+/// that shows it.
 pub fn emitted_texts_show_their_designs()
     ensures { (planned : PlannedBoard) (design : Design) → IsSound planned → FitsDesigns planned
         → IsFlatOf design [] planned.ordered.flat

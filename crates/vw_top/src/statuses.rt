@@ -125,17 +125,17 @@ pub fn pieces_join()
     traces_join();
 }
 
-/// What `emit` writes, by a plan that is given or by one that it makes, spells a design that runs. Simulated by any tool, with
-/// each row held for one clock more than the period, it shows in the last of these clocks the outputs of the design and then
-/// the values of its latches before the step.
+/// What `emit` writes, by a plan that is given or by one that it makes, spells a design that runs. Simulated by any
+/// tool, with each row held for one clock more than the period, it shows in the last of these clocks the outputs of the
+/// design and then the values of its latches before the step.
 pub fn emitted_boards_show_designs()
     ensures { BoardsShow }
 {
     emitted_texts_show_their_designs();
 }
 
-/// What each status of `emit` says of its files, where it is given a plan and where it makes one: after status 0, out has a
-/// design that runs and shows the design of the text.
+/// What each status of `emit` says of its files, where it is given a plan and where it makes one: after status 0, out
+/// has a design that runs and shows the design of the text.
 pub fn emit_statuses()
     ensures { (design board : List ℕ) (given : Option (List ℕ)) (call : Call)
         → IsCallOf (emit_course design board given) call

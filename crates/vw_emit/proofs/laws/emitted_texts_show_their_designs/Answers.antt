@@ -1,4 +1,4 @@
-use Rattle.std.proofs.Common.{◌≡◌, [], Some, slice_get, subst, sym}
+use Rattle.std.proofs.Common.{◌∙◌, ◌≡◌, [], Some, slice_get, subst, sym}
 use Rattle.vw_net.specs.History.{History}
 use Rattle.vw_emit.proofs.laws.emitted_texts_show_their_designs.Goals as goal
 
@@ -8,6 +8,7 @@ returns c = λ planned design sound fits flat.
     record {
       board = is.board;
       is = is.is;
+      as_wide = is.as_wide ∙ flat.inputs;
       shows = λ unknown rows.
           let agree = c.histories_agree.ensures design [] planned.ordered.flat flat unknown rows in
           let acts = is.acts unknown rows in

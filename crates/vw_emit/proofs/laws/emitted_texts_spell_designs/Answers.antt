@@ -14,6 +14,7 @@ board_is c = λ planned sound fits.
         accepted = its.accepted planned some.0 sound fits some.1;
         loop_free = its.loop_free planned some.0 sound fits some.1;
       };
+      as_wide = its.columns planned some.0 sound fits some.1;
       acts = its.acts planned some.0 sound fits some.1;
     }
 
