@@ -16,7 +16,7 @@ use Rattle.vw_node.specs.Fits.{IsFit, state_of}
 use Rattle.vw_node.specs.Holding.{HoldsValues}
 use Rattle.vw_node.specs.Positions.{Agrees, sent_by, taken_by}
 use Rattle.vw_answer.specs.Answers.{IsFinished}
-use Rattle.vw_crew.specs.Ends.{SeenOwn, ends_of, kept_of, put_at, sent_of, take_at, taken_of}
+use Rattle.vw_crew.specs.Ends.{SeenOwn, ends_of, keeps_of, put_at, sent_of, take_at, taken_of}
 use Rattle.vw_crew.specs.Groups.{AllAtWork, AllStay, IsAtWork, Marks, SeenGroup, marks_of, node_at, own_at, share_of}
 use Rattle.vw_crew.specs.Laying.{AreHung, AreThrough, IsCrew, IsMarked}
 use Rattle.vw_crew.proofs.Dealt.{both_found}
@@ -154,12 +154,7 @@ module _ (job : Job) (keeps : Bool) (groups : List SeenGroup) (crew : IsCrew job
       by (Some end) is = (end, (refl, ap (taken_of (script own_there.0.job place)) (sym is) ∙ all))
 
     kept_there : (place : ℕ) (link : Link) (end : SeenTakeEnd) → slice_get job.checked.board.links place ≡ Some link → link.to ≡ number → take_at own_there.0 place ≡ Some end → end.keeps ≡ keeps
-    kept_there place link end is to at = same_test end.keeps keeps (ap kept_of (sym at) ∙ (crew.ends number own_there.0 own_there.1).kept place link is to) where
-      same_test : (one other : Bool) → ◌≡◌ {A = ℕ} (if one then 1 else 0) (if other then 1 else 0) → one ≡ other
-      same_test true true same = refl
-      same_test true false same = absurd (omega (arith, same))
-      same_test false true same = absurd (omega (arith, same))
-      same_test false false same = refl
+    kept_there place link end is to at = ap keeps_of (sym at) ∙ (crew.ends number own_there.0 own_there.1).kept place link is to
 
   -- all links are still laid, and everything was sent and taken
   pub all_hung : AreHung job keeps 0 (length job.checked.board.links) (λ link. length (script job link)) groups

@@ -11,7 +11,7 @@ use Rattle.vw_node.specs.States.{NodeState}
 use Rattle.vw_crew.specs.Groups.{Marks}
 
 abbrev pub fixed : SeenEnds → Marks
-fixed ends = record { job = ends.job; node = ends.node; kept = ends.room }
+fixed ends = record { job = ends.job; node = ends.node; keeps = ends.keeps }
 
 module _ (job : Job) (node : ℕ) where
   step_keeps : (old new : NodeState) (before after : SeenEnds) (answer : Step) → Steps job node old new before after answer → fixed after ≡ fixed before

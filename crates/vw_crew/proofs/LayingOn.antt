@@ -15,7 +15,7 @@ use Rattle.vw_node.specs.Fits.{IsFit, state_of}
 use Rattle.vw_node.specs.Positions.{Agrees, sent_by, taken_by}
 use Rattle.vw_node.specs.States.{NodeState, start_state}
 use Rattle.vw_node.proofs.Held.{start_holds}
-use Rattle.vw_crew.specs.Ends.{SeenOwn, ends_of, kept_of, put_at, sent_of, take_at, taken_of}
+use Rattle.vw_crew.specs.Ends.{SeenOwn, ends_of, keeps_of, put_at, sent_of, take_at, taken_of}
 use Rattle.vw_crew.specs.Groups.{Changes, IsAtWork, IsFirst, IsOwnOf, SeenGroup, marks_of, node_at, own_at}
 use Rattle.vw_crew.specs.Laying.{AreHung, IsBare, IsCrew, IsHung, IsMarked}
 use Rattle.vw_crew.proofs.Laid.{had_before, still_bare, still_hung}
@@ -167,7 +167,7 @@ module _ (job : Job) (keeps : Bool) where
           kept = λ place link is to.
               let hung = laying.hung place link (omega arith) (slice_get_within links place link is) is in
               let same : hung.taker ≡ own = ap (λ (found : Option SeenOwn). unwrap_or found own) (sym hung.taker_is ∙ ap (own_at groups) to ∙ own_is) in
-              ap kept_of (ap (λ (any : SeenOwn). take_at any place) (sym same) ∙ hung.take_is) ∙ ap (λ (keep : Bool). if keep then 1 else 0) hung.kept;
+              ap keeps_of (ap (λ (any : SeenOwn). take_at any place) (sym same) ∙ hung.take_is) ∙ hung.kept;
         }
 
     -- a place in a group is that of a node's number

@@ -1,5 +1,5 @@
 -- The ends of a node after a call of one of them.
-use Rattle.std.proofs.Common.{◌≡◌, ◌<◌, ◌+◌, ℕ, Bool, true, false, List, length, get_or, set, slice_get, ap, ap₂, sym, ◌∙◌, Option, Some, None, true≢false}
+use Rattle.std.proofs.Common.{◌≡◌, ◌<◌, ◌+◌, ℕ, Bool, true, false, List, length, get_or, set, slice_get, ap, inl, inr, refl, subst, sym, ◌∙◌, ⊎_elim, ◌≤◌, Option, Some, None, true≢false}
 use Rattle.std.specs.Prelude.{unwrap_or}
 use Rattle.std.proofs.lemmas.List.{length-set}
 use Rattle.std.proofs.lemmas.Option.{none-some}
@@ -8,7 +8,7 @@ use Rattle.vw_prog.specs.declared.word.Word.{Word}
 use Rattle.vw_prog.specs.Ends.{Puts, Takes, counted, one_more, refused}
 use Rattle.vw_prog.specs.Fabric.{PutsOne, SeenPutEnd, SeenTakeEnd, TakesOne}
 use Rattle.vw_prog.specs.Scripts.{script}
-use Rattle.vw_crew.specs.Ends.{AreOwn, SeenOwn, empty_of, ends_of, full_of, kept_of, put_at, sent_of, take_at, taken_of}
+use Rattle.vw_crew.specs.Ends.{AreOwn, SeenOwn, empty_of, ends_of, full_of, keeps_of, put_at, room_of, sent_of, take_at, taken_of}
 use Rattle.vw_crew.proofs.Places.{place_within, set_changes, set_fine, set_stays}
 
 module _ (own : SeenOwn) (are : AreOwn own) (link : ℕ) where
@@ -54,7 +54,7 @@ module _ (own : SeenOwn) (are : AreOwn own) (link : ℕ) where
     pub put_done : (answer : Bool) (after : SeenPutEnd) → PutsOne end after answer → AreOwn (then_puts after) × Puts link (ends_of own) (ends_of (then_puts after)) answer
     put_done true after puts = (
       put_fine after (ap (λ (any : SeenPutEnd). any.link) puts.ends) (ap (λ (any : SeenPutEnd). any.words) puts.ends),
-      record { ends = all; room = λ told. absurd (true≢false (sym told)) },
+      record { ends = all; refused = inl refl; room = λ told. absurd (true≢false (sym told)) },
     ) where
       sent : (ends_of (then_puts after)).sent ≡ counted link (ends_of own).sent
       sent = set_changes own.puts link put_within (Some after) (λ other place. sent_of (words other) place) (λ count. count + 1) (ap (λ (any : SeenPutEnd). any.sent) puts.ends ∙ ap (λ (place : Option SeenPutEnd). sent_of (words link) place + 1) (sym there))
@@ -62,20 +62,29 @@ module _ (own : SeenOwn) (are : AreOwn own) (link : ℕ) where
       full : (ends_of (then_puts after)).full ≡ (ends_of own).full
       full = set_stays own.puts link put_within (Some after) (λ other place. full_of place) (ap (λ (any : SeenPutEnd). any.full) puts.ends ∙ ap full_of (sym there))
 
+      room : (ends_of (then_puts after)).room ≡ (ends_of own).room
+      room = set_stays own.puts link put_within (Some after) (λ other place. room_of place) (ap (λ (any : SeenPutEnd). any.room) puts.ends ∙ ap room_of (sym there))
+
       all : ends_of (then_puts after) ≡ record (ends_of own) { sent = counted link (ends_of own).sent }
-      all = ap₂ (λ (sent full : ℕ → ℕ). record (ends_of own) { sent = sent; full = full }) sent full
+      all = λ i. record (ends_of own) { sent = sent i; full = full i; room = room i }
     put_done false after puts = (
       put_fine after (ap (λ (any : SeenPutEnd). any.link) puts.ends) (ap (λ (any : SeenPutEnd). any.words) puts.ends),
-      record { ends = all; room = λ told. absurd (true≢false (sym told)) },
+      record { ends = all; refused = ⊎_elim inl (λ full. inr (is_full full)) puts.refused; room = λ told. absurd (true≢false (sym told)) },
     ) where
+      is_full : end.room ≤ end.sent → (ends_of own).room link ≤ (ends_of own).sent link
+      is_full full = subst (λ (place : Option SeenPutEnd). room_of place ≤ sent_of (words link) place) (sym there) full
+
       sent : (ends_of (then_puts after)).sent ≡ (ends_of own).sent
       sent = set_stays own.puts link put_within (Some after) (λ other place. sent_of (words other) place) (ap (λ (any : SeenPutEnd). any.sent) puts.ends ∙ ap (sent_of (words link)) (sym there))
 
       full : (ends_of (then_puts after)).full ≡ refused link (ends_of own).full
       full = set_changes own.puts link put_within (Some after) (λ other place. full_of place) one_more (ap (λ (any : SeenPutEnd). any.full) puts.ends ∙ ap (λ (place : Option SeenPutEnd). one_more (full_of place)) (sym there))
 
+      room : (ends_of (then_puts after)).room ≡ (ends_of own).room
+      room = set_stays own.puts link put_within (Some after) (λ other place. room_of place) (ap (λ (any : SeenPutEnd). any.room) puts.ends ∙ ap room_of (sym there))
+
       all : ends_of (then_puts after) ≡ record (ends_of own) { full = refused link (ends_of own).full }
-      all = ap₂ (λ (sent full : ℕ → ℕ). record (ends_of own) { sent = sent; full = full }) sent full
+      all = λ i. record (ends_of own) { sent = sent i; full = full i; room = room i }
 
   -- ---- a take
 
@@ -103,11 +112,11 @@ module _ (own : SeenOwn) (are : AreOwn own) (link : ℕ) where
       empty : (ends_of (then_takes after)).empty ≡ (ends_of own).empty
       empty = set_stays own.takes link take_within (Some after) (λ other place. empty_of place) (ap (λ (any : SeenTakeEnd). any.empty) is ∙ ap empty_of (sym there))
 
-      kept : (ends_of (then_takes after)).room ≡ (ends_of own).room
-      kept = set_stays own.takes link take_within (Some after) (λ other place. kept_of place) (ap (λ (any : SeenTakeEnd). kept_of (Some any)) is ∙ ap kept_of (sym there))
+      keeps : (ends_of (then_takes after)).keeps ≡ (ends_of own).keeps
+      keeps = set_stays own.takes link take_within (Some after) (λ other place. keeps_of place) (ap (λ (any : SeenTakeEnd). any.keeps) is ∙ ap keeps_of (sym there))
 
       all : ends_of (then_takes after) ≡ record (ends_of own) { taken = counted link (ends_of own).taken }
-      all = λ i. record { job = own.job; node = own.node; sent = (ends_of own).sent; taken = taken i; full = (ends_of own).full; empty = empty i; room = kept i; told = false }
+      all = λ i. record (ends_of own) { taken = taken i; empty = empty i; keeps = keeps i }
 
       its : slice_get (words link) (taken_of (words link) (take_at own link)) ≡ Some word
       its = ap (λ (place : Option SeenTakeEnd). slice_get (words link) (taken_of (words link) place)) there ∙ ap (λ (list : List Word). slice_get list end.taken) (sym (are.takes link end there).1) ∙ next
@@ -121,11 +130,11 @@ module _ (own : SeenOwn) (are : AreOwn own) (link : ℕ) where
       empty : (ends_of (then_takes after)).empty ≡ refused link (ends_of own).empty
       empty = set_changes own.takes link take_within (Some after) (λ other place. empty_of place) one_more (ap (λ (any : SeenTakeEnd). any.empty) is ∙ ap (λ (place : Option SeenTakeEnd). one_more (empty_of place)) (sym there))
 
-      kept : (ends_of (then_takes after)).room ≡ (ends_of own).room
-      kept = set_stays own.takes link take_within (Some after) (λ other place. kept_of place) (ap (λ (any : SeenTakeEnd). kept_of (Some any)) is ∙ ap kept_of (sym there))
+      keeps : (ends_of (then_takes after)).keeps ≡ (ends_of own).keeps
+      keeps = set_stays own.takes link take_within (Some after) (λ other place. keeps_of place) (ap (λ (any : SeenTakeEnd). any.keeps) is ∙ ap keeps_of (sym there))
 
       all : ends_of (then_takes after) ≡ record (ends_of own) { empty = refused link (ends_of own).empty }
-      all = λ i. record { job = own.job; node = own.node; sent = (ends_of own).sent; taken = taken i; full = (ends_of own).full; empty = empty i; room = kept i; told = false }
+      all = λ i. record (ends_of own) { taken = taken i; empty = empty i; keeps = keeps i }
 
 -- no ends yet
 pub no_own : (job : Job) (node : ℕ) (puts : List (Option SeenPutEnd)) (takes : List (Option SeenTakeEnd)) → length puts ≡ length job.checked.board.links → length takes ≡ length job.checked.board.links

@@ -32,8 +32,9 @@ module _ {A : Type 0} (places : List (Option A)) (link : ℕ) (within : link < l
           ap (λ (place : ℕ). value place (get_or (set places link new) place None)) same ∙ ap (value link) (get_or-set_same places link new None within) ∙ is ∙ ap (λ (place : ℕ). change (value place (get_or places place None))) (sym same)
       by other false apart = ap (value other) (get_or-set_other places link other new None (eqb-false other link apart))
 
+  module _ {B : Type 0} (value : ℕ → Option A → B) where
     -- where it is the same
-    pub set_stays : value link new ≡ value link (get_or places link None) → ◌≡◌ {A = ℕ → ℕ} (λ other. value other (get_or (set places link new) other None)) (λ other. value other (get_or places other None))
+    pub set_stays : value link new ≡ value link (get_or places link None) → ◌≡◌ {A = ℕ → B} (λ other. value other (get_or (set places link new) other None)) (λ other. value other (get_or places other None))
     set_stays is = fun_ext (λ other. by other (cases_eq other link)) where
       by : (other : ℕ) → (other ≡ link) ⊎ (other ≡ link → ⊥) → value other (get_or (set places link new) other None) ≡ value other (get_or places other None)
       by other (inl same) = ap (λ (place : ℕ). value place (get_or (set places link new) place None)) same ∙ ap (value link) (get_or-set_same places link new None within) ∙ is ∙ ap (λ (place : ℕ). value place (get_or places place None)) (sym same)

@@ -1,5 +1,5 @@
 -- The ends of links that a node has, by the numbers of the links. No public clause cites it.
-use Rattle.std.specs.Prelude.{◌≡◌, ◌<◌, ◌+◌, ℕ, false, List, length, slice_index_or, Option, Some, None, if◌then◌else◌}
+use Rattle.std.specs.Prelude.{◌≡◌, ◌<◌, ◌+◌, ℕ, Bool, false, List, length, slice_index_or, Option, Some, None}
 use Rattle.vw_prog.specs.declared.job.Job.{Job}
 use Rattle.vw_prog.specs.declared.word.Word.{Word}
 use Rattle.vw_prog.specs.Ends.{SeenEnds}
@@ -46,13 +46,17 @@ abbrev pub empty_of : Option SeenTakeEnd → ℕ
 empty_of None = 0
 empty_of (Some end) = end.empty
 
--- whether words are kept, as a number
-abbrev pub kept_of : Option SeenTakeEnd → ℕ
-kept_of None = 0
-kept_of (Some end) = if end.keeps then 1 else 0
+-- how many words a link holds at most, where the node has the end at which they are put in
+abbrev pub room_of : Option SeenPutEnd → ℕ
+room_of None = 0
+room_of (Some end) = end.room
 
--- what the ends of a node tell. Nothing is told of how many words a link holds; in its place stands whether the words that are
--- taken are kept, since no put and no take changes it
+-- whether the words that are taken are kept, where the node takes them
+abbrev pub keeps_of : Option SeenTakeEnd → Bool
+keeps_of None = false
+keeps_of (Some end) = end.keeps
+
+-- what the ends of a node tell: each knows its own counts alone
 abbrev pub ends_of : SeenOwn → SeenEnds
 ends_of own = record {
   job = own.job;
@@ -61,7 +65,8 @@ ends_of own = record {
   taken = λ link. taken_of (script own.job link) (take_at own link);
   full = λ link. full_of (put_at own link);
   empty = λ link. empty_of (take_at own link);
-  room = λ link. kept_of (take_at own link);
+  room = λ link. room_of (put_at own link);
+  keeps = λ link. keeps_of (take_at own link);
   told = false;
 }
 

@@ -1,5 +1,5 @@
 -- Groups of nodes with the ends of their links. No public clause cites it.
-use Rattle.std.specs.Prelude.{◌≡◌, ◌<◌, ◌+◌, ◌*◌, ◌/◌, ◌%◌, ℕ, suc, List, length, map, slice_get, Option, Some}
+use Rattle.std.specs.Prelude.{◌≡◌, ◌<◌, ◌+◌, ◌*◌, ◌/◌, ◌%◌, ℕ, suc, Bool, List, length, map, slice_get, Option, Some}
 use Rattle.std.specs.Option.{option_and_then}
 use Rattle.vw_prog.specs.declared.job.Job.{Job}
 use Rattle.vw_prog.specs.declared.job.Share.{Share}
@@ -7,7 +7,7 @@ use Rattle.vw_node.specs.declared.node.Node.{Node}
 use Rattle.vw_node.specs.Fits.{IsFit, state_of}
 use Rattle.vw_node.specs.Positions.{Agrees}
 use Rattle.vw_node.specs.States.{start_state}
-use Rattle.vw_crew.specs.Ends.{SeenOwn, ends_of, kept_of, take_at}
+use Rattle.vw_crew.specs.Ends.{SeenOwn, ends_of, keeps_of, take_at}
 
 -- the nodes of a group, and the ends of each
 pub record SeenGroup : Type 0 where
@@ -44,10 +44,10 @@ AreAtWork group = (place : ℕ) (node : Node) (own : SeenOwn) → slice_get grou
 pub record Marks : Type 0 where
   pub job : Job
   pub node : ℕ
-  pub kept : ℕ → ℕ
+  pub keeps : ℕ → Bool
 
 abbrev pub marks_of : SeenOwn → Marks
-marks_of own = record { job = own.job; node = own.node; kept = λ link. kept_of (take_at own link) }
+marks_of own = record { job = own.job; node = own.node; keeps = λ link. keeps_of (take_at own link) }
 
 -- what a node may see of the job
 abbrev pub share_of : Node → Share

@@ -51,7 +51,7 @@ pub record IsBare (job : Job) (groups : List SeenGroup) : Type 0 where
 pub record IsMarked (job : Job) (told : Bool) (number : ℕ) (marks : Marks) : Type 0 where
   pub same_job : marks.job ≡ job
   pub same_node : marks.node ≡ number
-  pub kept : (place : ℕ) (link : Link) → slice_get job.checked.board.links place ≡ Some link → link.to ≡ number → marks.kept place ≡ (if told then 1 else 0)
+  pub kept : (place : ℕ) (link : Link) → slice_get job.checked.board.links place ≡ Some link → link.to ≡ number → marks.keeps place ≡ told
 
 -- the nodes of a job in their groups, at work: there is each node of the board, and no other, and each has the ends of its links,
 -- which keep their words exactly where they are told

@@ -1,8 +1,7 @@
 -- Gates with as much room as the widest needs.
-use Rattle.std.proofs.Common.{◌≡◌, ◌≤◌, ◌∷◌, ℕ, List, [], map, take, slice_get, Some, ap, refl, subst, ◌∙◌, All, arith}
+use Rattle.std.proofs.Common.{◌≡◌, ◌≤◌, ◌∷◌, ℕ, List, [], map, slice_get, Some, ap, refl, subst, ◌∙◌, All, arith}
 use Rattle.std.specs.Global.{Vec}
 use Rattle.std.proofs.lemmas.Option.{get_or_from_slice_get, slice_get_within}
-use Rattle.vw_prog.specs.declared.gates.Gates.{Gates}
 use Rattle.vw_prog.specs.declared.gates.Gates.TheVariants.{Four, Six, Two}
 use Rattle.vw_prog.specs.declared.gates.PaddedGate.{PaddedGate}
 use Rattle.vw_prog.specs.declared.gates.TableGate.{TableGate}

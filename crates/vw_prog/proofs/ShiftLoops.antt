@@ -8,7 +8,7 @@ use Rattle.vw_prog.specs.declared.action.Action.{Action}
 use Rattle.vw_prog.specs.declared.action.Action.TheVariants as action
 use Rattle.vw_prog.specs.declared.shift.LoopNet.{LoopNet}
 use Rattle.vw_prog.specs.declared.shift.ShiftLoop.{ShiftLoop}
-use Rattle.vw_prog.specs.Coding.{action_loops, all_loops, slot_in, with_net}
+use Rattle.vw_prog.specs.Coding.{all_loops, slot_in, with_net}
 use Rattle.vw_prog.specs.Loops.{AreLoops, is_of, loop_place, nets_of, sent_over}
 
 -- ---- pins

@@ -1,7 +1,6 @@
 -- The shift loops of a code unfold to the actions that it was made for.
 use Rattle.std.proofs.Common.{◌≡◌, ◌<◌, ◌+◌, ◌-◌, ◌&&◌, ◌∷◌, ◌++◌, ℕ, zero, suc, Bool, true, false, List, [], length, map, take, get_or, eqb, slice_get, Option, Some, None, if◌then◌else◌, ap, ap₂, refl, sym, subst, ◌∙◌, true≢false, eqb-true, eq-eqb, append_assoc, arith}
 use Rattle.std.specs.Prelude.{slice_index_or, option_map}
-use Rattle.std.proofs.lemmas.Bool.{and_parts}
 use Rattle.std.proofs.lemmas.List.{append-nil, get_or-map, length-map}
 use Rattle.std.proofs.lemmas.Option.{get_or_from_slice_get, slice_get-get_or}
 use Rattle.vw_net.specs.declared.flat.Flat.{Flat}
@@ -11,7 +10,6 @@ use Rattle.vw_prog.specs.declared.action.Action.TheVariants as action
 use Rattle.vw_prog.specs.declared.code.Code.{Code}
 use Rattle.vw_prog.specs.declared.code.Op.{Op}
 use Rattle.vw_prog.specs.declared.code.Op.TheVariants as op
-use Rattle.vw_prog.specs.declared.code.WideGate.{WideGate}
 use Rattle.vw_prog.specs.declared.shift.ShiftLoop.{ShiftLoop}
 use Rattle.vw_prog.specs.Actions.{ArePrograms, actions}
 use Rattle.vw_prog.specs.Codes.{BeginsWith, IsCode, slot_of}

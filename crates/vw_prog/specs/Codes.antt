@@ -16,7 +16,6 @@ use Rattle.vw_prog.specs.declared.code.Code.{Code}
 use Rattle.vw_prog.specs.declared.code.Op.{Op}
 use Rattle.vw_prog.specs.declared.code.Op.TheVariants as op
 use Rattle.vw_prog.specs.declared.code.WideGate.{WideGate}
-use Rattle.vw_prog.specs.declared.shift.LoopNet.{LoopNet}
 use Rattle.vw_prog.specs.declared.shift.ShiftLoop.{ShiftLoop}
 use Rattle.vw_prog.specs.Due.{is_source, own_latches, recorded}
 use Rattle.vw_prog.specs.Loops.{AreLoops}

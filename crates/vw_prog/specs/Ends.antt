@@ -1,12 +1,12 @@
 -- The ends of the links of a node, as contracts see them, and what a put and a take do. Source: this project.
-use Rattle.std.specs.Prelude.{◌≡◌, ◌<◌, ◌≤◌, ◌-◌, ◌+◌, ◌^◌, ◌==◌, ℕ, Bool, true, length, min, slice_get, nat_lt, Option, Some, None, if◌then◌else◌}
+use Rattle.std.specs.Prelude.{◌≡◌, ◌<◌, ◌≤◌, ◌-◌, ◌+◌, ◌^◌, ◌==◌, ℕ, Bool, true, length, min, slice_get, nat_lt, Option, Some, None, if◌then◌else◌, ◌⊎◌}
 use Rattle.vw_plan.specs.declared.link.Link.{Link}
 use Rattle.vw_prog.specs.declared.job.Job.{Job}
 use Rattle.vw_prog.specs.declared.word.Word.{Word}
 use Rattle.vw_prog.specs.Scripts.{script}
 
--- for each link by its number: how many words were sent and taken, how many puts and takes were refused, and how many words
--- it holds at most; and whether all counts are those of both ends
+-- for each link by its number: how many words were sent and taken, how many puts and takes were refused, how many words it
+-- holds at most, and whether the words that are taken are kept; and whether all counts are those of both ends
 pub record SeenEnds : Type 0 where
   pub job : Job
   pub node : ℕ
@@ -15,6 +15,7 @@ pub record SeenEnds : Type 0 where
   pub full : ℕ → ℕ
   pub empty : ℕ → ℕ
   pub room : ℕ → ℕ
+  pub keeps : ℕ → Bool
   pub told : Bool
 
 -- one more than a count, which stays at 2 ^ 64 - 1
@@ -43,10 +44,11 @@ pub record IsExpected (ends : SeenEnds) (link : ℕ) : Type 0 where
   pub reaches : IsLink ends link (λ there. there.to ≡ ends.node)
   pub more : ends.taken link < length (script ends.job link)
 
--- a put that is done counts a word, and one that is refused counts a refusal; where all is told, it is refused exactly where
--- the link is full
+-- a put that is done counts a word, and one that is refused counts a refusal, and then at least as many words were sent as the
+-- link holds; where all is told, it is refused exactly where the link is full
 pub record Puts (link : ℕ) (before after : SeenEnds) (answer : Bool) : Type 0 where
   pub ends : after ≡ (if answer then record before { sent = counted link before.sent } else record before { full = refused link before.full })
+  pub refused : (answer ≡ true) ⊎ (before.room link ≤ before.sent link)
   pub room : before.told ≡ true → answer ≡ nat_lt (before.sent link - before.taken link) (before.room link)
 
 -- a take gives the script's next word and counts it; one that is refused counts a refusal, where all is told exactly where

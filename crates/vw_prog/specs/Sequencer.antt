@@ -1,5 +1,5 @@
 -- The sequencer of a node: the microcycles at which it acts. Source: the Virtual Wires papers.
-use Rattle.std.specs.Prelude.{◌≡◌, ◌<◌, ◌≤◌, ◌-◌, ◌/◌, ℕ, List, [], ◌∷◌, ◌++◌, length, replicate, slice_get, Some, IsTrue, true}
+use Rattle.std.specs.Prelude.{◌≡◌, ◌<◌, ◌-◌, ◌/◌, ℕ, List, [], ◌∷◌, ◌++◌, length, replicate, IsTrue, true}
 use Rattle.std.specs.List.{AllByRecursion}
 use Rattle.vw_prog.specs.declared.code.Microcycle.{Microcycle}
 use Rattle.vw_prog.specs.declared.entry.Entry.{Entry}

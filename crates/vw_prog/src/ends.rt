@@ -11,10 +11,12 @@ use std::alloc::{AllocError, Global};
 /// The ends of all links of a node. Of a link that leaves the node it owns the position up to which words were sent, and of
 /// one that reaches it the position up to which they were taken. It counts refusals.
 pub trait Ends {
-    /// The job, the node, the positions, the counts of refusals, and how many words each link holds at most.
+    /// The job, the node, the positions, the counts of refusals, how many words each link holds at most, and whether those that
+    /// are taken are kept.
     ghost seen: { Self → SeenEnds };
 
-    /// Puts the script's next word into a link. It is refused where the link is full.
+    /// Puts the script's next word into a link. It is refused where the link is full: then at least as many words were sent as the
+    /// link holds.
     fn put(&mut self, link: u32, word: Word) -> bool
         requires { IsNextWord (seen self.old) link word }
         ensures { Puts link (seen self.old) (seen self.new) result };

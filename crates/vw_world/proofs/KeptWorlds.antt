@@ -66,7 +66,7 @@ module _ (job : Job) where
 
     -- the ends of the node's links, as the world has them
     abbrev pub ends : SeenEnds
-    ends = record { job = job; node = node; sent = sent_at job world; taken = taken_at job world; full = λ link. 0; empty = λ link. 0; room = λ link. capacity (link_at job link); told = true }
+    ends = record { job = job; node = node; sent = sent_at job world; taken = taken_at job world; full = λ link. 0; empty = λ link. 0; room = λ link. capacity (link_at job link); keeps = λ link. false; told = true }
 
     pub agrees : Agrees job node state ends
     agrees = record {

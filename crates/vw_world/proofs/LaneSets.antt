@@ -1,8 +1,8 @@
 -- The links of a world after a put or a take at one of them.
-use Rattle.std.proofs.Common.{◌≡◌, ◌<◌, ◌+◌, ◌-◌, ◌^◌, ◌∷◌, ◌++◌, ℕ, Bool, true, false, List, [], length, take, drop, set, eqb, nat_lt, slice_get, if◌then◌else◌, ap, refl, sym, subst, ◌∙◌, ⊎_elim, eq-eqb, eqb-true, Option, Some, None, arith}
+use Rattle.std.proofs.Common.{◌≡◌, ◌<◌, ◌+◌, ◌-◌, ◌^◌, ◌∷◌, ◌++◌, ℕ, Bool, true, false, List, [], length, take, drop, set, eqb, nat_lt, slice_get, if◌then◌else◌, ap, refl, sym, subst, ◌∙◌, ⊎_elim, inl, inr, ◌≤◌, eq-eqb, eqb-true, Option, Some, None, arith}
 use Rattle.std.specs.Prelude.{MatchOption}
 use Rattle.std.proofs.Math.Path.{fun_ext}
-use Rattle.std.proofs.lemmas.Bool.{cases_eq, ne_eqb}
+use Rattle.std.proofs.lemmas.Bool.{cases_eq, ltb-false, ne_eqb}
 use Rattle.std.proofs.lemmas.List.{get_or-set_other, get_or-set_same, length-drop, length-set, length-take-le}
 use Rattle.std.proofs.lemmas.Option.{slice_get_within}
 use Rattle.vw_prog.specs.declared.job.Job.{Job}
@@ -97,6 +97,7 @@ module _ (all : SeenLanes) (are : AreLanes all) (link : ℕ) (within : link < le
       full = stays (λ (one : SeenLane). one.full) put_lane refl i;
       empty = stays (λ (one : SeenLane). one.empty) put_lane refl i;
       room = stays (λ (one : SeenLane). one.room) put_lane refl i;
+      keeps = λ link. false;
       told = true;
     } where
       sent_so : with_value (λ (one : SeenLane). one.sent) (lane.sent + 1) ≡ counted link (ends_of all).sent
@@ -117,6 +118,7 @@ module _ (all : SeenLanes) (are : AreLanes all) (link : ℕ) (within : link < le
       full = (changed (λ (one : SeenLane). one.full) (record lane { full = one_more lane.full }) (one_more lane.full) refl ∙ full_so) i;
       empty = stays (λ (one : SeenLane). one.empty) (record lane { full = one_more lane.full }) refl i;
       room = stays (λ (one : SeenLane). one.room) (record lane { full = one_more lane.full }) refl i;
+      keeps = λ link. false;
       told = true;
     } where
       full_so : with_value (λ (one : SeenLane). one.full) (one_more lane.full) ≡ refused link (ends_of all).full
@@ -133,8 +135,10 @@ module _ (all : SeenLanes) (are : AreLanes all) (link : ℕ) (within : link < le
 
       by : (answer : Bool) → answer ≡ nat_lt (length lane.words) lane.room
           → AreLanes (record all { lanes = set all.lanes link (if answer then put_lane else record lane { full = one_more lane.full }) }) × Puts link (ends_of all) (ends_of (record all { lanes = set all.lanes link (if answer then put_lane else record lane { full = one_more lane.full }) })) answer
-      by true room = (put_are, record { ends = put_ends; room = λ told. told_room true room })
-      by false room = (full_are, record { ends = full_ends; room = λ told. told_room false room })
+      by true room = (put_are, record { ends = put_ends; refused = inl refl; room = λ told. told_room true room })
+      by false room = (full_are, record { ends = full_ends; refused = inr (is_full room); room = λ told. told_room false room }) where
+        is_full : false ≡ nat_lt (length lane.words) lane.room → lane.room ≤ lane.sent
+        is_full room = let none = ltb-false (length lane.words) lane.room (sym room) in omega (arith, none, held)
 
   -- ---- a take
 
@@ -164,6 +168,7 @@ module _ (all : SeenLanes) (are : AreLanes all) (link : ℕ) (within : link < le
         full = stays (λ (one : SeenLane). one.full) take_lane refl i;
         empty = stays (λ (one : SeenLane). one.empty) take_lane refl i;
         room = stays (λ (one : SeenLane). one.room) take_lane refl i;
+        keeps = λ link. false;
         told = true;
       } where
         taken_so : with_value (λ (one : SeenLane). one.taken) (lane.taken + 1) ≡ counted link (ends_of all).taken
@@ -190,6 +195,7 @@ module _ (all : SeenLanes) (are : AreLanes all) (link : ℕ) (within : link < le
       full = stays (λ (one : SeenLane). one.full) empty_lane refl i;
       empty = (changed (λ (one : SeenLane). one.empty) empty_lane (one_more lane.empty) refl ∙ empty_so) i;
       room = stays (λ (one : SeenLane). one.room) empty_lane refl i;
+      keeps = λ link. false;
       told = true;
     } where
       empty_so : with_value (λ (one : SeenLane). one.empty) (one_more lane.empty) ≡ refused link (ends_of all).empty

@@ -1,5 +1,5 @@
 -- The links of a world as they lie in memory. No public clause cites it.
-use Rattle.std.specs.Prelude.{◌≡◌, ◌<◌, ◌≤◌, ℕ, true, List, [], length, map, take, drop, slice_index_or}
+use Rattle.std.specs.Prelude.{◌≡◌, ◌<◌, ◌≤◌, ℕ, true, false, List, [], length, map, take, drop, slice_index_or}
 use Rattle.vw_plan.specs.declared.link.Link.{Link}
 use Rattle.vw_prog.specs.declared.job.Job.{Job}
 use Rattle.vw_prog.specs.declared.word.Word.{Word}
@@ -35,6 +35,7 @@ ends_of all = record {
   full = λ link. (lane_at all.lanes link).full;
   empty = λ link. (lane_at all.lanes link).empty;
   room = λ link. (lane_at all.lanes link).room;
+  keeps = λ link. false;
   told = true;
 }
 

@@ -1,4 +1,4 @@
-use Rattle.std.proofs.Common.{◌≡◌, ◌∙◌, ◌++◌, ◌∷◌, [], ◌+◌, ◌-◌, ◌^◌, min, List, ℕ, length, slice_get, Option, Some, ap, ap₂, sym, arith}
+use Rattle.std.proofs.Common.{◌∙◌, ◌++◌, ◌∷◌, [], ◌+◌, ◌-◌, ◌^◌, min, List, ℕ, length, slice_get, Option, Some, ap, ap₂, sym, arith}
 use Rattle.vw_net.specs.declared.cell.Cell.{Cell}
 use Rattle.vw_prog.specs.declared.code.WideGate.{WideGate}
 use Rattle.vw_prog.specs.Coding.{cell_gates, cell_op, cell_wide, slot_in, wide_gate}

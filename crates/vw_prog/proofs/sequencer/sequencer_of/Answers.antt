@@ -1,4 +1,4 @@
-use Rattle.std.proofs.Common.{get_or, sym}
+use Rattle.std.proofs.Common.{get_or}
 use Rattle.std.proofs.lemmas.List.{get_or_default}
 use Rattle.vw_prog.specs.declared.entry.Entry.{Entry}
 use Rattle.vw_prog.proofs.Sequencers.{one_more_kept}

@@ -1,5 +1,4 @@
-use Rattle.std.proofs.Common.{List, [], get_or, ap, arith}
-use Rattle.vw_prog.specs.declared.action.Action.{Action}
+use Rattle.std.proofs.Common.{[], get_or, ap, arith}
 use Rattle.vw_prog.specs.Actions.{SeenPrograms}
 use Rattle.vw_prog.proofs.UnfoldedCodes.{action_is, code_there, op_there}
 use Rattle.vw_prog.proofs.programs.Programs.action.Goals as goal

@@ -1,4 +1,4 @@
-use Rattle.std.proofs.Common.{◌∙◌, List, [], ap, length, sym, arith}
+use Rattle.std.proofs.Common.{List, [], ap, length, arith}
 use Rattle.vw_prog.specs.declared.action.Action.{Action}
 use Rattle.vw_prog.specs.Actions.{SeenPrograms}
 use Rattle.vw_prog.proofs.UnfoldedCodes.{code_there, length-from}
