@@ -44,9 +44,9 @@ pub fn emitted_texts_spell_boards()
     printed_designs_read();
 }
 
-/// And this design has no fault and no loop, and takes rows of the same width as the design that was planned. It shows at
-/// the last microclock of each clock the outputs and then the latch values of that design, for all rows, each held for as
-/// many microclocks as a clock has.
+/// And this design has no fault and no loop, and takes rows of the same width as the design that was planned. It shows
+/// at the last microclock of each clock the outputs and then the latch values of that design, for all rows, each held
+/// for as many microclocks as a clock has.
 pub fn emitted_texts_act_as_their_designs()
     ensures accepted { (planned : PlannedBoard) (board : Design) → IsSound planned → FitsDesigns planned
         → design_of (emitted_text planned) ≡ Ok (map spelled_model board.models) → IsAccepted board }
