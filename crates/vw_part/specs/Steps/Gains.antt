@@ -1,5 +1,5 @@
 -- Gains that are kept. A move of a cell to a chip lowers the number of needed pairs by the nets that only this cell of its
--- chip has, and by those that the other chip has already, above all the nets of the cell. Source: this project.
+-- chip has, plus those that the other chip has already, less all nets of the cell. Source: this project.
 use Rattle.std.specs.Prelude.{◌≡◌, ◌≤◌, ◌==◌, ℕ, List, length, nat_lt, slice_index, slice_index_or, sum_by}
 use Rattle.vw_plan.specs.declared.board.Board.{Board}
 use Rattle.vw_part.specs.declared.load.Load.{Load}
