@@ -1,6 +1,5 @@
 -- A deal after one more cell, and after a move.
-use Rattle.std.proofs.Common.{◌≡◌, ◌<◌, ◌≤◌, ◌+◌, ◌*◌, ℕ, List, [], ◌∷◌, ◌++◌, length, get_or, set, nat_lt, eqb, ap, sym, subst, ◌∙◌, ⊎_elim, All, arith}
-use Rattle.std.specs.Prelude.{sum_by}
+use Rattle.std.proofs.Common.{◌≡◌, ◌<◌, ◌≤◌, ◌+◌, ◌*◌, ℕ, List, [], ◌∷◌, ◌++◌, length, get_or, set, nat_lt, ap, sym, subst, ◌∙◌, ⊎_elim, All, arith}
 use Rattle.std.proofs.lemmas.Bool.{cases_eq}
 use Rattle.std.proofs.lemmas.List.{get_or-set_other, get_or-set_same, length-set, length_push}
 use Rattle.std.proofs.lemmas.List.Elements.{All-get_or, All-push, All-set}
@@ -10,10 +9,8 @@ use Rattle.vw_plan.specs.Chips.{IsChip, cells_on}
 use Rattle.vw_part.specs.declared.deal.Deal.{Deal}
 use Rattle.vw_part.specs.declared.load.Load.{Load}
 use Rattle.vw_part.specs.declared.cell_nets.CellNets.{CellNets}
-use Rattle.vw_part.specs.Steps.Deals.{IsDeal, IsLoad, MayMoveTo, freed, cells_held, met, nets_at}
+use Rattle.vw_part.specs.Steps.Deals.{IsDeal, IsLoad, MayMoveTo, cells_held, met, nets_at}
 use Rattle.vw_part.specs.Steps.CellNets.{times_among}
-use Rattle.vw_net.specs.Steps.Bits.{one_if}
-use Rattle.vw_net.proofs.SumsOverLists.{sum_agree}
 use Rattle.vw_part.proofs.ChipLoads.{all_full, held_push, held_set, on_all, on_push, on_set}
 use Rattle.vw_part.proofs.Shares.{at_other, at_same}
 
@@ -25,8 +22,8 @@ not_all_full board chips real few full =
 -- a load with one more cell, or one less
 pub record HasCellMore (own : List ℕ) (before after : Load) : Type 0 where
   pub cells : after.cells ≡ before.cells + 1
-  pub long : length after.counts.items ≡ length before.counts.items
-  pub counts : (net : ℕ) → get_or after.counts.items net 0 ≡ get_or before.counts.items net 0 + times_among own net
+  pub long : length after.held.counts.items ≡ length before.held.counts.items
+  pub counts : (net : ℕ) → get_or after.held.counts.items net 0 ≡ get_or before.held.counts.items net 0 + times_among own net
 
 load_same : (cell_nets : CellNets) (chips others : List ℕ) (chip : ℕ) (load : Load) → cells_on others chip ≡ cells_on chips chip → ((net : ℕ) → cells_held others cell_nets.of_cells.items chip net ≡ cells_held chips cell_nets.of_cells.items chip net) → IsLoad cell_nets chips chip load → IsLoad cell_nets others chip load
 load_same cell_nets chips others chip load cells counts is = record {
@@ -121,16 +118,6 @@ dealt_moved board cell_nets chips_before chips_after loads_before loads_after ce
 
 pub loaded : (deal : Deal) (chip : ℕ) (load : Load) → chip ≤ deal.board.now.chips → load ≡ get_or deal.loads.items chip load → IsLoad deal.cell_nets.now deal.chip_of.items chip load
 loaded deal chip load low found = subst (λ (x : Load). IsLoad deal.cell_nets.now deal.chip_of.items chip x) (sym found) (deal.is.held chip load low)
-
-pub freed_is : (deal : Deal) (cell from lone : ℕ) (load : Load) (own : List ℕ) → cell < length deal.chip_of.items → from ≡ get_or deal.chip_of.items cell 0 → load ≡ get_or deal.loads.items from load → own ≡ nets_at deal.cell_nets.now cell → lone ≡ sum_by (λ net. one_if (eqb (get_or load.counts.items net 0) 1)) own → lone ≡ freed deal.cell_nets.now deal.chip_of.items cell
-freed_is deal cell from lone load own within from_is found own_is count =
-    let cell_nets = deal.cell_nets.now in
-    let chips = deal.chip_of.items in
-    let was = All-get_or (IsChip deal.board.now) chips cell 0 within deal.is.chips in
-    let low : from ≤ deal.board.now.chips = omega (arith, from_is, was.1) in
-    let load_is = loaded deal from load low found in
-    let same = sum_agree (λ net. one_if (eqb (get_or load.counts.items net 0) 1)) (λ net. one_if (eqb (cells_held chips cell_nets.of_cells.items from net) 1)) own (λ net. ap (λ (n : ℕ). one_if (eqb n 1)) (load_is.counts net)) in
-    count ∙ same ∙ ap (λ (nets : List ℕ). sum_by (λ net. one_if (eqb (cells_held chips cell_nets.of_cells.items from net) 1)) nets) own_is ∙ ap (λ (x : ℕ). sum_by (λ net. one_if (eqb (cells_held chips cell_nets.of_cells.items x net) 1)) (nets_at cell_nets cell)) from_is
 
 pub met-le : (cell_nets : CellNets) (chips : List ℕ) (cell chip : ℕ) → met cell_nets chips cell chip ≤ length (nets_at cell_nets cell)
 met-le cell_nets chips cell chip = count_by-le-length (λ net. nat_lt 0 (cells_held chips cell_nets.of_cells.items chip net)) (nets_at cell_nets cell)

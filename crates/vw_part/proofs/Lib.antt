@@ -5,3 +5,6 @@ pub mod PairsAndSpread
 pub mod CellNets
 pub mod Dealing
 pub mod NoMoveHelps
+pub mod KeptGains
+pub mod NetCells
+pub mod KeptDeals

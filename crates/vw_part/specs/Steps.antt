@@ -1,3 +1,4 @@
 -- What functions of this crate compute, step by step. No public clause cites it.
 pub mod CellNets
 pub mod Deals
+pub mod Gains

@@ -1,10 +1,11 @@
-//! The nets of the cells.
+//! The nets of the cells, and the cells of the nets.
 ghost use Rattle.std.specs.Prelude.{◌≡◌, ◌+◌, ◌<◌, ◌≤◌, ℕ, [], length, slice_index_or, IfOk};
 ghost use Rattle.std.specs.List.{All};
 ghost use Rattle.vw_net.specs.Cells.{read_nets};
-ghost use Rattle.vw_part.specs.Steps.CellNets.{AreNetsOf, AreCellNets, times_among};
-ghost use Rattle.vw_net.specs.declared.limits.TheConstants.{MOST_CELLS};
+ghost use Rattle.vw_part.specs.Steps.CellNets.{AreNetsOf, AreCellNets, AreCellsOf, AreNetCells, times_among};
+ghost use Rattle.vw_net.specs.declared.limits.TheConstants.{MOST_CELLS, MOST_INPUTS};
 
+use crate::net_cells::NetCells;
 use std::alloc::{AllocError, Global};
 use vw_net::{Cell, Flat, Sequence};
 
@@ -29,16 +30,20 @@ fn nets_of_cell(alloc: Global, own: u32, cell: &Cell) -> Result<Sequence<u32>, A
     Ok(Sequence::of(nets))
 }
 
-/// The nets that each cell drives or reads.
+/// The nets that each cell drives or reads, and for each net these cells.
 #[derive(Drop)]
 pub struct CellNets {
     /// How many nets there are.
     pub nets: usize,
     /// Those of each cell, each once.
     pub of_cells: Vec<Sequence<u32>>,
+    /// The same, turned round.
+    pub net_cells: NetCells,
+    ghost few_nets: { nets ≤ MOST_INPUTS + MOST_CELLS },
     ghost few_cells: { length of_cells.items ≤ MOST_CELLS },
     ghost within: { All (λ own. All (λ net. net < nets) own) of_cells.items },
     ghost once: { All (λ own. (net : ℕ) → times_among own net ≤ 1) of_cells.items },
+    ghost turned: { AreNetCells of_cells.items nets net_cells.of_nets.items },
 }
 
 impl CellNets {
@@ -53,9 +58,12 @@ impl CellNets {
             let nets = nets_of_cell(alloc, flat.inputs() + number as u32, cell)?;
             of_cells.push(nets)?;
         }
+        let nets = flat.inputs() as usize + flat.cells().len();
+        let net_cells = NetCells::of(alloc, nets, of_cells.as_slice())?;
         Ok(CellNets {
-            nets: flat.inputs() as usize + flat.cells().len(),
+            nets,
             of_cells,
+            net_cells,
         })
     }
 
@@ -72,5 +80,13 @@ impl CellNets {
         ensures { result.now ≡ slice_index_or self.now.of_cells.items cell [] }
     {
         self.of_cells[cell].as_slice()
+    }
+
+    /// The cells of a net.
+    pub fn cells_of(&self, net: usize) -> &[u32]
+        requires { net < self.now.nets }
+        ensures { AreCellsOf self.now.of_cells.items net result.now }
+    {
+        self.net_cells.of_nets[net].as_slice()
     }
 }

@@ -2,13 +2,17 @@
 ghost use Rattle.std.specs.Prelude.{◌≡◌, ◌+◌, ◌*◌, ◌<◌, ◌≤◌, ◌++◌, ◌∷◌, [], length, slice_set, IfOk, OnOk};
 ghost use Rattle.vw_plan.specs.Chips.{IsChip, cells_on};
 ghost use Rattle.vw_part.specs.Steps.Deals.{IsDeal, MayMoveTo};
+ghost use Rattle.vw_part.specs.Steps.Gains.{KeepsGains};
 
 use crate::cell_nets::CellNets;
 use crate::load::Load;
+use crate::tally::Tally;
 use std::alloc::{AllocError, Global};
 use vw_plan::Board;
 
-/// The chip of each cell so far, and what each chip holds, on a board, for cells with these nets.
+/// The chip of each cell so far, and what each chip holds, on a board, for cells with these nets. By how much a move of a
+/// cell to a chip lowers the number of needed pairs is kept in two parts: what the cell leaves in `freed`, and what it finds
+/// in the chip's load. They take a number for each cell and chip, which is 9 MB at most.
 #[derive(Drop)]
 pub struct Deal<'a> {
     pub board: &'a Board,
@@ -16,7 +20,10 @@ pub struct Deal<'a> {
     pub chip_of: Vec<u32>,
     /// By the numbers of the nodes. The host, which is node 0, holds no cells.
     pub loads: Vec<Load>,
+    /// For each cell, how many of its nets only it drives or reads on its chip.
+    pub freed: Tally,
     ghost is: { IsDeal board.now cell_nets.now chip_of.items loads.items },
+    ghost gains: { KeepsGains board.now cell_nets.now chip_of.items loads.items freed.counts.items },
 }
 
 impl<'a> Deal<'a> {
@@ -26,17 +33,20 @@ impl<'a> Deal<'a> {
         ensures board { IfOk result (λ deal. deal.board.now ≡ board.now) }
         ensures nets { IfOk result (λ deal. deal.cell_nets.now ≡ cell_nets.now) }
     {
+        let cells = cell_nets.cells();
         let mut loads = Vec::new(alloc);
         for _chip in 0..board.chips() + 1 {
-            let load = Load::empty(alloc, cell_nets.nets)?;
+            let load = Load::empty(alloc, cell_nets.nets, cells)?;
             loads.push(load)?;
         }
-        let chip_of = Vec::with_capacity(alloc, cell_nets.cells())?;
+        let chip_of = Vec::with_capacity(alloc, cells)?;
+        let freed = Tally::zeros(alloc, cells)?;
         Ok(Deal {
             board,
             cell_nets,
             chip_of,
             loads,
+            freed,
         })
     }
 
@@ -71,9 +81,18 @@ impl<'a> Deal<'a> {
             ≡ self.old.chip_of.items ++ chip ∷ []) }
     {
         let cell_nets = self.cell_nets;
-        let own = cell_nets.at(self.chip_of.len());
+        let cell = self.chip_of.len();
+        let own = cell_nets.at(cell);
         self.chip_of.push(chip)?;
-        self.loads[chip as usize].add(own);
+        let load = &mut self.loads[chip as usize];
+        self.freed.set(cell, load.lone(own));
+        load.add(
+            cell_nets,
+            own,
+            self.chip_of.as_slice(),
+            chip,
+            &mut self.freed,
+        );
         Ok(())
     }
 
@@ -113,8 +132,24 @@ impl<'a> Deal<'a> {
         let cell_nets = self.cell_nets;
         let own = cell_nets.at(cell);
         let from = self.chip_of[cell];
-        self.loads[from as usize].remove(own);
-        self.loads[chip as usize].add(own);
+        let left = &mut self.loads[from as usize];
+        left.remove(
+            cell_nets,
+            own,
+            self.chip_of.as_slice(),
+            from,
+            &mut self.freed,
+        );
         self.chip_of[cell] = chip;
+        let joined = &mut self.loads[chip as usize];
+        let lone = joined.lone(own);
+        self.freed.set(cell, lone);
+        joined.add(
+            cell_nets,
+            own,
+            self.chip_of.as_slice(),
+            chip,
+            &mut self.freed,
+        );
     }
 }

@@ -30,8 +30,8 @@ fn dealt(alloc: Global, flat: &Flat, board: &Board) -> Result<Sequence<u32>, All
 }
 
 /// Deals the cells to the chips of a board: each cell has one chip, no chip has more cells than it has room for, and no
-/// move of one cell to a chip with room lowers the number of needed pairs. It takes memory for the nets of the cells, and
-/// for each chip a number for each net.
+/// move of one cell to a chip with room lowers the number of needed pairs. It takes memory for the nets of the cells and the
+/// cells of the nets, and for each chip a number for each net and for each cell.
 pub fn partition(
     alloc: Global,
     ordered: &Ordered,

@@ -19,7 +19,7 @@ impl<'a> Deal<'a> {
         if self.chip_of[cell] == chip || load.cells >= self.board.cells() {
             return 0;
         }
-        load.met(self.cell_nets.at(cell))
+        load.met.at(cell) as usize
     }
 
     /// The chip to which a cell's move lowers the number of needed pairs most, where some move does. A net of the cell
@@ -31,8 +31,7 @@ impl<'a> Deal<'a> {
             (IsGain self.now.board.now self.now.cell_nets.now self.now.chip_of.items cell) }
     {
         let own = self.cell_nets.at(cell);
-        let from = self.chip_of[cell];
-        let lone = self.loads[from as usize].lone(own);
+        let lone = self.freed.at(cell) as usize;
         if lone == 0 {
             return None;
         }

@@ -7,6 +7,8 @@ mod dealt;
 mod descent;
 mod fault;
 mod load;
+mod net_cells;
+mod tally;
 
 pub use dealt::partition;
 pub use fault::PartFault;

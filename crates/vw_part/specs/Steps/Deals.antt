@@ -25,8 +25,8 @@ spread board cell_nets chip_of = sum_by (holders board.chips chip_of cell_nets.o
 -- what a chip holds
 pub record IsLoad (cell_nets : CellNets) (chip_of : List ℕ) (chip : ℕ) (load : Load) : Type 0 where
   pub cells : load.cells ≡ cells_on chip_of chip
-  pub long : length load.counts.items ≡ cell_nets.nets
-  pub counts : (net : ℕ) → slice_index load.counts.items net ≡ cells_held chip_of cell_nets.of_cells.items chip net
+  pub long : length load.held.counts.items ≡ cell_nets.nets
+  pub counts : (net : ℕ) → slice_index load.held.counts.items net ≡ cells_held chip_of cell_nets.of_cells.items chip net
 
 -- the chips of the first cells, none of them overfull, and what each chip holds
 pub record IsDeal (board : Board) (cell_nets : CellNets) (chip_of : List ℕ) (loads : List Load) : Type 0 where
