@@ -1,11 +1,11 @@
 -- Each node of a crew is in the group whose number is the rest of its own.
-use Rattle.std.proofs.Common.{◌≡◌, ◌<◌, ◌+◌, ◌*◌, ◌/◌, ◌%◌, ℕ, suc, Bool, List, [], ◌∷◌, length, map, min, slice_get, refl, sym, ◌∙◌, ap, ap₂, subst, Option, Some, None, arith}
-use Rattle.std.specs.Prelude.{option_map, unwrap_or}
+use Rattle.std.proofs.Common.{◌≡◌, ◌<◌, ◌+◌, ◌*◌, ◌/◌, ◌%◌, ℕ, suc, Bool, List, [], ◌∷◌, length, map, min, slice_get, refl, sym, ◌∙◌, ap, ap₂, subst, Some, arith}
+use Rattle.std.specs.Prelude.{option_map}
 use Rattle.std.specs.List.{Contains}
 use Rattle.std.specs.Option.{option_and_then}
 use Rattle.std.proofs.lemmas.List.{length-map}
 use Rattle.std.proofs.lemmas.Nat.{mod-mul-add, div-mul-add}
-use Rattle.std.proofs.lemmas.Option.{get_or_from_slice_get, none-some, slice_get-get_or, slice_get-map, slice_get_within}
+use Rattle.std.proofs.lemmas.Option.{get_or_from_slice_get, slice_get-get_or, slice_get-map, slice_get_within}
 use Rattle.vw_prog.specs.declared.job.Job.{Job}
 use Rattle.vw_prog.specs.declared.job.Share.{Share}
 use Rattle.vw_node.specs.declared.node.Node.{Node}
@@ -31,10 +31,11 @@ module _ (job : Job) (keeps : Bool) (groups : List SeenGroup) (crew : IsCrew job
   in_group : (node : ℕ) → node < suc job.checked.board.chips → (group : List ℕ) × (slice_get (numbers_of groups) (node % count) ≡ Some group) × Contains group node
   in_group node within =
       let there = (crew.all node within).0 in
-      let found = both_found (λ (group : SeenGroup). slice_get group.nodes (node / count)) (slice_get groups (node % count)) there.0 there.1 in
-      (map number_of found.0.nodes,
-          slice_get-map (λ (group : SeenGroup). map number_of group.nodes) groups (node % count) ∙ ap (option_map (λ (group : SeenGroup). map number_of group.nodes)) found.1.0,
-          found_in_map number_of found.0.nodes (node / count) there.0 node found.1.1 (crew.nodes node there.0 there.1).1)
+      let found = both_found (λ (group : SeenGroup). slice_get group.nodes (node / count)) (slice_get groups (node % count)) there.0 there.1 in (
+        map number_of found.0.nodes,
+        slice_get-map (λ (group : SeenGroup). map number_of group.nodes) groups (node % count) ∙ ap (option_map (λ (group : SeenGroup). map number_of group.nodes)) found.1.0,
+        found_in_map number_of found.0.nodes (node / count) there.0 node found.1.1 (crew.nodes node there.0 there.1).1,
+      )
 
   in_no_other : (number node : ℕ) (group : List ℕ) → slice_get (numbers_of groups) number ≡ Some group → Contains group node → (node < suc job.checked.board.chips) × (node % count ≡ number)
   in_no_other number node group is (place, within, at) =

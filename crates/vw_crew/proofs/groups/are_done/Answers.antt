@@ -2,7 +2,6 @@ use Rattle.std.proofs.Common.{◌≡◌, ◌<◌, ◌≤◌, slice_get, Option, 
 use Rattle.std.specs.Prelude.{unwrap_or}
 use Rattle.std.proofs.lemmas.Bool.{cases_lt}
 use Rattle.std.proofs.lemmas.Option.{slice_get-get_or, slice_get_within}
-use Rattle.vw_node.specs.declared.node.Node.{Node}
 use Rattle.vw_crew.specs.Groups.{SeenGroup}
 use Rattle.vw_crew.proofs.groups.are_done.Goals as goal
 

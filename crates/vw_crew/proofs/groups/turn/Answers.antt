@@ -1,4 +1,4 @@
-use Rattle.std.proofs.Common.{◌≡◌, slice_get, get_or, subst, ap, sym, ◌∙◌, Some}
+use Rattle.std.proofs.Common.{get_or}
 use Rattle.std.proofs.lemmas.Option.{slice_get-get_or}
 use Rattle.vw_crew.proofs.AfterRounds.{turned_stay, turned_works}
 use Rattle.vw_crew.proofs.groups.turn.Goals as goal

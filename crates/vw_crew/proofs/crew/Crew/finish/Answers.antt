@@ -27,7 +27,6 @@ invariant_of-self g c =
     let done : AreThrough job new = through job new c.share-clocks.result.clocks c.share-clocks.ensures.clocks c.finish.ensures.done in
     subst (λ (groups : List SeenGroup). IsCrew job keeps groups × HasTold job 1 c.self.inside.room × (true ≡ true → AreThrough job groups)) (sym items) (crew, c.self.invariant.1, λ same. done)
 
-
 -- src/crew.rt
 pub returns-clause-groups : goal.returns-clause-groups
 returns-clause-groups g c =
