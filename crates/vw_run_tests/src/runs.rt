@@ -388,3 +388,16 @@ fn each_write_of_a_run_may_fail(rt: HostRuntime) -> Result<(), Fail> {
     assert_eq!(rt; stopped < 39, true);
     Ok(())
 }
+
+/// Refused for its plan, with a message of 15 bytes that takes three calls of at most 5: each may fail, and the status stays.
+#[test]
+fn a_message_of_a_run_that_fails_changes_no_status(rt: HostRuntime) -> Result<(), Fail> {
+    const WORDS: &[&str] = &["run", "d", "b", "s", "plan=b", "workers=1"];
+    const TABLE: &[(u32, Fault, u8, &str, &str)] = &[
+        (5, Fault::Message(1), 4, "", ""),
+        (5, Fault::Message(2), 4, "", "plan "),
+        (5, Fault::Message(3), 4, "", "plan 2: li"),
+        (5, Fault::Message(4), 4, "", "plan 2: line 1\n"),
+    ];
+    faults_end(rt.alloc(), WORDS, TOGGLE_TEXTS, TABLE)
+}

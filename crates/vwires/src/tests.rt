@@ -97,3 +97,46 @@ fn wrong_words_and_a_folder_have_their_statuses(rt: HostRuntime) -> Result<(), F
     assert_eq!(rt; status(&rt, &rt, &[b"sim", b"/tmp", b"/dev/null"])?, 7);
     Ok(())
 }
+
+/// A missing file, an empty name, and a folder in place of each text.
+#[test]
+fn what_is_no_file_is_a_read_fault(rt: HostRuntime) -> Result<(), Fail> {
+    assert_eq!(rt;
+        status(&rt, &rt, &[b"sim", b"/tmp/vwires_none", b"/dev/null"])?,
+        7
+    );
+    assert_eq!(rt; status(&rt, &rt, &[b"check", b"/", b"/", b"/"])?, 7);
+    assert_eq!(rt; status(&rt, &rt, &[b"grade", b"/tmp", b"/tmp"])?, 7);
+    Ok(())
+}
+
+/// The commands on boards and states that came last, by one worker and by three.
+#[test]
+fn states_and_emitted_boards_in_files_have_their_statuses(rt: HostRuntime) -> Result<(), Fail> {
+    assert_eq!(rt;
+        status_on(&rt, &rt, b"save", &[TOGGLE, TRIANGLE, b"1\n"])?,
+        0
+    );
+    assert_eq!(rt;
+        status_on(
+            &rt,
+            &rt,
+            b"resume",
+            &[TOGGLE, TRIANGLE, b"state 1 1 1 1\n", b"1\n"]
+        )?,
+        0
+    );
+    assert_eq!(rt;
+        status_on(
+            &rt,
+            &rt,
+            b"resume",
+            &[TOGGLE, TRIANGLE, b"state 1 01 1 1\n", b"1\n"]
+        )?,
+        11
+    );
+    assert_eq!(rt; status_on(&rt, &rt, b"emit", &[TOGGLE, TRIANGLE])?, 0);
+    assert_eq!(rt; status_on(&rt, &rt, b"wave", &[TOGGLE, b"1\n"])?, 0);
+    assert_eq!(rt; status_on(&rt, &rt, b"grade", &[TOGGLE, b"1\n"])?, 0);
+    Ok(())
+}
