@@ -5,7 +5,7 @@ use std::sync::Wait;
 use std::test::Fail;
 use std::thread::Threads;
 use vw_sample_calls::{
-    End, Fault, SEVERAL, all_end_on, are_found, demonstrated, words_end, written_on,
+    End, Fault, SEVERAL, all_end_on, are_found, demonstrated, ends_on, words_end, written_on,
 };
 use vw_samples::{TOGGLE, TOGGLE_RUN};
 
@@ -81,6 +81,59 @@ fn what_stops_a_grading_is_named(rt: HostRuntime) -> Result<(), Fail> {
     all_end_on(&rt, alloc, &GRADES, TOGGLE_RUN, Fault::Read(3), read)?;
     all_end_on(&rt, alloc, &GRADES, TOGGLE_RUN, Fault::Write(1), write)?;
     all_end_on(&rt, alloc, &GRADES, WIDE, Fault::None, wide)
+}
+
+/// Two reads find the design and its end. Of the stimulus the first asks for a byte past the limit, two check the text, and two
+/// read its rows again. All is written at once, so the only write leaves nothing.
+#[test]
+fn each_read_and_write_of_a_grading_may_fail(rt: HostRuntime) -> Result<(), Fail> {
+    const SEVERAL_WORKERS: &[&str] = &["grade", "d", "s", "workers=3"];
+    const READS: &[(u64, &str)] = &[
+        (1, "read fault: design\n"),
+        (2, "read fault: design\n"),
+        (3, "read fault: stimulus\n"),
+        (4, "read fault: stimulus\n"),
+        (5, "read fault: stimulus\n"),
+        (6, "read fault: stimulus\n"),
+    ];
+    let alloc = rt.alloc();
+    for (number, line) in READS {
+        let wanted = End::refused(7, line);
+        ends_on(
+            &rt,
+            alloc,
+            SEVERAL_WORKERS,
+            TOGGLE_RUN,
+            Fault::Read(*number),
+            wanted,
+        )?;
+    }
+    let done = End::done(TOGGLE_GRADE);
+    let stopped = End::refused(8, "write fault\n");
+    ends_on(
+        &rt,
+        alloc,
+        SEVERAL_WORKERS,
+        TOGGLE_RUN,
+        Fault::Read(7),
+        done,
+    )?;
+    ends_on(
+        &rt,
+        alloc,
+        SEVERAL_WORKERS,
+        TOGGLE_RUN,
+        Fault::Write(1),
+        stopped,
+    )?;
+    ends_on(
+        &rt,
+        alloc,
+        SEVERAL_WORKERS,
+        TOGGLE_RUN,
+        Fault::Write(2),
+        done,
+    )
 }
 
 #[test]
