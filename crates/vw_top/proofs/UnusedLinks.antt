@@ -1,10 +1,9 @@
 -- No link is used but by what runs a board with several workers.
-use Rattle.std.proofs.Common.{◌≡◌, ◌<◌, ◌≤◌, ℕ, Bool, true, false, List, [], Option, Some, None, ltb, refl, sym, ◌∙◌, ap, arith, if◌then◌else◌}
+use Rattle.std.proofs.Common.{◌≡◌, ℕ, Bool, false, List, [], Option, Some, None, ltb, refl, ◌∙◌, ap, arith, if◌then◌else◌}
 use Rattle.std.proofs.lemmas.Bool.{lt-ltb, ltb-false}
 use Rattle.vw_net.specs.declared.ordered.Ordered.{Ordered}
 use Rattle.vw_design.specs.Paths.{Word as ProbeWord}
 use Rattle.vw_front.specs.Designs.{WatchedDesign}
-use Rattle.vw_course.specs.Course.{Course}
 use Rattle.vw_course.specs.Endings.{IsCallOf}
 use Rattle.vw_course.proofs.UnusedLinks.{UsesNoLinks, links_stay, texts_unused}
 use Rattle.vw_plan.specs.declared.board.Board.{Board}
@@ -14,7 +13,7 @@ use Rattle.vw_batches.specs.Traffic.{scripts_of}
 use Rattle.vw_gen.specs.Summary.{summary}
 use Rattle.vw_top.specs.Demo.{board_name, design_name, generated, stimulus_name}
 use Rattle.vw_top.specs.Messages.{vocabulary, Call, CallWork}
-use Rattle.vw_top.specs.Commands.{Scripts, no_links, IsSomeTrace, tracing, trace_course, rows_course, TextOver, over_design_course, netlist_trace, Rest, size_rest, plan_rest, emit_rest, ready_course, over_rows_course, resume_rest, course_of, demo_run}
+use Rattle.vw_top.specs.Commands.{Scripts, no_links, IsSomeTrace, trace_course, rows_course, TextOver, over_design_course, netlist_trace, Rest, size_rest, plan_rest, emit_rest, ready_course, over_rows_course, resume_rest, course_of, demo_run}
 use Rattle.vw_top.specs.Words.{Spelled, uses_links}
 use Rattle.vw_top.specs.Words as words
 
