@@ -109,18 +109,18 @@ RECIPE = (
     "read_verilog {0}.v; synth -flatten -top {0}; async2sync; dfflegalize -cell $_DFF_P_ 01; abc -lut 4; "
     "opt_clean -purge; write_blif {0}.blif"
 )
-AS_VERILOG = "read_blif board.blif; hierarchy -top board; flatten; opt_clean; write_verilog board.v"
-# yosys has latches without a clock as cells named $ff
-CELL = """
-module \\$ff (D, Q);
-  parameter WIDTH = 1;
-  parameter INIT = 1'bx;
-  input D;
-  output reg Q;
-  initial Q = INIT;
-  always @(posedge bench.clk) Q <= D;
-endmodule
-"""
+AS_VERILOG = "read_blif clocked.blif; write_verilog board.v"
+# what gives the registers of an emitted board a clock, as docs/formats.md has it
+CLOCKED = [
+    "sed",
+    "-e",
+    r"/^\.latch/s/ \([^ ]*\)$/ re clk \1/",
+    "-e",
+    r"s/^\.inputs/& clk/",
+    "-e",
+    r"/^\.subckt/s/ node[0-9]*/& clk=clk/",
+    "board.blif",
+]
 
 
 def run(words, folder):
@@ -149,20 +149,11 @@ def traced(text):
 
 
 def as_verilog(folder):
-    """Turns the emitted board into Verilog, whose latches have their initial bits; gives the ports in order."""
+    """Turns the emitted board into Verilog with a clock; gives the ports in order."""
+    (folder / "clocked.blif").write_text(run(CLOCKED, folder))
     run(["yosys", "-q", "-p", AS_VERILOG], folder)
     text = (folder / "board.v").read_text()
-    init = dict()
-    for bit, name in re.findall(r"\(\* init = 1'h([01]) \*\)\s+(?:wire|output|reg)\s+(\S+);", text):
-        init[name] = bit
-    def with_bit(found):
-        name = found.group(2)
-        return found.group(0).replace(".WIDTH(32'd1)", f".WIDTH(32'd1), .INIT(1'b{init.get(name, 'x')})")
-    cell = r"\\\$ff\s+#\(\s*\.WIDTH\(32'd1\)\s*\) (\S+) \(\s*\.D\([^)]*\),\s*\.Q\((\S+)\)\s*\);"
-    text = re.sub(cell, with_bit, text)
-    ports = [port.strip() for port in re.search(r"module board\((.*?)\);", text, re.S).group(1).split(",")]
-    (folder / "board.v").write_text(text + CELL)
-    return ports
+    return [port.strip() for port in re.search(r"module board\((.*?)\);", text, re.S).group(1).split(",")]
 
 
 def bench(ports, rows, every):
@@ -173,7 +164,7 @@ def bench(ports, rows, every):
     shown = by_number("y") + by_number("s")
     width = max(1, len(rows[0]))
     taken = [f".{port}(row[{width - 1 - int(port[1:])}])" for port in by_number("x")]
-    joined = ", ".join(taken + [f".{port}({port})" for port in shown])
+    joined = ", ".join([".clk(clk)"] + taken + [f".{port}({port})" for port in shown])
     return f"""
 module bench;
   reg clk = 0;
@@ -255,4 +246,5 @@ def main():
     sys.exit(1 if wrong else 0)
 
 
-main()
+if __name__ == "__main__":
+    main()
