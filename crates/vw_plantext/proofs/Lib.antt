@@ -11,3 +11,4 @@ pub mod ReadSoFar
 pub mod LastLine
 pub mod OneLine
 pub mod OnePlan
+pub mod ChipsLines

@@ -9,6 +9,7 @@ pub mod LinkTraffic
 pub mod SimLaws
 pub mod FewRows
 pub mod WaveLaws
+pub mod NetsLaws
 pub mod PlannedLaws
 pub mod WrittenLaws
 pub mod PlanLaws

@@ -55,6 +55,7 @@ course_unused : (spelled : Spelled) → uses_links spelled ≡ false → UsesNoL
 course_unused (words.sim design stimulus unknown probes) none = design_unused probes design stimulus _
 course_unused (words.wave design stimulus unknown probes) none = design_unused probes design stimulus _
 course_unused (words.grade design stimulus workers unknown) none = λ d named good. rows_unused stimulus _ _ no_links (λ rows. refl)
+course_unused (words.nets design probes) none = λ d named good. refl
 course_unused (words.check design board plan probes) none = ready_unused probes design board (Some plan) size_rest (λ ordered its sound. refl)
 course_unused (words.plan design board probes) none = ready_unused probes design board None plan_rest (λ ordered its plan. refl)
 course_unused (words.run design board stimulus given workers unknown probes) none = over_rows_unused probes design board given stimulus _ workers unknown none

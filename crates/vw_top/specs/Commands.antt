@@ -14,6 +14,7 @@ use Rattle.vw_front.specs.Designs.{WatchedDesign}
 use Rattle.vw_front.specs.Names.{signal_names}
 use Rattle.vw_front.specs.declared.named.NamedNetlist.{NamedNetlist}
 use Rattle.vw_fault.specs.Text.{grading_text}
+use Rattle.vw_listing.specs.Netlist.{netlist_text}
 use Rattle.vw_course.specs.Course.{again, Course, works, refuses, writes, Judged, judges, made, stage}
 use Rattle.vw_course.specs.OnTexts.{on_texts}
 use Rattle.vw_plan.specs.declared.board.Board.{Board}
@@ -146,6 +147,19 @@ grading_course stimulus unknown named = rows_course stimulus named.ordered.flat.
 -- the design first; no net is watched
 abbrev pub grade_course : List ℕ → List ℕ → Bool → Course vocabulary
 grade_course design stimulus unknown = stage (named_kind []) design (grading_course stimulus unknown)
+
+-- ---- nets
+
+-- the netlist of a design as a text, with its names, where the probes are its last outputs
+abbrev pub nets_text : List ProbeWord → NamedNetlist → List ℕ
+nets_text probes named = netlist_text named.nets (named.outputs ++ probes) named.ordered.flat
+
+-- it is written, whatever the order of the gates
+abbrev pub nets_writing : List ProbeWord → NamedNetlist → Course vocabulary
+nets_writing probes named = writes (nets_text probes named)
+
+abbrev pub nets_course : List ProbeWord → List ℕ → Course vocabulary
+nets_course probes design = stage (named_kind probes) design (nets_writing probes)
 
 -- ---- what comes behind a planned board
 
@@ -286,6 +300,7 @@ course_of (words.run design board stimulus given workers unknown probes) =
 course_of (words.demo cells workers) = demo_course cells workers
 course_of (words.wave design stimulus unknown probes) = wave_course probes design stimulus unknown
 course_of (words.grade design stimulus workers unknown) = grade_course design stimulus unknown
+course_of (words.nets design probes) = nets_course probes design
 course_of (words.save design board stimulus given workers unknown) = save_course design board given stimulus workers unknown
 course_of (words.resume design board state stimulus given workers) = resume_course design board given state stimulus workers
 course_of (words.emit design board given) = emit_course design board given

@@ -14,6 +14,8 @@ help_text = lines_text (
     codes "      [unknown=0|1] [probe=NET].." ∷
     codes "  grade DESIGN STIM           writes which stuck nets a stimulus does not reveal" ∷
     codes "      [workers=N] [unknown=0|1]" ∷
+    codes "  nets DESIGN                 writes the nets and the cells of a design" ∷
+    codes "      [probe=NET].." ∷
     codes "  check DESIGN BOARD PLAN     checks a plan, and writes its size" ∷
     codes "      [probe=NET].." ∷
     codes "  plan DESIGN BOARD           makes a plan, and writes it" ∷

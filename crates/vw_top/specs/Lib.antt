@@ -9,6 +9,7 @@ pub mod LinkTraffic
 pub mod Headline
 pub mod SimStatuses
 pub mod WaveLaw
+pub mod NetsStatuses
 pub mod UsageStatuses
 pub mod OnBoards
 pub mod PlanStatuses

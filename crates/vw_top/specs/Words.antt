@@ -13,6 +13,7 @@ pub data Spelled : Type 0 where
   sim : (design stimulus : List ℕ) (unknown : Bool) (probes : List (List ℕ)) → Spelled
   wave : (design stimulus : List ℕ) (unknown : Bool) (probes : List (List ℕ)) → Spelled
   grade : (design stimulus : List ℕ) (workers : ℕ) (unknown : Bool) → Spelled
+  nets : (design : List ℕ) (probes : List (List ℕ)) → Spelled
   check : (design board plan : List ℕ) (probes : List (List ℕ)) → Spelled
   plan : (design board : List ℕ) (probes : List (List ℕ)) → Spelled
   run : (design board stimulus : List ℕ) (given : Option (List ℕ)) (workers : ℕ) (unknown : Bool) (probes : List (List ℕ)) → Spelled
@@ -70,6 +71,10 @@ abbrev pub grade_of : List (List ℕ) → Option Spelled
 grade_of (verb ∷ design ∷ stimulus ∷ settings) = Some (grade design stimulus (workers_given settings) (unknown_given settings))
 grade_of words = None
 
+abbrev pub nets_of : List (List ℕ) → Option Spelled
+nets_of (verb ∷ design ∷ settings) = Some (nets design (probes_given settings))
+nets_of words = None
+
 abbrev pub check_of : List (List ℕ) → Option Spelled
 check_of (verb ∷ design ∷ board ∷ its_plan ∷ settings) = Some (check design board its_plan (probes_given settings))
 check_of words = None
@@ -107,6 +112,7 @@ abbrev pub spelled_as : Verb → List (List ℕ) → Option Spelled
 spelled_as verbs.Sim words = sim_of words
 spelled_as verbs.Wave words = wave_of words
 spelled_as verbs.Grade words = grade_of words
+spelled_as verbs.Nets words = nets_of words
 spelled_as verbs.Check words = check_of words
 spelled_as verbs.Plan words = plan_of words
 spelled_as verbs.Run words = run_of words
@@ -135,6 +141,7 @@ commands =
     record { verb = verbs.Sim; form = form_with (codes "sim") (file ∷ file ∷ []) (unknown_setting ∷ probe_setting ∷ []) }
     ∷ record { verb = verbs.Wave; form = form_with (codes "wave") (file ∷ file ∷ []) (unknown_setting ∷ probe_setting ∷ []) }
     ∷ record { verb = verbs.Grade; form = form_with (codes "grade") (file ∷ file ∷ []) (workers_setting ∷ unknown_setting ∷ []) }
+    ∷ record { verb = verbs.Nets; form = form_with (codes "nets") (file ∷ []) (probe_setting ∷ []) }
     ∷ record { verb = verbs.Check; form = form_with (codes "check") (file ∷ file ∷ file ∷ []) (probe_setting ∷ []) }
     ∷ record { verb = verbs.Plan; form = form_with (codes "plan") (file ∷ file ∷ []) (probe_setting ∷ []) }
     ∷ record {
@@ -167,6 +174,7 @@ abbrev pub needs_runtime : Spelled → Bool
 needs_runtime (sim design stimulus unknown probes) = false
 needs_runtime (wave design stimulus unknown probes) = false
 needs_runtime (grade design stimulus workers unknown) = true
+needs_runtime (nets design probes) = false
 needs_runtime (check design board its_plan probes) = false
 needs_runtime (plan design board probes) = false
 needs_runtime (run design board stimulus given workers unknown probes) = ltb 1 workers
@@ -187,6 +195,7 @@ uses_links (resume design board state stimulus given workers) = ltb 1 workers
 uses_links (sim design stimulus unknown probes) = false
 uses_links (wave design stimulus unknown probes) = false
 uses_links (grade design stimulus workers unknown) = false
+uses_links (nets design probes) = false
 uses_links (check design board its_plan probes) = false
 uses_links (plan design board probes) = false
 uses_links (emit design board given) = false

@@ -7,6 +7,7 @@ pub enum Verb {
     Sim,
     Wave,
     Grade,
+    Nets,
     Check,
     Plan,
     Run,
@@ -76,6 +77,12 @@ const GRADE: Form = Form {
     settings: &[WORKERS, UNKNOWN],
 };
 
+/// nets DESIGN [probe=NET]..
+const NETS: Form = Form {
+    places: &[Place::Keyword(b"nets"), FILE],
+    settings: &[PROBE],
+};
+
 /// check DESIGN BOARD PLAN [probe=NET]..
 const CHECK: Form = Form {
     places: &[Place::Keyword(b"check"), FILE, FILE, FILE],
@@ -137,7 +144,7 @@ const VERSION: Form = Form {
 };
 
 /// Each command with the form of its words.
-pub const COMMANDS: [Entry<Verb>; 12] = [
+pub const COMMANDS: [Entry<Verb>; 13] = [
     Entry {
         command: Verb::Sim,
         form: SIM,
@@ -149,6 +156,10 @@ pub const COMMANDS: [Entry<Verb>; 12] = [
     Entry {
         command: Verb::Grade,
         form: GRADE,
+    },
+    Entry {
+        command: Verb::Nets,
+        form: NETS,
     },
     Entry {
         command: Verb::Check,

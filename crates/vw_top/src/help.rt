@@ -25,6 +25,8 @@ usage: vwires COMMAND FILE.. [SETTING..]\n\
 \x20     [unknown=0|1] [probe=NET]..\n\
 \x20 grade DESIGN STIM           writes which stuck nets a stimulus does not reveal\n\
 \x20     [workers=N] [unknown=0|1]\n\
+\x20 nets DESIGN                 writes the nets and the cells of a design\n\
+\x20     [probe=NET]..\n\
 \x20 check DESIGN BOARD PLAN     checks a plan, and writes its size\n\
 \x20     [probe=NET]..\n\
 \x20 plan DESIGN BOARD           makes a plan, and writes it\n\

@@ -6,12 +6,13 @@ ghost use Rattle.vw_design.specs.Paths.{Word};
 ghost use Rattle.vw_course.specs.Endings.{IsCallOf};
 ghost use Rattle.vw_course.specs.Statuses.{Holds, Statuses};
 ghost use Rattle.vw_top.specs.Words.{Spelled, command_forms, help, uses_links, version};
-ghost use Rattle.vw_top.specs.Commands.{check_course, course_of, demo_course, emit_course, grade_course, plan_course, resume_course, run_course, save_course, saved_of, sim_course, trace_of, usage_course, wave_course, wave_of};
+ghost use Rattle.vw_top.specs.Commands.{check_course, course_of, demo_course, emit_course, grade_course, nets_course, plan_course, resume_course, run_course, save_course, saved_of, sim_course, trace_of, usage_course, wave_course, wave_of};
 ghost use Rattle.vw_top.specs.Messages.{Call};
 ghost use Rattle.vw_top.specs.Headline.{WritesTrace};
 ghost use Rattle.vw_top.specs.WaveLaw.{WavesReplay};
 ghost use Rattle.vw_top.specs.UsageStatuses.{UsageStatuses};
 ghost use Rattle.vw_top.specs.SimStatuses.{GradeStatuses, SimStatuses};
+ghost use Rattle.vw_top.specs.NetsStatuses.{NetsStatuses};
 ghost use Rattle.vw_top.specs.CheckStatuses.{CheckStatuses};
 ghost use Rattle.vw_top.specs.EmittedBoards.{BoardsShow};
 ghost use Rattle.vw_top.specs.EmitStatuses.{EmitStatuses};
@@ -73,6 +74,12 @@ pub fn grade_statuses()
     ensures { (design stimulus : List ℕ) (unknown : Bool) (call : Call)
         → IsCallOf (grade_course design stimulus unknown) call
         → GradeStatuses unknown design stimulus call }
+{}
+
+/// What each status of `nets` says of its design: after status 0, out has the text of its netlist.
+pub fn nets_statuses()
+    ensures { (probes : List Word) (design : List ℕ) (call : Call)
+        → IsCallOf (nets_course probes design) call → NetsStatuses probes design call }
 {}
 
 /// What each status of `check` says of its files, with 64 probes at most.
