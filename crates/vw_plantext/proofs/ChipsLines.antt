@@ -51,7 +51,7 @@ line_read line numbers cells read same few (Ok found) says =
 
 -- ---- the text
 
-line_alone : (chips : List ℕ) → AreInRange chips → IsOneLine (chips_line chips)
+pub line_alone : (chips : List ℕ) → AreInRange chips → IsOneLine (chips_line chips)
 line_alone chips are = one_line (codes "chips") chips refl (small_chips chips are.fit)
 
 -- a text whose first line isn't one of chips

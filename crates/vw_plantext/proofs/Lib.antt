@@ -12,3 +12,4 @@ pub mod LastLine
 pub mod OneLine
 pub mod OnePlan
 pub mod ChipsLines
+pub mod OneChips
