@@ -13,6 +13,7 @@ pub mod NetsLaws
 pub mod PlannedLaws
 pub mod WrittenLaws
 pub mod PlanLaws
+pub mod PlanForLaws
 pub mod CheckLaws
 pub mod EmittedBoards
 pub mod EmitLaws

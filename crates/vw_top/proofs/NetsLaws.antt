@@ -1,5 +1,5 @@
 -- What each status of `nets` says of its design.
-use Rattle.std.proofs.Common.{◌≡◌, ◌≢◌, ◌<◌, ◌+◌, ◌++◌, ◌∙◌, ℕ, List, [], ◌∷◌, length, map, ap, sym, refl, inl, inr, ⊎_elim, lit<, arith}
+use Rattle.std.proofs.Common.{◌≡◌, ◌≢◌, ◌<◌, ◌+◌, ◌++◌, ◌∙◌, ℕ, List, length, ap, sym, refl, inl, inr, ⊎_elim, lit<, arith}
 use Rattle.std.proofs.lemmas.List.{length-map, length-append}
 use Rattle.vw_design.specs.Paths.{Word, Net, printed}
 use Rattle.vw_design.specs.NetReads.{root_outputs}
@@ -9,14 +9,14 @@ use Rattle.vw_design.proofs.PairedLists.{AllZip-length}
 use Rattle.vw_outside.specs.Told.{Told, held}
 use Rattle.vw_listing.specs.Netlist.{netlist_text}
 use Rattle.vw_course.specs.Vocabulary.{IsNoStop}
-use Rattle.vw_course.specs.Course.{Course, Kind, stage, writing}
+use Rattle.vw_course.specs.Course.{Course, Kind, writing}
 use Rattle.vw_course.specs.Follows.{May}
 use Rattle.vw_course.specs.Endings.{IsCallOf}
 use Rattle.vw_course.specs.Places.{Files, RefusesHere, IsToWork}
 use Rattle.vw_course.specs.Statuses.{Holds, MayDo, IsCarriedOut, Statuses}
 use Rattle.vw_course.proofs.CallTable.{call_table}
 use Rattle.vw_course.proofs.StandLaws.{call_works, call_refused, call_misses}
-use Rattle.vw_course.proofs.EveryPlace.{Every, ReadsOnly, IsOnce, IsUnbroken, IsNever, passes_reads, passes_once, passes_unbroken, every_stage, never_stage, no_break, never_status, fault_at}
+use Rattle.vw_course.proofs.EveryPlace.{Every, ReadsOnly, IsOnce, IsUnbroken, passes_reads, passes_once, passes_unbroken, every_stage, never_stage, no_break, never_status, fault_at}
 use Rattle.vw_course.proofs.StageLaws.{past, at_bad, at_absent, work_past, refused_past, refused_for}
 use Rattle.vw_course.proofs.CarriedOut.{completes, done_as, write_as, memory_as, text_part}
 use Rattle.vw_front.specs.declared.named.NamedNetlist.{NamedNetlist}

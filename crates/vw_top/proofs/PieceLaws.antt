@@ -7,7 +7,6 @@ use Rattle.vw_design.specs.Flattened.{IsFlatOf}
 use Rattle.vw_resume.specs.declared.state.State.{State}
 use Rattle.vw_resume.specs.Joined.{IsJoined}
 use Rattle.vw_resume.specs.Resumed.{resumed_trace}
-use Rattle.vw_resume.specs.Saved.{saved_text}
 use Rattle.vw_resume.specs.States.{Spells}
 use Rattle.vw_resume.proofs.Ran.{saved_spells}
 use Rattle.vw_resume.proofs.ReadBack.{spelled_once}

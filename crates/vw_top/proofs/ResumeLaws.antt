@@ -1,5 +1,5 @@
 -- What each status of `resume` says of its files.
-use Rattle.std.proofs.Common.{◌≡◌, ◌≢◌, ◌<◌, ◌≤◌, ◌+◌, ◌⊎◌, ℕ, Bool, List, [], ◌∷◌, length, Option, None, Some, refl, sym, ◌∙◌, ap, ap₂, subst, inl, inr, ⊎_elim, lit<, arith}
+use Rattle.std.proofs.Common.{◌≡◌, ◌≢◌, ◌<◌, ◌≤◌, ◌+◌, ◌⊎◌, ℕ, Bool, List, [], ◌∷◌, length, Option, refl, sym, ◌∙◌, ap, subst, inl, inr, ⊎_elim, lit<, arith}
 use Rattle.vw_net.specs.declared.flat.Flat.{Flat}
 use Rattle.vw_net.specs.declared.ordered.Ordered.{Ordered}
 use Rattle.vw_net.specs.Cells.{latch_count}
@@ -9,14 +9,14 @@ use Rattle.vw_course.specs.Outside.{SeenOutside, carried}
 use Rattle.vw_course.specs.Course.{Course}
 use Rattle.vw_course.specs.Follows.{May}
 use Rattle.vw_course.specs.Endings.{IsCallOf}
-use Rattle.vw_course.specs.Places.{IsOneOf, Files, WorksHere, RefusesHere, StandsAt, IsToRefuse}
+use Rattle.vw_course.specs.Places.{IsOneOf, Files, RefusesHere, StandsAt, IsToRefuse}
 use Rattle.vw_course.specs.Statuses.{Holds, IsDone}
 use Rattle.vw_course.proofs.CallTable.{call_table}
 use Rattle.vw_course.proofs.Inductions.{its_text, of_held}
 use Rattle.vw_course.proofs.StandLaws.{call_refused}
 use Rattle.vw_course.proofs.EveryPlace.{Every, IsPassed, ReadsOnly, IsUnbroken, IsNever, IsHeldThere, passes_reads, passes_unbroken, passes_held, every_stage, never_stage, never_status, no_break}
-use Rattle.vw_course.proofs.StageLaws.{IsBehind, past, at_bad, stage_behind, refused_past, refusal_behind, refused_for}
-use Rattle.vw_course.proofs.BarredLaws.{IsBarred, barred_here, barred_later, call_barred}
+use Rattle.vw_course.proofs.StageLaws.{past, at_bad, stage_behind, refused_past, refusal_behind, refused_for}
+use Rattle.vw_course.proofs.BarredLaws.{barred_here, barred_later, call_barred}
 use Rattle.vw_front.specs.Designs.{IsNetlistOf}
 use Rattle.vw_plan.specs.declared.board.Board.{Board}
 use Rattle.vw_plan.specs.declared.plan.Plan.{Plan}
@@ -31,15 +31,15 @@ use Rattle.vw_top.specs.declared.vocabulary.File.TheVariants as kinds
 use Rattle.vw_top.specs.declared.vocabulary.Reason.{Reason}
 use Rattle.vw_top.specs.declared.vocabulary.Reason.TheVariants as reasons
 use Rattle.vw_top.specs.Messages.{reason_status, vocabulary, Call, CallWork}
-use Rattle.vw_top.specs.Kinds.{rows_kind, state_kind, IsStateOf, IsBadState, IsBadStimulus, IsRowsOf, AreTooManyClocks, clocks_fit}
+use Rattle.vw_top.specs.Kinds.{rows_kind, state_kind, IsStateOf, IsBadState, IsRowsOf, AreTooManyClocks, clocks_fit}
 use Rattle.vw_top.specs.Commands.{Scripts, RowCheck, check_by, trace_course, with_check, checked_rows_course, scripts_from, state_course, resume_rest, resume_course}
-use Rattle.vw_top.specs.PlannedStatuses.{IsPlanBy, IsPlanOf, AreSpelled, HavePlan, plan_status, other_status, with_given, HoldsGiven, HoldTexts, MaySpell}
+use Rattle.vw_top.specs.PlannedStatuses.{AreSpelled, HavePlan, plan_status, other_status, with_given, HoldTexts, MaySpell}
 use Rattle.vw_top.specs.TracedStatuses.{Subject, IsTrace, TracedStatuses}
 use Rattle.vw_top.specs.TracedStatuses as traced
 use Rattle.vw_top.specs.ResumeStatuses.{ResumeTexts, Resumption, AreResumed, trace_from_state, IsNoState, resumptions, up_to_state, its_files, MayResume, UsesFrom, IsReady, AreTooMany, CarriesFrom, ResumeStatuses}
 use Rattle.vw_top.proofs.OnBoards.{netlist_same}
 use Rattle.vw_top.proofs.TracedLaws.{ComesToRows, reads_rows, unbroken_rows, never_rows, held_rows, barred_rows, same_rows, traced_table}
-use Rattle.vw_top.proofs.PlannedLaws.{IsAmong, IsBehindPlan, among_more, given_among, behind_given, plan_differs, plan_few, other_differs, every_planned, never_planned, barred_planned, behind_planned, held_spelled, work_planned, to_rest, planned_table}
+use Rattle.vw_top.proofs.PlannedLaws.{IsAmong, IsBehindPlan, among_more, given_among, behind_given, plan_differs, plan_few, other_differs, every_planned, never_planned, barred_planned, behind_planned, work_planned, to_rest, planned_table}
 use Rattle.vw_top.proofs.RunLaws.{plan_by}
 
 -- the state of a text is one, for whatever netlist of the design

@@ -17,7 +17,6 @@ use Rattle.vw_course.specs.Follows.{Answer, IsDoneBy, EndsWorking}
 use Rattle.vw_course.specs.Goes.{seen_outside, IsSame, Goes, GoesOver, MovedFrom}
 use Rattle.vw_course.specs.Stages.{EndsStage}
 use Rattle.vw_course.proofs.Inductions.{its_text}
-use Rattle.vw_course.specs.Stages.{EndsJudging}
 use Rattle.vw_course.proofs.GoesLaws.{IsStill, with_text, goes_past, goes_not_past, goes_judged, goes_unjudged, goes_works}
 use Rattle.vw_prog.specs.declared.word.Word.{Word}
 use Rattle.vw_rows.specs.declared.stimulus.Stimulus.{Stimulus}

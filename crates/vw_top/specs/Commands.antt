@@ -42,7 +42,7 @@ use Rattle.vw_top.specs.Help.{help_text, version_text}
 use Rattle.vw_top.specs.Demo.{board_name, design_name, generated, stimulus_name}
 use Rattle.vw_gen.specs.Summary.{summary}
 use Rattle.vw_top.specs.Messages.{vocabulary, CallWork}
-use Rattle.vw_top.specs.Kinds.{design_kind, netlist_kind, named_kind, rows_kind, IsBadAgain, board_kind, plan_kind, soundness, planning, emission, state_kind, clocks_fit}
+use Rattle.vw_top.specs.Kinds.{design_kind, netlist_kind, named_kind, rows_kind, IsBadAgain, board_kind, plan_kind, chips_kind, soundness, planning, planning_for, emission, state_kind, clocks_fit}
 
 -- ---- traces
 
@@ -210,6 +210,24 @@ plan_rest ordered board plan = writes (text_of_plan plan)
 abbrev pub plan_course : List ProbeWord → List ℕ → List ℕ → Course vocabulary
 plan_course probes design board = ready_course probes design board None plan_rest
 
+-- the same for given chips: they are read behind the board, and then a plan with them is made
+abbrev pub placed_course : Ordered → Board → List ℕ → Course vocabulary
+placed_course ordered board chips = made (planning_for ordered board chips) (plan_rest ordered board)
+
+abbrev pub chips_course : List ℕ → Ordered → Board → Course vocabulary
+chips_course chips ordered board = stage chips_kind chips (placed_course ordered board)
+
+abbrev pub chips_on_board_course : List ℕ → List ℕ → Ordered → Course vocabulary
+chips_on_board_course board chips ordered = stage board_kind board (chips_course chips ordered)
+
+abbrev pub plan_for_course : List ProbeWord → List ℕ → List ℕ → List ℕ → Course vocabulary
+plan_for_course probes design board chips = stage (netlist_kind probes) design (chips_on_board_course board chips)
+
+-- where they are given
+abbrev pub plan_with_course : List ProbeWord → List ℕ → List ℕ → Option (List ℕ) → Course vocabulary
+plan_with_course probes design board None = plan_course probes design board
+plan_with_course probes design board (Some chips) = plan_for_course probes design board chips
+
 -- ---- emit
 
 -- the planned board is written as a design, where this is within the limits of designs
@@ -294,7 +312,7 @@ usage_course place = refuses (Usage place)
 abbrev pub course_of : Spelled → Course vocabulary
 course_of (words.sim design stimulus unknown probes) = sim_course probes design stimulus unknown
 course_of (words.check design board plan probes) = check_course probes design board plan
-course_of (words.plan design board probes) = plan_course probes design board
+course_of (words.plan design board chips probes) = plan_with_course probes design board chips
 course_of (words.run design board stimulus given workers unknown probes) =
     run_course probes design board given stimulus workers unknown
 course_of (words.demo cells workers) = demo_course cells workers

@@ -13,6 +13,7 @@ pub mod NetsStatuses
 pub mod UsageStatuses
 pub mod OnBoards
 pub mod PlanStatuses
+pub mod PlanForStatuses
 pub mod PlannedStatuses
 pub mod WrittenStatuses
 pub mod ConstantStatuses

@@ -46,6 +46,13 @@ pub const PLAN: Setting = Setting {
     times: 1,
 };
 
+/// The chip of each cell, for which a plan is made.
+pub const CHIPS: Setting = Setting {
+    name: b"chips",
+    value: Value::Name,
+    times: 1,
+};
+
 /// How many workers run the nodes of a board, or grade a design.
 pub const WORKERS: Setting = Setting {
     name: b"workers",
@@ -89,10 +96,10 @@ const CHECK: Form = Form {
     settings: &[PROBE],
 };
 
-/// plan DESIGN BOARD [probe=NET]..
+/// plan DESIGN BOARD [chips=FILE] [probe=NET]..
 const MAKE_PLAN: Form = Form {
     places: &[Place::Keyword(b"plan"), FILE, FILE],
-    settings: &[PROBE],
+    settings: &[CHIPS, PROBE],
 };
 
 /// run DESIGN BOARD STIM [plan=FILE] [workers=N] [unknown=0|1] [probe=NET]..

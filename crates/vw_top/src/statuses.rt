@@ -6,7 +6,7 @@ ghost use Rattle.vw_design.specs.Paths.{Word};
 ghost use Rattle.vw_course.specs.Endings.{IsCallOf};
 ghost use Rattle.vw_course.specs.Statuses.{Holds, Statuses};
 ghost use Rattle.vw_top.specs.Words.{Spelled, command_forms, help, uses_links, version};
-ghost use Rattle.vw_top.specs.Commands.{check_course, course_of, demo_course, emit_course, grade_course, nets_course, plan_course, resume_course, run_course, save_course, saved_of, sim_course, trace_of, usage_course, wave_course, wave_of};
+ghost use Rattle.vw_top.specs.Commands.{check_course, course_of, demo_course, emit_course, grade_course, nets_course, plan_course, plan_for_course, resume_course, run_course, save_course, saved_of, sim_course, trace_of, usage_course, wave_course, wave_of};
 ghost use Rattle.vw_top.specs.Messages.{Call};
 ghost use Rattle.vw_top.specs.Headline.{WritesTrace};
 ghost use Rattle.vw_top.specs.WaveLaw.{WavesReplay};
@@ -17,6 +17,7 @@ ghost use Rattle.vw_top.specs.CheckStatuses.{CheckStatuses};
 ghost use Rattle.vw_top.specs.EmittedBoards.{BoardsShow};
 ghost use Rattle.vw_top.specs.EmitStatuses.{EmitStatuses};
 ghost use Rattle.vw_top.specs.PlanStatuses.{PlanStatuses};
+ghost use Rattle.vw_top.specs.PlanForStatuses.{PlanForStatuses};
 ghost use Rattle.vw_top.specs.RunStatuses.{RunStatuses};
 ghost use Rattle.vw_top.specs.Pieces.{PiecesJoin};
 ghost use Rattle.vw_top.specs.ResumeStatuses.{ResumeStatuses};
@@ -94,6 +95,14 @@ pub fn plan_statuses()
     ensures { (probes : List Word) → length probes ≤ 64 → (design board : List ℕ) (call : Call)
         → IsCallOf (plan_course probes design board) call
         → PlanStatuses probes design board call }
+{}
+
+/// What each status of `plan` for given chips says of its files, with 64 probes at most: after status 0, out has the text of
+/// a sound plan with exactly these chips.
+pub fn plan_for_statuses()
+    ensures { (probes : List Word) → length probes ≤ 64 → (design board chips : List ℕ) (call : Call)
+        → IsCallOf (plan_for_course probes design board chips) call
+        → PlanForStatuses probes design board chips call }
 {}
 
 /// What each status of `run` says of its files, with 64 probes at most, where it is given a plan and where it makes one: after

@@ -6,7 +6,7 @@ ghost use Rattle.vw_top.specs.Steps.Commands.{command_form, command_view};
 ghost use Rattle.vw_words.specs.Values.{name_given};
 
 use crate::forms::{
-    COMMANDS, DEFAULT_WORKERS, MOST_CELLS, MOST_PROBES, PLAN, PROBE, UNKNOWN, Verb, WORKERS,
+    CHIPS, COMMANDS, DEFAULT_WORKERS, MOST_CELLS, MOST_PROBES, PLAN, PROBE, UNKNOWN, Verb, WORKERS,
 };
 use crate::size::Size;
 use std::alloc::{AllocError, Global};
@@ -62,6 +62,8 @@ pub enum Command<'a> {
     Plan {
         design: &'a Name,
         board: &'a Name,
+        /// The name of the chips of the cells, where they are given.
+        chips: Option<&'a [u8]>,
         /// The nets that are watched.
         probes: Names<'a>,
     },
@@ -229,6 +231,7 @@ fn plan_of(words: &[Name]) -> Option<Command<'_>>
         [_, design, board, settings @ ..] => Some(Command::Plan {
             design,
             board,
+            chips: CHIPS.name(settings),
             probes: PROBE.names(settings),
         }),
         _ => None,

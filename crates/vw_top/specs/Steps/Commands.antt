@@ -16,7 +16,7 @@ command_view (Wave design stimulus unknown probes) = words.wave design.now stimu
 command_view (Grade design stimulus workers unknown) = words.grade design.now stimulus.now workers unknown
 command_view (Nets design probes) = words.nets design.now (take MOST_PROBES probes)
 command_view (Check design board plan probes) = words.check design.now board.now plan.now (take MOST_PROBES probes)
-command_view (Plan design board probes) = words.plan design.now board.now (take MOST_PROBES probes)
+command_view (Plan design board chips probes) = words.plan design.now board.now (option_copied chips) (take MOST_PROBES probes)
 command_view (Run design board stimulus plan workers unknown probes) =
     words.run design.now board.now stimulus.now (option_copied plan) workers unknown (take MOST_PROBES probes)
 command_view (Demo size workers) = words.demo size.cells workers
