@@ -37,9 +37,9 @@ passed false fault none = cc
 -- without a fault of the cells, each cell has a chip
 pub chips_fine : (flat : Flat) (board : Board) (plan : Plan) → cell_fault flat board plan ≡ None → (length plan.chip_of ≡ length flat.cells) × All (λ chip. 1 ≤ chip) plan.chip_of
 chips_fine flat board plan none =
-    let counted = or_none (wrong_cells flat plan) (option_or (zero_period plan) (option_or (bad_chip board plan) (option_or (overfull board plan) None))) none in
-    let timed = or_none (zero_period plan) (option_or (bad_chip board plan) (option_or (overfull board plan) None)) counted.1 in
-    let placed = or_none (bad_chip board plan) (option_or (overfull board plan) None) timed.1 in
+    let counted = or_none (wrong_cells flat plan.chip_of) (option_or (zero_period plan) (option_or (bad_chip board plan.chip_of) (option_or (overfull board plan.chip_of) None))) none in
+    let timed = or_none (zero_period plan) (option_or (bad_chip board plan.chip_of) (option_or (overfull board plan.chip_of) None)) counted.1 in
+    let placed = or_none (bad_chip board plan.chip_of) (option_or (overfull board plan.chip_of) None) timed.1 in
     let same = passed (eqb (length plan.chip_of) (length flat.cells)) (WrongCells (length plan.chip_of) (length flat.cells)) counted.0 in (
       eqb-true (length plan.chip_of) (length flat.cells) same,
       λ place default within.

@@ -1,6 +1,9 @@
 -- All faults, and all points of a sound plan.
-use Rattle.std.proofs.Common.{◌≡◌, List, [], ◌∷◌, Option, Some, None, refl, sym}
+use Rattle.std.proofs.Common.{◌≡◌, ℕ, List, [], ◌∷◌, Option, Some, None, refl, sym}
+use Rattle.std.specs.Prelude.{IfNone}
 use Rattle.std.proofs.lemmas.Option.{none-some}
+use Rattle.vw_net.specs.declared.flat.Flat.{Flat}
+use Rattle.vw_plan.specs.declared.board.Board.{Board}
 use Rattle.vw_plan.specs.PlannedBoard.{PlannedBoard}
 use Rattle.vw_plan.specs.Sound.{IsSound}
 use Rattle.vw_plan.specs.Needs.{needed_pairs}
@@ -11,10 +14,10 @@ use Rattle.vw_check.specs.CellFaults.{wrong_cells, zero_period, bad_chip, overfu
 use Rattle.vw_check.specs.WireFaults.{missing_wire, extra_wire}
 use Rattle.vw_check.specs.HopFaults.{broken_route, bad_pin, out_of_order, past_period, pin_clash}
 use Rattle.vw_check.specs.MicrocycleFaults.{too_early, late_latch}
-use Rattle.vw_check.specs.Faults.{plan_fault}
-use Rattle.vw_check.specs.Answers.{Breaks}
+use Rattle.vw_check.specs.Faults.{chips_fault, plan_fault}
+use Rattle.vw_check.specs.Answers.{Breaks, HasPlace}
 use Rattle.vw_net.proofs.FirstOptions.{or_none, none_or, or_is}
-use Rattle.vw_check.proofs.LawCells.{placed, a_period, no_wrong_cells, no_zero_period, no_bad_chip, no_overfull, wrong_cells_break, zero_period_breaks, bad_chip_breaks, overfull_breaks}
+use Rattle.vw_check.proofs.LawCells.{has_place, right_cells, right_chips, right_room, placed, a_period, no_wrong_cells, no_zero_period, no_bad_chip, no_overfull, wrong_cells_break, zero_period_breaks, bad_chip_breaks, overfull_breaks}
 use Rattle.vw_check.proofs.LawWires.{AreNeeds, has_wires, no_missing_wire, no_extra_wire, missing_wire_breaks, extra_wire_breaks}
 use Rattle.vw_check.proofs.LawRoutes.{routed, rising, no_broken_route, no_bad_pin, no_out_of_order, no_past_period, broken_route_breaks, bad_pin_breaks, out_of_order_breaks, past_period_breaks}
 use Rattle.vw_check.proofs.LawClashes.{none_shared, no_pin_clash, pin_clash_breaks}
@@ -49,7 +52,7 @@ module _ (planned : PlannedBoard) where
   needs_are net node = sym (any-needed_pairs planned.ordered.flat planned.plan.chip_of net node)
 
   abbrev cells : List (Option PlanFault)
-  cells = wrong_cells planned.ordered.flat planned.plan ∷ zero_period planned.plan ∷ bad_chip planned.board planned.plan ∷ overfull planned.board planned.plan ∷ []
+  cells = wrong_cells planned.ordered.flat planned.plan.chip_of ∷ zero_period planned.plan ∷ bad_chip planned.board planned.plan.chip_of ∷ overfull planned.board planned.plan.chip_of ∷ []
 
   abbrev wires : List (Option PlanFault)
   wires = missing_wire planned.ordered.flat planned.plan ∷ extra_wire planned.ordered.flat planned.plan ∷ []
@@ -106,3 +109,20 @@ module _ (planned : PlannedBoard) where
           ),
         ),
       ) is
+
+-- ---- chips without a fault have a place for each cell
+
+module _ (flat : Flat) (board : Board) (chip_of : List ℕ) where
+  abbrev chips : List (Option PlanFault)
+  chips = wrong_cells flat chip_of ∷ bad_chip board chip_of ∷ overfull board chip_of ∷ []
+
+  pub chips_place : chips_fault flat board chip_of ≡ None → HasPlace flat board chip_of
+  chips_place none = let each = each_search chips none in has_place flat board chip_of each.0 each.1.0 each.1.1.0
+
+  pub placed_chips : HasPlace flat board chip_of → chips_fault flat board chip_of ≡ None
+  placed_chips place = no_search chips (right_cells flat board chip_of place, (right_chips flat board chip_of place, (right_room flat board chip_of place, tt)))
+
+  -- where nothing is found, they have
+  pub found_place : (found : Option PlanFault) → found ≡ chips_fault flat board chip_of → IfNone found (HasPlace flat board chip_of)
+  found_place None is = chips_place (sym is)
+  found_place (Some fault) is = tt

@@ -1,7 +1,10 @@
 -- What the checker answers, in terms of the points of a sound plan.
-use Rattle.std.specs.Prelude.{◌≡◌, ◌≤◌, ◌⊎◌, Bool, true, false, not, Some, None, IsTrue}
+use Rattle.std.specs.Prelude.{◌≡◌, ◌≤◌, ◌⊎◌, ℕ, Bool, true, false, not, List, length, Some, None, IsTrue}
 use Rattle.std.specs.List.{All, AllPairs}
+use Rattle.vw_net.specs.declared.flat.Flat.{Flat}
+use Rattle.vw_plan.specs.declared.board.Board.{Board}
 use Rattle.vw_plan.specs.declared.checked.Checked.{Checked}
+use Rattle.vw_plan.specs.Chips.{IsChip, cells_on}
 use Rattle.vw_plan.specs.PlannedBoard.{PlannedBoard}
 use Rattle.vw_plan.specs.Sound.{IsPlaced, HasWires, IsRouted, IsRising, IsSentWhenUsable, AreLatchesInTime, hops_of, share_pin}
 use Rattle.vw_check.specs.declared.fault.PlanFault.{PlanFault}
@@ -42,6 +45,12 @@ is_plan_fault (PinClash wire hop other clash) = true
 is_plan_fault (TooEarly wire sent usable) = true
 is_plan_fault (LateLatch cell usable) = true
 is_plan_fault NoMemory = false
+
+-- chips for a design on a board: each cell has one, and no chip has more cells than it has room for
+pub record HasPlace (flat : Flat) (board : Board) (chip_of : List ℕ) : Type 0 where
+  pub each : length chip_of ≡ length flat.cells
+  pub chips : All (IsChip board) chip_of
+  pub room : (chip : ℕ) → cells_on chip_of chip ≤ board.cells
 
 -- an accepted plan: it has no fault, and the three are as they were. That it is sound is kept by its type
 pub record IsAcceptedPlan (planned : PlannedBoard) (checked : Checked) : Type 0 where

@@ -1,5 +1,5 @@
 -- The fault of a plan: the first that is there, in this order, each at its first place. A plan without one is sound.
-use Rattle.std.specs.Prelude.{[], ◌∷◌, Option}
+use Rattle.std.specs.Prelude.{ℕ, List, [], ◌∷◌, Option}
 use Rattle.vw_net.specs.declared.flat.Flat.{Flat}
 use Rattle.vw_plan.specs.declared.board.Board.{Board}
 use Rattle.vw_plan.specs.declared.plan.Plan.{Plan}
@@ -13,7 +13,12 @@ use Rattle.vw_check.specs.MicrocycleFaults.{too_early, late_latch}
 
 -- the chips of the cells, and the period
 abbrev pub cell_fault : Flat → Board → Plan → Option PlanFault
-cell_fault flat board plan = first_some (wrong_cells flat plan ∷ zero_period plan ∷ bad_chip board plan ∷ overfull board plan ∷ [])
+cell_fault flat board plan =
+    first_some (wrong_cells flat plan.chip_of ∷ zero_period plan ∷ bad_chip board plan.chip_of ∷ overfull board plan.chip_of ∷ [])
+
+-- the chips alone, where no plan has them yet
+abbrev pub chips_fault : Flat → Board → List ℕ → Option PlanFault
+chips_fault flat board chip_of = first_some (wrong_cells flat chip_of ∷ bad_chip board chip_of ∷ overfull board chip_of ∷ [])
 
 -- the wires as a whole
 abbrev pub wire_fault : Flat → Plan → Option PlanFault

@@ -1,8 +1,8 @@
 //! The first fault of a plan.
-ghost use Rattle.std.specs.Prelude.{◌≡◌, IfOk, IfErr};
+ghost use Rattle.std.specs.Prelude.{◌≡◌, ◌<◌, ◌^◌, length, IfOk, IfErr, IfNone};
 ghost use Rattle.vw_plan.specs.PlannedBoard.{planned_board};
-ghost use Rattle.vw_check.specs.Faults.{cell_fault, hop_fault, microcycle_fault, plan_fault};
-ghost use Rattle.vw_check.specs.Answers.{IsAcceptedPlan, IsRefusedPlan};
+ghost use Rattle.vw_check.specs.Faults.{cell_fault, chips_fault, hop_fault, microcycle_fault, plan_fault};
+ghost use Rattle.vw_check.specs.Answers.{HasPlace, IsAcceptedPlan, IsRefusedPlan};
 ghost use Rattle.vw_leads.specs.LeadTables.{planned_in};
 
 use crate::cells::{bad_chip, overfull, wrong_cells, zero_period};
@@ -22,10 +22,31 @@ use vw_plan::{Board, Checked, Plan};
 fn cell_fault(flat: &Flat, board: &Board, plan: &Plan) -> Option<PlanFault>
     ensures { result ≡ cell_fault flat.now board.now plan.now }
 {
-    wrong_cells(flat, plan)
+    wrong_cells(flat, plan.chip_of())
         .or(zero_period(plan))
-        .or(bad_chip(board, plan))
-        .or(overfull(board, plan))
+        .or(bad_chip(board, plan.chip_of()))
+        .or(overfull(board, plan.chip_of()))
+}
+
+/// The first fault of chips.
+fn fault_of_chips(flat: &Flat, board: &Board, chip_of: &[u32]) -> Option<PlanFault>
+    requires { length chip_of.now < 2 ^ 32 }
+    ensures { result ≡ chips_fault flat.now board.now chip_of.now }
+{
+    wrong_cells(flat, chip_of)
+        .or(bad_chip(board, chip_of))
+        .or(overfull(board, chip_of))
+}
+
+/// The first fault of chips that a plan is to have: there is another number of them than of cells; else of the first cell whose
+/// entry is no chip; else of the least chip that has more cells than it has room for.
+pub fn chips_fault(ordered: &Ordered, board: &Board, chip_of: &[u32]) -> Option<PlanFault>
+    requires { length chip_of.now < 2 ^ 32 }
+    // Where there is none, each cell has a chip, and no chip more cells than it has room for.
+    ensures place { IfNone result (HasPlace ordered.now.flat board.now chip_of.now) }
+    ensures fault { result ≡ chips_fault ordered.now.flat board.now chip_of.now }
+{
+    fault_of_chips(ordered.flat(), board, chip_of)
 }
 
 /// The first fault of the hops.

@@ -12,7 +12,7 @@ mod microcycles;
 mod refused;
 mod wires;
 
-pub use checker::check;
+pub use checker::{check, chips_fault};
 pub use fault::PlanFault;
 pub use laws::{
     faultless_plans_are_sound, faults_break_points, orders_change_no_fault,

@@ -11,3 +11,5 @@ pub mod ReadSoFar
 pub mod LastLine
 pub mod OneLine
 pub mod OnePlan
+pub mod ChipsLines
+pub mod OneChips

@@ -59,13 +59,13 @@ head_line_read line numbers read (Some head) found =
     let is : IsNumberLine (codes "plan") line numbers = line_numbers-Some (codes "plan") line numbers read in
     record { is = is.is ∙ ap (number_line (codes "plan")) found.are; few_cells = found.few_cells; few_wires = found.few_wires; short = found.short }
 
-chips_back : (chips : List ℕ) → All (λ chip. chip < 2 ^ 32) chips → line_numbers (codes "chips") (number_line (codes "chips") chips) ≡ Some chips
+pub chips_back : (chips : List ℕ) → All (λ chip. chip < 2 ^ 32) chips → line_numbers (codes "chips") (number_line (codes "chips") chips) ≡ Some chips
 chips_back chips fit = line_numbers-number_line (codes "chips") chips plain_chips refl (small_chips chips fit)
 
 pub chips_line_none : (cells : ℕ) (line : List ℕ) → line_numbers (codes "chips") line ≡ None → IsNoChipsLine cells line
 chips_line_none cells line none chips each fit is = let some : None ≡ Some chips = sym none ∙ ap (line_numbers (codes "chips")) is ∙ chips_back chips fit in cc
 
-chips_line_found : (cells : ℕ) (line numbers : List ℕ) → line_numbers (codes "chips") line ≡ Some numbers → (found : Option (Vec ℕ Global)) → MatchOption found (AreNoChips cells numbers) (λ chips. AreChips cells numbers chips.items) → MatchOption found (IsNoChipsLine cells line) (λ chips. IsChipsLine cells line chips.items)
+pub chips_line_found : (cells : ℕ) (line numbers : List ℕ) → line_numbers (codes "chips") line ≡ Some numbers → (found : Option (Vec ℕ Global)) → MatchOption found (AreNoChips cells numbers) (λ chips. AreChips cells numbers chips.items) → MatchOption found (IsNoChipsLine cells line) (λ chips. IsChipsLine cells line chips.items)
 chips_line_found cells line numbers read None none = λ chips each fit is. let same : numbers ≡ chips = ap (λ (o : Option (List ℕ)). unwrap_or o []) (sym read ∙ ap (line_numbers (codes "chips")) is ∙ chips_back chips fit) in none (ap length same ∙ each) (subst (All (λ chip. chip < 2 ^ 32)) (sym same) fit)
 chips_line_found cells line numbers read (Some chips) found =
     let is : IsNumberLine (codes "chips") line numbers = line_numbers-Some (codes "chips") line numbers read in

@@ -6,3 +6,4 @@ pub mod Hops
 pub mod Pieces
 pub mod Starts
 pub mod Words
+pub mod ChipsLines

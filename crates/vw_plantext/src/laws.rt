@@ -5,6 +5,7 @@ ghost use Rattle.vw_plantext.specs.declared.fault.PlanTextFault.{PlanTextFault};
 ghost use Rattle.vw_plantext.specs.Content.{Content, IsInRange};
 ghost use Rattle.vw_plantext.specs.Grammar.{spelling};
 ghost use Rattle.vw_plantext.specs.CanStand.{IsFirstBadLine};
+ghost use Rattle.vw_plantext.specs.ChipsText.{SpellsChips, RefusesChips};
 ghost use Rattle.vw_plantext.specs.PlanText.{Spells, Refuses, is_text_fault};
 
 /// Two plans have two spellings, and no spelling begins with another one: where one is the front of another, both are of
@@ -33,4 +34,12 @@ pub fn plan_text_faults_are_single()
         → Refuses text one → Refuses text other → one ≡ other }
     ensures faultless { (text : List ℕ) (plan : Plan) (fault : PlanTextFault) → Spells text plan
         → IsTrue (is_text_fault fault) → ¬ (Refuses text fault) }
+{}
+
+/// A text spells the chips of one list at most, and one that spells some has no fault.
+pub fn chips_spell_once()
+    ensures once { (text one other : List ℕ) → SpellsChips text one → SpellsChips text other
+        → one ≡ other }
+    ensures faultless { (text chips : List ℕ) (fault : PlanTextFault) → SpellsChips text chips
+        → IsTrue (is_text_fault fault) → ¬ (RefusesChips text fault) }
 {}

@@ -2,6 +2,7 @@
 #![tactic(auto)]
 
 mod body;
+mod chips_text;
 mod fault;
 mod laws;
 mod limits;
@@ -10,9 +11,11 @@ mod plan_text;
 mod start;
 mod writer;
 
+pub use chips_text::read_chips;
 pub use fault::PlanTextFault;
 pub use laws::{
-    one_line_is_first, plan_text_faults_are_single, plans_spell_once, spellings_differ,
+    chips_spell_once, one_line_is_first, plan_text_faults_are_single, plans_spell_once,
+    spellings_differ,
 };
 pub use plan_text::read;
 pub use writer::print;

@@ -45,7 +45,7 @@ fn read_head(line: &[u8], numbers: &mut Vec<u64>) -> Result<Option<PlanHead>, Al
 }
 
 /// The chips of numbers, where there is one for each cell, and all are in their range.
-fn chips_in(alloc: Global, numbers: &[u64], cells: u64) -> Result<Option<Vec<u32>>, AllocError>
+pub fn chips_in(alloc: Global, numbers: &[u64], cells: u64) -> Result<Option<Vec<u32>>, AllocError>
     ensures { IfOk result (λ chips. MatchOption chips (AreNoChips cells numbers.now)
         (λ chips. AreChips cells numbers.now chips.items)) }
 {

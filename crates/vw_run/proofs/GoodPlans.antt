@@ -1,4 +1,4 @@
--- A schedule of shortest routes of a placement is a good plan.
+-- A schedule of shortest routes of a placement is a plan for its chips, and a good one where these are best.
 use Rattle.std.proofs.Common.{◌≡◌, ℕ, suc, List, [], ◌∷◌, length, map, refl, sym, subst, ◌∙◌, ap, ap₂, All}
 use Rattle.std.specs.List.{AllZip}
 use Rattle.std.proofs.lemmas.List.Elements.{All-nil, All-cons, All-head, All-tail}
@@ -17,6 +17,7 @@ use Rattle.vw_plan.specs.Nets.{node_of}
 use Rattle.vw_plan.specs.Routes.{AreRoutes, FollowsRoute, need_of_route}
 use Rattle.vw_plan.specs.PlannedBoard.{planned_board}
 use Rattle.vw_pipe.specs.Schedules.{IsSchedule}
+use Rattle.vw_run.specs.GivenChips.{IsPlanFor}
 use Rattle.vw_run.specs.Shortest.{IsShortRoute}
 
 abbrev need_of_wire : Wire → Need
@@ -53,14 +54,26 @@ short_wires flat board chip_of (route ∷ routes) (wire ∷ wires) follows short
     All-cons (λ (one : Wire). length one.hops ≡ distance board (node_of flat chip_of one.net) one.to) wire wires here
     (short_wires flat board chip_of routes wires follows.1 (All-tail (IsShortRoute flat board chip_of) route routes short))
 
-pub good_plan : (ordered : Ordered) (board : Board) (chip_of : List ℕ) (routes : List Route) (plan : Plan) → IsSchedule ordered board chip_of routes plan → AreRoutes ordered.flat board chip_of routes → All (IsShortRoute ordered.flat board chip_of) routes
-    → NoMoveHelps ordered.flat board chip_of → NoExchangeHelps ordered.flat board chip_of → IsGood (planned_board ordered board plan)
-good_plan ordered board chip_of routes plan is are short moves exchanges = record {
+-- it is a plan for its chips
+pub plan_made : (ordered : Ordered) (board : Board) (chip_of : List ℕ) (routes : List Route) (plan : Plan) → IsSchedule ordered board chip_of routes plan → AreRoutes ordered.flat board chip_of routes → All (IsShortRoute ordered.flat board chip_of) routes
+    → IsPlanFor ordered board chip_of plan
+plan_made ordered board chip_of routes plan is are short = record {
+  chips = is.chips;
   sound = is.sound;
   in_order = pairs_followed routes plan.wires is.follows ∙ are.pairs ∙ ap (needed_pairs ordered.flat) (sym is.chips);
+  short = subst (λ (chips : List ℕ). All (λ (wire : Wire). length wire.hops ≡ distance board (node_of ordered.flat chips wire.net) wire.to) plan.wires) (sym is.chips) (short_wires ordered.flat board chip_of routes plan.wires is.follows short);
+  earliest = is.earliest;
+  least_period = is.least_period;
+}
+
+-- and a good one, where no other chips are better
+pub good_plan : (ordered : Ordered) (board : Board) (chip_of : List ℕ) (plan : Plan) → IsPlanFor ordered board chip_of plan → NoMoveHelps ordered.flat board chip_of → NoExchangeHelps ordered.flat board chip_of → IsGood (planned_board ordered board plan)
+good_plan ordered board chip_of plan is moves exchanges = record {
+  sound = is.sound;
+  in_order = is.in_order;
   no_move_helps = subst (NoMoveHelps ordered.flat board) (sym is.chips) moves;
   no_exchange_helps = subst (NoExchangeHelps ordered.flat board) (sym is.chips) exchanges;
-  short = subst (λ (chips : List ℕ). All (λ (wire : Wire). length wire.hops ≡ distance board (node_of ordered.flat chips wire.net) wire.to) plan.wires) (sym is.chips) (short_wires ordered.flat board chip_of routes plan.wires is.follows short);
+  short = is.short;
   earliest = is.earliest;
   least_period = is.least_period;
 }

@@ -1,4 +1,5 @@
 pub mod Shortest
 pub mod Compiled
+pub mod GivenChips
 pub mod Messages
 pub mod Runs

@@ -4,11 +4,12 @@ ghost use Rattle.std.specs.List.{All};
 ghost use Rattle.vw_plan.specs.Chips.{IsChip, cells_on};
 ghost use Rattle.vw_plan.specs.Good.{IsGood, NoExchangeHelps, NoMoveHelps};
 ghost use Rattle.vw_plan.specs.PlannedBoard.{planned_board};
+ghost use Rattle.vw_run.specs.GivenChips.{IsCompiledFor, IsPlanFor};
 ghost use Rattle.vw_run.specs.Compiled.{IsCompileFault, IsCompiled, IsCompileRefused};
 
 use crate::fault::{CompileFault, CompileRefused};
 use crate::routes::routes_of;
-use std::alloc::Global;
+use std::alloc::{AllocError, Global};
 use vw_board::Distances;
 use vw_net::{Ordered, Sequence};
 use vw_part::{PartFault, partition};
@@ -44,6 +45,27 @@ fn placement_of(
     }
 }
 
+/// A plan for these chips, given how far the nodes are.
+fn plan_for(
+    alloc: Global,
+    ordered: &Ordered,
+    board: &Board,
+    distances: &Distances,
+    chip_of: Sequence<u32>,
+) -> Result<Plan, AllocError>
+    requires distances { distances.now ≡ board.now }
+    requires each { length chip_of ≡ length ordered.now.flat.cells }
+    requires chips { All (IsChip board.now) chip_of }
+    requires room { (chip : ℕ) → cells_on chip_of chip ≤ board.now.cells }
+    ensures { IfOk result (IsPlanFor ordered.now board.now chip_of) }
+{
+    let routes = routes_of(alloc, ordered, board, distances, chip_of.as_slice())?;
+    match schedule(alloc, ordered, board, chip_of, routes) {
+        Ok(plan) => Ok(plan),
+        Err(_) => Err(AllocError),
+    }
+}
+
 /// A good plan, given how far the nodes are.
 fn plan_by(
     alloc: Global,
@@ -56,11 +78,8 @@ fn plan_by(
     ensures fault { IfErr result (IsCompileFault ordered.now board.now) }
 {
     let chip_of = placement_of(alloc, ordered, board, distances)?;
-    let routes = routes_of(alloc, ordered, board, distances, chip_of.as_slice())?;
-    match schedule(alloc, ordered, board, chip_of, routes) {
-        Ok(plan) => Ok(plan),
-        Err(_) => Err(CompileFault::NoMemory),
-    }
+    let plan = plan_for(alloc, ordered, board, distances, chip_of)?;
+    Ok(plan)
 }
 
 /// A good plan.
@@ -70,6 +89,26 @@ fn good_plan_of(alloc: Global, ordered: &Ordered, board: &Board) -> Result<Plan,
 {
     let distances = Distances::of(alloc, board)?;
     plan_by(alloc, ordered, board, &distances)
+}
+
+/// A design on a board, with a plan for given chips: it is sound and has exactly these chips, its wires stand by net and then by
+/// node, each wire is as short as it can be, each hop as early as its link has a free pin once its net is there, and no smaller
+/// period is sound. That is all that is said of a good plan, but that other chips may be better.
+pub fn compile_for(
+    alloc: Global,
+    ordered: Ordered,
+    board: Board,
+    chip_of: Sequence<u32>,
+) -> Result<Checked, AllocError>
+    requires each { length chip_of ≡ length ordered.flat.cells }
+    requires chips { All (IsChip board) chip_of }
+    requires room { (chip : ℕ) → cells_on chip_of chip ≤ board.cells }
+    ensures { IfOk result (IsCompiledFor ordered board chip_of) }
+{
+    let distances = Distances::of(alloc, &board)?;
+    let plan = plan_for(alloc, &ordered, &board, &distances, chip_of)?;
+    drop(distances);
+    Ok(Checked::make(ordered, board, plan))
 }
 
 /// A design on a board, with a good plan: it is sound, its wires stand by net and then by node, no move of a cell lowers the

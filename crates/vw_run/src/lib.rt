@@ -8,7 +8,7 @@ mod routes;
 mod together;
 
 pub use alone::run_alone;
-pub use compiler::compile;
+pub use compiler::{compile, compile_for};
 pub use fault::{CompileFault, CompileRefused};
 pub use routes::routes_of;
 pub use together::run;

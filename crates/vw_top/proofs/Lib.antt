@@ -9,9 +9,11 @@ pub mod LinkTraffic
 pub mod SimLaws
 pub mod FewRows
 pub mod WaveLaws
+pub mod NetsLaws
 pub mod PlannedLaws
 pub mod WrittenLaws
 pub mod PlanLaws
+pub mod PlanForLaws
 pub mod CheckLaws
 pub mod EmittedBoards
 pub mod EmitLaws

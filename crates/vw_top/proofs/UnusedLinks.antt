@@ -13,7 +13,7 @@ use Rattle.vw_batches.specs.Traffic.{scripts_of}
 use Rattle.vw_gen.specs.Summary.{summary}
 use Rattle.vw_top.specs.Demo.{board_name, design_name, generated, stimulus_name}
 use Rattle.vw_top.specs.Messages.{vocabulary, Call, CallWork}
-use Rattle.vw_top.specs.Commands.{Scripts, no_links, IsSomeTrace, trace_course, rows_course, TextOver, over_design_course, netlist_trace, Rest, size_rest, plan_rest, emit_rest, ready_course, over_rows_course, resume_rest, course_of, demo_run}
+use Rattle.vw_top.specs.Commands.{Scripts, no_links, IsSomeTrace, trace_course, rows_course, TextOver, over_design_course, netlist_trace, Rest, size_rest, plan_rest, plan_with_course, emit_rest, ready_course, over_rows_course, resume_rest, course_of, demo_run}
 use Rattle.vw_top.specs.Words.{Spelled, uses_links}
 use Rattle.vw_top.specs.Words as words
 
@@ -50,12 +50,18 @@ resume_unused : (state stimulus : List ℕ) (workers : ℕ) → ltb 1 workers �
 resume_unused state stimulus workers few ordered board plan =
     λ t its good s rows fine done fit. trace_unused stimulus ordered.flat.inputs _ _ (λ rows. none_used workers few _) rows
 
+-- a plan, with chips that are given or with good ones
+plan_unused : (probes : List ProbeWord) (design board : List ℕ) (chips : Option (List ℕ)) → UsesNoLinks (plan_with_course probes design board chips)
+plan_unused probes design board None = ready_unused probes design board None plan_rest (λ ordered its plan. refl)
+plan_unused probes design board (Some chips) = λ d ordered good b its fine c placed is plan so. refl
+
 course_unused : (spelled : Spelled) → uses_links spelled ≡ false → UsesNoLinks (course_of spelled)
 course_unused (words.sim design stimulus unknown probes) none = design_unused probes design stimulus _
 course_unused (words.wave design stimulus unknown probes) none = design_unused probes design stimulus _
 course_unused (words.grade design stimulus workers unknown) none = λ d named good. rows_unused stimulus _ _ no_links (λ rows. refl)
+course_unused (words.nets design probes) none = λ d named good. refl
 course_unused (words.check design board plan probes) none = ready_unused probes design board (Some plan) size_rest (λ ordered its sound. refl)
-course_unused (words.plan design board probes) none = ready_unused probes design board None plan_rest (λ ordered its plan. refl)
+course_unused (words.plan design board chips probes) none = plan_unused probes design board chips
 course_unused (words.run design board stimulus given workers unknown probes) none = over_rows_unused probes design board given stimulus _ workers unknown none
 course_unused (words.demo cells workers) none = texts_unused vocabulary (generated cells) (summary cells) (demo_run workers) (over_rows_unused [] design_name board_name None stimulus_name (netlist_trace 0 false) workers false none)
 course_unused (words.save design board stimulus given workers unknown) none = over_rows_unused [] design board given stimulus _ workers unknown none

@@ -14,6 +14,7 @@ use Rattle.vw_front.specs.Designs.{WatchedDesign}
 use Rattle.vw_front.specs.Names.{signal_names}
 use Rattle.vw_front.specs.declared.named.NamedNetlist.{NamedNetlist}
 use Rattle.vw_fault.specs.Text.{grading_text}
+use Rattle.vw_listing.specs.Netlist.{netlist_text}
 use Rattle.vw_course.specs.Course.{again, Course, works, refuses, writes, Judged, judges, made, stage}
 use Rattle.vw_course.specs.OnTexts.{on_texts}
 use Rattle.vw_plan.specs.declared.board.Board.{Board}
@@ -41,7 +42,7 @@ use Rattle.vw_top.specs.Help.{help_text, version_text}
 use Rattle.vw_top.specs.Demo.{board_name, design_name, generated, stimulus_name}
 use Rattle.vw_gen.specs.Summary.{summary}
 use Rattle.vw_top.specs.Messages.{vocabulary, CallWork}
-use Rattle.vw_top.specs.Kinds.{design_kind, netlist_kind, named_kind, rows_kind, IsBadAgain, board_kind, plan_kind, soundness, planning, emission, state_kind, clocks_fit}
+use Rattle.vw_top.specs.Kinds.{design_kind, netlist_kind, named_kind, rows_kind, IsBadAgain, board_kind, plan_kind, chips_kind, soundness, planning, planning_for, emission, state_kind, clocks_fit}
 
 -- ---- traces
 
@@ -147,6 +148,19 @@ grading_course stimulus unknown named = rows_course stimulus named.ordered.flat.
 abbrev pub grade_course : List ℕ → List ℕ → Bool → Course vocabulary
 grade_course design stimulus unknown = stage (named_kind []) design (grading_course stimulus unknown)
 
+-- ---- nets
+
+-- the netlist of a design as a text, with its names, where the probes are its last outputs
+abbrev pub nets_text : List ProbeWord → NamedNetlist → List ℕ
+nets_text probes named = netlist_text named.nets (named.outputs ++ probes) named.ordered.flat
+
+-- it is written, whatever the order of the gates
+abbrev pub nets_writing : List ProbeWord → NamedNetlist → Course vocabulary
+nets_writing probes named = writes (nets_text probes named)
+
+abbrev pub nets_course : List ProbeWord → List ℕ → Course vocabulary
+nets_course probes design = stage (named_kind probes) design (nets_writing probes)
+
 -- ---- what comes behind a planned board
 
 abbrev pub Rest : Type 1
@@ -195,6 +209,24 @@ plan_rest ordered board plan = writes (text_of_plan plan)
 
 abbrev pub plan_course : List ProbeWord → List ℕ → List ℕ → Course vocabulary
 plan_course probes design board = ready_course probes design board None plan_rest
+
+-- the same for given chips: they are read behind the board, and then a plan with them is made
+abbrev pub placed_course : Ordered → Board → List ℕ → Course vocabulary
+placed_course ordered board chips = made (planning_for ordered board chips) (plan_rest ordered board)
+
+abbrev pub chips_course : List ℕ → Ordered → Board → Course vocabulary
+chips_course chips ordered board = stage chips_kind chips (placed_course ordered board)
+
+abbrev pub chips_on_board_course : List ℕ → List ℕ → Ordered → Course vocabulary
+chips_on_board_course board chips ordered = stage board_kind board (chips_course chips ordered)
+
+abbrev pub plan_for_course : List ProbeWord → List ℕ → List ℕ → List ℕ → Course vocabulary
+plan_for_course probes design board chips = stage (netlist_kind probes) design (chips_on_board_course board chips)
+
+-- where they are given
+abbrev pub plan_with_course : List ProbeWord → List ℕ → List ℕ → Option (List ℕ) → Course vocabulary
+plan_with_course probes design board None = plan_course probes design board
+plan_with_course probes design board (Some chips) = plan_for_course probes design board chips
 
 -- ---- emit
 
@@ -280,12 +312,13 @@ usage_course place = refuses (Usage place)
 abbrev pub course_of : Spelled → Course vocabulary
 course_of (words.sim design stimulus unknown probes) = sim_course probes design stimulus unknown
 course_of (words.check design board plan probes) = check_course probes design board plan
-course_of (words.plan design board probes) = plan_course probes design board
+course_of (words.plan design board chips probes) = plan_with_course probes design board chips
 course_of (words.run design board stimulus given workers unknown probes) =
     run_course probes design board given stimulus workers unknown
 course_of (words.demo cells workers) = demo_course cells workers
 course_of (words.wave design stimulus unknown probes) = wave_course probes design stimulus unknown
 course_of (words.grade design stimulus workers unknown) = grade_course design stimulus unknown
+course_of (words.nets design probes) = nets_course probes design
 course_of (words.save design board stimulus given workers unknown) = save_course design board given stimulus workers unknown
 course_of (words.resume design board state stimulus given workers) = resume_course design board given state stimulus workers
 course_of (words.emit design board given) = emit_course design board given

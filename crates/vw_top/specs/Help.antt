@@ -14,10 +14,12 @@ help_text = lines_text (
     codes "      [unknown=0|1] [probe=NET].." ∷
     codes "  grade DESIGN STIM           writes which stuck nets a stimulus does not reveal" ∷
     codes "      [workers=N] [unknown=0|1]" ∷
+    codes "  nets DESIGN                 writes the nets and the cells of a design" ∷
+    codes "      [probe=NET].." ∷
     codes "  check DESIGN BOARD PLAN     checks a plan, and writes its size" ∷
     codes "      [probe=NET].." ∷
     codes "  plan DESIGN BOARD           makes a plan, and writes it" ∷
-    codes "      [probe=NET].." ∷
+    codes "      [chips=FILE] [probe=NET].." ∷
     codes "  run DESIGN BOARD STIM       runs a design on a board, and writes its trace" ∷
     codes "      [plan=FILE] [workers=N] [unknown=0|1] [probe=NET].." ∷
     codes "  save DESIGN BOARD STIM      runs a design on a board, and writes its state" ∷
@@ -40,6 +42,7 @@ help_text = lines_text (
     codes "  unknown=0|1    the value that latches start at which have none (0)" ∷
     codes "  probe=NET      a net that is watched beside the outputs, up to 64 times" ∷
     codes "  plan=FILE      the plan to run by (one is made)" ∷
+    codes "  chips=FILE     the chip of each cell, as in a plan (they are chosen)" ∷
     codes "  workers=N      how many threads run the chips or grade, 1 to 64 (4)" ∷
     codes "" ∷
     codes "The exit status is 0 where the command was carried out. A design (1), words" ∷

@@ -21,9 +21,12 @@ use Rattle.vw_board.proofs.OneBoard.{accepted_unrefused as board_unrefused}
 use Rattle.vw_plantext.specs.declared.fault.PlanTextFault.{PlanTextFault}
 use Rattle.vw_plantext.specs.PlanText.{Spells as SpellsPlan, Refuses as RefusesPlanLines, is_text_fault as is_plan_text_fault}
 use Rattle.vw_plantext.proofs.OnePlan.{spelled_unrefused as plan_unrefused}
+use Rattle.vw_plantext.specs.ChipsText.{SpellsChips, RefusesChips}
+use Rattle.vw_plantext.proofs.OneChips.{chips_unrefused}
 use Rattle.vw_check.specs.declared.fault.PlanFault.{PlanFault}
-use Rattle.vw_check.specs.Faults.{plan_fault}
-use Rattle.vw_check.proofs.SoundPlans.{faultless}
+use Rattle.vw_check.specs.Answers.{HasPlace}
+use Rattle.vw_check.specs.Faults.{chips_fault, plan_fault}
+use Rattle.vw_check.proofs.SoundPlans.{faultless, placed_chips}
 use Rattle.vw_rows.specs.declared.fault.StimFault.{StimFault}
 use Rattle.vw_rows.specs.Stimulus.{stimulus_rows, is_text_fault}
 use Rattle.vw_boardtext.specs.declared.fault.EmitFault.{EmitFault}
@@ -37,6 +40,7 @@ use Rattle.vw_resume.specs.States.{Spells as SpellsState, IsBadState as IsBadSta
 use Rattle.vw_resume.proofs.ReadBack.{spelled_unrefused}
 use Rattle.vw_rows.specs.declared.limits.TheConstants.{MOST_CLOCKS}
 use Rattle.vw_run.specs.declared.fault.CompileFault.TheVariants.{TooManyCells}
+use Rattle.vw_run.specs.GivenChips.{IsPlanFor}
 use Rattle.vw_run.proofs.Fits.{sound_plans_fit}
 use Rattle.vw_top.specs.declared.vocabulary.File.TheVariants as files
 use Rattle.vw_top.specs.declared.vocabulary.Reason.{Reason}
@@ -168,6 +172,55 @@ soundness planned = record {
   Bad = IsBadPlan planned;
   apart = λ done reason is bad. none-some bad.0 (sym (faultless planned is) ∙ bad.2);
   its_status = λ reason bad. ap reason_status bad.1;
+}
+
+-- ---- the chips of the cells
+
+-- why a text has no line of chips, or something behind it
+abbrev pub IsBadChipsText : List ℕ → Reason → Type 0
+IsBadChipsText text reason =
+    (fault : PlanTextFault) × (reason ≡ reasons.PlanText fault) × IsTrue (is_plan_text_fault fault)
+    × RefusesChips text fault
+
+abbrev pub chips_kind : Kind vocabulary (List ℕ)
+chips_kind = record {
+  file = files.Plan;
+  number = 4;
+  judged = λ text. record {
+    Good = SpellsChips text;
+    Bad = IsBadChipsText text;
+    apart = λ chips reason is bad. chips_unrefused text chips bad.0 is bad.2 bad.3;
+    its_status = λ reason bad. ap reason_status bad.1;
+  };
+}
+
+-- why no plan has these chips: their number isn't that of the cells, or one isn't a chip, or one has too many cells
+abbrev pub IsBadChips : Ordered → Board → List ℕ → Reason → Type 0
+IsBadChips ordered board chips reason =
+    (fault : PlanFault) × (reason ≡ reasons.Plan fault) × (chips_fault ordered.flat board chips ≡ Some fault)
+
+-- a sound plan has a place for each cell
+abbrev pub place_of : (ordered : Ordered) (board : Board) (chips : List ℕ) (plan : Plan) → IsPlanFor ordered board chips plan → HasPlace ordered.flat board chips
+place_of ordered board chips plan is = subst (HasPlace ordered.flat board) is.chips (record {
+  each = is.sound.one_chip_each.each;
+  chips = is.sound.one_chip_each.chips;
+  room = is.sound.one_chip_each.room;
+})
+
+abbrev pub place_unrefused : (ordered : Ordered) (board : Board) (chips : List ℕ) (reason : Reason) → HasPlace ordered.flat board chips → IsBadChips ordered board chips reason → ⊥
+place_unrefused ordered board chips reason place bad = none-some bad.0 (sym (placed_chips ordered.flat board chips place) ∙ bad.2)
+
+-- a plan for them is made wherever each cell has a place
+abbrev pub planning_for : Ordered → Board → List ℕ → Making vocabulary Plan 4
+planning_for ordered board chips = record {
+  judged = record {
+    Good = IsPlanFor ordered board chips;
+    Bad = IsBadChips ordered board chips;
+    apart = λ plan reason is bad. place_unrefused ordered board chips reason (place_of ordered board chips plan is) bad;
+    its_status = λ reason bad. ap reason_status bad.1;
+  };
+  Comes = HasPlace ordered.flat board chips;
+  sure = λ reason place bad. place_unrefused ordered board chips reason place bad;
 }
 
 -- ---- a plan that is made

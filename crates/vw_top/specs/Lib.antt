@@ -9,9 +9,11 @@ pub mod LinkTraffic
 pub mod Headline
 pub mod SimStatuses
 pub mod WaveLaw
+pub mod NetsStatuses
 pub mod UsageStatuses
 pub mod OnBoards
 pub mod PlanStatuses
+pub mod PlanForStatuses
 pub mod PlannedStatuses
 pub mod WrittenStatuses
 pub mod ConstantStatuses

@@ -13,8 +13,9 @@ pub data Spelled : Type 0 where
   sim : (design stimulus : List ℕ) (unknown : Bool) (probes : List (List ℕ)) → Spelled
   wave : (design stimulus : List ℕ) (unknown : Bool) (probes : List (List ℕ)) → Spelled
   grade : (design stimulus : List ℕ) (workers : ℕ) (unknown : Bool) → Spelled
+  nets : (design : List ℕ) (probes : List (List ℕ)) → Spelled
   check : (design board plan : List ℕ) (probes : List (List ℕ)) → Spelled
-  plan : (design board : List ℕ) (probes : List (List ℕ)) → Spelled
+  plan : (design board : List ℕ) (chips : Option (List ℕ)) (probes : List (List ℕ)) → Spelled
   run : (design board stimulus : List ℕ) (given : Option (List ℕ)) (workers : ℕ) (unknown : Bool) (probes : List (List ℕ)) → Spelled
   demo : (cells workers : ℕ) → Spelled
   save : (design board stimulus : List ℕ) (given : Option (List ℕ)) (workers : ℕ) (unknown : Bool) → Spelled
@@ -37,6 +38,10 @@ probe_setting = record { name = codes "probe"; value = name; times = MOST_PROBES
 -- the plan to run by
 abbrev pub plan_setting : Setting
 plan_setting = record { name = codes "plan"; value = name; times = 1 }
+
+-- the chip of each cell, for which a plan is made
+abbrev pub chips_setting : Setting
+chips_setting = record { name = codes "chips"; value = name; times = 1 }
 
 -- how many workers run the nodes of a board, or grade a design
 abbrev pub workers_setting : Setting
@@ -70,12 +75,16 @@ abbrev pub grade_of : List (List ℕ) → Option Spelled
 grade_of (verb ∷ design ∷ stimulus ∷ settings) = Some (grade design stimulus (workers_given settings) (unknown_given settings))
 grade_of words = None
 
+abbrev pub nets_of : List (List ℕ) → Option Spelled
+nets_of (verb ∷ design ∷ settings) = Some (nets design (probes_given settings))
+nets_of words = None
+
 abbrev pub check_of : List (List ℕ) → Option Spelled
 check_of (verb ∷ design ∷ board ∷ its_plan ∷ settings) = Some (check design board its_plan (probes_given settings))
 check_of words = None
 
 abbrev pub plan_of : List (List ℕ) → Option Spelled
-plan_of (verb ∷ design ∷ board ∷ settings) = Some (plan design board (probes_given settings))
+plan_of (verb ∷ design ∷ board ∷ settings) = Some (plan design board (name_given chips_setting settings) (probes_given settings))
 plan_of words = None
 
 abbrev pub run_of : List (List ℕ) → Option Spelled
@@ -107,6 +116,7 @@ abbrev pub spelled_as : Verb → List (List ℕ) → Option Spelled
 spelled_as verbs.Sim words = sim_of words
 spelled_as verbs.Wave words = wave_of words
 spelled_as verbs.Grade words = grade_of words
+spelled_as verbs.Nets words = nets_of words
 spelled_as verbs.Check words = check_of words
 spelled_as verbs.Plan words = plan_of words
 spelled_as verbs.Run words = run_of words
@@ -135,8 +145,9 @@ commands =
     record { verb = verbs.Sim; form = form_with (codes "sim") (file ∷ file ∷ []) (unknown_setting ∷ probe_setting ∷ []) }
     ∷ record { verb = verbs.Wave; form = form_with (codes "wave") (file ∷ file ∷ []) (unknown_setting ∷ probe_setting ∷ []) }
     ∷ record { verb = verbs.Grade; form = form_with (codes "grade") (file ∷ file ∷ []) (workers_setting ∷ unknown_setting ∷ []) }
+    ∷ record { verb = verbs.Nets; form = form_with (codes "nets") (file ∷ []) (probe_setting ∷ []) }
     ∷ record { verb = verbs.Check; form = form_with (codes "check") (file ∷ file ∷ file ∷ []) (probe_setting ∷ []) }
-    ∷ record { verb = verbs.Plan; form = form_with (codes "plan") (file ∷ file ∷ []) (probe_setting ∷ []) }
+    ∷ record { verb = verbs.Plan; form = form_with (codes "plan") (file ∷ file ∷ []) (chips_setting ∷ probe_setting ∷ []) }
     ∷ record {
       verb = verbs.Run;
       form = form_with (codes "run") (file ∷ file ∷ file ∷ []) (plan_setting ∷ workers_setting ∷ unknown_setting ∷ probe_setting ∷ []);
@@ -167,8 +178,9 @@ abbrev pub needs_runtime : Spelled → Bool
 needs_runtime (sim design stimulus unknown probes) = false
 needs_runtime (wave design stimulus unknown probes) = false
 needs_runtime (grade design stimulus workers unknown) = true
+needs_runtime (nets design probes) = false
 needs_runtime (check design board its_plan probes) = false
-needs_runtime (plan design board probes) = false
+needs_runtime (plan design board chips probes) = false
 needs_runtime (run design board stimulus given workers unknown probes) = ltb 1 workers
 needs_runtime (demo cells workers) = ltb 1 workers
 needs_runtime (save design board stimulus given workers unknown) = true
@@ -187,8 +199,9 @@ uses_links (resume design board state stimulus given workers) = ltb 1 workers
 uses_links (sim design stimulus unknown probes) = false
 uses_links (wave design stimulus unknown probes) = false
 uses_links (grade design stimulus workers unknown) = false
+uses_links (nets design probes) = false
 uses_links (check design board its_plan probes) = false
-uses_links (plan design board probes) = false
+uses_links (plan design board chips probes) = false
 uses_links (emit design board given) = false
 uses_links help = false
 uses_links version = false

@@ -1,16 +1,18 @@
 //! Plans that commands go on by: checked ones, and ones that are made.
+ghost use Rattle.std.specs.Prelude.{◌<◌, ◌^◌, length};
 ghost use Rattle.vw_course.specs.Stages.{EndsJudging};
 ghost use Rattle.vw_plan.specs.PlannedBoard.{planned_board};
 ghost use Rattle.vw_run.specs.Compiled.{IsCompiled};
-ghost use Rattle.vw_top.specs.Kinds.{IsBadFit, IsBadPlan};
+ghost use Rattle.vw_run.specs.GivenChips.{IsCompiledFor};
+ghost use Rattle.vw_top.specs.Kinds.{IsBadChips, IsBadFit, IsBadPlan};
 ghost use Rattle.vw_top.specs.Steps.Stages.{EndsFault, IsCheckedPlan};
 
 use crate::vocabulary::{Reason, Unfinished};
 use std::alloc::Global;
-use vw_check::{PlanFault, check};
-use vw_net::Ordered;
+use vw_check::{PlanFault, check, chips_fault};
+use vw_net::{Ordered, Sequence};
 use vw_plan::{Board, Checked, Plan};
-use vw_run::{CompileFault, compile};
+use vw_run::{CompileFault, compile, compile_for};
 
 /// The end of a command whose plan has a fault.
 fn unsound(fault: PlanFault) -> Unfinished
@@ -39,6 +41,25 @@ pub fn sound_plan(
             drop(refused);
             Err(unsound(fault))
         }
+    }
+}
+
+/// A plan for these chips, if each cell has a place.
+pub fn placed_plan(
+    alloc: Global,
+    ordered: Ordered,
+    board: Board,
+    chips: Sequence<u32>,
+) -> Result<Checked, Unfinished>
+    requires { length chips < 2 ^ 32 }
+    ensures { EndsJudging (IsCompiledFor ordered board chips) (IsBadChips ordered board chips) result }
+{
+    if let Some(fault) = chips_fault(&ordered, &board, chips.as_slice()) {
+        return Err(Unfinished::Refused(Reason::Plan(fault)));
+    }
+    match compile_for(alloc, ordered, board, chips) {
+        Ok(checked) => Ok(checked),
+        Err(_) => Err(Unfinished::NoMemory),
     }
 }
 

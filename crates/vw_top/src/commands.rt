@@ -14,6 +14,7 @@ use crate::emit::emit;
 use crate::grade::grade;
 use crate::hands::Hands;
 use crate::help::{help, version};
+use crate::nets::nets;
 use crate::plan::plan;
 use crate::probes::Probes;
 use crate::resume::resume;
@@ -64,6 +65,11 @@ fn carry_out<S: Shelf, O: Sink>(
             wave(alloc, design, probes, stimulus, unknown, outside)
         }
         Command::Grade { .. } | Command::Save { .. } | Command::Resume { .. } => unreachable!(),
+        Command::Nets { design, probes } => {
+            let probes = probes_of(alloc, probes)?;
+            let probes = Probes { nets: &probes };
+            nets(alloc, design, probes, outside)
+        }
         Command::Check {
             design,
             board,
@@ -82,16 +88,12 @@ fn carry_out<S: Shelf, O: Sink>(
         Command::Plan {
             design,
             board,
+            chips,
             probes,
         } => {
             let probes = probes_of(alloc, probes)?;
-            let files = BoardFiles {
-                design,
-                probes: Probes { nets: &probes },
-                board,
-                plan: None,
-            };
-            plan(alloc, &files, outside)
+            let probes = Probes { nets: &probes };
+            plan(alloc, design, probes, board, chips, outside)
         }
         Command::Run {
             design,
@@ -313,9 +315,9 @@ pub fn alone<S: Shelf, O: Sink, E: Sink>(
 
 /// Carries out the command that the words after the program's name spell, and gives the exit status. After each
 /// status but 0 one message line goes to `err`. What each status means, when it comes and what it leaves, the laws
-/// `headline`, `call_statuses`, `sim_statuses`, `wave_statuses`, `grade_statuses`, `check_statuses`, `plan_statuses`,
-/// `run_statuses`, `save_statuses`, `resume_statuses`, `emit_statuses`, `demo_statuses`, `help_statuses`, `version_statuses`
-/// and `usage_statuses` say.
+/// `headline`, `call_statuses`, `sim_statuses`, `wave_statuses`, `grade_statuses`, `nets_statuses`, `check_statuses`,
+/// `plan_statuses`, `plan_for_statuses`, `run_statuses`, `save_statuses`, `resume_statuses`, `emit_statuses`,
+/// `demo_statuses`, `help_statuses`, `version_statuses` and `usage_statuses` say.
 ///
 /// A run, a saving and a resumption with several workers have the nodes of the board in groups on threads of the runtime. The
 /// words between them go over links of the fabric, and each group passes the gate before each of its bursts. That such a run

@@ -4,9 +4,10 @@ ghost use Rattle.vw_board.specs.BoardText.{Spells as SpellsBoard};
 ghost use Rattle.vw_course.specs.Stages.{EndsJudging, EndsStage};
 ghost use Rattle.vw_front.specs.Designs.{IsNetlistOf};
 ghost use Rattle.vw_front.specs.NamedNetlists.{IsNamedNetlistOf};
+ghost use Rattle.vw_plantext.specs.ChipsText.{SpellsChips};
 ghost use Rattle.vw_plantext.specs.PlanText.{Spells as SpellsPlan};
 ghost use Rattle.vw_rows.specs.Standing.{IsAtStart, StandsIn};
-ghost use Rattle.vw_top.specs.Kinds.{IsBadDesign, IsBadBoard, IsBadPlanText, IsBadState, IsBadStimulus, IsStateOf};
+ghost use Rattle.vw_top.specs.Kinds.{IsBadDesign, IsBadBoard, IsBadChipsText, IsBadPlanText, IsBadState, IsBadStimulus, IsStateOf};
 ghost use Rattle.vw_top.specs.Steps.Stages.{run_answer};
 
 use crate::probes::Probes;
@@ -15,7 +16,7 @@ use std::alloc::Global;
 use vw_blif::TextFault;
 use vw_board::BoardFault;
 use vw_front::{NamedNetlist, NetlistFault, named_netlist_of_text, netlist_of_text};
-use vw_net::Ordered;
+use vw_net::{Ordered, Sequence};
 use vw_outside::{Name, Shelf, TextRefused, read_text};
 use vw_plan::{Board, Plan};
 use vw_plantext::PlanTextFault;
@@ -170,6 +171,53 @@ pub fn read_given_plan<S: Shelf>(
 {
     match name.to_vec(alloc) {
         Ok(bytes) => read_plan(alloc, shelf, &Name::of(bytes)),
+        Err(_) => Err(Unfinished::NoMemory),
+    }
+}
+
+/// The chips that a text has in its one line.
+fn chips_of_text(alloc: Global, text: &[u8]) -> Result<Sequence<u32>, Unfinished>
+    ensures { EndsJudging (SpellsChips text.now) (IsBadChipsText text.now) result }
+{
+    match vw_plantext::read_chips(alloc, text) {
+        Ok(chips) => Ok(chips),
+        Err(PlanTextFault::NoMemory) => Err(Unfinished::NoMemory),
+        Err(fault) => Err(Unfinished::Refused(Reason::PlanText(fault))),
+    }
+}
+
+/// Reads the chips of the cells. Whether the cells and the chips exist isn't looked at.
+fn read_chips<S: Shelf>(
+    alloc: Global,
+    shelf: &mut S,
+    name: &Name,
+) -> Result<Sequence<u32>, Unfinished>
+    ensures { EndsStage File.Plan name.now
+        SpellsChips IsBadChipsText
+        (S.seen shelf.old) (S.seen shelf.new) result }
+{
+    match read_text(alloc, shelf, name, PLAN_LIMIT) {
+        Ok(text) => chips_of_text(alloc, &text),
+        Err(TextRefused::TooLarge) => {
+            Err(Unfinished::Refused(Reason::PlanText(PlanTextFault::TooLarge)))
+        }
+        Err(TextRefused::ReadFault) => Err(Unfinished::ReadFault(File::Plan)),
+        Err(TextRefused::NoMemory) => Err(Unfinished::NoMemory),
+    }
+}
+
+/// Reads the chips with a name of these bytes, which a setting gives.
+pub fn read_given_chips<S: Shelf>(
+    alloc: Global,
+    shelf: &mut S,
+    name: &[u8],
+) -> Result<Sequence<u32>, Unfinished>
+    ensures { EndsStage File.Plan name.now
+        SpellsChips IsBadChipsText
+        (S.seen shelf.old) (S.seen shelf.new) result }
+{
+    match name.to_vec(alloc) {
+        Ok(bytes) => read_chips(alloc, shelf, &Name::of(bytes)),
         Err(_) => Err(Unfinished::NoMemory),
     }
 }

@@ -7,6 +7,7 @@ pub enum Verb {
     Sim,
     Wave,
     Grade,
+    Nets,
     Check,
     Plan,
     Run,
@@ -45,6 +46,13 @@ pub const PLAN: Setting = Setting {
     times: 1,
 };
 
+/// The chip of each cell, for which a plan is made.
+pub const CHIPS: Setting = Setting {
+    name: b"chips",
+    value: Value::Name,
+    times: 1,
+};
+
 /// How many workers run the nodes of a board, or grade a design.
 pub const WORKERS: Setting = Setting {
     name: b"workers",
@@ -76,16 +84,22 @@ const GRADE: Form = Form {
     settings: &[WORKERS, UNKNOWN],
 };
 
+/// nets DESIGN [probe=NET]..
+const NETS: Form = Form {
+    places: &[Place::Keyword(b"nets"), FILE],
+    settings: &[PROBE],
+};
+
 /// check DESIGN BOARD PLAN [probe=NET]..
 const CHECK: Form = Form {
     places: &[Place::Keyword(b"check"), FILE, FILE, FILE],
     settings: &[PROBE],
 };
 
-/// plan DESIGN BOARD [probe=NET]..
+/// plan DESIGN BOARD [chips=FILE] [probe=NET]..
 const MAKE_PLAN: Form = Form {
     places: &[Place::Keyword(b"plan"), FILE, FILE],
-    settings: &[PROBE],
+    settings: &[CHIPS, PROBE],
 };
 
 /// run DESIGN BOARD STIM [plan=FILE] [workers=N] [unknown=0|1] [probe=NET]..
@@ -137,7 +151,7 @@ const VERSION: Form = Form {
 };
 
 /// Each command with the form of its words.
-pub const COMMANDS: [Entry<Verb>; 12] = [
+pub const COMMANDS: [Entry<Verb>; 13] = [
     Entry {
         command: Verb::Sim,
         form: SIM,
@@ -149,6 +163,10 @@ pub const COMMANDS: [Entry<Verb>; 12] = [
     Entry {
         command: Verb::Grade,
         form: GRADE,
+    },
+    Entry {
+        command: Verb::Nets,
+        form: NETS,
     },
     Entry {
         command: Verb::Check,

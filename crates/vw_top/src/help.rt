@@ -25,10 +25,12 @@ usage: vwires COMMAND FILE.. [SETTING..]\n\
 \x20     [unknown=0|1] [probe=NET]..\n\
 \x20 grade DESIGN STIM           writes which stuck nets a stimulus does not reveal\n\
 \x20     [workers=N] [unknown=0|1]\n\
+\x20 nets DESIGN                 writes the nets and the cells of a design\n\
+\x20     [probe=NET]..\n\
 \x20 check DESIGN BOARD PLAN     checks a plan, and writes its size\n\
 \x20     [probe=NET]..\n\
 \x20 plan DESIGN BOARD           makes a plan, and writes it\n\
-\x20     [probe=NET]..\n\
+\x20     [chips=FILE] [probe=NET]..\n\
 \x20 run DESIGN BOARD STIM       runs a design on a board, and writes its trace\n\
 \x20     [plan=FILE] [workers=N] [unknown=0|1] [probe=NET]..\n\
 \x20 save DESIGN BOARD STIM      runs a design on a board, and writes its state\n\
@@ -51,6 +53,7 @@ usage: vwires COMMAND FILE.. [SETTING..]\n\
 \x20 unknown=0|1    the value that latches start at which have none (0)\n\
 \x20 probe=NET      a net that is watched beside the outputs, up to 64 times\n\
 \x20 plan=FILE      the plan to run by (one is made)\n\
+\x20 chips=FILE     the chip of each cell, as in a plan (they are chosen)\n\
 \x20 workers=N      how many threads run the chips or grade, 1 to 64 (4)\n\
 \n\
 The exit status is 0 where the command was carried out. A design (1), words\n\

@@ -6,16 +6,18 @@ ghost use Rattle.vw_design.specs.Paths.{Word};
 ghost use Rattle.vw_course.specs.Endings.{IsCallOf};
 ghost use Rattle.vw_course.specs.Statuses.{Holds, Statuses};
 ghost use Rattle.vw_top.specs.Words.{Spelled, command_forms, help, uses_links, version};
-ghost use Rattle.vw_top.specs.Commands.{check_course, course_of, demo_course, emit_course, grade_course, plan_course, resume_course, run_course, save_course, saved_of, sim_course, trace_of, usage_course, wave_course, wave_of};
+ghost use Rattle.vw_top.specs.Commands.{check_course, course_of, demo_course, emit_course, grade_course, nets_course, plan_course, plan_for_course, resume_course, run_course, save_course, saved_of, sim_course, trace_of, usage_course, wave_course, wave_of};
 ghost use Rattle.vw_top.specs.Messages.{Call};
 ghost use Rattle.vw_top.specs.Headline.{WritesTrace};
 ghost use Rattle.vw_top.specs.WaveLaw.{WavesReplay};
 ghost use Rattle.vw_top.specs.UsageStatuses.{UsageStatuses};
 ghost use Rattle.vw_top.specs.SimStatuses.{GradeStatuses, SimStatuses};
+ghost use Rattle.vw_top.specs.NetsStatuses.{NetsStatuses};
 ghost use Rattle.vw_top.specs.CheckStatuses.{CheckStatuses};
 ghost use Rattle.vw_top.specs.EmittedBoards.{BoardsShow};
 ghost use Rattle.vw_top.specs.EmitStatuses.{EmitStatuses};
 ghost use Rattle.vw_top.specs.PlanStatuses.{PlanStatuses};
+ghost use Rattle.vw_top.specs.PlanForStatuses.{PlanForStatuses};
 ghost use Rattle.vw_top.specs.RunStatuses.{RunStatuses};
 ghost use Rattle.vw_top.specs.Pieces.{PiecesJoin};
 ghost use Rattle.vw_top.specs.ResumeStatuses.{ResumeStatuses};
@@ -75,6 +77,12 @@ pub fn grade_statuses()
         → GradeStatuses unknown design stimulus call }
 {}
 
+/// What each status of `nets` says of its design: after status 0, out has the text of its netlist.
+pub fn nets_statuses()
+    ensures { (probes : List Word) (design : List ℕ) (call : Call)
+        → IsCallOf (nets_course probes design) call → NetsStatuses probes design call }
+{}
+
 /// What each status of `check` says of its files, with 64 probes at most.
 pub fn check_statuses()
     ensures { (probes : List Word) → length probes ≤ 64 → (design board plan : List ℕ) (call : Call)
@@ -87,6 +95,14 @@ pub fn plan_statuses()
     ensures { (probes : List Word) → length probes ≤ 64 → (design board : List ℕ) (call : Call)
         → IsCallOf (plan_course probes design board) call
         → PlanStatuses probes design board call }
+{}
+
+/// What each status of `plan` for given chips says of its files, with 64 probes at most: after status 0, out has the text of
+/// a sound plan with exactly these chips.
+pub fn plan_for_statuses()
+    ensures { (probes : List Word) → length probes ≤ 64 → (design board chips : List ℕ) (call : Call)
+        → IsCallOf (plan_for_course probes design board chips) call
+        → PlanForStatuses probes design board chips call }
 {}
 
 /// What each status of `run` says of its files, with 64 probes at most, where it is given a plan and where it makes one: after

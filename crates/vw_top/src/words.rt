@@ -1,12 +1,12 @@
 ghost use Rattle.std.specs.Prelude.{◌≡◌, ◌≤◌, IfOk, length, map, option_and_then, option_map, take};
-ghost use Rattle.vw_top.specs.Words.{spelled_as, spelled_by, found_verb, sim_of, wave_of, grade_of, check_of, plan_of, run_of, save_of, resume_of, emit_of, demo_of, cells_given};
+ghost use Rattle.vw_top.specs.Words.{spelled_as, spelled_by, found_verb, sim_of, wave_of, grade_of, nets_of, check_of, plan_of, run_of, save_of, resume_of, emit_of, demo_of, cells_given};
 ghost use Rattle.vw_top.specs.Words.{plan_setting, probes_given, run as spelled_run, unknown_given, workers_given};
 ghost use Rattle.vw_top.specs.declared.forms.TheConstants.{MOST_PROBES};
 ghost use Rattle.vw_top.specs.Steps.Commands.{command_form, command_view};
 ghost use Rattle.vw_words.specs.Values.{name_given};
 
 use crate::forms::{
-    COMMANDS, DEFAULT_WORKERS, MOST_CELLS, MOST_PROBES, PLAN, PROBE, UNKNOWN, Verb, WORKERS,
+    CHIPS, COMMANDS, DEFAULT_WORKERS, MOST_CELLS, MOST_PROBES, PLAN, PROBE, UNKNOWN, Verb, WORKERS,
 };
 use crate::size::Size;
 use std::alloc::{AllocError, Global};
@@ -43,6 +43,12 @@ pub enum Command<'a> {
         /// The value that free latches start at.
         unknown: bool,
     },
+    /// Writes the netlist of a design.
+    Nets {
+        design: &'a Name,
+        /// The nets that are watched.
+        probes: Names<'a>,
+    },
     /// Checks a plan of a design on a board, and writes its size.
     Check {
         design: &'a Name,
@@ -56,6 +62,8 @@ pub enum Command<'a> {
     Plan {
         design: &'a Name,
         board: &'a Name,
+        /// The name of the chips of the cells, where they are given.
+        chips: Option<&'a [u8]>,
         /// The nets that are watched.
         probes: Names<'a>,
     },
@@ -131,6 +139,7 @@ impl<'a> Command<'a> {
             Command::Grade { .. } | Command::Save { .. } | Command::Resume { .. } => true,
             Command::Sim { .. }
             | Command::Wave { .. }
+            | Command::Nets { .. }
             | Command::Check { .. }
             | Command::Plan { .. }
             | Command::Emit { .. }
@@ -186,6 +195,19 @@ fn grade_of(words: &[Name]) -> Option<Command<'_>>
     }
 }
 
+/// The command that words of the form of `nets` spell.
+fn nets_of(words: &[Name]) -> Option<Command<'_>>
+    ensures { option_map command_view result ≡ nets_of words.now }
+{
+    match words {
+        [_, design, settings @ ..] => Some(Command::Nets {
+            design,
+            probes: PROBE.names(settings),
+        }),
+        _ => None,
+    }
+}
+
 /// The command that words of the form of `check` spell.
 fn check_of(words: &[Name]) -> Option<Command<'_>>
     ensures { option_map command_view result ≡ check_of words.now }
@@ -209,6 +231,7 @@ fn plan_of(words: &[Name]) -> Option<Command<'_>>
         [_, design, board, settings @ ..] => Some(Command::Plan {
             design,
             board,
+            chips: CHIPS.name(settings),
             probes: PROBE.names(settings),
         }),
         _ => None,
@@ -327,6 +350,7 @@ fn spelled_as(verb: Verb, words: &[Name]) -> Option<Command<'_>>
         Verb::Sim => sim_of(words),
         Verb::Wave => wave_of(words),
         Verb::Grade => grade_of(words),
+        Verb::Nets => nets_of(words),
         Verb::Check => check_of(words),
         Verb::Plan => plan_of(words),
         Verb::Run => run_of(words),

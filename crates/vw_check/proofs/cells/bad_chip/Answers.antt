@@ -8,13 +8,11 @@ use Rattle.vw_check.proofs.cells.bad_chip.Goals as goal
 pub returns-then-not-is_chip : goal.returns-then-not-is_chip
 returns-then-not-is_chip c =
     let cell = c.loop-cell.cell in
-    let listed = c.chip_of-chip-items.ensures in
-    let none = sym (rw listed at c.is_chip.ensures) ∙ c.if-not-is_chip.true in
-    search_ends (λ (cell chip : ℕ). found_unless (is_chip c.args.board.now chip) (BadChip cell)) cell c.args.plan.now.chip_of 0 (rw listed at c.loop-cell-test.true) (BadChip cell) (ap (λ (fits : Bool). found_unless fits (BadChip cell)) none) ∙ c.loop-cell.invariant
+    let none = sym c.is_chip.ensures ∙ c.if-not-is_chip.true in
+    search_ends (λ (cell chip : ℕ). found_unless (is_chip c.args.board.now chip) (BadChip cell)) cell c.args.chip_of.now 0 c.loop-cell-test.true (BadChip cell) (ap (λ (fits : Bool). found_unless fits (BadChip cell)) none) ∙ c.loop-cell.invariant
 
 pub loop-cell-preserved : goal.loop-cell-preserved
 loop-cell-preserved c =
     let cell = c.loop-cell.cell in
-    let listed = c.chip_of-chip-items.ensures in
-    let chip = sym (rw listed at c.is_chip.ensures) ∙ c.if-not-is_chip.false in
-    search_on (λ (cell chip : ℕ). found_unless (is_chip c.args.board.now chip) (BadChip cell)) cell c.args.plan.now.chip_of 0 (rw listed at c.loop-cell-test.true) (ap (λ (fits : Bool). found_unless fits (BadChip cell)) chip) ∙ c.loop-cell.invariant
+    let chip = sym c.is_chip.ensures ∙ c.if-not-is_chip.false in
+    search_on (λ (cell chip : ℕ). found_unless (is_chip c.args.board.now chip) (BadChip cell)) cell c.args.chip_of.now 0 c.loop-cell-test.true (ap (λ (fits : Bool). found_unless fits (BadChip cell)) chip) ∙ c.loop-cell.invariant

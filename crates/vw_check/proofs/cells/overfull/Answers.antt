@@ -10,9 +10,9 @@ use Rattle.vw_check.proofs.cells.overfull.Goals as goal
 pub returns-then-count-cells : goal.returns-then-count-cells
 returns-then-count-cells c =
     let board = c.args.board.now in
-    let plan = c.args.plan.now in
+    let chip_of = c.args.chip_of.now in
     let chip = c.loop-chip.chip in
-    let count = λ (one : ℕ). cells_on plan.chip_of one in
+    let count = λ (one : ℕ). cells_on chip_of one in
     let found = λ (one : ℕ). found_unless (nat_le (count one) board.cells) (Overfull one (count one)) in
     let over : nat_le (count chip) board.cells ≡ false = lt-leb (count chip) board.cells (omega arith) in
     let is : found chip ≡ Some (Overfull chip (count chip)) = ap (λ (fits : Bool). found_unless fits (Overfull chip (count chip))) over in
@@ -21,9 +21,9 @@ returns-then-count-cells c =
 pub loop-chip-preserved : goal.loop-chip-preserved
 loop-chip-preserved c =
     let board = c.args.board.now in
-    let plan = c.args.plan.now in
+    let chip_of = c.args.chip_of.now in
     let chip = c.loop-chip.chip in
-    let count = λ (one : ℕ). cells_on plan.chip_of one in
+    let count = λ (one : ℕ). cells_on chip_of one in
     let found = λ (one : ℕ). found_unless (nat_le (count one) board.cells) (Overfull one (count one)) in
     let fits : nat_le (count chip) board.cells ≡ true = le-leb (count chip) board.cells (omega arith) in
     let none : found chip ≡ None = ap (λ (is : Bool). found_unless is (Overfull chip (count chip))) fits in

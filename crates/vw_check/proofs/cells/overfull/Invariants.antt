@@ -9,4 +9,4 @@ use Rattle.vw_plan.specs.Chips.{cells_on}
 use Rattle.vw_check.proofs.cells.overfull.Given as goal
 
 abbrev pub invariant-loop-chip : goal.invariant-loop-chip
-invariant-loop-chip l = first_at (λ _ chip. found_unless (nat_le (cells_on l.plan.chip_of chip) l.board.cells) (Overfull chip (cells_on l.plan.chip_of chip))) (l.chip - 1) (range_with_len l.chip (l.board.chips + 1 - l.chip)) ≡ overfull l.board l.plan
+invariant-loop-chip l = first_at (λ _ chip. found_unless (nat_le (cells_on l.chip_of chip) l.board.cells) (Overfull chip (cells_on l.chip_of chip))) (l.chip - 1) (range_with_len l.chip (l.board.chips + 1 - l.chip)) ≡ overfull l.board l.chip_of

@@ -6,7 +6,7 @@ use Rattle.vw_course.proofs.GoesLaws.{goes_writing, unmoved_still}
 use Rattle.vw_top.specs.Messages.{vocabulary}
 use Rattle.vw_top.specs.Commands.{plan_rest, text_of_plan}
 use Rattle.vw_top.proofs.ReadyLaws.{goes_unready, goes_ready}
-use Rattle.vw_top.proofs.plan.plan.Goals as goal
+use Rattle.vw_top.proofs.plan.plan_good.Goals as goal
 
 pub returns-in_err-checked : goal.returns-in_err-checked
 returns-in_err-checked g c =

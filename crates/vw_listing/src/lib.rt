@@ -1,0 +1,10 @@
+//! Netlists as texts that other tools read.
+#![tactic(auto)]
+
+mod lines;
+mod netlist;
+#[cfg(test)]
+mod tests;
+mod words;
+
+pub use netlist::netlist_text;
