@@ -5,6 +5,8 @@
 #[cfg(test)]
 mod checks;
 #[cfg(test)]
+mod chips;
+#[cfg(test)]
 mod damaged;
 #[cfg(test)]
 mod emits;
