@@ -64,7 +64,7 @@ fn slower(alloc: Global, plan: &str) -> Result<String, AllocError> {
 }
 
 /// What a call writes that ends with status 0.
-fn written(alloc: Global, words: &[&str], texts: &[(&str, &str)]) -> Result<String, Fail> {
+pub fn written(alloc: Global, words: &[&str], texts: &[(&str, &str)]) -> Result<String, Fail> {
     let ran = call_over(alloc, words, files_of(alloc, texts)?, MOST, Fault::None)?;
     if ran.status != 0 {
         return Err("not done".into());

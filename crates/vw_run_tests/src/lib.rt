@@ -6,6 +6,8 @@ mod demos;
 #[cfg(test)]
 mod equal;
 #[cfg(test)]
+mod partitions;
+#[cfg(test)]
 mod probes;
 #[cfg(test)]
 mod runs;

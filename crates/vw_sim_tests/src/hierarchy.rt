@@ -4,7 +4,7 @@ use vw_sample_calls::{SIM, designs_run, words_end};
 use vw_samples::{TOGGLE_ROWS, TOGGLE_TRACE, TWO_INVERTERS};
 
 /// Models three levels deep, whose nets have equal names. The root binds b to the second half's a.
-const HALVES: &str =
+pub const HALVES: &str =
     ".model top\n.inputs a b\n.outputs y z\n.subckt half a=a b=b y=t\n.latch t q 1\n.subckt half a=b b=q y=u\n.names u y\n0 1\n.names q z\n1 1\n.end\n.model store\n.inputs d\n.outputs q\n.names d t\n0 1\n.latch t q 0\n.end\n.model half\n.inputs a b\n.outputs y\n.names a b t\n11 1\n.subckt store d=t q=q\n.names t q y\n10 1\n01 1\n.end\n";
 
 /// The latches, in preorder, are that of the first half's store, that of the root, and that of the second half's store.

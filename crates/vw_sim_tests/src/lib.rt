@@ -1,4 +1,4 @@
-//! Tests of the commands `sim`, `wave` and `grade`, of `--help` and `--version`, and of the example of a caller: words and texts
+//! Tests of the commands `sim`, `wave`, `grade` and `nets`, of `--help` and `--version`, and of the example of a caller: words and texts
 //! in memory, and the status, the text and the message that they come to. Designs of all kinds are run and refused here. They
 //! stand in a crate of their own, since a crate with tests is proved twice.
 #![tactic(auto)]
@@ -21,6 +21,8 @@ mod hostile;
 mod limits;
 #[cfg(test)]
 mod loops;
+#[cfg(test)]
+mod nets;
 #[cfg(test)]
 mod refusals;
 #[cfg(test)]
