@@ -11,4 +11,6 @@ mod damaged;
 #[cfg(test)]
 mod emits;
 #[cfg(test)]
+mod large;
+#[cfg(test)]
 mod plans;
